@@ -39,7 +39,9 @@ use Rattle.dms_run.specs.States.{EndsWith, LivesEndWith}
 use Rattle.dms_run.specs.Stops.{RunLeaves, last_quiet_number}
 use Rattle.dms_status.specs.declared.status.Status.{Status}
 use Rattle.dms_status.specs.declared.status.Status.TheVariants.{Ok, Memory}
+use Rattle.dms_runtop.specs.Bound.{BoundsAudit, CountsFailures}
 use Rattle.dms_runtop.specs.Faults.{IsWithin, run_status}
+use Rattle.dms_runtop.proofs.Bounds.{bounds_other, no_bound_memory}
 use Rattle.dms_runtop.specs.Over.{BeginsAt, ClosesOver, FilesEndWith, RunsOver, ScriptRuns, seen_site}
 use Rattle.dms_runtop.specs.Statuses.{IsOfClosing}
 use Rattle.dms_runtop.proofs.Ran.{moments_under, ends_under, closed_under, moments_below, closing_below, ran_nothing, ran_failed, ran_closed}
@@ -140,11 +142,12 @@ module _ {S : Type 0} (g : Ghosts S) (d e e' : Described) (r r' : Running S) (sa
       → PrintsPrefix entry (said_of g r'.log) (answers_text d db r.next (raw_lines all)) → ((fault ≡ Block block.Say → ⊥) → SaidWhole entry (said_of g r'.log) events)
       → (fault ≡ run.Lines → PassesLines d db r.next (raw_lines all) entry (said_of g r'.log)) → (fault ≡ run.Bytes → PassesBytes d db r.next (raw_lines all) entry (said_of g r'.log))
       → (fault ≡ run.Held → PassesWaiting d db r.next (raw_lines all) entry (said_of g r'.log)) → (fault ≡ run.Input → CutInput d db r.next all left' entry (said_of g r'.log))
-      → ((f k : ℕ) → fault ≡ Block (block.Damaged f k) → ⊥) → ((f : ℕ) → fault ≡ Block (block.Full f) → f ≡ r'.log.end.limit) → ScriptRuns t d ps n db r.next all (seen_site g r.log.site) (seen_site g site) left' status
-  failed_over left' fault status site status_is site_is leaves part whole lines bytes waits cut damaged full =
-      subst (λ (x : Status). ScriptRuns t d ps n db r.next all (seen_site g r.log.site) (seen_site g site) left' x) (sym status_is)
-      (subst (λ (x : S). ScriptRuns t d ps n db r.next all (seen_site g r.log.site) (seen_site g x) left' (run_status fault)) (sym site_is)
-      (ran_failed t d ps n db r.next all (seen_site g r.log.site) (seen_site g r'.log.site) left' fault (moments_of leaves) part whole lines bytes waits cut damaged (λ f is. full f is ∙ pace.limit ∙ b.limit_is)))
+      → ((f k : ℕ) → fault ≡ Block (block.Damaged f k) → ⊥) → ((f : ℕ) → fault ≡ Block (block.Full f) → f ≡ r'.log.end.limit) → BoundsAudit 0 (CountsFailures g r.log.site) t d events (g.files r.log.site) (g.files r'.log.site) entry (said_of g r'.log) (run_status fault)
+      → ScriptRuns 0 (CountsFailures g r.log.site) t d ps n db r.next all (seen_site g r.log.site) (seen_site g site) left' status
+  failed_over left' fault status site status_is site_is leaves part whole lines bytes waits cut damaged full bound =
+      subst (λ (x : Status). ScriptRuns 0 (CountsFailures g r.log.site) t d ps n db r.next all (seen_site g r.log.site) (seen_site g site) left' x) (sym status_is)
+      (subst (λ (x : S). ScriptRuns 0 (CountsFailures g r.log.site) t d ps n db r.next all (seen_site g r.log.site) (seen_site g x) left' (run_status fault)) (sym site_is)
+      (ran_failed 0 (CountsFailures g r.log.site) t d ps n db r.next all (seen_site g r.log.site) (seen_site g r'.log.site) left' fault (moments_of leaves) part whole lines bytes waits cut damaged (λ f is. full f is ∙ pace.limit ∙ b.limit_is) bound))
 
   -- the same, where a full audit at another file counted as want of memory
   pub within_over : (left' : Option (List ℕ)) (last : ℕ) (fault then : RunFault) (status : Status) (site : S) → IsWithin last fault then → last ≡ r'.log.end.limit → status ≡ run_status then → site ≡ r'.log.site
@@ -152,12 +155,13 @@ module _ {S : Type 0} (g : Ghosts S) (d e e' : Described) (r r' : Running S) (sa
       → PrintsPrefix entry (said_of g r'.log) (answers_text d db r.next (raw_lines all)) → ((fault ≡ Block block.Say → ⊥) → SaidWhole entry (said_of g r'.log) events)
       → (fault ≡ run.Lines → PassesLines d db r.next (raw_lines all) entry (said_of g r'.log)) → (fault ≡ run.Bytes → PassesBytes d db r.next (raw_lines all) entry (said_of g r'.log))
       → (fault ≡ run.Held → PassesWaiting d db r.next (raw_lines all) entry (said_of g r'.log)) → (fault ≡ run.Input → CutInput d db r.next all left' entry (said_of g r'.log))
-      → ((f k : ℕ) → fault ≡ Block (block.Damaged f k) → ⊥) → ScriptRuns t d ps n db r.next all (seen_site g r.log.site) (seen_site g site) left' status
-  within_over left' last fault then status site (inl within) last_is status_is site_is leaves part whole lines bytes waits cut damaged =
-      failed_over left' fault status site (status_is ∙ ap run_status within.0) site_is leaves part whole lines bytes waits cut damaged (λ f is. within.1 f is ∙ last_is)
-  within_over left' last fault then status site (inr memory) last_is status_is site_is leaves part whole lines bytes waits cut damaged =
+      → ((f k : ℕ) → fault ≡ Block (block.Damaged f k) → ⊥) → BoundsAudit 0 (CountsFailures g r.log.site) t d events (g.files r.log.site) (g.files r'.log.site) entry (said_of g r'.log) (run_status fault)
+      → ScriptRuns 0 (CountsFailures g r.log.site) t d ps n db r.next all (seen_site g r.log.site) (seen_site g site) left' status
+  within_over left' last fault then status site (inl within) last_is status_is site_is leaves part whole lines bytes waits cut damaged bound =
+      failed_over left' fault status site (status_is ∙ ap run_status within.0) site_is leaves part whole lines bytes waits cut damaged (λ f is. within.1 f is ∙ last_is) bound
+  within_over left' last fault then status site (inr memory) last_is status_is site_is leaves part whole lines bytes waits cut damaged bound =
       failed_over left' run.Memory status site (status_is ∙ ap run_status memory.0) site_is leaves part (λ unsaid. whole (λ is. full_not_say memory.1.0 (sym memory.1.1 ∙ is)))
-      (λ is. absurd (memory_not_lines is)) (λ is. absurd (memory_not_bytes is)) (λ is. absurd (memory_not_held is)) (λ is. absurd (memory_not_input is)) (λ f k is. memory_not_block (block.Damaged f k) is) (λ f is. absurd (memory_not_block (block.Full f) is))
+      (λ is. absurd (memory_not_lines is)) (λ is. absurd (memory_not_bytes is)) (λ is. absurd (memory_not_held is)) (λ is. absurd (memory_not_input is)) (λ f k is. memory_not_block (block.Damaged f k) is) (λ f is. absurd (memory_not_block (block.Full f) is)) (bounds_other no_bound_memory)
 
   -- the script was carried out, and then the database closed
   pub closed_over : (left' : Option (List ℕ)) (status : Status) (site : S) → (status ≡ Ok) ⊎ IsOfClosing status → ClosesOver g r' status site → (IsTrue g.tells_said → g.said site ≡ g.said r'.log.site)
@@ -167,17 +171,19 @@ module _ {S : Type 0} (g : Ghosts S) (d e e' : Described) (r r' : Running S) (sa
       → EndsWith (map (point_of e') (held g r').points) (last_quiet_number n (quiets_of events)) (last_quiet db (quiets_of events))
       → Prints entry (said_of g r'.log) (answers_text d db r.next (raw_lines all)) → PrintsPrefix entry (said_of g r'.log) (answers_text d db r.next (raw_lines all)) → SaidWhole entry (said_of g r'.log) events
       → KeepsLimits d db r.next (raw_lines all) → r'.next ≡ (ended (script_run d db r.next (raw_lines all)).going.session).next
-      → ScriptRuns t d ps n db r.next all (seen_site g r.log.site) (seen_site g site) left' status
-  closed_over left' status site of closes said leaves behind ends prints part whole limits next_is =
+      → BoundsAudit 0 (CountsFailures g r.log.site) t d events (g.files r.log.site) (g.files site) entry (said_of g r'.log) status
+      → ScriptRuns 0 (CountsFailures g r.log.site) t d ps n db r.next all (seen_site g r.log.site) (seen_site g site) left' status
+  closed_over left' status site of closes said leaves behind ends prints part whole limits next_is bound =
       let text : (seen_site g site).said ≡ said_of g r'.log = told_text g.tells_said (g.said site) (g.said r'.log.site) said in
       let room : r'.next + 1 < 2 ^ 64 = room_after d db r.next r'.next (raw_lines all) b.room limits next_is in
-      ran_closed t d ps n db r.next all (seen_site g r.log.site) (seen_site g site) left' status of
+      ran_closed 0 (CountsFailures g r.log.site) t d ps n db r.next all (seen_site g r.log.site) (seen_site g site) left' status of
       (runs_on (moments_of leaves) (closing_of site status closes behind room) (λ x l. l))
       (files_end site status closes (last_quiet_number n (quiets_of events)) (last_quiet db (quiets_of events)) ends (ended (script_run d db r.next (raw_lines all)).going.session).next next_is)
       (subst (λ (s : Option (List ℕ)). Prints entry s (answers_text d db r.next (raw_lines all))) (sym text) prints)
       (subst (λ (s : Option (List ℕ)). PrintsPrefix entry s (answers_text d db r.next (raw_lines all))) (sym text) part)
       (subst (λ (s : Option (List ℕ)). SaidWhole entry s events) (sym text) whole)
       limits
+      (subst (λ (s : Option (List ℕ)). BoundsAudit 0 (CountsFailures g r.log.site) t d events (g.files r.log.site) (g.files site) entry s status) (sym text) bound)
 
 -- ---- before the script
 
@@ -188,6 +194,6 @@ fresh_over {St} seen v a b same stands x is = subst (λ (s : St). StandsFor v (f
 -- memory was refused before the first line, and the site was given back
 pub refused_over : {S : Type 0} (g : Ghosts S) (d : Described) (r : Running S) (site : S) (left left' : Option (List ℕ)) → site ≡ r.log.site → RunsOver g r d left left' Memory site
 refused_over {S} g d r site left left' same total first ps n db all b is =
-    subst (λ (x : S). ScriptRuns (telling_of total first) d ps n db r.next all (seen_site g r.log.site) (seen_site g x) left' Memory) (sym same)
-    (ran_nothing (telling_of total first) d ps n db r.next all (seen_site g r.log.site) (seen_site g r.log.site) left' Memory tt
-    (runs_none (g.clock r.log.site) (RunLeavesFiles (telling_of total first) d (said_of g r.log) ps n db r.next (script_events d db r.next (raw_lines all)))) refl)
+    subst (λ (x : S). ScriptRuns 0 (CountsFailures g r.log.site) (telling_of total first) d ps n db r.next all (seen_site g r.log.site) (seen_site g x) left' Memory) (sym same)
+    (ran_nothing 0 (CountsFailures g r.log.site) (telling_of total first) d ps n db r.next all (seen_site g r.log.site) (seen_site g r.log.site) left' Memory tt
+    (runs_none (g.clock r.log.site) (RunLeavesFiles (telling_of total first) d (said_of g r.log) ps n db r.next (script_events d db r.next (raw_lines all)))) refl (bounds_other no_bound_memory))

@@ -15,3 +15,4 @@ pub mod Gated
 pub mod Instead
 pub mod Guarding
 pub mod Fulls
+pub mod Bounds

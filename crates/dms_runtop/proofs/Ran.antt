@@ -40,6 +40,8 @@ use Rattle.dms_status.specs.declared.status.LimitKind.TheVariants as limits
 use Rattle.dms_status.specs.declared.status.LimitKind.TheVariants.{AuditFile, Lines, Bytes}
 use Rattle.dms_status.specs.declared.status.Status.{Status}
 use Rattle.dms_status.specs.declared.status.Status.TheVariants.{Ok, Limit, InputFault, Damaged}
+use Rattle.dms_runtop.specs.Bound.{BoundsAudit}
+use Rattle.dms_runtop.proofs.Bounds.{bounds_since}
 use Rattle.dms_runtop.specs.Faults.{run_status}
 use Rattle.dms_runtop.specs.Over.{ReachesFiles, PassesScript, ScriptRuns, SiteSeen}
 use Rattle.dms_runtop.specs.Statuses.{IsOfAuditLimit, IsOfClosing}
@@ -132,7 +134,10 @@ said_nothing said events = (0, λ t is. is ∙ ap (λ (s : List ℕ). Some s) (s
 
 -- ---- a run, by how it ended
 
-module _ (t : Telling) (d : Described) (ps : List DescribedPoint) (n : ℕ) (db : Db) (next : ℕ) (all : List ℕ) (a b : SiteSeen) (left' : Option (List ℕ)) where
+module _ (opening : ℕ) (counts : Type 0) (t : Telling) (d : Described) (ps : List DescribedPoint) (n : ℕ) (db : Db) (next : ℕ) (all : List ℕ) (a b : SiteSeen) (left' : Option (List ℕ)) where
+  abbrev Bound : Status → Type 0
+  Bound status = BoundsAudit opening counts t d (script_events d db next (raw_lines all)) a.files b.files a.said b.said status
+
   abbrev events : List RunEvent
   events = script_events d db next (raw_lines all)
 
@@ -143,8 +148,9 @@ module _ (t : Telling) (d : Described) (ps : List DescribedPoint) (n : ℕ) (db 
   of_audit limits.Held is = absurd is
 
   -- nothing was done: the status is none of a script
-  pub ran_nothing : (status : Status) → IsUndone status → Runs a.clock b.clock (RunLeavesFiles t d a.said ps n db next events) → b.said ≡ a.said → ScriptRuns t d ps n db next all a b left' status
-  ran_nothing status undone moments same = record {
+  pub ran_nothing : (status : Status) → IsUndone status → Runs a.clock b.clock (RunLeavesFiles t d a.said ps n db next events) → b.said ≡ a.said → Bound status → ScriptRuns opening counts t d ps n db next all a b left' status
+  ran_nothing status undone moments same bound = record {
+    bound = bound;
     every_moment = moments;
     at_ok = λ is. absurd (undone_ok status undone is);
     prints = λ is. absurd (undone_ok status undone is);
@@ -161,8 +167,9 @@ module _ (t : Telling) (d : Described) (ps : List DescribedPoint) (n : ℕ) (db 
       → PrintsPrefix a.said b.said (answers_text d db next (raw_lines all)) → ((fault ≡ Block Say → ⊥) → SaidWhole a.said b.said events)
       → (fault ≡ run.Lines → PassesLines d db next (raw_lines all) a.said b.said) → (fault ≡ run.Bytes → PassesBytes d db next (raw_lines all) a.said b.said)
       → (fault ≡ run.Held → PassesWaiting d db next (raw_lines all) a.said b.said) → (fault ≡ run.Input → CutInput d db next all left' a.said b.said)
-      → ((f k : ℕ) → fault ≡ Block (block.Damaged f k) → ⊥) → ((f : ℕ) → fault ≡ Block (block.Full f) → f ≡ d.files) → ScriptRuns t d ps n db next all a b left' (run_status fault)
-  ran_failed fault moments part whole lines bytes waits cut damaged full = record {
+      → ((f k : ℕ) → fault ≡ Block (block.Damaged f k) → ⊥) → ((f : ℕ) → fault ≡ Block (block.Full f) → f ≡ d.files) → Bound (run_status fault) → ScriptRuns opening counts t d ps n db next all a b left' (run_status fault)
+  ran_failed fault moments part whole lines bytes waits cut damaged full bound = record {
+    bound = bound;
     every_moment = moments;
     at_ok = λ is. absurd (run_not_ok fault is);
     prints = λ is. absurd (run_not_ok fault is);
@@ -186,8 +193,9 @@ module _ (t : Telling) (d : Described) (ps : List DescribedPoint) (n : ℕ) (db 
   pub ran_closed : (status : Status) → (status ≡ Ok) ⊎ IsOfClosing status → Runs a.clock b.clock (RunLeavesFiles t d a.said ps n db next events)
       → (status ≡ Ok → ReachesFiles t d n db next (raw_lines all) b)
       → Prints a.said b.said (answers_text d db next (raw_lines all)) → PrintsPrefix a.said b.said (answers_text d db next (raw_lines all)) → SaidWhole a.said b.said events
-      → KeepsLimits d db next (raw_lines all) → ScriptRuns t d ps n db next all a b left' status
-  ran_closed status of moments ends prints part whole limits = record {
+      → KeepsLimits d db next (raw_lines all) → Bound status → ScriptRuns opening counts t d ps n db next all a b left' status
+  ran_closed status of moments ends prints part whole limits bound = record {
+    bound = bound;
     every_moment = moments;
     at_ok = ends;
     prints = λ is. prints;
@@ -202,3 +210,19 @@ module _ (t : Telling) (d : Described) (ps : List DescribedPoint) (n : ℕ) (db 
       closing_limit : (s : Status) → (s ≡ Ok) ⊎ IsOfClosing s → (k : LimitKind) → s ≡ Limit k → PassesScript k d db next (raw_lines all) a.said b.said
       closing_limit s (inl ok) k is = absurd (ok_not_limit k (sym ok ∙ is))
       closing_limit s (inr of) k is = of_audit k (subst IsOfClosing is of)
+
+-- where less is asked for to bound the audit
+pub script_with : {opening : ℕ} {P Q : Type 0} {t : Telling} {d : Described} {ps : List DescribedPoint} {n : ℕ} {db : Db} {next : ℕ} {all : List ℕ} {a b : SiteSeen} {left' : Option (List ℕ)} {status : Status} → (Q → P)
+    → ScriptRuns opening P t d ps n db next all a b left' status → ScriptRuns opening Q t d ps n db next all a b left' status
+script_with counts r = record {
+  every_moment = r.every_moment;
+  at_ok = r.at_ok;
+  prints = r.prints;
+  part = r.part;
+  whole_answers = r.whole_answers;
+  within = r.within;
+  limit = r.limit;
+  bound = bounds_since counts (omega arith) r.bound;
+  input_cut = r.input_cut;
+  undamaged = r.undamaged;
+}

@@ -25,6 +25,7 @@ use Rattle.dms_opening.specs.Laws.{LastIsDescribed}
 use Rattle.dms_opening.specs.Openings.{IsTrailFound, IsOpenable, RunsFrom, RefusesFiles}
 use Rattle.dms_status.specs.declared.status.Status.{Status}
 use Rattle.dms_status.specs.declared.status.Status.TheVariants.{Ok}
+use Rattle.dms_runtop.specs.Bound.{CountsFailures}
 use Rattle.dms_runtop.specs.Faults.{open_status}
 use Rattle.dms_runtop.specs.Over.{ScriptRuns, seen_site}
 use Rattle.dms_runtop.specs.Statuses.{IsRefusal}
@@ -70,14 +71,14 @@ module _ {S : Type 0} (g : Ghosts S) where
   abbrev pub RunsOpened : Opened S → Bool → Option (List ℕ) → Option (List ℕ) → Status → S → Type 0
   RunsOpened o known left left' status site =
       IsTrue g.tells → IsTrue known → (st : StandsOpened o) (n : ℕ) (db : Db) (all : List ℕ) → LivesEndWith st.desc (points_of (telling (view_of g o.log)) st.files) n db → o.next + 1000003 < 2 ^ 64 → left ≡ Some all
-      → ScriptRuns (telling (view_of g o.log)) st.desc (points_of (telling (view_of g o.log)) st.files) n db o.next all (seen_site g o.log.site) (seen_site g site) left' status
+      → ScriptRuns 0 (CountsFailures g o.log.site) (telling (view_of g o.log)) st.desc (points_of (telling (view_of g o.log)) st.files) n db o.next all (seen_site g o.log.site) (seen_site g site) left' status
 
   -- a run of the script over the database that the files of a site stand for, whose next number is this one, along their trail
   pub record RunsAlong (s : DatabaseState) (next : ℕ) (all : List ℕ) (old new : S) (left' : Option (List ℕ)) (status : Status) : Type 0 where
     pub total : ℕ
     pub first : ℕ
     pub trail : IsTrailFound total first (g.files old)
-    pub runs : ScriptRuns (telling_of total first) s.desc (points_of (telling_of total first) (g.files old)) s.point s.db next all (seen_site g old) (seen_site g new) left' status
+    pub runs : ScriptRuns 19 (CountsFailures g old) (telling_of total first) s.desc (points_of (telling_of total first) (g.files old)) s.point s.db next all (seen_site g old) (seen_site g new) left' status
 
   abbrev pub RunsCommand : Option DatabaseState → S → S → Option (List ℕ) → Option (List ℕ) → Status → Type 0
   RunsCommand state old new left left' status =

@@ -7,3 +7,4 @@ pub mod Command
 pub mod Guard
 pub mod GuardLaws
 pub mod Full
+pub mod Bound

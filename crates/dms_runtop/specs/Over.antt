@@ -1,5 +1,5 @@
 -- A run of a script over a database that was opened.
-use Rattle.std.specs.Prelude.{ℕ, ◌≡◌, ◌⊎◌, ◌+◌, ◌<◌, ◌^◌, List, length, map, Some, None, IsTrue, if◌then◌else◌}
+use Rattle.std.specs.Prelude.{ℕ, ◌≡◌, ◌⊎◌, ◌+◌, ◌<◌, ◌^◌, List, [], length, map, Some, None, IsTrue, ⊤, if◌then◌else◌}
 use Rattle.std.specs.declared.option.Option.{Option}
 use Rattle.dms_moments.specs.Moments.{Clock, Runs}
 use Rattle.dms_block.specs.Texts.{Prints, PrintsPrefix}
@@ -12,12 +12,14 @@ use Rattle.dms_site.specs.Files.{Files, Left, Only}
 use Rattle.dms_running.specs.Telling.{Telling}
 use Rattle.dms_running.specs.Standing.{IsWhole}
 use Rattle.dms_running.specs.Points.{DescribedPoint, points_of, next_in}
-use Rattle.dms_restore.specs.Logging.{telling_of, telling, points}
+use Rattle.dms_restore.specs.Logging.{telling_of, telling, points, waits}
 use Rattle.dms_restore.specs.Views.{view_of}
 use Rattle.dms_wal.specs.declared.running.Running.{Running}
 use Rattle.dms_wal.specs.Closing.{LeavesUntil}
 use Rattle.dms_wal.specs.Database.{held}
+use Rattle.dms_wal.specs.Growing.{FilesGrew}
 use Rattle.dms_wal.specs.Lifting.{lifted}
+use Rattle.dms_runtop.specs.Bound.{BoundsAudit, CountsFailures}
 use Rattle.dms_store.specs.Lifted.{point_of}
 use Rattle.dms_store.specs.Spelled.{spelled}
 use Rattle.dms_runner.specs.Answers.{answers_quiets, answers_text, left_by, script_events, script_run}
@@ -30,7 +32,7 @@ use Rattle.dms_run.specs.Stops.{last_quiet_number}
 use Rattle.dms_status.specs.declared.status.LimitKind.{LimitKind}
 use Rattle.dms_status.specs.declared.status.LimitKind.TheVariants.{AuditFile, Lines, Bytes, Held}
 use Rattle.dms_status.specs.declared.status.Status.{Status}
-use Rattle.dms_status.specs.declared.status.Status.TheVariants.{Ok, Limit, InputFault, Damaged, SayFault}
+use Rattle.dms_status.specs.declared.status.Status.TheVariants.{Ok, Limit, DiskFault, InputFault, Damaged, SayFault}
 
 -- what a read of a site gives, what a stop leaves of it, and the text so far, where it is told
 pub record SiteSeen : Type 1 where
@@ -63,8 +65,9 @@ ReachesFiles t desc n db next lines s =
     FilesEndWith t desc (last_quiet_number n (answers_quiets desc db next lines)) (left_by desc db next lines) (ended (script_run desc db next lines).going.session).next s
 
 -- A run of the script that an input has, over a database that at point n is db, whose next number is this one. These were the points before the run,
--- so the site was seen before it and behind it, so much of the input was left, and so the run ended.
-pub record ScriptRuns (t : Telling) (desc : Described) (ps : List DescribedPoint) (n : ℕ) (db : Db) (next : ℕ) (all : List ℕ) (a b : SiteSeen) (left' : Option (List ℕ)) (status : Status) : Type 0 where
+-- so the site was seen before it and behind it, so much of the input was left, and so the run ended. An opening before it took at most so many entries
+-- of the audit.
+pub record ScriptRuns (opening : ℕ) (counts : Type 0) (t : Telling) (desc : Described) (ps : List DescribedPoint) (n : ℕ) (db : Db) (next : ℕ) (all : List ℕ) (a b : SiteSeen) (left' : Option (List ℕ)) (status : Status) : Type 0 where
   -- a stop at each moment left what a run leaves: the database of one quiet point, none before those that syncpoints made durable before what
   -- was printed last, and each point as it was
   pub every_moment : Runs a.clock b.clock (RunLeavesFiles t desc a.said ps n db next (script_events desc db next (raw_lines all)))
@@ -80,6 +83,8 @@ pub record ScriptRuns (t : Telling) (desc : Described) (ps : List DescribedPoint
   pub within : status ≡ Ok → KeepsLimits desc db next (raw_lines all)
   -- at status 8 by the script it passes that limit, and none before
   pub limit : (k : LimitKind) → status ≡ Limit k → PassesScript k desc db next (raw_lines all) a.said b.said
+  -- at status 0, and at status 8 of an audit file, it took no more of the audit than what is answered may take, and one call that was under way
+  pub bound : BoundsAudit opening counts t desc (script_events desc db next (raw_lines all)) a.files b.files a.said b.said status
   -- at status 6 what the whole lines that were taken answer was printed
   pub input_cut : status ≡ InputFault → CutInput desc db next all left' a.said b.said
   -- no block of a structure file is found damaged
@@ -87,7 +92,8 @@ pub record ScriptRuns (t : Telling) (desc : Described) (ps : List DescribedPoint
 
 module _ {S : Type 0} (g : Ghosts S) where
   -- A run of a script begins with this database: its site tells its files, its points are these, which end with database db at point n and are all
-  -- durable, its blocks spell that database, there is room for the numbers of a script, and its audit may go on up to file FILES.
+  -- durable, its blocks spell that database, there is room for the numbers of a script, and its audit may go on up to file FILES. Nothing waits, control
+  -- points follow the syncs that the description says, and it wasn't used yet.
   pub record BeginsAt (r : Running S) (total first : ℕ) (ps : List DescribedPoint) (desc : Described) (n : ℕ) (db : Db) : Type 0 where
     pub tells : IsTrue g.tells
     pub total_is : r.log.end.total ≡ total
@@ -98,18 +104,23 @@ module _ {S : Type 0} (g : Ghosts S) where
     pub spells : spelled desc (held g r).content ≡ Some db
     pub durable : (held g r).durable ≡ length (held g r).points
     pub room : r.next + 1000003 < 2 ^ 64
+    pub nothing : waits r.log.end ≡ []
+    pub every : r.every ≡ desc.controlpoint
+    pub unused : (r.spent ≡ 0) × (r.syncs ≡ 0) × (r.outs ≡ 0)
 
   -- a run of the script over this database, which ended with this status and this site
   abbrev pub RunsOver : Running S → Described → Option (List ℕ) → Option (List ℕ) → Status → S → Type 0
   RunsOver r desc left left' status site =
       (total first : ℕ) (ps : List DescribedPoint) (n : ℕ) (db : Db) (all : List ℕ) → BeginsAt r total first ps desc n db → left ≡ Some all
-      → ScriptRuns (telling_of total first) desc ps n db r.next all (seen_site g r.log.site) (seen_site g site) left' status
+      → ScriptRuns 0 (CountsFailures g r.log.site) (telling_of total first) desc ps n db r.next all (seen_site g r.log.site) (seen_site g site) left' status
 
   -- The database was closed: at status 0 the files hold it, with all its points and its next number, and a stop leaves no other files. Until then each
-  -- stop left the first so many of its points, at least the durable ones, and no other text.
+  -- stop left the first so many of its points, at least the durable ones, and no other text. Unless a call of the disk failed the audit took at most 37
+  -- entries.
   pub record ClosesOver (r : Running S) (status : Status) (site : S) : Type 0 where
     pub leaves : LeavesUntil (held g r) (lifted (telling (view_of g r.log)) (g.clock site))
     pub points_are : status ≡ Ok → IsTrue g.tells → points_of (telling (view_of g r.log)) (g.files site) ≡ points (view_of g r.log)
     pub whole : status ≡ Ok → IsTrue g.tells → IsWhole (telling (view_of g r.log)) (g.files site)
     pub next_is : status ≡ Ok → IsTrue g.tells → next_in (telling (view_of g r.log)) (g.files site) ≡ r.next
     pub only : status ≡ Ok → IsTrue g.tells → Only (g.files site) (g.clock site)
+    pub few : (status ≡ DiskFault → ⊥) → IsTrue g.tells → FilesGrew 37 (view_of g r.log) (g.files site)

@@ -39,7 +39,7 @@ others_on (quiet_point n ∷ xs) ys = others_on xs ys
 others_on (control_point n next counts ∷ xs) ys = omega (arith, others_on xs ys)
 others_on (begin_restore n kind ∷ xs) ys = omega (arith, others_on xs ys)
 
-others_few : (xs : List Entry) → others xs ≤ length xs
+pub others_few : (xs : List Entry) → others xs ≤ length xs
 others_few [] = omega arith
 others_few (schema_part part parts bytes ∷ xs) = omega (arith, others_few xs)
 others_few (image f b before after ∷ xs) = omega (arith, others_few xs)
@@ -141,7 +141,7 @@ ok_never is = cc
 pub next_sync : (n m : ℕ) → m ≡ one_more n → m < 2 ^ 64 - 1 → m ≡ suc n
 next_sync n m is low = omega (arith, is, low)
 
-stays_or_rises : (b : Bool) (n : ℕ) → n ≤ (if b then suc n else n)
+pub stays_or_rises : (b : Bool) (n : ℕ) → n ≤ (if b then suc n else n)
 stays_or_rises true n = omega arith
 stays_or_rises false n = omega arith
 

@@ -12,5 +12,5 @@ returns-in-Limit-AuditFile-clause-ran g c =
     opened_instead g.S.Site g.met.S.Site.counts_now c.args.opened c.run_opened-ended.result.site c.status_of_full-status.new.site g.K.Knows.known _ _ c.run_opened-ended.result.status c.status_of_full-status.result
     (full_place c.in-Limit-AuditFile.limit c.run_opened-ended.result.status c.status_of_full-status.result was c.status_of_full-status.ensures.kind)
     (subst (λ x. Steps Same (g.S.Site.clock x) (g.S.Site.clock c.status_of_full-status.new.site)) c.into_site-site.ensures c.status_of_full-status.ensures.moments)
-    (c.status_of_full-status.ensures.said ∙ ap g.S.Site.said c.into_site-site.ensures)
+    (c.status_of_full-status.ensures.said ∙ ap g.S.Site.said c.into_site-site.ensures) c.in-Limit-AuditFile.limit was (λ tells. c.status_of_full-status.ensures.files tells ∙ ap g.S.Site.files c.into_site-site.ensures)
     c.run_opened-ended.ensures.ran

@@ -63,11 +63,11 @@ run_confirmed-requires-clause-known g c = λ tells knows.
 
 pub returns-in-Ok-clause-ran : goal.returns-in-Ok-clause-ran
 returns-in-Ok-clause-ran g c =
-    runs_found g.S.Site c.args.site g.state c.states_law.ensures c.held_law.ensures.next c.requires.1.1 c.in-Ok.opened c.in-Ok.ensures.opens c.in-Ok.ensures.runs c.in-Ok.ensures.moments c.in-Ok.ensures.said _ _ c.run_confirmed.result.status c.run_confirmed.result.site c.run_confirmed.ensures.ran
+    runs_found g.S.Site c.args.site g.state c.states_law.ensures c.held_law.ensures.next c.requires.1.1 c.in-Ok.opened c.in-Ok.ensures.opens c.in-Ok.ensures.runs c.in-Ok.ensures.moments c.in-Ok.ensures.said c.in-Ok.ensures.clean.0 _ _ c.run_confirmed.result.status c.run_confirmed.result.site c.run_confirmed.ensures.ran
 
 pub returns-in-Err-clause-ran : goal.returns-in-Err-clause-ran
 returns-in-Err-clause-ran g c =
-    runs_refused g.S.Site c.args.site g.state c.states_law.ensures c.held_law.ensures.next c.requires.1.1 c.in-Err.fault c.in-Err.site c.in-Err.ensures.complete c.in-Err.ensures.stopped c.in-Err.ensures.said_then _ _ c.status_of_open.result c.status_of_open.ensures
+    runs_refused g.S.Site c.args.site g.state c.states_law.ensures c.held_law.ensures.next c.requires.1.1 c.in-Err.fault c.in-Err.site c.in-Err.ensures.complete c.in-Err.ensures.few c.in-Err.ensures.stopped c.in-Err.ensures.said_then _ _ c.status_of_open.result c.status_of_open.ensures
 
 pub returns-in-Ok-clause-full : goal.returns-in-Ok-clause-full
 returns-in-Ok-clause-full g c = full_entered g.S.Site c.args.site c.run_confirmed.result.site c.run_confirmed.result.status c.in-Ok.opened.log.end.total c.in-Ok.opened.log.first (λ tells. (c.in-Ok.ensures.opens tells).trail) c.run_confirmed.ensures.passes

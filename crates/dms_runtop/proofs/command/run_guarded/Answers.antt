@@ -1,4 +1,6 @@
-use Rattle.std.proofs.Common.{◌<◌, sym, subst}
+use Rattle.std.proofs.Common.{◌<◌, sym, subst, arith}
+use Rattle.dms_runtop.proofs.Bounds.{no_bound_memory}
+use Rattle.dms_runtop.proofs.Ran.{script_with}
 use Rattle.dms_status.specs.declared.status.Status.TheVariants.{Memory}
 use Rattle.dms_runtop.specs.Command.{RunsCommand}
 use Rattle.dms_runtop.proofs.Guarding.{refused_counts}
@@ -10,11 +12,11 @@ returns-then-refused-gt0-clause-ran g c =
     let ended = c.run_found-ended.ensures in
     let counted = refused_counts c.run_found-ended.result.status (g.S.Site.disk_faults c.args.site) (g.S.Site.disk_faults c.run_found-ended.result.site.site) c.run_found-ended.result.site.refused ended.same.counted
     (subst (λ x. 0 < x.refused) c.into_site-site.ensures c.if-refused-gt0.true) ended.disk in
-    command_instead g.S.Site g.state c.args.site c.into_site-site.result.site _ _ c.run_found-ended.result.status Memory (refused_place c.run_found-ended.result.status counted.0)
+    command_instead g.S.Site g.state c.args.site c.into_site-site.result.site _ _ c.run_found-ended.result.status Memory (refused_place c.run_found-ended.result.status counted.0) no_bound_memory
     (subst (λ x. RunsCommand g.S.Site g.state c.args.site x.site (g.I.Source.left c.args.source.now) (g.I.Source.left c.run_found-ended.new.source) c.run_found-ended.result.status) (sym c.into_site-site.ensures)
-    (λ tells s is next has room all held. let r = ended.ran tells s is next has room all held in record { total = r.total; first = r.first; trail = r.trail; runs = r.runs }))
+    (λ tells s is next has room all held. let r = ended.ran tells s is next has room all held in record { total = r.total; first = r.first; trail = r.trail; runs = script_with (λ c. omega (arith, c)) r.runs }))
 
 pub returns-clause-ran : goal.returns-clause-ran
 returns-clause-ran g c =
     subst (λ x. RunsCommand g.S.Site g.state c.args.site x.site (g.I.Source.left c.args.source.now) (g.I.Source.left c.run_found-ended.new.source) c.run_found-ended.result.status) (sym c.into_site-site.ensures)
-    (λ tells s is next has room all held. let r = c.run_found-ended.ensures.ran tells s is next has room all held in record { total = r.total; first = r.first; trail = r.trail; runs = r.runs })
+    (λ tells s is next has room all held. let r = c.run_found-ended.ensures.ran tells s is next has room all held in record { total = r.total; first = r.first; trail = r.trail; runs = script_with (λ c. omega (arith, c)) r.runs })

@@ -1,6 +1,6 @@
 use Rattle.std.proofs.Common.{ℕ, ◌≡◌, refl, sym, subst}
 use Rattle.dms_moments.specs.SeenLaws.{runs_looking}
-use Rattle.dms_runtop.proofs.Looked.{runs_looked, runs_undone, stands_looked, undone_description}
+use Rattle.dms_runtop.proofs.Looked.{no_bound_description, runs_looked, runs_undone, stands_looked, undone_description}
 use Rattle.dms_runtop.proofs.command.run_opened.Goals as goal
 
 pub run_described-requires-clause-known : goal.run_described-requires-clause-known
@@ -12,10 +12,11 @@ returns-in-Ok-clause-same g c = g.met.S.Site.same_then c.args.opened.log.site c.
 pub returns-in-Ok-clause-ran : goal.returns-in-Ok-clause-ran
 returns-in-Ok-clause-ran g c =
     runs_looked g.S.Site g.met.S.Site.counts_now c.args.opened c.describe.new.site c.run_described.result.site g.K.Knows.known (g.I.Source.left c.args.source.now) (g.I.Source.left c.run_described.new.source) c.run_described.result.status
-    c.describe.ensures.files c.describe.ensures.said c.describe.ensures.moments c.run_described.ensures.ran
+    c.describe.ensures.files c.describe.ensures.said (c.in-Ok.ensures.disk.clean (λ is. absurd cc)) c.describe.ensures.moments c.run_described.ensures.ran
 
 pub returns-in-Err-clause-ran : goal.returns-in-Err-clause-ran
 returns-in-Err-clause-ran g c =
     runs_undone g.S.Site c.args.opened c.describe.new.site g.K.Knows.known (g.I.Source.left c.args.source.now) (g.I.Source.left c.args.source.now) c.status_of_description.result
     (undone_description c.in-Err.fault c.status_of_description.result c.status_of_description.ensures.disk.1 c.status_of_description.ensures.memory)
+    (no_bound_description c.in-Err.fault c.status_of_description.result c.status_of_description.ensures.disk.1 c.status_of_description.ensures.memory)
     (λ P. runs_looking (g.met.S.Site.counts_now c.args.opened.log.site) c.describe.ensures.moments) c.describe.ensures.said

@@ -1,4 +1,5 @@
-use Rattle.std.proofs.Common.{◌≡◌, ◌∙◌, sym}
+use Rattle.std.proofs.Common.{◌≡◌, ◌∙◌, ap, sym}
+use Rattle.dms_runtop.specs.Faults.{block_status}
 use Rattle.dms_runner.specs.declared.run.RunFault.TheVariants.{Block}
 use Rattle.dms_runtop.proofs.Endings.{run_not_ok}
 use Rattle.dms_runtop.proofs.over.close_over.Goals as goal
@@ -10,6 +11,7 @@ returns-in-Ok-clause-closes g c = record {
   whole = λ ok tells. (c.in-Ok.ensures.closed tells).whole;
   next_is = λ ok tells. (c.in-Ok.ensures.closed tells).next_is ∙ sym (c.requires.goes tells).numbered;
   only = λ ok tells. (c.in-Ok.ensures.closed tells).only;
+  few = λ off tells. c.in-Ok.ensures.few tells;
 }
 
 pub returns-in-Err-clause-closes : goal.returns-in-Err-clause-closes
@@ -19,4 +21,5 @@ returns-in-Err-clause-closes g c = record {
   whole = λ ok tells. absurd (run_not_ok (Block c.in-Err.fault) (sym c.status_of_block.ensures ∙ ok));
   next_is = λ ok tells. absurd (run_not_ok (Block c.in-Err.fault) (sym c.status_of_block.ensures ∙ ok));
   only = λ ok tells. absurd (run_not_ok (Block c.in-Err.fault) (sym c.status_of_block.ensures ∙ ok));
+  few = λ off tells. c.in-Err.ensures.few (λ disk. off (c.status_of_block.ensures ∙ ap block_status disk)) tells;
 }

@@ -1,4 +1,4 @@
-use Rattle.std.proofs.Common.{◌≡◌, ◌∙◌, IsTrue, inr, sym, ap, subst}
+use Rattle.std.proofs.Common.{◌≡◌, ◌∙◌, IsTrue, inr, refl, sym, ap, subst}
 use Rattle.dms_audfile.specs.Counting.{not_counted}
 use Rattle.dms_block.specs.Counts.{Faults}
 use Rattle.dms_status.specs.declared.status.Status.TheVariants.{DiskFault, InputFault, SayFault}
@@ -13,7 +13,14 @@ use Rattle.dms_run.specs.Starting.{BeginsWith}
 use Rattle.dms_runtop.specs.Over.{ClosesOver}
 use Rattle.dms_runtop.proofs.Ran.{db_under, state_under, all_durable}
 use Rattle.dms_runtop.proofs.Engine.{no_damage, within_over, closed_over}
+use Rattle.dms_feed.specs.Lines.{raw_lines}
+use Rattle.dms_restore.specs.Logging.{telling_of}
+use Rattle.dms_restore.specs.Views.{view_of}
+use Rattle.dms_runner.specs.Answers.{script_events}
+use Rattle.dms_storeverbs.specs.View.{seen}
 use Rattle.dms_wal.specs.Database.{held}
+use Rattle.dms_wal.specs.Growing.{FilesGrew}
+use Rattle.dms_runtop.proofs.Bounds.{closed_bound, failed_bound}
 use Rattle.dms_runtop.proofs.over.run_engine.Goals as goal
 
 pub returns-in-Ok-clause-ran : goal.returns-in-Ok-clause-ran
@@ -22,6 +29,7 @@ returns-in-Ok-clause-ran g c = λ total first ps n db all b left.
     let e' = c.run_script.new.engine in
     let r = e.store.over.below in
     let r' = e'.store.over.below in
+    let pace = c.in-Ok.ensures.lasts.same.1 in
     let fed = held_nothing _ _ all c.new-feed.ensures left in
     let stands = c.requires.fresh db (db_under (described e.desc) (described e.store.desc) g.S.Site.tells (held g.S.Site r).content db e.under b.tells b.spells) in
     let starts : BeginsWith e n db r.next = record {
@@ -43,6 +51,9 @@ returns-in-Ok-clause-ran g c = λ total first ps n db all b left.
     (c.in-Ok.ensures.whole_answers (λ p. absurd p) db r.next all stands b.room fed)
     (c.in-Ok.ensures.within db r.next all stands b.room fed)
     (c.in-Ok.ensures.ended db r.next all stands b.room fed).next
+    (closed_bound g.S.Site (described e.desc) r r' (telling_of total first) (λ i. telling_of (b.total_is i) (b.first_is i)) (λ i. telling_of ((pace.total ∙ b.total_is) i) ((pace.first ∙ b.first_is) i)) b.nothing b.every b.unused.0 b.unused.1 b.unused.2 b.tells c.in-Ok.ensures.lasts.same.2
+    (script_events (described e.desc) db r.next (raw_lines all)) (seen e) (seen e') refl refl e.under refl refl c.close_over.result.status (g.S.Site.files c.close_over.result.site) _ c.in-Ok.ensures.lasts.cause (c.in-Ok.ensures.effort db r.next all stands b.room fed)
+    (λ off. subst (λ (x : Running g.row.S.Denot). FilesGrew 37 (view_of g.S.Site x.log) (g.S.Site.files c.close_over.result.site)) c.running_under-running.ensures (c.close_over.ensures.closes.few off b.tells)) (c.in-Ok.ensures.prints db r.next all stands b.room fed))
 
 pub returns-in-Err-clause-ran : goal.returns-in-Err-clause-ran
 returns-in-Err-clause-ran g c = λ total first ps n db all b left.
@@ -50,6 +61,7 @@ returns-in-Err-clause-ran g c = λ total first ps n db all b left.
     let e' = c.run_script.new.engine in
     let r = e.store.over.below in
     let r' = e'.store.over.below in
+    let pace = c.in-Err.ensures.lasts.same.1 in
     let fed = held_nothing _ _ all c.new-feed.ensures left in
     let stands = c.requires.fresh db (db_under (described e.desc) (described e.store.desc) g.S.Site.tells (held g.S.Site r).content db e.under b.tells b.spells) in
     let starts : BeginsWith e n db r.next = record {
@@ -71,6 +83,8 @@ returns-in-Err-clause-ran g c = λ total first ps n db all b left.
     (λ is. c.in-Err.ensures.full_list (an_error c.in-Err.fault Held is) db r.next all stands b.room fed)
     (λ is. c.in-Err.ensures.failed (an_error c.in-Err.fault Input is) db r.next all stands b.room fed)
     (no_damage c.in-Err.fault _ _ c.requires.found (c.in-Err.ensures.undamaged db r.next all stands b.room fed (record { db = db; mark = db; db_is = stands.db; mark_is = stands.mark })) c.in-Err.ensures.lasts.cause)
+    (failed_bound g.S.Site (described e.desc) r r' (telling_of total first) (λ i. telling_of (b.total_is i) (b.first_is i)) (λ i. telling_of ((pace.total ∙ b.total_is) i) ((pace.first ∙ b.first_is) i)) b.nothing b.every b.unused.0 b.unused.1 b.unused.2 b.tells c.in-Err.ensures.lasts.same.2
+    (script_events (described e.desc) db r.next (raw_lines all)) (seen e) (seen e') refl refl e.under refl refl c.in-Err.fault c.in-Err.ensures.lasts.cause (λ unsaid. c.in-Err.ensures.took unsaid db r.next all stands b.room fed))
 
 pub returns-in-Ok-clause-end : goal.returns-in-Ok-clause-end
 returns-in-Ok-clause-end g c = λ ok all is. left_nothing _ _ (c.in-Ok.ensures.end all (held_nothing _ _ all c.new-feed.ensures is))
