@@ -13,7 +13,6 @@ use Rattle.dms_audprint.specs.AuditText.{HasTrail}
 use Rattle.dms_audprint.specs.Printing.{PrintsSome, IsLate, RefusesAudit}
 use Rattle.dms_audprint.specs.declared.fault.PrintFault.{PrintFault}
 use Rattle.dms_audprint.specs.declared.fault.PrintFault.TheVariants.{Audit, Say}
-use Rattle.dms_status.specs.declared.status.Status.{Status}
 use Rattle.dms_status.specs.declared.status.Status.TheVariants.{Ok, SayFault, DiskFault}
 use Rattle.dms_top.specs.Auditing.{IsOfPrinting, JudgesTrail, audit_status}
 use Rattle.dms_audfile.specs.Counting.{CountedAt}

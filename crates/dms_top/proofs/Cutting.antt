@@ -1,5 +1,5 @@
 -- What was printed where taking from the input fails.
-use Rattle.std.proofs.Common.{◌≡◌, ◌+◌, ℕ, List, [], ◌++◌, Some, Bool, true, false, refl, sym, ap, ◌∙◌, subst, arith, append_assoc, length, length-append, length-take, take}
+use Rattle.std.proofs.Common.{◌≡◌, ◌+◌, ℕ, List, [], ◌++◌, Some, Bool, false, refl, sym, ap, ◌∙◌, subst, arith, append_assoc, length, length-append, length-take, take}
 use Rattle.std.specs.declared.option.Option.{Option}
 use Rattle.std.proofs.Math.Seq.{take-append-add}
 use Rattle.std.proofs.lemmas.List.{append-nil, take_at}

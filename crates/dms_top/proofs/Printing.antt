@@ -1,5 +1,5 @@
 -- What a site that tells its text has printed.
-use Rattle.std.proofs.Common.{◌≡◌, ◌++◌, ◌∙◌, ap, sym, subst, refl, Bool, true, false, Some, Option, List, ℕ, take, Ok, Err, Result, IsOk, OnOk}
+use Rattle.std.proofs.Common.{◌≡◌, ◌++◌, ◌∙◌, ap, sym, subst, refl, Bool, true, false, Option, List, ℕ, take, Ok, Err, Result, IsOk, OnOk}
 use Rattle.std.proofs.lemmas.List.{append-nil}
 use Rattle.std.proofs.lemmas.Option.{same_Some}
 use Rattle.dms_desc.specs.Shape.{Described}

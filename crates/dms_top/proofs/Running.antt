@@ -1,5 +1,4 @@
 -- The statuses of `run`.
-use Rattle.std.proofs.Common.{ℕ}
 use Rattle.dms_status.specs.declared.status.Status.{Status}
 use Rattle.dms_status.specs.declared.status.Status.TheVariants.{Ok, BadWords, SchemaRefused, NoDatabase, Needed, InputFault, Memory, Limit, Damaged, SayFault, DiskFault, Exists}
 use Rattle.dms_runtop.specs.Statuses.{IsOfRun}

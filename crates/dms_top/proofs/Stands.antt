@@ -1,6 +1,6 @@
 -- A new database stands for point 0 and the empty database.
-use Rattle.std.proofs.Common.{◌≡◌, ℕ, zero, suc, ◌+◌, ◌*◌, ◌/◌, ◌-◌, ◌<◌, ◌≤◌, ◌==◌, Bool, true, false, cond, List, [], ◌∷◌, ◌++◌, Some, None, refl, sym, ap, ◌∙◌, subst, arith, length, length-drop, take, drop, map, append_assoc, inl, inr}
-use Rattle.std.proofs.lemmas.List.{take-append-drop, take_all, append-nil}
+use Rattle.std.proofs.Common.{◌≡◌, ℕ, zero, suc, ◌+◌, ◌*◌, ◌-◌, ◌<◌, ◌≤◌, ◌==◌, Bool, true, false, cond, List, [], ◌∷◌, ◌++◌, Some, None, refl, sym, ap, ◌∙◌, subst, arith, length, length-drop, take, drop, map, append_assoc, inl, inr}
+use Rattle.std.proofs.lemmas.List.{take-append-drop, append-nil}
 use Rattle.std.proofs.lemmas.Bool.{cases_lt}
 use Rattle.std.specs.List.{range_with_len}
 use Rattle.dms_moments.specs.Moments.{Clock}
@@ -9,29 +9,27 @@ use Rattle.dms_desc.specs.Shape.{Described}
 use Rattle.dms_desc_bytes.specs.Spelling.{spelling}
 use Rattle.dms_descfile.specs.DescriptionFile.{IsSealed}
 use Rattle.dms_site.specs.Files.{Files, Left, stored_of}
-use Rattle.dms_model.specs.Db.{Db, empty_db}
+use Rattle.dms_model.specs.Db.{empty_db}
 use Rattle.dms_store.specs.Spelled.{spelled}
-use Rattle.dms_history.specs.declared.event.FileCount.{FileCount}
-use Rattle.dms_history.specs.Events.{Block, Content, Stored, Counts, Event, control}
+use Rattle.dms_history.specs.Events.{Content, Stored, Counts, Event, control}
 use Rattle.dms_history.specs.Entries.{Entry, schema_part, control_point, counts_in}
-use Rattle.dms_history.specs.Lists.{has, until_first}
-use Rattle.dms_history.specs.Places.{IsLive, is_point, is_described}
-use Rattle.dms_history.specs.History.{History, history, last_point, next_number}
+use Rattle.dms_history.specs.Lists.{has}
+use Rattle.dms_history.specs.Places.{IsLive}
+use Rattle.dms_history.specs.History.{history, last_point, next_number}
 use Rattle.dms_history.specs.Ranges.{Logged, event, told_events, live_logged}
 use Rattle.dms_history.specs.LawsOfRanges.{HasImages}
 use Rattle.dms_history.specs.Schemas.{Parts, no_parts, after_entry, is_whole, schema_entries, parts_of_schema}
 use Rattle.dms_history.specs.SchemaAt.{schema_of, schema_at, joined}
 use Rattle.dms_history.specs.Agrees.{EventsAgree}
-use Rattle.dms_history.specs.EntryEvents.{said_by, logged_from, logged, events, history_of, live_of, next_of, is_place, live_after, live_entries_from, live_entries, BeginsAlone, Agrees}
+use Rattle.dms_history.specs.EntryEvents.{said_by, logged_from, logged, events, history_of, live_of, is_place, live_entries_from, live_entries, BeginsAlone, Agrees}
 use Rattle.dms_history.specs.Here.{here}
 use Rattle.dms_history.specs.Pick.{Dumps, blocks_at, count_at, content_of, pick}
 use Rattle.dms_history.specs.LawsOfEntries.{ControlSealed}
 use Rattle.dms_history.specs.LawsOfKept.{FirstAgrees}
 use Rattle.dms_history.specs.LawsOfSchemas.{EachSchema, SchemaOfNew}
 use Rattle.dms_audfile.specs.Trail.{Span}
-use Rattle.dms_audfile.specs.ScanLaws.{IsFoundWith}
 use Rattle.dms_audrec.specs.Bodies.{bodies_of, part_count, bodies}
-use Rattle.dms_creation.specs.FirstEntries.{zero_counts, first_control, first_entries}
+use Rattle.dms_creation.specs.FirstEntries.{zero_counts, first_entries}
 use Rattle.dms_creation.specs.Creation.{IsMade, Initializes}
 use Rattle.dms_creation.specs.FoundAgain.{MadeIsFound}
 use Rattle.dms_running.specs.FromDumps.{dump_in}

@@ -1,4 +1,4 @@
-ghost use Rattle.std.specs.Prelude.{◌≡◌, Ok, Err};
+ghost use Rattle.std.specs.Prelude.{Ok, Err};
 ghost use Rattle.dasdl_compile.specs.Compile.{compiled};
 ghost use Rattle.dms_top.specs.Judging.{compiled_as, judged};
 ghost use Rattle.dms_top.specs.JudgedSchema.{AnswersJudging};

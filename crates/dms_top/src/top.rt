@@ -1,4 +1,4 @@
-ghost use Rattle.std.specs.Prelude.{◌≡◌, ◌≤◌, ◌≢◌, ◌↔◌, [], ℕ, List, Some, Ok, Err, Option, map, length, string_bytes, slice_index, IsTrue, IsOk};
+ghost use Rattle.std.specs.Prelude.{◌≡◌, ◌≢◌, ◌↔◌, [], ℕ, Some, Ok, Err, Option, map, length, string_bytes, slice_index, IsTrue, IsOk};
 ghost use Rattle.dms_desc.specs.Shape.{Described};
 ghost use Rattle.dms_descfile.specs.Becoming.{Creates};
 ghost use Rattle.dms_descfile.specs.DescriptionFile.{sealed_file, IsSealed, IsUnsealed};
@@ -24,7 +24,7 @@ ghost use Rattle.dms_runtop.specs.Full.{HasNoRoom};
 ghost use Rattle.dms_runtop.specs.Guard.{StaysBeside};
 ghost use Rattle.dms_runtop.specs.Statuses.{IsOfRun, IsRefusal};
 ghost use Rattle.dms_top.specs.SiteText.{text_told};
-ghost use Rattle.dms_top.specs.Words.{IsTry, IsCompile, IsPrintAudit, IsRun, IsCommand, IsOfTry, IsOfCompile, IsPast, ComesUnsaid, IsUntouched};
+ghost use Rattle.dms_top.specs.Words.{IsTry, IsCompile, IsRun, IsCommand, IsOfTry, IsOfCompile, IsPast, ComesUnsaid, IsUntouched};
 
 use crate::audit_run::{is_print_audit, print_trail};
 use crate::compile_run::compile_input;

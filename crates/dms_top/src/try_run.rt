@@ -1,4 +1,4 @@
-ghost use Rattle.std.specs.Prelude.{◌≡◌, ◌≢◌, ◌≤◌, [], ℕ, List, Some, IsTrue, IsOk, IsErrOf};
+ghost use Rattle.std.specs.Prelude.{◌≡◌, ◌≢◌, [], IsTrue, IsOk, IsErrOf};
 ghost use Rattle.dms_desc.specs.Shape.{described};
 ghost use Rattle.dms_desc_bytes.specs.WellFormed.{IsWellFormed};
 ghost use Rattle.dms_feed.specs.Feeds.{Remains};

@@ -1,4 +1,4 @@
-use Rattle.std.proofs.Common.{◌≡◌, ◌∙◌, sym, subst}
+use Rattle.std.proofs.Common.{◌∙◌, sym, subst}
 use Rattle.dms_status.specs.declared.status.Status.{Status}
 use Rattle.dms_top.specs.Auditing.{IsOfPrinting, JudgesTrail}
 use Rattle.dms_top.specs.Words.{ComesUnsaid}
