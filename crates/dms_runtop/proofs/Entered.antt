@@ -38,7 +38,7 @@ use Rattle.dms_runtop.specs.Bound.{CountsFailures}
 use Rattle.dms_runtop.proofs.Bounds.{bounds_opening, opening_grew, sealed_few}
 use Rattle.dms_runtop.proofs.Formed.{bytes_fit}
 use Rattle.dms_runtop.proofs.Refused.{open_ok}
-use Rattle.dms_runtop.specs.Command.{DatabaseState, HasNumbersLeft, HoldsState, HoldsTold, RunsAlong, RunsCommand, RunsOpened, EndsInState, StandsOpened, StandsThroughout, StatesHold}
+use Rattle.dms_runtop.specs.Command.{DatabaseState, HasNumbersLeft, HoldsState, HoldsTold, NeverRefuses, NeverRefusesState, RunsAlong, RunsCommand, RunsOpened, EndsInState, StandsOpened, StandsThroughout, StatesHold}
 use Rattle.dms_runtop.specs.Faults.{open_status}
 use Rattle.dms_runtop.specs.Over.{ReachesFiles, ScriptRuns, seen_site}
 use Rattle.dms_runtop.proofs.Endings.{IsUndone}
@@ -179,6 +179,12 @@ module _ {S : Type 0} (g : Ghosts S) (old : S) (s : DatabaseState) where
             (ap (λ (l : List ℕ). cond g.tells_said (Some l) None) said)
             (bounds_opening (open_status fault) (open_ok fault) (λ f is. sealed_few h.total h.first files (g.files new) (few (full_opening_of fault (none h.total h.first (openable h)) f is) h.total h.first h.trail h.whole)) (prints_none _ _ (ap (λ (l : List ℕ). cond g.tells_said (Some l) None) said)));
       }
+
+-- what stands for a state isn't refused
+pub refuses_no_state : {S : Type 0} (g : Ghosts S) (old : S) → StatesHold → (status : Status) → NeverRefuses g old status → NeverRefusesState g old status
+refuses_no_state g old hold status never tells s stands refusal =
+    let h : HoldsState (g.files old) s = hold (g.files old) s stands in
+    never tells h.total h.first (openable g old s h) refusal
 
 -- ---- the command, where a state is told
 

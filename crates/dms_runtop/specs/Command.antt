@@ -102,6 +102,10 @@ module _ {S : Type 0} (g : Ghosts S) where
   abbrev pub NeverRefuses : S → Status → Type 0
   NeverRefuses old status = IsTrue g.tells → (total first : ℕ) → IsOpenable total first (g.files old) → IsRefusal status → ⊥
 
+  -- so files that stand for a state are refused by nothing
+  abbrev pub NeverRefusesState : S → Status → Type 0
+  NeverRefusesState old status = IsTrue g.tells → (s : DatabaseState) → StateOf (g.files old) s.point s.desc s.db → IsRefusal status → ⊥
+
   -- The opening was refused: with this fault, which is the first refusal of the files. No file has changed, and a stop leaves what it could leave
   -- before.
   pub record IsRefused (old new : S) (status : Status) : Type 0 where

@@ -6,7 +6,7 @@ ghost use Rattle.dms_desc.specs.Shape.{described};
 ghost use Rattle.dms_desc_bytes.specs.Spelling.{spelling};
 ghost use Rattle.dms_desc_bytes.specs.WellFormed.{IsWellFormed};
 ghost use Rattle.dms_opening.specs.Openings.{NamesStructures};
-ghost use Rattle.dms_runtop.specs.Command.{DatabaseState, HoldsTold, NeverRefuses, EndsInState, StandsOpened, StandsThroughout, RunsCommand, RunsOpened, RefusesRun};
+ghost use Rattle.dms_runtop.specs.Command.{DatabaseState, HoldsTold, NeverRefuses, NeverRefusesState, EndsInState, StandsOpened, StandsThroughout, RunsCommand, RunsOpened, RefusesRun};
 ghost use Rattle.dms_runtop.specs.Describing.{IsUnderSchema};
 ghost use Rattle.dms_runtop.specs.Full.{HasNoRoom, PassesAtFull};
 ghost use Rattle.dms_runtop.specs.Guard.{StaysBeside};
@@ -295,6 +295,7 @@ pub fn run_command<S: Site, I: Source>(alloc: Global, site: &mut S, source: &mut
     ensures stands { StandsThroughout S.Site state site.old site.new (I.left source.old) }
     ensures ends { EndsInState S.Site state site.old site.new (I.left source.old) result }
     ensures complete { NeverRefuses S.Site site.old result }
+    ensures complete_state { NeverRefusesState S.Site site.old result }
     ensures ran { RunsCommand S.Site state site.old site.new (I.left source.old) (I.left source.new) result }
     ensures refused { IsRefusal result → RefusesRun S.Site site.old site.new result }
     ensures end { result ≡ Status.Ok → (all : List ℕ) → I.left source.old ≡ Some all → I.left source.new ≡ Some [] }
@@ -308,6 +309,7 @@ pub fn run_command<S: Site, I: Source>(alloc: Global, site: &mut S, source: &mut
     ensures same_source { I.same_source source.old source.new }
 {
     held_law();
+    states_law();
     stands_law();
     let ended = run_guarded(alloc, site, source);
     let status = ended.status;

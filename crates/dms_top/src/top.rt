@@ -19,7 +19,7 @@ ghost use Rattle.dms_top.specs.Answering.{Printed, PrintedPrefix, PrintedWhole, 
 ghost use Rattle.dms_status.specs.declared.status.LimitKind.{LimitKind as Kind};
 ghost use Rattle.dms_top.specs.Premises.{OnTry, OnCompile, OnInitialize, OnPrintAudit, OnOthers, OnReading, OnRun, OfInput, OfSchema, OfSealed, OfNoSchema, OfTriedScript, OfNoScript};
 ghost use Rattle.dms_audfile.specs.Counting.{CountedAt};
-ghost use Rattle.dms_runtop.specs.Command.{DatabaseState, HoldsTold, NeverRefuses, RefusesRun, RunsCommand, EndsInState, StandsThroughout};
+ghost use Rattle.dms_runtop.specs.Command.{DatabaseState, HoldsTold, NeverRefuses, NeverRefusesState, RefusesRun, RunsCommand, EndsInState, StandsThroughout};
 ghost use Rattle.dms_runtop.specs.Full.{HasNoRoom};
 ghost use Rattle.dms_runtop.specs.Guard.{StaysBeside};
 ghost use Rattle.dms_runtop.specs.Statuses.{IsOfRun, IsRefusal};
@@ -258,6 +258,8 @@ pub fn dms<S: Site, I: Source>(
     ensures run_refused { OnRun words.now (IsRefusal result → RefusesRun S.Site site.old site.new result) }
     // neither comes where the files hold a database, whose last point is live and described
     ensures run_complete { OnRun words.now (NeverRefuses S.Site site.old result) }
+    // nor where they stand for a state
+    ensures run_complete_state { OnRun words.now (NeverRefusesState S.Site site.old result) }
     // status 8 of an audit file comes only where the trail of entry goes on behind that file: it begins behind it, or all gates of that file are open
     ensures run_full { OnRun words.now (HasNoRoom S.Site site.old site.new result) }
     // only audit files and structure files change: the description and the dumps read as they did, and each stop left them as one at entry could

@@ -1,6 +1,6 @@
 use Rattle.std.proofs.Common.{rules, MutBor, sym, subst}
 use Rattle.dms_runtop.specs.Command.{RunsCommand}
-use Rattle.dms_runtop.proofs.Entered.{stands_at_end, stands_throughout}
+use Rattle.dms_runtop.proofs.Entered.{refuses_no_state, stands_at_end, stands_throughout}
 use Rattle.dms_runtop.proofs.command.run_command.Goals as goal
 
 pub returns-clause-ran : goal.returns-clause-ran
@@ -14,3 +14,6 @@ returns-clause-stands g c = stands_throughout g.S.Site c.args.site.now g.state c
 
 pub returns-clause-ends : goal.returns-clause-ends
 returns-clause-ends g c = stands_at_end g.S.Site c.args.site.now g.state c.stands_law.ensures.ends c.requires.1.1 (g.I.Source.left c.args.source.now) (g.I.Source.left c.run_guarded-ended.new.source) c.run_guarded-ended.result.status _ (returns-clause-ran g c)
+
+pub returns-clause-complete_state : goal.returns-clause-complete_state
+returns-clause-complete_state g c = refuses_no_state g.S.Site c.args.site.now c.states_law.ensures c.run_guarded-ended.result.status c.run_guarded-ended.ensures.complete
