@@ -1,5 +1,5 @@
 -- How much audit a run takes, step by step.
-use Rattle.std.proofs.Common.{ℕ, zero, suc, ◌+◌, ◌-◌, ◌*◌, ◌^◌, ◌<◌, ◌≤◌, ◌≡◌, ◌⊎◌, ◌∙◌, inl, inr, Bool, true, false, IsTrue, List, [], ◌∷◌, ◌++◌, length, take, Option, refl, sym, ap, subst, arith}
+use Rattle.std.proofs.Common.{ℕ, zero, suc, ◌+◌, ◌-◌, ◌*◌, ◌^◌, ◌<◌, ◌≤◌, ◌≡◌, ◌∙◌, true, IsTrue, List, [], ◌++◌, length, take, Option, sym, ap, subst, arith}
 use Rattle.std.proofs.lemmas.List.{take_all}
 use Rattle.dms_audfile.specs.TrailEntries.{trail_entries}
 use Rattle.dms_block.specs.Counts.{Faults}
@@ -12,7 +12,6 @@ use Rattle.dms_model.specs.Seen.{Effort, Seen}
 use Rattle.dms_runner.specs.Blaming.{HasBlame}
 use Rattle.dms_runner.specs.Events.{RunEvent, Takes, TookPart, backs_of, blocks_of, syncs_of, text_of}
 use Rattle.dms_runner.specs.declared.run.RunFault.{RunFault}
-use Rattle.dms_runner.specs.declared.run.RunFault.TheVariants as run
 use Rattle.dms_runner.specs.declared.run.RunFault.TheVariants.{Block}
 use Rattle.dms_running.specs.Telling.{Telling}
 use Rattle.dms_restore.specs.Logging.{LogView, entries, telling, waits}
@@ -25,12 +24,12 @@ use Rattle.dms_status.specs.declared.status.Status.TheVariants.{Ok, Limit, DiskF
 use Rattle.dms_storeverbs.specs.Costs.{limit_if}
 use Rattle.dms_wal.specs.declared.running.Running.{Running}
 use Rattle.dms_wal.specs.Controls.{is_due_at}
-use Rattle.dms_wal.specs.Growing.{FilesGrew, GrowsBy, HasStayed, IsCounted, controls_among, others, paid}
+use Rattle.dms_wal.specs.Growing.{FilesGrew, GrowsBy, HasStayed, IsCounted, controls_among, others}
 use Rattle.dms_wal.proofs.Grown.{others_few, others_on, stays_or_rises}
 use Rattle.dms_opening.specs.Openings.{SealsFew, opening_entries}
 use Rattle.dms_opening.proofs.Callers.{opening_few}
 use Rattle.dms_history.specs.History.{Pending}
-use Rattle.dms_runtop.specs.Bound.{AreCounted, AuditGrew, BoundsAudit, GrewByPart, audit_begun, audit_of}
+use Rattle.dms_runtop.specs.Bound.{AreCounted, BoundsAudit, audit_begun, audit_of}
 use Rattle.dms_runtop.specs.Faults.{run_status}
 use Rattle.dms_runtop.proofs.Endings.{run_full_is, run_not_ok}
 

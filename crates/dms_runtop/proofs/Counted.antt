@@ -11,7 +11,7 @@ use Rattle.dms_runner.specs.Blaming.{HasBlame}
 use Rattle.dms_runner.specs.declared.run.RunFault.{RunFault}
 use Rattle.dms_runner.specs.declared.run.RunFault.TheVariants as run
 use Rattle.dms_status.specs.declared.status.Status.{Status}
-use Rattle.dms_status.specs.declared.status.Status.TheVariants.{DiskFault, SayFault, Memory, Damaged}
+use Rattle.dms_status.specs.declared.status.Status.TheVariants.{DiskFault, SayFault}
 use Rattle.dms_runtop.specs.Faults.{IsWithin, run_status, damaged_status}
 use Rattle.dms_runtop.proofs.Endings.{damage_is}
 

@@ -1,9 +1,8 @@
 -- A database that was opened, and a call since that only looked, or that did nothing.
-use Rattle.std.proofs.Common.{ℕ, ◌+◌, ◌-◌, ◌<◌, ◌^◌, ◌≡◌, ◌≤◌, ◌∙◌, Bool, IsTrue, List, Option, Some, None, cond, refl, sym, ap, subst, arith}
+use Rattle.std.proofs.Common.{ℕ, ◌≡◌, ◌≤◌, ◌∙◌, Bool, IsTrue, List, Option, Some, None, cond, refl, sym, ap, subst, arith}
 use Rattle.dms_moments.specs.Moments.{Clock, Now, Runs, Steps}
 use Rattle.dms_moments.specs.MomentLaws.{runs_none, steps_weaken}
 use Rattle.dms_moments.specs.SeenLaws.{runs_looking}
-use Rattle.dms_model.specs.Db.{Db}
 use Rattle.dms_running.specs.Points.{points_of}
 use Rattle.dms_site.specs.declared.site.Site.{Ghosts}
 use Rattle.dms_site.specs.Files.{Files, Left, Same}

@@ -1,21 +1,15 @@
 -- A database that was opened, as one from which a script runs.
-use Rattle.std.proofs.Common.{ℕ, ◌≡◌, ◌+◌, ◌<◌, ◌^◌, ◌∙◌, ◌⊎◌, inl, inr, List, [], ◌∷◌, ◌++◌, map, length, refl, sym, ap, subst, arith, Some, IsTrue}
+use Rattle.std.proofs.Common.{ℕ, ◌≡◌, ◌∙◌, inl, inr, List, [], ◌∷◌, ◌++◌, map, refl, sym, ap, Some}
 use Rattle.dms_block.specs.Content.{Content}
-use Rattle.dms_block.specs.Held.{BlockPoint, Held}
+use Rattle.dms_block.specs.Held.{BlockPoint}
 use Rattle.dms_desc.specs.Shape.{Described}
 use Rattle.dms_desc_bytes.specs.Spelling.{spelling}
 use Rattle.dms_desc_bytes.specs.WellFormed.{IsWellFormed}
 use Rattle.dms_model.specs.Db.{Db}
-use Rattle.dms_model.specs.Points.{Point}
-use Rattle.dms_running.specs.Points.{DescribedPoint, points_of}
-use Rattle.dms_running.specs.Telling.{Telling}
-use Rattle.dms_site.specs.Files.{Files}
-use Rattle.dms_site.specs.declared.site.Site.{Ghosts}
-use Rattle.dms_store.specs.Lifted.{point_of}
+use Rattle.dms_running.specs.Points.{DescribedPoint}
 use Rattle.dms_store.specs.Spelled.{spelled}
 use Rattle.dms_wal.specs.Lifting.{block_point, last_blocks}
 use Rattle.dms_wal.proofs.Lifts.{last_here}
-use Rattle.dms_run.specs.Files.{points_seen}
 use Rattle.dms_run.specs.States.{LivesEndWith}
 use Rattle.dms_runtop.specs.Describing.{IsUnderSchema}
 

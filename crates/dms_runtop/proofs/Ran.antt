@@ -1,28 +1,28 @@
 -- What a run over a store on a running database is of the files below.
-use Rattle.std.proofs.Common.{inl, inr, ◌⊎◌, ℕ, ◌≡◌, ◌≤◌, ◌<◌, ◌+◌, ◌^◌, ◌∙◌, Bool, true, false, IsTrue, List, [], ◌∷◌, ◌++◌, map, length, take, Option, Some, None, refl, sym, ap, subst, arith}
+use Rattle.std.proofs.Common.{inl, inr, ◌⊎◌, ℕ, ◌≡◌, ◌<◌, ◌+◌, ◌^◌, ◌∙◌, Bool, true, false, IsTrue, List, map, length, Option, Some, sym, ap, subst, arith}
 use Rattle.std.proofs.lemmas.List.{length-map, append-nil}
 use Rattle.dms_block.specs.Held.{Held}
 use Rattle.dms_block.specs.Texts.{Prints, PrintsPrefix}
 use Rattle.dms_desc.specs.Shape.{Described}
 use Rattle.dms_model.specs.Db.{Db}
 use Rattle.dms_model.specs.Points.{Point, Stop, LeavesPrefix, TextIs}
-use Rattle.dms_moments.specs.Moments.{Clock, Runs}
+use Rattle.dms_moments.specs.Moments.{Runs}
 use Rattle.dms_moments.specs.MomentLaws.{runs_weaken}
 use Rattle.dms_block.specs.declared.block_fault.BlockFault.TheVariants as block
 use Rattle.dms_block.specs.declared.block_fault.BlockFault.TheVariants.{Say}
 use Rattle.dms_feed.specs.Lines.{raw_lines}
-use Rattle.dms_runner.specs.Answers.{answers_text, last_quiet, script_events}
-use Rattle.dms_runner.specs.Events.{RunEvent, SaidWhole, quiets_of, text_of}
+use Rattle.dms_runner.specs.Answers.{answers_text, script_events}
+use Rattle.dms_runner.specs.Events.{RunEvent, SaidWhole}
 use Rattle.dms_runner.specs.Running.{CutInput, PassesBytes, PassesLines, PassesWaiting}
 use Rattle.dms_runner.specs.declared.run.RunFault.{RunFault}
 use Rattle.dms_runner.specs.declared.run.RunFault.TheVariants as run
 use Rattle.dms_runner.specs.declared.run.RunFault.TheVariants.{Block}
 use Rattle.dms_running.specs.Telling.{Telling}
 use Rattle.dms_running.specs.Standing.{IsWhole}
-use Rattle.dms_running.specs.Points.{DescribedPoint, points_of}
+use Rattle.dms_running.specs.Points.{DescribedPoint}
 use Rattle.dms_site.specs.declared.site.Site.{Ghosts}
-use Rattle.dms_site.specs.Files.{Files, Left, Only}
-use Rattle.dms_restore.specs.Logging.{Trail, trail_of, telling_of, telling, points}
+use Rattle.dms_site.specs.Files.{Files}
+use Rattle.dms_restore.specs.Logging.{Trail, trail_of, telling_of, telling}
 use Rattle.dms_restore.specs.Views.{view_of}
 use Rattle.dms_store.specs.Lifted.{db_of, point_of, lifted, stop_of as store_stop}
 use Rattle.dms_store.specs.LiftedLaws as stores
@@ -34,12 +34,12 @@ use Rattle.dms_wal.specs.Lifting as wal
 use Rattle.dms_wal.proofs.Lifts as walks
 use Rattle.dms_run.specs.States.{EndsWith, LivesEndWith}
 use Rattle.dms_run.specs.Ending.{KeepsLimits}
-use Rattle.dms_run.specs.Stops.{RunLeaves, last_quiet_number}
+use Rattle.dms_run.specs.Stops.{RunLeaves}
 use Rattle.dms_status.specs.declared.status.LimitKind.{LimitKind}
 use Rattle.dms_status.specs.declared.status.LimitKind.TheVariants as limits
 use Rattle.dms_status.specs.declared.status.LimitKind.TheVariants.{AuditFile, Lines, Bytes}
 use Rattle.dms_status.specs.declared.status.Status.{Status}
-use Rattle.dms_status.specs.declared.status.Status.TheVariants.{Ok, Limit, InputFault, Damaged}
+use Rattle.dms_status.specs.declared.status.Status.TheVariants.{Ok, Limit}
 use Rattle.dms_runtop.specs.Bound.{BoundsAudit}
 use Rattle.dms_runtop.proofs.Bounds.{bounds_since}
 use Rattle.dms_runtop.specs.Faults.{run_status}

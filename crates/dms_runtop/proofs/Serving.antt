@@ -1,5 +1,5 @@
 -- The running database of a description serves a store of it.
-use Rattle.std.proofs.Common.{◌≡◌, ◌∙◌, ◌+◌, ◌-◌, ◌≤◌, ◌⊎◌, inl, inr, ℕ, zero, suc, List, [], ◌∷◌, Bool, true, false, IsTrue, Some, None, nat_lt, nat_le, refl, sym, ap, subst, cond, length, slice_get, arith}
+use Rattle.std.proofs.Common.{◌≡◌, ◌∙◌, ◌+◌, ◌-◌, ◌≤◌, inl, inr, ℕ, zero, suc, List, [], ◌∷◌, Bool, true, false, IsTrue, None, nat_lt, nat_le, sym, ap, subst, cond, length, slice_get, arith}
 use Rattle.std.specs.Prelude.{◌&&◌, ◌==◌, IsSome}
 use Rattle.std.proofs.lemmas.Bool.Decides.{nat_tests}
 use Rattle.dms_block.specs.Held.{Held}

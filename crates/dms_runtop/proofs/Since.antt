@@ -1,11 +1,11 @@
 -- A run since the opening, and before it what the opening leaves.
-use Rattle.std.proofs.Common.{ℕ, zero, suc, ◌≡◌, ◌≤◌, ◌<◌, ◌+◌, ◌∙◌, ◌⊎◌, inl, inr, List, [], ◌∷◌, ◌++◌, length, Option, Some, None, refl, sym, ap, subst, arith}
+use Rattle.std.proofs.Common.{ℕ, ◌≡◌, ◌≤◌, ◌+◌, ◌∙◌, List, [], ◌∷◌, ◌++◌, Option, Some, None, refl, sym, ap, subst, arith}
 use Rattle.std.proofs.lemmas.List.{append-nil}
 use Rattle.dms_desc.specs.Shape.{Described}
 use Rattle.dms_feed.specs.Lines.{raw_lines}
 use Rattle.dms_model.specs.Db.{Db}
-use Rattle.dms_moments.specs.Moments.{Clock, Runs}
-use Rattle.dms_moments.specs.MomentLaws.{runs_on, runs_weaken}
+use Rattle.dms_moments.specs.Moments.{Runs}
+use Rattle.dms_moments.specs.MomentLaws.{runs_on}
 use Rattle.dms_runner.specs.Answers.{script_run, script_events, unanswered_events}
 use Rattle.dms_runner.specs.Events.{RunEvent, goes_back, quiets_of}
 use Rattle.dms_running.specs.Telling.{Telling}
@@ -15,7 +15,6 @@ use Rattle.dms_opening.specs.Openings.{Reopens}
 use Rattle.dms_wal.specs.Marks.{last_number, number_from}
 use Rattle.dms_run.specs.Files.{RunLeavesFiles}
 use Rattle.dms_run.specs.States.{LivesEndWith}
-use Rattle.dms_run.specs.Stops.{PrintedUpTo}
 use Rattle.dms_status.specs.declared.status.Status.{Status}
 use Rattle.dms_wal.specs.Growing.{others}
 use Rattle.dms_runtop.specs.Over.{ScriptRuns, SiteSeen}

@@ -1,6 +1,5 @@
 -- A run over a site whose files are told only where it is known what they stand for.
-use Rattle.std.proofs.Common.{ℕ, ◌≡◌, ◌+◌, ◌<◌, ◌^◌, ◌∙◌, ◌-◌, Bool, IsTrue, List, [], map, Option, refl, sym, ap, subst, arith}
-use Rattle.dms_block.specs.Held.{BlockPoint}
+use Rattle.std.proofs.Common.{ℕ, ◌≡◌, ◌+◌, ◌<◌, ◌^◌, ◌∙◌, Bool, IsTrue, List, [], map, Option, sym, ap, subst, arith}
 use Rattle.dms_desc.specs.Shape.{Described}
 use Rattle.dms_desc_bytes.specs.Spelling.{spelling}
 use Rattle.dms_desc_bytes.specs.WellFormed.{IsWellFormed}
@@ -9,7 +8,7 @@ use Rattle.dms_running.specs.Points.{DescribedPoint, points_of}
 use Rattle.dms_running.specs.Telling.{Telling}
 use Rattle.dms_site.specs.declared.site.Site.{Ghosts}
 use Rattle.dms_site.specs.Files.{Files}
-use Rattle.dms_restore.specs.Logging.{telling_of, telling, points, waits}
+use Rattle.dms_restore.specs.Logging.{telling_of, points, waits}
 use Rattle.dms_restore.specs.Views.{view_of}
 use Rattle.dms_store.specs.Lifted.{point_of}
 use Rattle.dms_wal.specs.declared.running.Running.{Running}

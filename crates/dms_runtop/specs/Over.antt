@@ -1,5 +1,5 @@
 -- A run of a script over a database that was opened.
-use Rattle.std.specs.Prelude.{ℕ, ◌≡◌, ◌⊎◌, ◌+◌, ◌<◌, ◌^◌, List, [], length, map, Some, None, IsTrue, ⊤, if◌then◌else◌}
+use Rattle.std.specs.Prelude.{ℕ, ◌≡◌, ◌⊎◌, ◌+◌, ◌<◌, ◌^◌, List, [], length, map, Some, None, IsTrue, if◌then◌else◌}
 use Rattle.std.specs.declared.option.Option.{Option}
 use Rattle.dms_moments.specs.Moments.{Clock, Runs}
 use Rattle.dms_block.specs.Texts.{Prints, PrintsPrefix}
@@ -23,7 +23,7 @@ use Rattle.dms_runtop.specs.Bound.{BoundsAudit, CountsFailures}
 use Rattle.dms_store.specs.Lifted.{point_of}
 use Rattle.dms_store.specs.Spelled.{spelled}
 use Rattle.dms_runner.specs.Answers.{answers_quiets, answers_text, left_by, script_events, script_run}
-use Rattle.dms_runner.specs.Events.{RunEvent, SaidWhole}
+use Rattle.dms_runner.specs.Events.{SaidWhole}
 use Rattle.dms_runner.specs.Running.{CutInput, PassesBytes, PassesLines, PassesWaiting}
 use Rattle.dms_run.specs.Ending.{KeepsLimits}
 use Rattle.dms_run.specs.Files.{points_seen, RunLeavesFiles}

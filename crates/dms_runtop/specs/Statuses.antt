@@ -1,5 +1,5 @@
 -- The statuses of a run, by where they come from.
-use Rattle.std.specs.Prelude.{ℕ, ◌≡◌, ◌<◌, ◌≤◌, ⊤}
+use Rattle.std.specs.Prelude.{◌≡◌, ◌<◌, ◌≤◌, ⊤}
 use Rattle.dms_status.specs.declared.status.NeedFault.{NeedFault}
 use Rattle.dms_status.specs.declared.status.NeedFault.TheVariants.{NoDescription, AuditMissing, AuditUnsealed, AuditForeign, NoSuchPoint, Voided, DumpPending}
 use Rattle.dms_status.specs.declared.status.LimitKind.{LimitKind}

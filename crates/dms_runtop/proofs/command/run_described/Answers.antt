@@ -1,4 +1,4 @@
-use Rattle.std.proofs.Common.{◌≡◌, ◌≤◌, ◌<◌, ◌∙◌, ℕ, List, length, refl, sym, ap, subst}
+use Rattle.std.proofs.Common.{◌≤◌, ◌<◌, ◌∙◌, ℕ, length, refl, sym, ap, subst}
 use Rattle.std.specs.Global.{Vec}
 use Rattle.dms_desc.specs.Shape.{described}
 use Rattle.dms_wal.specs.Marks.{IsDescription}

@@ -1,6 +1,6 @@
-use Rattle.std.proofs.Common.{◌≡◌, ◌∙◌, refl, sym, subst}
+use Rattle.std.proofs.Common.{◌∙◌, refl, sym, subst}
 use Rattle.dms_audfile.specs.Counting.{not_counted}
-use Rattle.dms_status.specs.declared.status.Status.TheVariants.{DiskFault, SayFault}
+use Rattle.dms_status.specs.declared.status.Status.TheVariants.{DiskFault}
 use Rattle.dms_runtop.specs.Faults.{open_status}
 use Rattle.dms_runtop.specs.Statuses.{IsOfRun, IsRefusal}
 use Rattle.dms_runtop.proofs.Counted.{on_from, on_status}

@@ -1,4 +1,3 @@
-use Rattle.std.proofs.Common.{ℕ, ◌≡◌, refl, sym, subst}
 use Rattle.dms_moments.specs.SeenLaws.{runs_looking}
 use Rattle.dms_runtop.proofs.Looked.{no_bound_description, runs_looked, runs_undone, stands_looked, undone_description}
 use Rattle.dms_runtop.proofs.command.run_opened.Goals as goal

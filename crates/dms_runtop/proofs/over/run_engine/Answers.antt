@@ -1,7 +1,7 @@
 use Rattle.std.proofs.Common.{◌≡◌, ◌∙◌, IsTrue, inr, refl, sym, ap, subst}
 use Rattle.dms_audfile.specs.Counting.{not_counted}
 use Rattle.dms_block.specs.Counts.{Faults}
-use Rattle.dms_status.specs.declared.status.Status.TheVariants.{DiskFault, InputFault, SayFault}
+use Rattle.dms_status.specs.declared.status.Status.TheVariants.{DiskFault, SayFault}
 use Rattle.dms_runner.specs.declared.run.RunFault.TheVariants.{Bytes, Held, Input, Lines}
 use Rattle.dms_wal.specs.declared.running.Running.{Running}
 use Rattle.dms_runtop.specs.Faults.{run_status}

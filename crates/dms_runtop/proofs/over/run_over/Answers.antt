@@ -1,4 +1,4 @@
-use Rattle.std.proofs.Common.{◌≡◌, ◌∙◌, ap, subst}
+use Rattle.std.proofs.Common.{◌∙◌, subst}
 use Rattle.dms_desc.specs.Shape.{Described, described}
 use Rattle.dms_store.specs.Storing.{seen_by}
 use Rattle.dms_storeverbs.specs.View.{view}
