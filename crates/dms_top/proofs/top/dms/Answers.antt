@@ -215,3 +215,9 @@ returns-then-is_run-clause-run_full g c = λ is. c.run_command.ensures.full
 
 pub returns-then-is_run-clause-run_beside : goal.returns-then-is_run-clause-run_beside
 returns-then-is_run-clause-run_beside g c = λ is. c.run_command.ensures.beside
+
+pub returns-then-is_run-clause-run_ends : goal.returns-then-is_run-clause-run_ends
+returns-then-is_run-clause-run_ends g c = λ is. c.run_command.ensures.ends
+
+pub returns-then-is_run-clause-run_complete_state : goal.returns-then-is_run-clause-run_complete_state
+returns-then-is_run-clause-run_complete_state g c = λ is. c.run_command.ensures.complete_state
