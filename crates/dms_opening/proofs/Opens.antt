@@ -17,7 +17,7 @@ use Rattle.dms_restore.specs.Views.{view_of}
 use Rattle.dms_opening.specs.declared.looking.PlannedOpening.{PlannedOpening}
 use Rattle.dms_opening.specs.declared.opened.Opened.{Opened}
 use Rattle.dms_opening.specs.Carrying.{IsPlanned}
-use Rattle.dms_opening.specs.Openings.{IsTrailFound, NamesStructures, OpensAt, RunsFrom, Reopens, ReopensSince, text_of, RefusesFiles, SealsFew, MayHaveWritten}
+use Rattle.dms_opening.specs.Openings.{IsTrailFound, NamesStructures, OpensAt, RunsFrom, Reopens, ReopensSince, text_of, RefusesFiles, SealsFew, CanOpen, MayHaveWritten}
 use Rattle.dms_opening.specs.Plans.{Plans}
 use Rattle.dms_opening.proofs.OneTrail.{one_first, one_total, unchanged}
 
@@ -29,9 +29,8 @@ pub may_refuse : (files : Files) (fault : OpenFault) → MayHaveWritten fault �
 may_refuse files fault (inl disk) = inl (aud.Disk, disk, tt)
 may_refuse files fault (inr full) = inr (inr full)
 
--- the plan of an opening is what it does
-module _ {S : Type 0} (files : Files) (p : PlannedOpening S) (o : Opened S) (total : o.log.end.total ≡ p.log.end.total) (first : o.log.first ≡ p.log.first)
-    (point : o.point ≡ p.plan.choice.point) (next : o.next ≡ p.plan.next) (schema : o.schema ≡ p.plan.schema) (counts : o.counts ≡ p.plan.counts) where
+-- what was planned is an opening
+module _ {S : Type 0} (files : Files) (p : PlannedOpening S) where
   planned_opens : IsTrailFound p.log.end.total p.log.first files → Plans p.log.end.total p.log.first files p.plan → NamesStructures p.plan.schema.items p.plan.counts.items
       → OpensAt p.log.end.total p.log.first files p.plan.choice.point p.plan.next p.plan.schema.items p.plan.counts.items
   planned_opens trail plans named = record {
@@ -46,6 +45,20 @@ module _ {S : Type 0} (files : Files) (p : PlannedOpening S) (o : Opened S) (tot
     named = named;
   }
 
+  pub can_open : IsTrailFound p.log.end.total p.log.first files → Plans p.log.end.total p.log.first files p.plan → NamesStructures p.plan.schema.items p.plan.counts.items → CanOpen files
+  can_open trail plans named = record {
+    total = p.log.end.total;
+    first = p.log.first;
+    point = p.plan.choice.point;
+    next = p.plan.next;
+    schema = p.plan.schema.items;
+    counts = p.plan.counts.items;
+    opens = planned_opens trail plans named;
+  }
+
+-- the plan of an opening is what it does
+module _ {S : Type 0} (files : Files) (p : PlannedOpening S) (o : Opened S) (total : o.log.end.total ≡ p.log.end.total) (first : o.log.first ≡ p.log.first)
+    (point : o.point ≡ p.plan.choice.point) (next : o.next ≡ p.plan.next) (schema : o.schema ≡ p.plan.schema) (counts : o.counts ≡ p.plan.counts) where
   pub opens_at : IsTrailFound p.log.end.total p.log.first files → Plans p.log.end.total p.log.first files p.plan → NamesStructures p.plan.schema.items p.plan.counts.items
       → OpensAt o.log.end.total o.log.first files o.point o.next o.schema.items o.counts.items
   opens_at trail plans named =
@@ -54,7 +67,7 @@ module _ {S : Type 0} (files : Files) (p : PlannedOpening S) (o : Opened S) (tot
       (subst (λ n. OpensAt p.log.end.total p.log.first files n o.next o.schema.items o.counts.items) (sym point)
       (subst (λ n. OpensAt p.log.end.total p.log.first files p.plan.choice.point n o.schema.items o.counts.items) (sym next)
       (subst (λ (v : Vec ℕ). OpensAt p.log.end.total p.log.first files p.plan.choice.point p.plan.next v.items o.counts.items) (sym schema)
-      (subst (λ (v : Vec ℕ). OpensAt p.log.end.total p.log.first files p.plan.choice.point p.plan.next p.plan.schema.items v.items) (sym counts) (planned_opens trail plans named))))))
+      (subst (λ (v : Vec ℕ). OpensAt p.log.end.total p.log.first files p.plan.choice.point p.plan.next p.plan.schema.items v.items) (sym counts) (planned_opens files p trail plans named))))))
 
   pub runs_at : (now : Files) (v : LogView) → now ≡ files → RunsFrom now p.plan.choice.point p.plan.next p.plan.schema.items p.plan.counts.items v → RunsFrom files o.point o.next o.schema.items o.counts.items v
   runs_at now v same r =

@@ -4,9 +4,9 @@ use Rattle.std.specs.declared.option.Option.{Option}
 use Rattle.dms_desc.specs.Shape.{Described}
 use Rattle.dms_desc_bytes.specs.Spelling.{spelling}
 use Rattle.dms_desc_bytes.specs.WellFormed.{IsWellFormed}
-use Rattle.dms_moments.specs.Moments.{Runs}
+use Rattle.dms_moments.specs.Moments.{Runs, Steps}
 use Rattle.dms_site.specs.declared.site.Site.{Ghosts}
-use Rattle.dms_site.specs.Files.{Files, Left, Only}
+use Rattle.dms_site.specs.Files.{Files, Left, Only, Same}
 use Rattle.dms_block.specs.Held.{Held}
 use Rattle.dms_history.specs.History.{Pending}
 use Rattle.dms_history.specs.Pick.{count_at}
@@ -158,6 +158,23 @@ pub record IsFullIn (files now : Files) : Type 0 where
   pub first : ℕ
   pub trail : IsTrailFound total first files
   pub full : (g : ℕ) → first ≤ g → g ≤ 19999 → is_full total (now g) ≡ true
+
+-- Neither the trail of these files nor a point of it is refused: so they are opened.
+pub record CanOpen (files : Files) : Type 0 where
+  pub total : ℕ
+  pub first : ℕ
+  pub point : ℕ
+  pub next : ℕ
+  pub schema : List ℕ
+  pub counts : List ℕ
+  pub opens : OpensAt total first files point next schema counts
+
+module _ {S : Type 0} (g : Ghosts S) where
+  -- Nothing was done for this fault, which is none of a full audit: the files are the same, and a stop leaves what it could leave before.
+  pub record StaysUnopened (old new : S) (fault : OpenFault) : Type 0 where
+    pub files : g.files new ≡ g.files old
+    pub moments : Steps Same (g.clock old) (g.clock new)
+    pub room : IsFullFault fault → ⊥
 
 -- A call of the site failed, or the audit had no room: the opening may have begun to write.
 abbrev pub MayHaveWritten : OpenFault → Type 0

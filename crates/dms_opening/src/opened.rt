@@ -1,6 +1,6 @@
 //! A database is opened: from the files that were found to a database that runs.
 
-ghost use Rattle.std.specs.Prelude.{◌≡◌, [], ℕ, false, ◌<◌, ◌≤◌, IfOk, IfErr, IsTrue};
+ghost use Rattle.std.specs.Prelude.{◌≡◌, ◌⊎◌, [], ℕ, false, ◌<◌, ◌≤◌, IfOk, IfErr, IsTrue};
 ghost use Rattle.dms_moments.specs.Moments.{Steps};
 ghost use Rattle.dms_site.specs.Files.{Files, Same};
 ghost use Rattle.dms_audfile.specs.Counting.{CountedAt};
@@ -10,7 +10,7 @@ ghost use Rattle.dms_restore.specs.Views.{view_of};
 ghost use Rattle.dms_wal.specs.Database.{IsUsable, held};
 ghost use Rattle.dms_wal.specs.Lifting.{AreCounts};
 ghost use Rattle.dms_wal.specs.Marks.{IsDescription};
-ghost use Rattle.dms_opening.specs.Openings.{IsTrailFound, NamesStructures, OpensAt, RunsFrom, RunsWhere, ReopensSince, TellsOpened, RefusesFiles, IsFullFault, IsFullIn, SealsFew, MayHaveWritten, IsOpenable, IsNoRefusal};
+ghost use Rattle.dms_opening.specs.Openings.{IsTrailFound, NamesStructures, OpensAt, RunsFrom, RunsWhere, ReopensSince, TellsOpened, RefusesFiles, IsFullFault, IsFullIn, SealsFew, CanOpen, StaysUnopened, MayHaveWritten, IsOpenable, IsNoRefusal};
 
 use crate::carrying::{carry_out, site_of};
 use crate::looking::look;
@@ -52,6 +52,7 @@ pub fn open<S: Site>(alloc: Global, found: Found<S>) -> Result<Opened<S>, (OpenF
     ensures full { IfErr result (λ e. IsTrue S.tells → IsFullFault e.0 → IsFullIn (S.files found.site) (S.files e.1)) }
     ensures few { IfErr result (λ e. IsTrue S.tells → IsFullFault e.0 → (total first : ℕ) → IsTrailFound total first (S.files found.site) → IsWhole (telling_of total first) (S.files found.site)
         → SealsFew total first (S.files found.site) (S.files e.1)) }
+    ensures begun { IfErr result (λ e. IsTrue S.tells → CanOpen (S.files found.site) ⊎ StaysUnopened S.Site found.site e.1 e.0) }
     ensures complete { IfErr result (λ e. IsTrue S.tells → (total first : ℕ) → IsOpenable total first (S.files found.site) → IsNoRefusal e.0) }
     ensures files_then { IfErr result (λ e. IsTrue S.tells → (MayHaveWritten e.0 → ⊥) → S.files e.1 ≡ S.files found.site) }
     ensures moments_then { IfErr result (λ e. IsTrue S.tells → (MayHaveWritten e.0 → ⊥) → Steps Same (S.clock found.site) (S.clock e.1)) }

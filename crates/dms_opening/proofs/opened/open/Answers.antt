@@ -1,5 +1,6 @@
+use Rattle.std.proofs.Common.{inl, inr}
 use Rattle.dms_restore.proofs.Results.{one_if_ok, two_if_ok, three_if_ok, one_if_err}
-use Rattle.dms_opening.proofs.Opens.{may_refuse, opens_at, runs_at, is_planned, whole_at, since, since_none, counted_on, few_since}
+use Rattle.dms_opening.proofs.Opens.{may_refuse, can_open, opens_at, runs_at, is_planned, whole_at, since, since_none, counted_on, few_since}
 use Rattle.dms_opening.proofs.Complete.{refuses_none}
 use Rattle.dms_opening.proofs.opened.open.Goals as goal
 
@@ -71,3 +72,10 @@ returns-in-Ok-clause-few g c = one_if_err c.carry_out.result c.carry_out.ensures
 
 pub returns-in-Err-clause-few : goal.returns-in-Err-clause-few
 returns-in-Err-clause-few g c tells full = absurd (c.in-Err.ensures.room tells full)
+
+pub returns-in-Ok-clause-begun : goal.returns-in-Ok-clause-begun
+returns-in-Ok-clause-begun g c = one_if_err c.carry_out.result c.carry_out.ensures.only (λ e only tells.
+    let l = c.in-Ok.ensures in inl (can_open _ c.in-Ok.planned (l.trail tells) (l.plans tells) l.named))
+
+pub returns-in-Err-clause-begun : goal.returns-in-Err-clause-begun
+returns-in-Err-clause-begun g c tells = inr (record { files = c.in-Err.ensures.files_then tells; moments = c.in-Err.ensures.moments_then; room = c.in-Err.ensures.room tells })
