@@ -1,7 +1,6 @@
 -- How often calls have failed where a run ended so.
 use Rattle.std.proofs.Common.{ℕ, ◌≡◌, ◌∙◌, inl, inr, List, [], ◌∷◌, ◌++◌, Option, None, Some, refl, sym, ap, subst}
 use Rattle.std.specs.Io.KnownBytes.{prepend_known}
-use Rattle.std.specs.Prelude.{nat_lt}
 use Rattle.std.specs.declared.result.Result.{Result}
 use Rattle.std.specs.declared.result.Result.TheVariants.{Ok, Err}
 use Rattle.dms_audfile.specs.Counting.{CountedAt, not_counted}
@@ -12,14 +11,14 @@ use Rattle.dms_runner.specs.declared.run.RunFault.{RunFault}
 use Rattle.dms_runner.specs.declared.run.RunFault.TheVariants as run
 use Rattle.dms_status.specs.declared.status.Status.{Status}
 use Rattle.dms_status.specs.declared.status.Status.TheVariants.{DiskFault, SayFault}
-use Rattle.dms_runtop.specs.Faults.{IsWithin, run_status, damaged_status}
+use Rattle.dms_runtop.specs.Faults.{is_structure_file, IsWithin, run_status, damaged_status}
 use Rattle.dms_runtop.proofs.Endings.{damage_is}
 
 not_disk : (f k : ℕ) → damaged_status f k ≡ DiskFault → ⊥
-not_disk f k = damage_is (nat_lt 30000 f) f k (λ x. x ≡ DiskFault → ⊥) (λ e. absurd cc) (λ e. absurd cc)
+not_disk f k = damage_is (is_structure_file f) f k (λ x. x ≡ DiskFault → ⊥) (λ e. absurd cc) (λ e. absurd cc)
 
 not_say : (f k : ℕ) → damaged_status f k ≡ SayFault → ⊥
-not_say f k = damage_is (nat_lt 30000 f) f k (λ x. x ≡ SayFault → ⊥) (λ e. absurd cc) (λ e. absurd cc)
+not_say f k = damage_is (is_structure_file f) f k (λ x. x ≡ SayFault → ⊥) (λ e. absurd cc) (λ e. absurd cc)
 
 rose_at : (s : Status) (a b : ℕ) → RoseOnce a b → CountedAt (s ≡ s) a b
 rose_at s a b r = record { later = r.later; failed = λ p. r.rose; once = r.once; clean = λ none. absurd (none refl) }

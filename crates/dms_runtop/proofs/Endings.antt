@@ -1,6 +1,6 @@
 -- What a status tells of the fault behind it.
 use Rattle.std.proofs.Common.{ℕ, ◌≡◌, ◌<◌, ◌≤◌, ◌⊎◌, ◌∙◌, inl, inr, Bool, true, false, cond, sym, ap, subst, refl, arith}
-use Rattle.std.specs.Prelude.{nat_lt}
+use Rattle.std.specs.Prelude.{nat_le, nat_lt}
 use Rattle.std.proofs.lemmas.Bool.Decides.{nat_tests}
 use Rattle.dms_block.specs.declared.block_fault.BlockFault.TheVariants as block
 use Rattle.dms_runner.specs.declared.run.RunFault.{RunFault}
@@ -9,7 +9,8 @@ use Rattle.dms_status.specs.declared.status.LimitKind.{LimitKind}
 use Rattle.dms_status.specs.declared.status.LimitKind.TheVariants as limit
 use Rattle.dms_status.specs.declared.status.Status.{Status}
 use Rattle.dms_status.specs.declared.status.Status.TheVariants.{Ok, BadWords, SchemaRefused, NoDatabase, Needed, InputFault, Memory, Limit, Damaged, SayFault, DiskFault, Exists}
-use Rattle.dms_runtop.specs.Faults.{damaged_status, run_status}
+use Rattle.dms_runtop.specs.Both.{first_of, second_of}
+use Rattle.dms_runtop.specs.Faults.{is_structure_file, damaged_status, run_status}
 use Rattle.dms_runtop.specs.Statuses.{IsOfAuditLimit, IsOfClosing, IsOfScript}
 
 -- ---- a damaged block
@@ -23,22 +24,22 @@ IsNot : Status → Status → Type 0
 IsNot s x = x ≡ s → ⊥
 
 damaged_not_ok : (f k : ℕ) → damaged_status f k ≡ Ok → ⊥
-damaged_not_ok f k = damage_is (nat_lt 30000 f) f k (λ x. x ≡ Ok → ⊥) (λ e. absurd cc) (λ e. absurd cc)
+damaged_not_ok f k = damage_is (is_structure_file f) f k (λ x. x ≡ Ok → ⊥) (λ e. absurd cc) (λ e. absurd cc)
 
 damaged_not_input : (f k : ℕ) → damaged_status f k ≡ InputFault → ⊥
-damaged_not_input f k = damage_is (nat_lt 30000 f) f k (λ x. x ≡ InputFault → ⊥) (λ e. absurd cc) (λ e. absurd cc)
+damaged_not_input f k = damage_is (is_structure_file f) f k (λ x. x ≡ InputFault → ⊥) (λ e. absurd cc) (λ e. absurd cc)
 
 damaged_not_limit : (f k : ℕ) (l : LimitKind) → damaged_status f k ≡ Limit l → ⊥
-damaged_not_limit f k l = damage_is (nat_lt 30000 f) f k (λ x. x ≡ Limit l → ⊥) (λ e. absurd cc) (λ e. absurd cc)
+damaged_not_limit f k l = damage_is (is_structure_file f) f k (λ x. x ≡ Limit l → ⊥) (λ e. absurd cc) (λ e. absurd cc)
 
 damaged_same : (f k g l : ℕ) → damaged_status f k ≡ Damaged g l → (f ≡ g) × (k ≡ l)
-damaged_same f k g l = damage_is (nat_lt 30000 f) f k (λ x. x ≡ Damaged g l → (f ≡ g) × (k ≡ l)) (λ e. (first_of e, second_of e)) (λ e. absurd cc)
+damaged_same f k g l = damage_is (is_structure_file f) f k (λ x. x ≡ Damaged g l → (f ≡ g) × (k ≡ l)) (λ e. (same_file e, same_block e)) (λ e. absurd cc)
   where
-    first_of : Damaged f k ≡ Damaged g l → f ≡ g
-    first_of e = cc
+    same_file : Damaged f k ≡ Damaged g l → f ≡ g
+    same_file e = cc
 
-    second_of : Damaged f k ≡ Damaged g l → k ≡ l
-    second_of e = cc
+    same_block : Damaged f k ≡ Damaged g l → k ≡ l
+    same_block e = cc
 
 -- ---- a fault of a run
 
@@ -130,10 +131,13 @@ pub run_of_script : (fault : RunFault) → IsOfScript (run_status fault)
 run_of_script (run.Block block.Disk) = tt
 run_of_script (run.Block block.Memory) = tt
 run_of_script (run.Block (block.Full f)) = tt
-run_of_script (run.Block (block.Damaged f k)) = by_test (nat_lt 30000 f) refl
+run_of_script (run.Block (block.Damaged f k)) = by_test (is_structure_file f) refl
   where
-    by_test : (b : Bool) → nat_lt 30000 f ≡ b → IsOfScript (cond b (Damaged f k) Memory)
-    by_test true is = grind (arith, nat_tests)
+    by_test : (b : Bool) → is_structure_file f ≡ b → IsOfScript (cond b (Damaged f k) Memory)
+    by_test true is =
+        let low = first_of (nat_lt 30000 f) (nat_le f 30200) is in
+        let high = second_of (nat_lt 30000 f) (nat_le f 30200) is in
+        (grind (arith, nat_tests, low), grind (arith, nat_tests, high))
     by_test false is = tt
 run_of_script (run.Block block.Say) = tt
 run_of_script run.Input = tt

@@ -1,5 +1,6 @@
 -- Why the audit of a run has no room.
 use Rattle.std.proofs.Common.{ℕ, ◌≡◌, ◌+◌, ◌<◌, ◌≤◌, ◌⊎◌, ◌∙◌, inl, inr, true, IsTrue, sym, ap, subst, arith}
+use Rattle.std.specs.Prelude.{nat_le}
 use Rattle.std.proofs.lemmas.Bool.{cases_lt}
 use Rattle.dms_audfile.specs.Gates.{is_full}
 use Rattle.dms_audfile.specs.declared.fault.AudFault.TheVariants as aud
@@ -14,6 +15,7 @@ use Rattle.dms_status.specs.declared.status.Status.{Status}
 use Rattle.dms_status.specs.declared.status.Status.TheVariants.{Limit}
 use Rattle.dms_runtop.specs.Faults.{open_status}
 use Rattle.dms_runtop.specs.Full.{HasNoRoom, IsFullAt, PassesAtFull, TrailPasses}
+use Rattle.dms_runtop.proofs.Endings.{damage_is}
 
 -- ---- it was opened
 
@@ -33,7 +35,7 @@ open_full (Audit (aud.Full n)) k e = ap (λ m. Audit (aud.Full m)) (same_file e)
 open_full (Audit (aud.Missing n)) k e = absurd cc
 open_full (Audit (aud.Unsealed n)) k e = absurd cc
 open_full (Audit (aud.Foreign n)) k e = absurd cc
-open_full (Audit (aud.Damaged f b)) k e = absurd cc
+open_full (Audit (aud.Damaged f b)) k e = absurd (damage_is (nat_le f 30000) f b (λ x. x ≡ Limit (AuditFile k) → ⊥) (λ e. absurd cc) (λ e. absurd cc) e)
 open_full (Audit aud.Memory) k e = absurd cc
 open_full (NoSuchPoint n) k e = absurd cc
 open_full (Voided n) k e = absurd cc

@@ -1,5 +1,7 @@
 -- What an opening's refusal leaves.
-use Rattle.std.proofs.Common.{ℕ, ◌≡◌, ◌⊎◌, inl, inr, refl, sym, ap, subst, arith}
+use Rattle.std.proofs.Common.{ℕ, ◌≡◌, ◌⊎◌, inl, inr, Bool, true, false, cond, refl, sym, ap, subst, arith}
+use Rattle.std.specs.Prelude.{nat_le}
+use Rattle.std.proofs.lemmas.Bool.Decides.{nat_tests}
 use Rattle.dms_audfile.specs.Counting.{CountedAt}
 use Rattle.dms_audfile.specs.declared.fault.AudFault.TheVariants as aud
 use Rattle.dms_opening.specs.declared.choosing.OpenFault.{OpenFault}
@@ -9,6 +11,7 @@ use Rattle.dms_status.specs.declared.status.Status.{Status}
 use Rattle.dms_status.specs.declared.status.Status.TheVariants.{Ok, BadWords, SchemaRefused, NoDatabase, Needed, InputFault, Memory, Limit, Damaged, SayFault, DiskFault, Exists}
 use Rattle.dms_runtop.specs.Faults.{open_status}
 use Rattle.dms_runtop.specs.Statuses.{IsRefusal, IsOfScript, IsOfRun}
+use Rattle.dms_runtop.proofs.Endings.{damage_is}
 
 -- a refusal is none of what may have written
 pub not_written : (fault : OpenFault) → IsRefusal (open_status fault) → MayHaveWritten fault → ⊥
@@ -32,7 +35,7 @@ script_refuses (Needed n) of is = of
 script_refuses InputFault of is = is
 script_refuses Memory of is = is
 script_refuses (Limit k) of is = is
-script_refuses (Damaged f b) of is = absurd (omega (arith, of, is))
+script_refuses (Damaged f b) of is = absurd (omega (arith, of.0, is))
 script_refuses SayFault of is = is
 script_refuses DiskFault of is = is
 script_refuses Exists of is = of
@@ -51,7 +54,7 @@ script_of_run (Needed n) of = absurd of
 script_of_run InputFault of = tt
 script_of_run Memory of = tt
 script_of_run (Limit k) of = tt
-script_of_run (Damaged f b) of = tt
+script_of_run (Damaged f b) of = of.1
 script_of_run SayFault of = tt
 script_of_run DiskFault of = tt
 script_of_run Exists of = of
@@ -70,7 +73,11 @@ open_of_run (Audit (aud.Full k)) = tt
 open_of_run (Audit (aud.Missing k)) = tt
 open_of_run (Audit (aud.Unsealed k)) = tt
 open_of_run (Audit (aud.Foreign k)) = tt
-open_of_run (Audit (aud.Damaged f b)) = tt
+open_of_run (Audit (aud.Damaged f b)) = by_test (nat_le f 30000) refl
+  where
+    by_test : (t : Bool) → nat_le f 30000 ≡ t → IsOfRun (cond t (Damaged f b) Memory)
+    by_test true is = grind (arith, nat_tests)
+    by_test false is = tt
 open_of_run (Audit aud.Memory) = tt
 open_of_run (NoSuchPoint n) = tt
 open_of_run (Voided n) = tt
@@ -83,7 +90,7 @@ open_disk (Audit (aud.Full k)) e = absurd cc
 open_disk (Audit (aud.Missing k)) e = absurd cc
 open_disk (Audit (aud.Unsealed k)) e = absurd cc
 open_disk (Audit (aud.Foreign k)) e = absurd cc
-open_disk (Audit (aud.Damaged f b)) e = absurd cc
+open_disk (Audit (aud.Damaged f b)) e = absurd (damage_is (nat_le f 30000) f b (λ x. x ≡ DiskFault → ⊥) (λ e. absurd cc) (λ e. absurd cc) e)
 open_disk (Audit aud.Memory) e = absurd cc
 open_disk (NoSuchPoint n) e = absurd cc
 open_disk (Voided n) e = absurd cc
@@ -99,7 +106,7 @@ open_say (Audit (aud.Full k)) e = absurd cc
 open_say (Audit (aud.Missing k)) e = absurd cc
 open_say (Audit (aud.Unsealed k)) e = absurd cc
 open_say (Audit (aud.Foreign k)) e = absurd cc
-open_say (Audit (aud.Damaged f b)) e = absurd cc
+open_say (Audit (aud.Damaged f b)) e = absurd (damage_is (nat_le f 30000) f b (λ x. x ≡ SayFault → ⊥) (λ e. absurd cc) (λ e. absurd cc) e)
 open_say (Audit aud.Memory) e = absurd cc
 open_say (NoSuchPoint n) e = absurd cc
 open_say (Voided n) e = absurd cc
@@ -112,7 +119,7 @@ open_input (Audit (aud.Full k)) e = absurd cc
 open_input (Audit (aud.Missing k)) e = absurd cc
 open_input (Audit (aud.Unsealed k)) e = absurd cc
 open_input (Audit (aud.Foreign k)) e = absurd cc
-open_input (Audit (aud.Damaged f b)) e = absurd cc
+open_input (Audit (aud.Damaged f b)) e = absurd (damage_is (nat_le f 30000) f b (λ x. x ≡ InputFault → ⊥) (λ e. absurd cc) (λ e. absurd cc) e)
 open_input (Audit aud.Memory) e = absurd cc
 open_input (NoSuchPoint n) e = absurd cc
 open_input (Voided n) e = absurd cc
@@ -125,7 +132,7 @@ open_ok (Audit (aud.Full k)) e = absurd cc
 open_ok (Audit (aud.Missing k)) e = absurd cc
 open_ok (Audit (aud.Unsealed k)) e = absurd cc
 open_ok (Audit (aud.Foreign k)) e = absurd cc
-open_ok (Audit (aud.Damaged f b)) e = absurd cc
+open_ok (Audit (aud.Damaged f b)) e = absurd (damage_is (nat_le f 30000) f b (λ x. x ≡ Ok → ⊥) (λ e. absurd cc) (λ e. absurd cc) e)
 open_ok (Audit aud.Memory) e = absurd cc
 open_ok (NoSuchPoint n) e = absurd cc
 open_ok (Voided n) e = absurd cc

@@ -1,5 +1,5 @@
 -- The status that each fault ends with.
-use Rattle.std.specs.Prelude.{ℕ, ◌≡◌, ◌⊎◌, nat_lt, if◌then◌else◌}
+use Rattle.std.specs.Prelude.{ℕ, ◌≡◌, ◌⊎◌, nat_lt, nat_le, ◌&&◌, Bool, if◌then◌else◌}
 use Rattle.dms_audfile.specs.declared.fault.AudFault.TheVariants as aud
 use Rattle.dms_block.specs.declared.block_fault.BlockFault.{BlockFault}
 use Rattle.dms_block.specs.declared.block_fault.BlockFault.TheVariants as block
@@ -12,9 +12,17 @@ use Rattle.dms_status.specs.declared.status.NeedFault.TheVariants as need
 use Rattle.dms_status.specs.declared.status.Status.{Status}
 use Rattle.dms_status.specs.declared.status.Status.TheVariants.{NoDatabase, Needed, DiskFault, InputFault, Memory, Limit, Damaged, SayFault}
 
+-- one of the 200 structure files that a database may have
+abbrev pub is_structure_file : ℕ → Bool
+is_structure_file f = nat_lt 30000 f && nat_le f 30200
+
 -- of a damaged block that a script finds: of a structure file, and of no other
 abbrev pub damaged_status : ℕ → ℕ → Status
-damaged_status f b = if nat_lt 30000 f then Damaged f b else Memory
+damaged_status f b = if is_structure_file f then Damaged f b else Memory
+
+-- of one that an opening finds: of a file that is no structure file
+abbrev pub audit_damaged_status : ℕ → ℕ → Status
+audit_damaged_status f b = if nat_le f 30000 then Damaged f b else Memory
 
 -- of a fault of blocks
 abbrev pub block_status : BlockFault → Status
@@ -45,7 +53,7 @@ open_status (Audit (aud.Full k)) = Limit (limit.AuditFile k)
 open_status (Audit (aud.Missing k)) = Needed (need.AuditMissing k)
 open_status (Audit (aud.Unsealed k)) = Needed (need.AuditUnsealed k)
 open_status (Audit (aud.Foreign k)) = Needed (need.AuditForeign k)
-open_status (Audit (aud.Damaged f b)) = Damaged f b
+open_status (Audit (aud.Damaged f b)) = audit_damaged_status f b
 open_status (Audit aud.Memory) = Memory
 open_status (NoSuchPoint n) = Needed (need.NoSuchPoint n)
 open_status (Voided n) = Needed (need.Voided n)

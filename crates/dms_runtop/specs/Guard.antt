@@ -4,10 +4,10 @@ use Rattle.dms_moments.specs.Moments.{Steps}
 use Rattle.dms_site.specs.declared.site.Site.{Ghosts}
 use Rattle.dms_site.specs.Files.{Files, Left}
 
--- A file that is neither an audit file, 10,001 to 20,000, nor a structure file, above 30,000: so are the description file, 1, and the dump files,
--- 20,001 to 30,000.
+-- A file that is neither an audit file, 10,001 to 20,000, nor one of the 200 structure files that a database may have, 30,001 to 30,200: so are the
+-- description file, 1, and the dump files, 20,001 to 30,000.
 abbrev pub IsBeside : ℕ → Type 0
-IsBeside f = (f ≤ 10000) ⊎ ((20000 < f) × (f ≤ 30000))
+IsBeside f = (f ≤ 10000) ⊎ (((20000 < f) × (f ≤ 30000)) ⊎ (30200 < f))
 
 -- those files are the same
 abbrev pub KeepsBeside : Files → Files → Type 0

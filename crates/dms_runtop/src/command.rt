@@ -235,6 +235,7 @@ fn run_found<S: Site, I: Source>(alloc: Global, site: S, source: &mut I) -> Ende
     ensures complete { NeverRefuses S.Site site result.status }
     ensures ran { RunsCommand S.Site state site result.site (I.left source.old) (I.left source.new) result.status }
     ensures refused { IsRefusal result.status → RefusesRun S.Site site result.site result.status }
+    ensures untaken { IsRefusal result.status → source.new ≡ source.old }
     ensures end { result.status ≡ Status.Ok → (all : List ℕ) → I.left source.old ≡ Some all → I.left source.new ≡ Some [] }
     ensures statuses { IsOfRun result.status }
     ensures full { HasNoRoom S.Site site result.site result.status }
@@ -262,6 +263,7 @@ fn run_guarded<S: Site, I: Source>(alloc: Global, site: S, source: &mut I) -> En
     ensures complete { NeverRefuses S.Site site result.status }
     ensures ran { RunsCommand S.Site state site result.site (I.left source.old) (I.left source.new) result.status }
     ensures refused { IsRefusal result.status → RefusesRun S.Site site result.site result.status }
+    ensures untaken { IsRefusal result.status → source.new ≡ source.old }
     ensures end { result.status ≡ Status.Ok → (all : List ℕ) → I.left source.old ≡ Some all → I.left source.new ≡ Some [] }
     ensures statuses { IsOfRun result.status }
     ensures full { HasNoRoom S.Site site result.site result.status }
@@ -298,6 +300,7 @@ pub fn run_command<S: Site, I: Source>(alloc: Global, site: &mut S, source: &mut
     ensures complete_state { NeverRefusesState S.Site site.old result }
     ensures ran { RunsCommand S.Site state site.old site.new (I.left source.old) (I.left source.new) result }
     ensures refused { IsRefusal result → RefusesRun S.Site site.old site.new result }
+    ensures untaken { IsRefusal result → source.new ≡ source.old }
     ensures end { result ≡ Status.Ok → (all : List ℕ) → I.left source.old ≡ Some all → I.left source.new ≡ Some [] }
     ensures statuses { IsOfRun result }
     ensures full { HasNoRoom S.Site site.old site.new result }

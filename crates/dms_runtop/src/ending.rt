@@ -1,7 +1,7 @@
 //! The status that each fault ends with.
 
 ghost use Rattle.std.specs.Prelude.{◌≡◌};
-ghost use Rattle.dms_runtop.specs.Faults.{IsWithin, block_status, damaged_status, run_status, open_status};
+ghost use Rattle.dms_runtop.specs.Faults.{IsWithin, audit_damaged_status, block_status, damaged_status, run_status, open_status};
 
 use dms_audfile::AudFault;
 use dms_block::BlockFault;
@@ -12,12 +12,15 @@ use dms_status::{LimitKind, NeedFault, Status};
 /// The last number of a file that is no structure file.
 const LAST_OTHER_FILE: u32 = 30_000;
 
+/// The number of the last structure file that a database may have.
+const LAST_STRUCTURE_FILE: u32 = 30_200;
+
 /// The status that a damaged block ends with. Only blocks of structure files are found damaged while a script runs; where another file were
 /// named, that counts as want of memory.
 fn status_of_damage(file: u32, block: u32) -> Status
     ensures { result ≡ damaged_status file block }
 {
-    if file > LAST_OTHER_FILE {
+    if file > LAST_OTHER_FILE && file <= LAST_STRUCTURE_FILE {
         Status::Damaged(file, block)
     } else {
         Status::Memory
@@ -61,6 +64,18 @@ pub(crate) fn fault_within(fault: RunFault, last: u32) -> RunFault
     }
 }
 
+/// The status that a damaged block ends an opening with. Only blocks of audit files are found damaged then; where a structure file were named, that
+/// counts as want of memory.
+fn status_of_audit_damage(file: u32, block: u32) -> Status
+    ensures { result ≡ audit_damaged_status file block }
+{
+    if file <= LAST_OTHER_FILE {
+        Status::Damaged(file, block)
+    } else {
+        Status::Memory
+    }
+}
+
 /// The status that a fault of an opening ends with.
 pub fn status_of_open(fault: OpenFault) -> Status
     ensures { result ≡ open_status fault }
@@ -74,7 +89,7 @@ pub fn status_of_open(fault: OpenFault) -> Status
             Status::Needed(NeedFault::AuditUnsealed(file))
         }
         OpenFault::Audit(AudFault::Foreign(file)) => Status::Needed(NeedFault::AuditForeign(file)),
-        OpenFault::Audit(AudFault::Damaged(file, block)) => Status::Damaged(file, block),
+        OpenFault::Audit(AudFault::Damaged(file, block)) => status_of_audit_damage(file, block),
         OpenFault::Audit(AudFault::Memory) => Status::Memory,
         OpenFault::NoSuchPoint(point) => Status::Needed(NeedFault::NoSuchPoint(point)),
         OpenFault::Voided(point) => Status::Needed(NeedFault::Voided(point)),

@@ -5,11 +5,11 @@ ghost use Rattle.dms_runtop.specs.Guard.{IsBeside, SameGuarded};
 
 use dms_site::{Failed, Site};
 
-/// Whether a file is neither an audit file nor a structure file.
+/// Whether a file is neither an audit file nor one of the 200 structure files that a database may have.
 fn is_beside(file: u32) -> bool
     ensures { IsTrue result ↔ IsBeside file }
 {
-    file <= 10_000 || (file > 20_000 && file <= 30_000)
+    file <= 10_000 || (file > 20_000 && file <= 30_000) || file > 30_200
 }
 
 /// A site of which only audit files and structure files are written: a write or a cut of another file is refused and makes no call, and counts

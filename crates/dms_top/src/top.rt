@@ -251,11 +251,13 @@ pub fn dms<S: Site, I: Source>(
     // a stop at each moment leaves what a stop at entry could leave, with more text or none
     ensures audit_only_speaks { OnPrintAudit words.now (OnlySpeaks (S.clock site.old) (S.clock site.new)) }
     // ---- `run`
-    // only the statuses 0, 3, 4 of an opening, 5, 6, 7, 8, 9 and 10 come
+    // only the statuses 0, 3, 4 of an opening, 5, 6, 7, 8, 9 of a file up to 30,200, and 10 come
     ensures run_statuses { OnRun words.now (IsOfRun result) }
     // the statuses 3, 4, and 9 of a file that is no structure file, are the first refusal of the files: no file has changed, and a stop leaves what it
     // could leave before
     ensures run_refused { OnRun words.now (IsRefusal result → RefusesRun S.Site site.old site.new result) }
+    // and nothing of the input was taken
+    ensures run_untaken { OnRun words.now (IsRefusal result → input.new ≡ input.old) }
     // neither comes where the files hold a database, whose last point is live and described
     ensures run_complete { OnRun words.now (NeverRefuses S.Site site.old result) }
     // nor where they stand for a state

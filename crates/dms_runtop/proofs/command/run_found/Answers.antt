@@ -15,6 +15,9 @@ returns-in-Ok-clause-complete g c = λ tells total first openable refusal. scrip
 pub returns-in-Ok-clause-refused : goal.returns-in-Ok-clause-refused
 returns-in-Ok-clause-refused g c = λ refusal. absurd (script_no_refusal c.run_confirmed.result.status c.run_confirmed.ensures.statuses refusal)
 
+pub returns-in-Ok-clause-untaken : goal.returns-in-Ok-clause-untaken
+returns-in-Ok-clause-untaken g c = λ refusal. absurd (script_no_refusal c.run_confirmed.result.status c.run_confirmed.ensures.statuses refusal)
+
 pub returns-in-Ok-clause-statuses : goal.returns-in-Ok-clause-statuses
 returns-in-Ok-clause-statuses g c = of_run c.run_confirmed.result.status c.run_confirmed.ensures.statuses
 

@@ -221,3 +221,6 @@ returns-then-is_run-clause-run_ends g c = λ is. c.run_command.ensures.ends
 
 pub returns-then-is_run-clause-run_complete_state : goal.returns-then-is_run-clause-run_complete_state
 returns-then-is_run-clause-run_complete_state g c = λ is. c.run_command.ensures.complete_state
+
+pub returns-then-is_run-clause-run_untaken : goal.returns-then-is_run-clause-run_untaken
+returns-then-is_run-clause-run_untaken g c = λ is. c.run_command.ensures.untaken
