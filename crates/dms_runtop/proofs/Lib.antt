@@ -1,4 +1,5 @@
 pub mod Endings
+pub mod Opening
 pub mod Counted
 pub mod Ran
 pub mod Formed

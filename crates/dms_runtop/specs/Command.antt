@@ -1,5 +1,5 @@
 -- The command `run`: the state that its files stand for at entry, and why it is refused.
-use Rattle.std.specs.Prelude.{ℕ, ◌≡◌, ◌+◌, ◌<◌, ◌^◌, List, Some, IsTrue, Bool}
+use Rattle.std.specs.Prelude.{ℕ, ◌≡◌, ◌+◌, ◌<◌, ◌^◌, List, Some, IsTrue, Bool, ◌⊎◌}
 use Rattle.std.specs.declared.option.Option.{Option}
 use Rattle.dms_moments.specs.Moments.{Runs, Steps}
 use Rattle.dms_feed.specs.Lines.{raw_lines}
@@ -22,7 +22,7 @@ use Rattle.dms_run.specs.State.{StateOf, HasNext}
 use Rattle.dms_run.specs.States.{LivesEndWith}
 use Rattle.dms_opening.specs.declared.opened.Opened.{Opened}
 use Rattle.dms_opening.specs.Laws.{LastIsDescribed}
-use Rattle.dms_opening.specs.Openings.{IsTrailFound, IsOpenable, RunsFrom, RefusesFiles}
+use Rattle.dms_opening.specs.Openings.{IsTrailFound, IsOpenable, RunsFrom, RefusesFiles, CanOpen, StaysUnopened}
 use Rattle.dms_status.specs.declared.status.Status.{Status}
 use Rattle.dms_status.specs.declared.status.Status.TheVariants.{Ok}
 use Rattle.dms_runtop.specs.Bound.{CountsFailures}
@@ -114,6 +114,18 @@ module _ {S : Type 0} (g : Ghosts S) where
     pub why : RefusesFiles (g.files old) fault
     pub files : g.files new ≡ g.files old
     pub moments : Steps Same (g.clock old) (g.clock new)
+
+  -- Nothing was done, since the opening was refused: with this fault, which is the first refusal of the files, or one of the disk or of memory, and
+  -- none of a full audit. The files are the same, and a stop leaves what it could leave before.
+  pub record IsUnopened (old new : S) (status : Status) : Type 0 where
+    pub fault : OpenFault
+    pub is : status ≡ open_status fault
+    pub why : RefusesFiles (g.files old) fault
+    pub stays : StaysUnopened g old new fault
+
+  -- either neither the trail nor a point of it is refused, or nothing was done
+  abbrev pub OpensOrStays : S → S → Status → Type 0
+  OpensOrStays old new status = IsTrue g.tells → CanOpen (g.files old) ⊎ IsUnopened old new status
 
   abbrev pub RefusesRun : S → S → Status → Type 0
   RefusesRun old new status = IsTrue g.tells → IsRefused old new status

@@ -6,7 +6,7 @@ ghost use Rattle.dms_desc.specs.Shape.{described};
 ghost use Rattle.dms_desc_bytes.specs.Spelling.{spelling};
 ghost use Rattle.dms_desc_bytes.specs.WellFormed.{IsWellFormed};
 ghost use Rattle.dms_opening.specs.Openings.{NamesStructures};
-ghost use Rattle.dms_runtop.specs.Command.{DatabaseState, HoldsTold, NeverRefuses, NeverRefusesState, EndsInState, StandsOpened, StandsThroughout, RunsCommand, RunsOpened, RefusesRun};
+ghost use Rattle.dms_runtop.specs.Command.{DatabaseState, HoldsTold, NeverRefuses, NeverRefusesState, EndsInState, StandsOpened, StandsThroughout, RunsCommand, RunsOpened, RefusesRun, OpensOrStays};
 ghost use Rattle.dms_runtop.specs.Describing.{IsUnderSchema};
 ghost use Rattle.dms_runtop.specs.Full.{HasNoRoom, PassesAtFull};
 ghost use Rattle.dms_runtop.specs.Guard.{StaysBeside};
@@ -235,6 +235,7 @@ fn run_found<S: Site, I: Source>(alloc: Global, site: S, source: &mut I) -> Ende
     ensures complete { NeverRefuses S.Site site result.status }
     ensures ran { RunsCommand S.Site state site result.site (I.left source.old) (I.left source.new) result.status }
     ensures refused { IsRefusal result.status → RefusesRun S.Site site result.site result.status }
+    ensures opens { OpensOrStays S.Site site result.site result.status }
     ensures untaken { IsRefusal result.status → source.new ≡ source.old }
     ensures end { result.status ≡ Status.Ok → (all : List ℕ) → I.left source.old ≡ Some all → I.left source.new ≡ Some [] }
     ensures statuses { IsOfRun result.status }
@@ -263,6 +264,7 @@ fn run_guarded<S: Site, I: Source>(alloc: Global, site: S, source: &mut I) -> En
     ensures complete { NeverRefuses S.Site site result.status }
     ensures ran { RunsCommand S.Site state site result.site (I.left source.old) (I.left source.new) result.status }
     ensures refused { IsRefusal result.status → RefusesRun S.Site site result.site result.status }
+    ensures opens { OpensOrStays S.Site site result.site result.status }
     ensures untaken { IsRefusal result.status → source.new ≡ source.old }
     ensures end { result.status ≡ Status.Ok → (all : List ℕ) → I.left source.old ≡ Some all → I.left source.new ≡ Some [] }
     ensures statuses { IsOfRun result.status }
@@ -300,6 +302,7 @@ pub fn run_command<S: Site, I: Source>(alloc: Global, site: &mut S, source: &mut
     ensures complete_state { NeverRefusesState S.Site site.old result }
     ensures ran { RunsCommand S.Site state site.old site.new (I.left source.old) (I.left source.new) result }
     ensures refused { IsRefusal result → RefusesRun S.Site site.old site.new result }
+    ensures opens { OpensOrStays S.Site site.old site.new result }
     ensures untaken { IsRefusal result → source.new ≡ source.old }
     ensures end { result ≡ Status.Ok → (all : List ℕ) → I.left source.old ≡ Some all → I.left source.new ≡ Some [] }
     ensures statuses { IsOfRun result }

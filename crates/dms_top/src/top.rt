@@ -19,7 +19,7 @@ ghost use Rattle.dms_top.specs.Answering.{Printed, PrintedPrefix, PrintedWhole, 
 ghost use Rattle.dms_status.specs.declared.status.LimitKind.{LimitKind as Kind};
 ghost use Rattle.dms_top.specs.Premises.{OnTry, OnCompile, OnInitialize, OnPrintAudit, OnOthers, OnReading, OnRun, OfInput, OfSchema, OfSealed, OfNoSchema, OfTriedScript, OfNoScript};
 ghost use Rattle.dms_audfile.specs.Counting.{CountedAt};
-ghost use Rattle.dms_runtop.specs.Command.{DatabaseState, HoldsTold, NeverRefuses, NeverRefusesState, RefusesRun, RunsCommand, EndsInState, StandsThroughout};
+ghost use Rattle.dms_runtop.specs.Command.{DatabaseState, HoldsTold, NeverRefuses, NeverRefusesState, RefusesRun, RunsCommand, EndsInState, StandsThroughout, OpensOrStays};
 ghost use Rattle.dms_runtop.specs.Full.{HasNoRoom};
 ghost use Rattle.dms_runtop.specs.Guard.{StaysBeside};
 ghost use Rattle.dms_runtop.specs.Statuses.{IsOfRun, IsRefusal};
@@ -258,6 +258,9 @@ pub fn dms<S: Site, I: Source>(
     ensures run_refused { OnRun words.now (IsRefusal result → RefusesRun S.Site site.old site.new result) }
     // and nothing of the input was taken
     ensures run_untaken { OnRun words.now (IsRefusal result → input.new ≡ input.old) }
+    // either neither the trail of the files nor a point of it is refused, and they are opened, or nothing was done: the files are the same, and the
+    // status is that of the first refusal, or 5 or 7
+    ensures run_opens { OnRun words.now (OpensOrStays S.Site site.old site.new result) }
     // neither comes where the files hold a database, whose last point is live and described
     ensures run_complete { OnRun words.now (NeverRefuses S.Site site.old result) }
     // nor where they stand for a state

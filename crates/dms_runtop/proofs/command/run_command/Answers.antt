@@ -1,5 +1,7 @@
-use Rattle.std.proofs.Common.{rules, MutBor, sym, subst}
-use Rattle.dms_runtop.specs.Command.{RunsCommand}
+use Rattle.std.proofs.Common.{◌⊎◌, rules, MutBor, refl, sym, subst}
+use Rattle.dms_opening.specs.Openings.{CanOpen}
+use Rattle.dms_runtop.specs.Command.{IsUnopened, RunsCommand}
+use Rattle.dms_runtop.proofs.Opening.{opens_below}
 use Rattle.dms_runtop.proofs.Entered.{refuses_no_state, stands_at_end, stands_throughout}
 use Rattle.dms_runtop.proofs.command.run_command.Goals as goal
 
@@ -17,3 +19,9 @@ returns-clause-ends g c = stands_at_end g.S.Site c.args.site.now g.state c.stand
 
 pub returns-clause-complete_state : goal.returns-clause-complete_state
 returns-clause-complete_state g c = refuses_no_state g.S.Site c.args.site.now c.states_law.ensures c.run_guarded-ended.result.status c.run_guarded-ended.ensures.complete
+
+pub returns-clause-opens : goal.returns-clause-opens
+returns-clause-opens g c tells =
+    subst (λ (x : g.row.S.Denot). CanOpen (g.S.Site.files c.args.site.now) ⊎ IsUnopened g.S.Site c.args.site.now x c.run_guarded-ended.result.status) (search rules)
+    (subst (λ (x : MutBor g.row.S.Denot). CanOpen (g.S.Site.files c.args.site.now) ⊎ IsUnopened g.S.Site c.args.site.now x.now c.run_guarded-ended.result.status) (sym c.into_site-site.ensures)
+    (opens_below g.S.Site c.args.site.now c.run_guarded-ended.result.site.now refl refl (λ s. s) c.run_guarded-ended.result.status (c.run_guarded-ended.ensures.opens tells)))

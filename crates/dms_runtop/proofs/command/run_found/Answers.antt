@@ -1,3 +1,5 @@
+use Rattle.std.proofs.Common.{inl}
+use Rattle.dms_runtop.proofs.Opening.{opened_files, unopened}
 use Rattle.std.proofs.Common.{◌∙◌, refl, sym, subst}
 use Rattle.dms_audfile.specs.Counting.{not_counted}
 use Rattle.dms_status.specs.declared.status.Status.TheVariants.{DiskFault}
@@ -77,3 +79,9 @@ returns-in-Ok-clause-full g c = full_entered g.S.Site c.args.site c.run_confirme
 
 pub returns-in-Err-clause-full : goal.returns-in-Err-clause-full
 returns-in-Err-clause-full g c = full_opening g.S.Site c.args.site c.in-Err.site c.in-Err.fault c.status_of_open.result c.status_of_open.ensures c.in-Err.ensures.refused c.in-Err.ensures.full
+
+pub returns-in-Ok-clause-opens : goal.returns-in-Ok-clause-opens
+returns-in-Ok-clause-opens g c tells = inl (opened_files c.in-Ok.opened (c.in-Ok.ensures.opens tells))
+
+pub returns-in-Err-clause-opens : goal.returns-in-Err-clause-opens
+returns-in-Err-clause-opens g c tells = unopened g.S.Site c.args.site c.in-Err.site c.in-Err.fault c.status_of_open.result c.status_of_open.ensures (c.in-Err.ensures.refused tells) (c.in-Err.ensures.begun tells)

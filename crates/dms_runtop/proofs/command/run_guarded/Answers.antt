@@ -1,8 +1,10 @@
-use Rattle.std.proofs.Common.{◌<◌, sym, subst, arith}
+use Rattle.std.proofs.Common.{◌<◌, ◌⊎◌, refl, sym, subst, arith}
 use Rattle.dms_runtop.proofs.Bounds.{no_bound_memory}
 use Rattle.dms_runtop.proofs.Ran.{script_with}
 use Rattle.dms_status.specs.declared.status.Status.TheVariants.{Memory}
-use Rattle.dms_runtop.specs.Command.{RunsCommand}
+use Rattle.dms_opening.specs.Openings.{CanOpen}
+use Rattle.dms_runtop.specs.Command.{IsUnopened, RunsCommand}
+use Rattle.dms_runtop.proofs.Opening.{opens_below, unopened_memory}
 use Rattle.dms_runtop.proofs.Guarding.{refused_counts}
 use Rattle.dms_runtop.proofs.Instead.{command_instead, refused_place}
 use Rattle.dms_runtop.proofs.command.run_guarded.Goals as goal
@@ -20,3 +22,14 @@ pub returns-clause-ran : goal.returns-clause-ran
 returns-clause-ran g c =
     subst (λ x. RunsCommand g.S.Site g.state c.args.site x.site (g.I.Source.left c.args.source.now) (g.I.Source.left c.run_found-ended.new.source) c.run_found-ended.result.status) (sym c.into_site-site.ensures)
     (λ tells s is next has room all held. let r = c.run_found-ended.ensures.ran tells s is next has room all held in record { total = r.total; first = r.first; trail = r.trail; runs = script_with (λ c. omega (arith, c)) r.runs })
+
+pub returns-clause-opens : goal.returns-clause-opens
+returns-clause-opens g c tells =
+    subst (λ x. CanOpen (g.S.Site.files c.args.site) ⊎ IsUnopened g.S.Site c.args.site x.site c.run_found-ended.result.status) (sym c.into_site-site.ensures)
+    (opens_below g.S.Site c.args.site c.run_found-ended.result.site.site refl refl (λ s. s) c.run_found-ended.result.status (c.run_found-ended.ensures.opens tells))
+
+pub returns-then-refused-gt0-clause-opens : goal.returns-then-refused-gt0-clause-opens
+returns-then-refused-gt0-clause-opens g c tells =
+    unopened_memory g.S.Site c.args.site c.into_site-site.result.site c.run_found-ended.result.status
+    (subst (λ x. CanOpen (g.S.Site.files c.args.site) ⊎ IsUnopened g.S.Site c.args.site x.site c.run_found-ended.result.status) (sym c.into_site-site.ensures)
+    (opens_below g.S.Site c.args.site c.run_found-ended.result.site.site refl refl (λ s. s) c.run_found-ended.result.status (c.run_found-ended.ensures.opens tells)))
