@@ -15,27 +15,27 @@ abbrev pub ◌>>=◌ : {A B : Type 0} → Judged A → (A → Judged B) → Judg
 (Err e) >>= f = Err e
 
 -- a fault that was answered is the one that judging gives, unless memory ran out
-abbrev pub Fails : {Y : Type 0} → CompileFault → Judged Y → Type 0
-Fails Memory read = Unit {0}
-Fails (Twice n) read = read ≡ Err (Twice n)
-Fails (Unknown n) read = read ≡ Err (Unknown n)
-Fails (KeyItem n) read = read ≡ Err (KeyItem n)
-Fails (CondKind n) read = read ≡ Err (CondKind n)
-Fails (RecordLong n) read = read ≡ Err (RecordLong n)
-Fails (KeyLong n) read = read ≡ Err (KeyLong n)
-Fails NoRestart read = read ≡ Err NoRestart
-Fails (Embedding n) read = read ≡ Err (Embedding n)
-Fails (DescriptionLong n) read = read ≡ Err (DescriptionLong n)
+abbrev pub CompileFails : {Y : Type 0} → CompileFault → Judged Y → Type 0
+CompileFails Memory read = Unit {0}
+CompileFails (Twice n) read = read ≡ Err (Twice n)
+CompileFails (Unknown n) read = read ≡ Err (Unknown n)
+CompileFails (KeyItem n) read = read ≡ Err (KeyItem n)
+CompileFails (CondKind n) read = read ≡ Err (CondKind n)
+CompileFails (RecordLong n) read = read ≡ Err (RecordLong n)
+CompileFails (KeyLong n) read = read ≡ Err (KeyLong n)
+CompileFails NoRestart read = read ≡ Err NoRestart
+CompileFails (Embedding n) read = read ≡ Err (Embedding n)
+CompileFails (DescriptionLong n) read = read ≡ Err (DescriptionLong n)
 
 -- what was answered is what judging gives
-abbrev pub Gives : {X : Type 0} → Judged X → Judged X → Type 0
-Gives (Ok x) read = read ≡ Ok x
-Gives (Err e) read = Fails e read
+abbrev pub CompileGives : {X : Type 0} → Judged X → Judged X → Type 0
+CompileGives (Ok x) read = read ≡ Ok x
+CompileGives (Err e) read = CompileFails e read
 
 -- the same where what is given is kept in place
 abbrev pub Makes : {X S : Type 0} → Judged X → S → Judged S → Type 0
 Makes (Ok x) new read = read ≡ Ok new
-Makes (Err e) new read = Fails e read
+Makes (Err e) new read = CompileFails e read
 
 -- one after another is judged, up to the first fault
 unfoldable pub steps : {C S T : Type 0} → (C → S → T → Judged S) → C → S → List T → Judged S

@@ -12,7 +12,7 @@ use Rattle.dasdl_compile.specs.declared.fault.CompileFault.TheVariants.{Twice, N
 use Rattle.dasdl_compile.specs.declared.draft.Draft.{Draft}
 use Rattle.dasdl_compile.specs.declared.work.Plain.TheVariants.{Noted}
 use Rattle.dasdl_compile.specs.declared.work.Compilation.{Compilation}
-use Rattle.dasdl_compile.specs.Answers.{Judged, ◌>>=◌, Fails, steps}
+use Rattle.dasdl_compile.specs.Answers.{Judged, ◌>>=◌, CompileFails, steps}
 use Rattle.dasdl_compile.specs.Finding.{drafted, next_structure, is_structure, has_restart, kind_of}
 use Rattle.dasdl_compile.specs.Members.{member_at, open_after}
 use Rattle.dasdl_compile.specs.Outlines.{data_set_kind, outlined_one}
@@ -75,4 +75,4 @@ compiled p decls =
 -- what was answered is what compiling gives, conditions seen as trees
 abbrev pub Describes : Judged Description → Judged Described → Type 0
 Describes (Ok d) read = read ≡ Ok (described d)
-Describes (Err e) read = Fails e read
+Describes (Err e) read = CompileFails e read

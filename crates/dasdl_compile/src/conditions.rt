@@ -1,6 +1,6 @@
 ghost use Rattle.std.specs.Prelude.{◌≡◌};
 ghost use Rattle.dasdl_phrases.specs.Trees.{tree_of};
-ghost use Rattle.dasdl_compile.specs.Answers.{Gives};
+ghost use Rattle.dasdl_compile.specs.Answers.{CompileGives};
 ghost use Rattle.dasdl_compile.specs.Conditions.{literal_of, compared, condition, verified};
 
 use crate::condition::ConditionTree;
@@ -19,7 +19,7 @@ pub fn literal_of(
     kind: &ItemKind,
     literal: &Literal,
 ) -> Result<Value, CompileFault>
-    ensures { Gives result (literal_of name.now kind.now literal.now) }
+    ensures { CompileGives result (literal_of name.now kind.now literal.now) }
 {
     match value_in(alloc, kind, literal)? {
         None => Err(CompileFault::CondKind(*name)),
@@ -36,7 +36,7 @@ fn compared(
     op: Op,
     literal: &Literal,
 ) -> Result<ConditionTree, CompileFault>
-    ensures { Gives result (compared items.now name.now op literal.now) }
+    ensures { CompileGives result (compared items.now name.now op literal.now) }
 {
     match item_named(items, name) {
         None => Err(CompileFault::Unknown(*name)),
@@ -55,7 +55,7 @@ pub fn condition(
     items: &[Item],
     tree: &CondTree,
 ) -> Result<ConditionTree, CompileFault>
-    ensures { Gives result (condition items.now (tree_of tree.now)) }
+    ensures { CompileGives result (condition items.now (tree_of tree.now)) }
 {
     match tree {
         CondTree::Compare(name, op, literal) => compared(alloc, items, name, *op, literal),
@@ -83,7 +83,7 @@ pub fn verified(
     items: &[Item],
     verify: &Option<CondDecl>,
 ) -> Result<ConditionTree, CompileFault>
-    ensures { Gives result (verified items.now verify.now) }
+    ensures { CompileGives result (verified items.now verify.now) }
 {
     match verify {
         None => Ok(ConditionTree::nothing()),

@@ -1,5 +1,5 @@
 ghost use Rattle.std.specs.Prelude.{◌≡◌};
-ghost use Rattle.dasdl_compile.specs.Answers.{Gives, Makes};
+ghost use Rattle.dasdl_compile.specs.Answers.{CompileGives, Makes};
 ghost use Rattle.dasdl_compile.specs.Keys.{is_part, key_item_at, run_items, run_of, part_at, short_key, key_at};
 ghost use Rattle.dasdl_compile.specs.Tables.{untitled};
 
@@ -79,7 +79,7 @@ impl Stepwise<Run, Item> for KeySoFar {
 /// The items that a part names.
 #[tactic(auto, unfolding(crate::specs::Keys::run_of))]
 fn run_of(draft: &Draft, part: &PartDecl) -> Result<Run, CompileFault>
-    ensures { Gives result (run_of draft.now part.now) }
+    ensures { CompileGives result (run_of draft.now part.now) }
 {
     let item = item_named(draft.items.as_slice(), &part.name);
     let group = group_named(draft.groups.as_slice(), &part.name);
@@ -134,7 +134,7 @@ impl Stepwise<Draft, PartDecl> for KeySoFar {
 /// The parts, where they are few enough and not too long together.
 #[tactic(auto, unfolding(crate::specs::Keys::short_key))]
 fn short_key(name: &Name, key: KeySoFar) -> Result<KeyParts, CompileFault>
-    ensures { Gives result (short_key name.now key) }
+    ensures { CompileGives result (short_key name.now key) }
 {
     if key.parts.as_slice().len() > PARTS {
         return Err(CompileFault::KeyItem(*name));
@@ -155,7 +155,7 @@ pub fn key_at(
     data_set: &Draft,
     parts: &[PartDecl],
 ) -> Result<KeyParts, CompileFault>
-    ensures { Gives result (key_at name.now data_set.now parts.now) }
+    ensures { CompileGives result (key_at name.now data_set.now parts.now) }
 {
     let mut key = KeySoFar {
         next: 1,

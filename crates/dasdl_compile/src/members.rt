@@ -1,5 +1,5 @@
 ghost use Rattle.std.specs.Prelude.{◌≡◌};
-ghost use Rattle.dasdl_compile.specs.Answers.{Gives, Makes};
+ghost use Rattle.dasdl_compile.specs.Answers.{CompileGives, Makes};
 ghost use Rattle.dasdl_compile.specs.Tables.{title};
 ghost use Rattle.dasdl_compile.specs.Members.{count_of, initial_of, item_at, group_at, link_kind, link_at, end_at, member_at, open_after};
 
@@ -30,7 +30,7 @@ pub fn count_of(items: &[ItemDecl]) -> u8
 /// What CREATE puts into an item.
 #[tactic(auto, unfolding(crate::specs::Members::initial_of))]
 fn initial_of(alloc: Global, item: &ItemDecl) -> Result<Value, CompileFault>
-    ensures { Gives result (initial_of item.now) }
+    ensures { CompileGives result (initial_of item.now) }
 {
     match &item.initial {
         None => Ok(Value::Null),
@@ -91,7 +91,7 @@ fn group_at(
 /// What a link points to.
 #[tactic(auto, unfolding(crate::specs::Members::link_kind))]
 fn link_kind(outline: &Drafts, link: &LinkDecl) -> Result<ItemKind, CompileFault>
-    ensures { Gives result (link_kind outline.now link.now) }
+    ensures { CompileGives result (link_kind outline.now link.now) }
 {
     match outline.data_set_named(&link.target) {
         None => Err(CompileFault::Unknown(link.target)),

@@ -1,5 +1,5 @@
 ghost use Rattle.std.specs.Prelude.{◌≡◌};
-ghost use Rattle.dasdl_compile.specs.Answers.{Gives, Makes};
+ghost use Rattle.dasdl_compile.specs.Answers.{CompileGives, Makes};
 ghost use Rattle.dasdl_compile.specs.Sets.{set_kind, where_of, key_of, key_is_first, options_at, is_misplaced, lacks_key, no_parts, population_of, has_duplicates, set_draft, set_over, set_at};
 
 use crate::condition::ConditionTree;
@@ -38,7 +38,7 @@ fn set_kind(set: &SetDecl) -> u8
 /// The condition of WHERE.
 #[tactic(auto, unfolding(crate::specs::Sets::where_of))]
 fn where_of(alloc: Global, data_set: &Draft, set: &SetDecl) -> Result<ConditionTree, CompileFault>
-    ensures { Gives result (where_of data_set.now set.now) }
+    ensures { CompileGives result (where_of data_set.now set.now) }
 {
     match &set.cond {
         None => Ok(ConditionTree::nothing()),
@@ -55,7 +55,7 @@ fn where_of(alloc: Global, data_set: &Draft, set: &SetDecl) -> Result<ConditionT
 /// The parts of KEY.
 #[tactic(auto, unfolding(crate::specs::Sets::key_of))]
 fn key_of(alloc: Global, data_set: &Draft, set: &SetDecl) -> Result<KeyParts, CompileFault>
-    ensures { Gives result (key_of data_set.now set.now) }
+    ensures { CompileGives result (key_of data_set.now set.now) }
 {
     match &set.key {
         None => Ok(KeyParts::new(alloc)),
@@ -78,7 +78,7 @@ fn key_is_first(cond: &Option<CondDecl>, key: &Option<KeyDecl>) -> bool
 /// KEY and WHERE in text order.
 #[tactic(auto, unfolding(crate::specs::Sets::options_at))]
 fn options_at(alloc: Global, data_set: &Draft, set: &SetDecl) -> Result<WhereAndKey, CompileFault>
-    ensures { Gives result (options_at data_set.now set.now) }
+    ensures { CompileGives result (options_at data_set.now set.now) }
 {
     if key_is_first(&set.cond, &set.key) {
         let parts = key_of(alloc, data_set, set)?;

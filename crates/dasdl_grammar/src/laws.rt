@@ -2,6 +2,7 @@ ghost use Rattle.dasdl_grammar.specs.SchemaSpelling.{IsSchema};
 ghost use Rattle.dms_tokens.specs.Tokens.{tokens_of};
 ghost use Rattle.dasdl_parse.specs.Grammar.{schema_of};
 ghost use Rattle.dasdl_parse.specs.declared.schema.Schema.{Schema};
+ghost use Rattle.dasdl_grammar.specs.ReadingLaws.{ReadsGroupsAlone, ReadsEachGroup};
 ghost use Rattle.dasdl_grammar.specs.SaidSpelling.{SpellsFirst};
 ghost use Rattle.dasdl_grammar.specs.GroupSpelling.{IsGroup};
 ghost use Rattle.dasdl_grammar.specs.SetSpelling.{IsSet, IsHead, IsEnd};
@@ -41,8 +42,8 @@ ghost use Rattle.dasdl_phrases.specs.CondSpelling.CondPart.{Whole};
 /// What stands behind a group's name is read exactly where it is GROUP and items in brackets, by which its data set has
 /// no more than 60.
 pub fn group_law()
-    ensures sound { (count : ℕ) (ts rest : List Lexeme) (group : GroupItems) → group_at count ts ≡ Ok (group, rest) → SpellsFirst IsGroup ts group.items rest × (group.count ≡ count + length group.items) × (group.count ≤ 60) }
-    ensures complete { (count : ℕ) (us rest : List Lexeme) (items : List ItemDecl) → IsGroup items us → count + length items ≤ 60 → group_at count (us ++ rest) ≡ Ok (record { items = items; count = count + length items }, rest) }
+    ensures sound { ReadsGroupsAlone }
+    ensures complete { ReadsEachGroup }
 {}
 
 /// What stands behind a set's name is read exactly where it is SET or SUBSET, OF and a name, options in any order, each
@@ -56,7 +57,7 @@ pub fn set_law()
 /// bracket.
 pub fn head_law()
     ensures sound { (place : ℕ) (name : List ℕ) (ts rest : List Lexeme) (head : DataSetDecl) → data_set_at place name ts ≡ Ok (head, rest) → Reads (IsHead place name) ts head rest }
-    ensures complete { (place : ℕ) (name : List ℕ) (us rest : List Lexeme) (head : DataSetDecl) → IsHead place name head (map token_of us) → data_set_at place name (us ++ rest) ≡ Ok (head, rest) }
+    ensures complete { (place : ℕ) (name : List ℕ) (us rest : List Lexeme) (h : DataSetDecl) → IsHead place name h (map token_of us) → data_set_at place name (us ++ rest) ≡ Ok (h, rest) }
 {}
 
 /// What stands behind a data set's members is read exactly where it is a bracket, options in any order, each said once

@@ -3,4 +3,5 @@ pub mod ItemSpelling
 pub mod Items
 pub mod OptionSpelling
 pub mod Parameters
+pub mod ReadingLaws
 pub mod Sets

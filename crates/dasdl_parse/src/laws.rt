@@ -5,6 +5,7 @@ ghost use Rattle.dms_tokens.specs.Cursors.{starts, is_the_sign};
 ghost use Rattle.dasdl_phrases.specs.Cursors.{turns_at, until_semicolon};
 ghost use Rattle.dasdl_parse.specs.declared.items.ItemOptions.{ItemOptions};
 ghost use Rattle.dasdl_parse.specs.Items.{next_item_option_at, no_options, item_at, link_at};
+ghost use Rattle.dasdl_parse.specs.ReadingLaws.{ReadsEachOption, ReadsLinksAlone, ReadsEachLink};
 ghost use Rattle.dasdl_parse.specs.OptionSpelling.{AreItemOptions};
 ghost use Rattle.dasdl_parse.specs.ItemSpelling.{IsItem, IsLink};
 ghost use Rattle.dasdl_parse.specs.declared.declarations.ItemDecl.{ItemDecl};
@@ -15,7 +16,7 @@ ghost use Rattle.dasdl_phrases.specs.CondSpelling.{Reads, token_of};
 /// one, REQUIRED once at most, and INITIALVALUE or NULL once at most.
 pub fn item_options_law()
     ensures sound { (ts rest : List Lexeme) (said : ItemOptions) → turns_at until_semicolon next_item_option_at no_options ts ≡ Ok (said, rest) → Reads AreItemOptions ts said rest }
-    ensures complete { (us rest : List Lexeme) (said : ItemOptions) → AreItemOptions said (map token_of us) → starts (is_the_sign 59) rest ≡ true → turns_at until_semicolon next_item_option_at no_options (us ++ rest) ≡ Ok (said, rest) }
+    ensures complete { ReadsEachOption }
 {}
 
 /// What stands behind an item's name is read exactly where it is a type, options and a semicolon.
@@ -27,6 +28,6 @@ pub fn item_law()
 /// What stands behind a link's name is read exactly where it is LINK TO, a name, and COUNTED or not, which at most
 /// 4,000 links of a schema are.
 pub fn link_law()
-    ensures sound { (counted place : ℕ) (name : List ℕ) (ts rest : List Lexeme) (link : LinkDecl) → link_at counted place name ts ≡ Ok (link, rest) → Reads (IsLink place name) ts link rest × (link.counted ≡ true → counted < 4000) }
-    ensures complete { (counted place : ℕ) (name : List ℕ) (us rest : List Lexeme) (link : LinkDecl) → IsLink place name link (map token_of us) → (link.counted ≡ true → counted < 4000) → link_at counted place name (us ++ rest) ≡ Ok (link, rest) }
+    ensures sound { ReadsLinksAlone }
+    ensures complete { ReadsEachLink }
 {}

@@ -6,6 +6,7 @@ pub mod KeySpelling
 pub mod Keys
 pub mod KindSpelling
 pub mod Kinds
+pub mod ReadingLaws
 pub mod Reads
 pub mod TreeCodes
 pub mod Trees

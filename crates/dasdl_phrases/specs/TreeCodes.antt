@@ -17,24 +17,24 @@ pub data WrittenTree : Type 0 where
   Turned : WrittenTree → WrittenTree
 
 -- a comparison, or 0 for AND, 1 for OR, 2 for NOT
-abbrev pub Part : Type 0
-Part = (List ℕ × (Op × Literal)) ⊎ ℕ
+abbrev pub WrittenPart : Type 0
+WrittenPart = (List ℕ × (Op × Literal)) ⊎ ℕ
 
-abbrev pub parts : WrittenTree → List Part
+abbrev pub parts : WrittenTree → List WrittenPart
 parts (Test name op literal) = inl (name, (op, literal)) ∷ []
 parts (Both a b) = parts a ++ (parts b ++ inr 0 ∷ [])
 parts (Either a b) = parts a ++ (parts b ++ inr 1 ∷ [])
 parts (Turned a) = parts a ++ inr 2 ∷ []
 
 -- a part takes its operands, the last one first
-abbrev pub taken : Part → List WrittenTree → List WrittenTree
+abbrev pub taken : WrittenPart → List WrittenTree → List WrittenTree
 taken (inl c) ts = Test c.0 c.1.0 c.1.1 ∷ ts
 taken (inr zero) (b ∷ a ∷ ts) = Both a b ∷ ts
 taken (inr (suc zero)) (b ∷ a ∷ ts) = Either a b ∷ ts
 taken (inr (suc (suc n))) (a ∷ ts) = Turned a ∷ ts
 taken (inr n) ts = ts
 
-abbrev pub built : List Part → List WrittenTree → List WrittenTree
+abbrev pub built : List WrittenPart → List WrittenTree → List WrittenTree
 built [] ts = ts
 built (p ∷ ps) ts = built ps (taken p ts)
 
@@ -42,7 +42,7 @@ abbrev pub first_tree : List WrittenTree → WrittenTree
 first_tree [] = Test [] Equal Null
 first_tree (t ∷ ts) = t
 
-built-append : (ps qs : List Part) (ts : List WrittenTree) → built (ps ++ qs) ts ≡ built qs (built ps ts)
+built-append : (ps qs : List WrittenPart) (ts : List WrittenTree) → built (ps ++ qs) ts ≡ built qs (built ps ts)
 built-append [] qs ts = refl
 built-append (p ∷ ps) qs ts = built-append ps qs (taken p ts)
 
@@ -66,4 +66,4 @@ pub tree_again : (t : WrittenTree) → first_tree (built (parts t) []) ≡ t
 tree_again t = ap first_tree (built-parts t [])
 
 abbrev pub tree_code : Coded WrittenTree
-tree_code = code_by (List Part) (coded_list (coded⊎ (coded× (coded_list coded_ℕ) (coded× op_row.the_row.coded literal_row.the_row.coded)) coded_ℕ)) parts (λ ps. first_tree (built ps [])) tree_again
+tree_code = code_by (List WrittenPart) (coded_list (coded⊎ (coded× (coded_list coded_ℕ) (coded× op_row.the_row.coded literal_row.the_row.coded)) coded_ℕ)) parts (λ ps. first_tree (built ps [])) tree_again

@@ -1,9 +1,8 @@
-ghost use Rattle.std.specs.Prelude.{◌≡◌, ◌≤◌, ◌++◌, List, map, length, false, codes};
+ghost use Rattle.std.specs.Prelude.{◌≡◌, ◌≤◌, ◌++◌, List, map, length};
 ghost use Rattle.std.specs.declared.result.Result.TheVariants.{Ok};
 ghost use Rattle.dms_tokens.specs.declared.token.Lexeme.{Lexeme};
 ghost use Rattle.dasdl_phrases.specs.TreeCodes.{WrittenTree};
 ghost use Rattle.dasdl_phrases.specs.Conditions.{cond_at};
-ghost use Rattle.dms_tokens.specs.Cursors.{starts, is_word};
 ghost use Rattle.dasdl_phrases.specs.declared.key_parts.PartDecl.{PartDecl};
 ghost use Rattle.dasdl_phrases.specs.KeySpelling.{IsKey};
 ghost use Rattle.dasdl_phrases.specs.KindSpelling.{SpellsKind};
@@ -12,19 +11,20 @@ ghost use Rattle.dms_base.specs.declared.kind.ItemKind.{ItemKind};
 ghost use Rattle.dasdl_phrases.specs.Keys.{parts_at};
 ghost use Rattle.dasdl_phrases.specs.CondSpelling.{IsCond, Reads, nodes, token_of};
 ghost use Rattle.dasdl_phrases.specs.CondSpelling.CondPart.{Whole};
+ghost use Rattle.dasdl_phrases.specs.ReadingLaws.{ReadsEachCondition, ReadsEachKey};
 
 /// A condition is read exactly where it is one of the grammar with at most 100 nodes: OR joins terms, AND joins factors, both from the left, NOT stands
 /// before a factor, and brackets hold a whole condition.
 pub fn condition_law()
     ensures sound { (ts rest : List Lexeme) (t : WrittenTree) → cond_at ts ≡ Ok (t, rest) → Reads (IsCond Whole) ts t rest × (nodes t ≤ 100) }
-    ensures complete { (us rest : List Lexeme) (t : WrittenTree) → IsCond Whole t (map token_of us) → nodes t ≤ 100 → starts (is_word (codes "AND")) rest ≡ false → starts (is_word (codes "OR")) rest ≡ false → cond_at (us ++ rest) ≡ Ok (t, rest) }
+    ensures complete { ReadsEachCondition }
 {}
 
 /// A key is read exactly where it is one part, or parts in brackets with a comma between two, at most 16, and each
 /// part is a name with a direction behind it or without one.
 pub fn key_law()
     ensures sound { (ts rest : List Lexeme) (parts : List PartDecl) → parts_at ts ≡ Ok (parts, rest) → Reads IsKey ts parts rest × (length parts ≤ 16) }
-    ensures complete { (us rest : List Lexeme) (parts : List PartDecl) → IsKey parts (map token_of us) → length parts ≤ 16 → starts (is_word (codes "ASCENDING")) rest ≡ false → starts (is_word (codes "DESCENDING")) rest ≡ false → parts_at (us ++ rest) ≡ Ok (parts, rest) }
+    ensures complete { ReadsEachKey }
 {}
 
 /// An item's type is read exactly where it is one, with its numbers in their ranges.

@@ -1,7 +1,7 @@
 -- The line that is printed of an entry of the audit.
 use Rattle.std.specs.Prelude.{ℕ, List, [], ◌∷◌, ◌++◌, codes, decimal, length, Option, Some, None}
 use Rattle.dms_history.specs.Entries.{Entry, schema_part, image, byte_range, quiet_point, control_point, begin_restore, Kind, by_halt_load, by_back_out, by_roll_back, by_rebuild, by_reconstruct}
-use Rattle.dms_history.specs.Events.{Block}
+use Rattle.dms_history.specs.Events.{BlockBytes}
 
 -- words, the number behind them, and what follows
 abbrev pub counted : List ℕ → ℕ → List ℕ → List ℕ
@@ -16,7 +16,7 @@ kind_words (by_rebuild d) = counted (codes "REBUILD ") d []
 kind_words (by_reconstruct d rows) = counted (codes "RECONSTRUCT ") d (counted (codes " ROWS ") (length rows) [])
 
 -- whether a block is new, by its bytes before the change
-abbrev pub change_word : Option Block → List ℕ
+abbrev pub change_word : Option BlockBytes → List ℕ
 change_word None = codes " NEW"
 change_word (Some before) = codes " CHANGED"
 

@@ -3,7 +3,7 @@ ghost use Rattle.dms_audrec.specs.Reading.{rows_at};
 ghost use Rattle.dms_audrec.specs.Seen.{how_seen, entry_seen};
 ghost use Rattle.dms_audprint.specs.Lines.{kind_words, entry_words, entry_line};
 
-use dms_audrec::{Entry, How};
+use dms_audrec::{BeginHow, Entry};
 use dms_base::{Bytes, Memory};
 use std::alloc::Global;
 use std::fmt;
@@ -18,18 +18,18 @@ fn row_count(rows: &[u8]) -> usize
 
 /// How a restore goes, in words.
 #[derive(Drop)]
-struct HowText<'a>(How<'a>);
+struct HowText<'a>(BeginHow<'a>);
 
 impl fmt::Display for HowText<'_> {
     ghost output = { λ h. Some (kind_words (how_seen h.0)) };
 
     fn fmt<W: fmt::Write>(&self, f: &mut fmt::Formatter<W>) -> fmt::Result {
         match self.0 {
-            How::HaltLoad => f.write_str("HALTLOAD"),
-            How::BackOut => f.write_str("BACKOUT"),
-            How::Rollback => f.write_str("ROLLBACK"),
-            How::Rebuild(dump) => write!(f, "REBUILD {dump}"),
-            How::Reconstruct(dump, rows) => {
+            BeginHow::HaltLoad => f.write_str("HALTLOAD"),
+            BeginHow::BackOut => f.write_str("BACKOUT"),
+            BeginHow::Rollback => f.write_str("ROLLBACK"),
+            BeginHow::Rebuild(dump) => write!(f, "REBUILD {dump}"),
+            BeginHow::Reconstruct(dump, rows) => {
                 let count = row_count(rows);
                 write!(f, "RECONSTRUCT {dump} ROWS {count}")
             }

@@ -4,12 +4,12 @@ use Rattle.dms_history.specs.Entries as meaning
 use Rattle.dms_history.specs.Entries.{Kind, by_halt_load, by_back_out, by_roll_back, by_rebuild, by_reconstruct, schema_part, image, quiet_point, control_point, begin_restore}
 use Rattle.dms_audrec.specs.declared.entry.Entry.{Entry}
 use Rattle.dms_audrec.specs.declared.entry.Entry.TheVariants.{Schema, Image, Quiet, Control, Begin}
-use Rattle.dms_audrec.specs.declared.entry.How.{How}
-use Rattle.dms_audrec.specs.declared.entry.How.TheVariants.{HaltLoad, BackOut, Rollback, Rebuild, Reconstruct}
+use Rattle.dms_audrec.specs.declared.entry.BeginHow.{BeginHow}
+use Rattle.dms_audrec.specs.declared.entry.BeginHow.TheVariants.{HaltLoad, BackOut, Rollback, Rebuild, Reconstruct}
 use Rattle.dms_audrec.specs.Reading.{counts_at, rows_at}
 use Rattle.dms_audrec.specs.Spelling.{spelling}
 
-abbrev pub how_seen : How → Kind
+abbrev pub how_seen : BeginHow → Kind
 how_seen HaltLoad = by_halt_load
 how_seen BackOut = by_back_out
 how_seen Rollback = by_roll_back

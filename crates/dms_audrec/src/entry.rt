@@ -2,7 +2,7 @@
 
 /// How a restore goes, as its Begin says it. The numbers are those of dumps, from 1 to 9,999.
 #[derive(Clone, Copy)]
-pub enum How<'a> {
+pub enum BeginHow<'a> {
     HaltLoad,
     BackOut,
     Rollback,
@@ -24,5 +24,5 @@ pub enum Entry<'a> {
     /// each, rising by file.
     Control(u64, u64, &'a [u8]),
     /// A restore to a point begins.
-    Begin(u64, How<'a>),
+    Begin(u64, BeginHow<'a>),
 }

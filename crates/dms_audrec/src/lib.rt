@@ -7,7 +7,7 @@ mod pairs;
 mod reading;
 mod writing;
 
-pub use entry::{Entry, How};
+pub use entry::{BeginHow, Entry};
 pub use pairs::pair_at;
 pub use reading::decode;
 pub use writing::{encode, length};

@@ -7,7 +7,7 @@ ghost use Rattle.dms_audrec.specs.Seen.{how_seen, entry_seen, IsRead};
 ghost use Rattle.dms_audrec.specs.Reading.{before_at, schema_at, image_at, quiet_at, control_at, begin_at, entry_at, kind_of, kind_fits, rows_at};
 
 use crate::pairs::{counts_rise, rows_rise};
-use crate::{Entry, How};
+use crate::{BeginHow, Entry};
 use dms_fields::{slice_at, u8_at, u16_at, u32_at, u64_at};
 
 #[tactic(auto, unfolding(crate::specs::Reading::schema_at))]
@@ -102,15 +102,15 @@ fn kind_fits(how: u8, dump: u16, list: &[u8]) -> bool
 }
 
 // How a restore goes, by the number of its kind.
-fn how_of(how: u8, dump: u16, list: &[u8]) -> How<'_>
+fn how_of(how: u8, dump: u16, list: &[u8]) -> BeginHow<'_>
     ensures { how_seen result ≡ kind_of how dump (rows_at (length list.now / 8) list.now) }
 {
     match how {
-        1 => How::HaltLoad,
-        2 => How::BackOut,
-        3 => How::Rollback,
-        4 => How::Rebuild(dump),
-        _ => How::Reconstruct(dump, list),
+        1 => BeginHow::HaltLoad,
+        2 => BeginHow::BackOut,
+        3 => BeginHow::Rollback,
+        4 => BeginHow::Rebuild(dump),
+        _ => BeginHow::Reconstruct(dump, list),
     }
 }
 

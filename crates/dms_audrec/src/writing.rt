@@ -7,7 +7,7 @@ ghost use Rattle.dms_audrec.specs.Reading.{counts_at, rows_at};
 ghost use Rattle.dms_audrec.specs.Spelling.{spelling, IsEntry, how_number, dump_of, rows_of, begin_bytes};
 ghost use Rattle.dms_audrec.specs.Seen.{entry_seen, how_seen};
 
-use crate::{Entry, How};
+use crate::{BeginHow, Entry};
 use dms_fields::{put_bytes, put_u8, put_u16, put_u32, put_u64};
 
 fn put_schema(to: &mut [u8], part: u16, parts: u16, text: &[u8])
@@ -69,18 +69,18 @@ fn put_control(to: &mut [u8], n: u64, next: u64, list: &[u8])
 
 // The number of a kind, its dump and the bytes of its rows.
 #[tactic(auto, unfolding(crate::specs::Reading::rows_at), using(crate::proofs::Callers::rows_many))]
-fn parts_of<'a>(how: &How<'a>) -> (u8, u16, &'a [u8])
+fn parts_of<'a>(how: &BeginHow<'a>) -> (u8, u16, &'a [u8])
     ensures number { result.0 ≡ how_number (how_seen how.now) }
     ensures dump { result.1 ≡ dump_of (how_seen how.now) }
     ensures rows { rows_of (how_seen how.now) ≡ rows_at (length result.2.now / 8) result.2.now }
     ensures count { length (rows_of (how_seen how.now)) ≡ length result.2.now / 8 }
 {
     match how {
-        How::HaltLoad => (1, 0, &[]),
-        How::BackOut => (2, 0, &[]),
-        How::Rollback => (3, 0, &[]),
-        How::Rebuild(dump) => (4, *dump, &[]),
-        How::Reconstruct(dump, list) => (5, *dump, list),
+        BeginHow::HaltLoad => (1, 0, &[]),
+        BeginHow::BackOut => (2, 0, &[]),
+        BeginHow::Rollback => (3, 0, &[]),
+        BeginHow::Rebuild(dump) => (4, *dump, &[]),
+        BeginHow::Reconstruct(dump, list) => (5, *dump, list),
     }
 }
 
@@ -98,7 +98,7 @@ fn put_rows(to: &mut [u8], n: u64, how: u8, dump: u16, list: &[u8])
     put_bytes(to, 14, &list[..8 * rows]);
 }
 
-fn put_begin(to: &mut [u8], n: u64, how: &How<'_>)
+fn put_begin(to: &mut [u8], n: u64, how: &BeginHow<'_>)
     requires few { length (rows_of (how_seen how.now)) < 2 ^ 16 }
     requires room { 14 + 8 * length (rows_of (how_seen how.now)) ≤ length to.old }
     ensures { to.new ≡ laid 0 (spelling (begin_restore n (how_seen how.now))) to.old }

@@ -14,7 +14,7 @@ use Rattle.dms_creation.specs.declared.planning.Plan.{Plan}
 use Rattle.dms_desc.specs.Shape.{Described, described, shape_of}
 use Rattle.dms_desc_bytes.specs.Spelling.{spelling}
 use Rattle.dms_desc_bytes.specs.WellFormed.{IsWellFormed, has_parameters, are_sound}
-use Rattle.dms_desc_bytes.specs.Reading.{Read, description_at}
+use Rattle.dms_desc_bytes.specs.Reading.{ReadBytes, description_at}
 use Rattle.dms_desc_bytes.proofs.DescriptionLaws.{description_again, only_read}
 use Rattle.dms_descfile.specs.DescriptionFile.{IsSealed, description_file}
 use Rattle.dms_history.specs.Entries.{Entry, control_point}
@@ -184,7 +184,7 @@ unfolding description_file
 behind_head database bytes file is = ap (λ (l : List ℕ). drop 6 l) is
 
 spelled_once : (d e : Described) → IsWellFormed d → IsWellFormed e → spelling d ≡ spelling e → d ≡ e
-spelled_once d e good other same = only_read (spelling e) d e (sym (ap (λ (r : Read Described). r.0) (description_again d good)) ∙ ap (λ (bytes : List ℕ). (description_at bytes).0) same) other refl
+spelled_once d e good other same = only_read (spelling e) d e (sym (ap (λ (r : ReadBytes Described). r.0) (description_again d good)) ∙ ap (λ (bytes : List ℕ). (description_at bytes).0) same) other refl
 
 same_sealed : (file : List ℕ) (d e : Described) → IsSealed file d → IsSealed file e → d ≡ e
 same_sealed file d e one two = spelled_once d e one.well_formed two.well_formed (sym (behind_head one.database (spelling d) file one.is) ∙ behind_head two.database (spelling e) file two.is)

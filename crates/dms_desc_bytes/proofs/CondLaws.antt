@@ -14,7 +14,7 @@ use Rattle.dms_desc_bytes.specs.Conditions.{nodes, is_comparable, compares_well}
 use Rattle.dms_desc.specs.Kinds.{is_link}
 use Rattle.dms_desc_bytes.specs.Finding.{item_at}
 use Rattle.dms_desc_bytes.specs.Members.{is_plain}
-use Rattle.dms_desc_bytes.specs.Reading.{Read, op_of, test_at, tree_at}
+use Rattle.dms_desc_bytes.specs.Reading.{ReadBytes, op_of, test_at, tree_at}
 use Rattle.dms_desc_bytes.specs.Spelling.{op_number, tree_bytes}
 use Rattle.dms_desc_bytes.proofs.Fields.{Again}
 use Rattle.dms_desc_bytes.proofs.Values.{Spelled, literal_again, value_spelled}
@@ -49,10 +49,10 @@ pub nothing_again : Again (tree_at 100) (tree_bytes Empty) Empty
 unfolding tree_at
 nothing_again rest = refl
 
-abbrev both_on : (List ℕ → Read Tree) → Read Tree → Read Tree
+abbrev both_on : (List ℕ → ReadBytes Tree) → ReadBytes Tree → ReadBytes Tree
 both_on part a = (Both a.0 (part a.1).0, (part a.1).1)
 
-abbrev either_on : (List ℕ → Read Tree) → Read Tree → Read Tree
+abbrev either_on : (List ℕ → ReadBytes Tree) → ReadBytes Tree → ReadBytes Tree
 either_on part a = (Either a.0 (part a.1).0, (part a.1).1)
 
 pub tree_again : (items : List Item) → Kinds items → (levels : ℕ) (t : Tree) → nodes t ≤ levels → compares_well items t ≡ true → Again (tree_at levels) (tree_bytes t) t
@@ -61,7 +61,7 @@ tree_again items kinds zero t few good rest = absurd (omega (arith, few, no_tree
 tree_again items kinds (suc l) Empty few good rest = absurd cc
 tree_again items kinds (suc l) (Test item op v) few good rest =
     let spelled = comparable_spelled (item_at items item) v (kinds item) good in
-    ap (λ (r : Read Value). (Test item (op_of (op_number op)) r.0, r.1)) (literal_again v spelled rest)
+    ap (λ (r : ReadBytes Value). (Test item (op_of (op_number op)) r.0, r.1)) (literal_again v spelled rest)
     ∙ ap (λ (o : Op). (Test item o v, rest)) (op_again op)
 tree_again items kinds (suc l) (Both a b) few good rest =
     let parts = and_parts (compares_well items a) (compares_well items b) good in
@@ -69,14 +69,14 @@ tree_again items kinds (suc l) (Both a b) few good rest =
     let second = tree_again items kinds l b (omega (arith, few)) parts.1 in
     ap (λ (bytes : List ℕ). both_on (tree_at l) (tree_at l bytes)) (append_assoc (tree_bytes a) (tree_bytes b) rest)
     ∙ ap (both_on (tree_at l)) (first (tree_bytes b ++ rest))
-    ∙ ap (λ (r : Read Tree). (Both a r.0, r.1)) (second rest)
+    ∙ ap (λ (r : ReadBytes Tree). (Both a r.0, r.1)) (second rest)
 tree_again items kinds (suc l) (Either a b) few good rest =
     let parts = and_parts (compares_well items a) (compares_well items b) good in
     let first = tree_again items kinds l a (omega (arith, few)) parts.0 in
     let second = tree_again items kinds l b (omega (arith, few)) parts.1 in
     ap (λ (bytes : List ℕ). either_on (tree_at l) (tree_at l bytes)) (append_assoc (tree_bytes a) (tree_bytes b) rest)
     ∙ ap (either_on (tree_at l)) (first (tree_bytes b ++ rest))
-    ∙ ap (λ (r : Read Tree). (Either a r.0, r.1)) (second rest)
+    ∙ ap (λ (r : ReadBytes Tree). (Either a r.0, r.1)) (second rest)
 tree_again items kinds (suc l) (Contrary a) few good rest =
     let first = tree_again items kinds l a (omega (arith, few)) good in
-    ap (λ (r : Read Tree). (Contrary r.0, r.1)) (first rest)
+    ap (λ (r : ReadBytes Tree). (Contrary r.0, r.1)) (first rest)

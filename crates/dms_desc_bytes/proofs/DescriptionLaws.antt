@@ -9,7 +9,7 @@ use Rattle.std.proofs.lemmas.Bool.{and_parts, leb-true, eqb-true}
 use Rattle.std.proofs.lemmas.List.{append-nil}
 use Rattle.dms_desc.specs.Shape.{Shape, Described}
 use Rattle.dms_desc_bytes.specs.Lists.{is_within, apart, total}
-use Rattle.dms_desc_bytes.specs.Reading.{Read, bytes_at, number_at, several, structure_at, all_structures_at, description_at}
+use Rattle.dms_desc_bytes.specs.Reading.{ReadBytes, bytes_at, number_at, several, structure_at, all_structures_at, description_at}
 use Rattle.dms_desc_bytes.specs.Spelling.{structure_bytes, spelling}
 use Rattle.dms_desc.specs.Kinds.{is_restart}
 use Rattle.dms_desc_bytes.specs.WellFormed.{is_sound, numbered, names_differ, not_both_restart, counted_in, has_parameters, are_sound, IsWellFormed}
@@ -45,7 +45,7 @@ sound_parts ss good =
     let one = and_parts a b two.0 in
     (leb-true (length ss) 200 one.0, one.1, six.1)
 
-abbrev count_on : Read ℕ → Read (List Shape)
+abbrev count_on : ReadBytes ℕ → ReadBytes (List Shape)
 count_on n = several structure_at 1 n.0 n.1
 
 small_count : (n : ℕ) → n ≤ 200 → n % 65536 ≡ n
@@ -95,22 +95,22 @@ low_parameters d good =
 
 -- ---- descriptions
 
-abbrev made : ℕ → ℕ → ℕ → ℕ → ℕ → Read (List Shape) → Read Described
+abbrev made : ℕ → ℕ → ℕ → ℕ → ℕ → ReadBytes (List Shape) → ReadBytes Described
 made a b c e f ss = (record { syncpoint = a; controlpoint = b; buffers = c; blocks = e; files = f; structures = ss.0 }, ss.1)
 
-abbrev files_on : ℕ → ℕ → ℕ → ℕ → Read ℕ → Read Described
+abbrev files_on : ℕ → ℕ → ℕ → ℕ → ReadBytes ℕ → ReadBytes Described
 files_on a b c e f = made a b c e f.0 (all_structures_at f.1)
 
-abbrev blocks_on : ℕ → ℕ → ℕ → Read ℕ → Read Described
+abbrev blocks_on : ℕ → ℕ → ℕ → ReadBytes ℕ → ReadBytes Described
 blocks_on a b c e = files_on a b c e.0 (number_at w16 e.1)
 
-abbrev buffers_on : ℕ → ℕ → Read ℕ → Read Described
+abbrev buffers_on : ℕ → ℕ → ReadBytes ℕ → ReadBytes Described
 buffers_on a b c = blocks_on a b c.0 (number_at w16 c.1)
 
-abbrev controlpoint_on : ℕ → Read ℕ → Read Described
+abbrev controlpoint_on : ℕ → ReadBytes ℕ → ReadBytes Described
 controlpoint_on a b = buffers_on a b.0 (number_at w16 b.1)
 
-abbrev syncpoint_on : Read ℕ → Read Described
+abbrev syncpoint_on : ReadBytes ℕ → ReadBytes Described
 syncpoint_on a = controlpoint_on a.0 (number_at w16 a.1)
 
 eight : (m a b c e f n s : List ℕ) → m ++ a ++ b ++ c ++ e ++ f ++ n ++ s ≡ m ++ (a ++ (b ++ (c ++ (e ++ (f ++ (n ++ s))))))
@@ -121,7 +121,7 @@ eight m a b c e f n s =
     ∙ append_assoc (m ++ a ++ b) c (e ++ (f ++ (n ++ s)))
     ∙ three m a b (c ++ (e ++ (f ++ (n ++ s))))
 
-ended : (ss : List Shape) → are_sound ss ≡ true → ◌≡◌ {A = Read (List Shape)} (all_structures_at (to_be_bytes w16 (length ss % 65536) ++ flat_map structure_bytes ss)) (ss, [])
+ended : (ss : List Shape) → are_sound ss ≡ true → ◌≡◌ {A = ReadBytes (List Shape)} (all_structures_at (to_be_bytes w16 (length ss % 65536) ++ flat_map structure_bytes ss)) (ss, [])
 ended ss good =
     let text = to_be_bytes w16 (length ss % 65536) ++ flat_map structure_bytes ss in
     ap all_structures_at (sym (append-nil text)) ∙ structures_again ss good []
@@ -129,10 +129,10 @@ ended ss good =
 abbrev mark : List ℕ
 mark = 68 ∷ 77 ∷ 83 ∷ 83 ∷ 0 ∷ 1 ∷ []
 
-mark_read : (rest : List ℕ) → ◌≡◌ {A = Read (List ℕ)} (bytes_at 6 (mark ++ rest)) (mark, rest)
+mark_read : (rest : List ℕ) → ◌≡◌ {A = ReadBytes (List ℕ)} (bytes_at 6 (mark ++ rest)) (mark, rest)
 mark_read rest = bytes_again 6 mark refl rest
 
-pub description_again : (d : Described) → IsWellFormed d → ◌≡◌ {A = Read Described} (description_at (spelling d)) (d, [])
+pub description_again : (d : Described) → IsWellFormed d → ◌≡◌ {A = ReadBytes Described} (description_at (spelling d)) (d, [])
 unfolding description_at spelling
 description_again d good =
     let low = low_parameters d good.parameters in
@@ -144,7 +144,7 @@ description_again d good =
     let n = to_be_bytes w16 (length d.structures % 65536) in
     let s = flat_map structure_bytes d.structures in
     ap (λ (bytes : List ℕ). syncpoint_on (number_at w16 (bytes_at 6 bytes).1)) (eight mark a b c e f n s)
-    ∙ ap (λ (r : Read (List ℕ)). syncpoint_on (number_at w16 r.1)) (mark_read (a ++ (b ++ (c ++ (e ++ (f ++ (n ++ s)))))))
+    ∙ ap (λ (r : ReadBytes (List ℕ)). syncpoint_on (number_at w16 r.1)) (mark_read (a ++ (b ++ (c ++ (e ++ (f ++ (n ++ s)))))))
     ∙ ap syncpoint_on (u16_again d.syncpoint low.syncpoint (b ++ (c ++ (e ++ (f ++ (n ++ s))))))
     ∙ ap (controlpoint_on d.syncpoint) (u16_again d.controlpoint low.controlpoint (c ++ (e ++ (f ++ (n ++ s)))))
     ∙ ap (buffers_on d.syncpoint d.controlpoint) (u16_again d.buffers low.buffers (e ++ (f ++ (n ++ s))))
@@ -155,7 +155,7 @@ description_again d good =
 -- what was read is the only description that these bytes can spell
 pub only_read : (bytes : List ℕ) (found d : Described) → found ≡ (description_at bytes).0 → IsWellFormed d → spelling d ≡ bytes → found ≡ d
 only_read bytes found d read good spelled =
-    read ∙ ap (λ (text : List ℕ). (description_at text).0) (sym spelled) ∙ ap (λ (r : Read Described). r.0) (description_again d good)
+    read ∙ ap (λ (text : List ℕ). (description_at text).0) (sym spelled) ∙ ap (λ (r : ReadBytes Described). r.0) (description_again d good)
 
 pub both_ways : (b : Bool) → false ≡ b → b ≡ true → ⊥
 both_ways b fails holds = let bad : false ≡ true = fails ∙ holds in absurd cc

@@ -4,12 +4,12 @@ use Rattle.std.specs.Int.{Width, w16, w32, w64, byte_len, from_be_bytes, to_be_b
 use Rattle.std.proofs.lemmas.Bool.{le-ltb}
 use Rattle.std.proofs.lemmas.List.{take_at, drop_at, length-append}
 use Rattle.std.proofs.lemmas.Nat.{from_be_bytes-to_be_bytes_2, from_be_bytes-to_be_bytes_4, from_be_bytes-to_be_bytes_8}
-use Rattle.dms_desc_bytes.specs.Reading.{Read, bytes_at, number_in, number_at, flag_at, counted_at}
+use Rattle.dms_desc_bytes.specs.Reading.{ReadBytes, bytes_at, number_in, number_at, flag_at, counted_at}
 use Rattle.dms_desc_bytes.specs.Spelling.{flag, count_byte}
 
 -- a spelling is read again as this, whatever follows it
-abbrev pub Again : {A : Type 0} → (List ℕ → Read A) → List ℕ → A → Type 0
-Again {A} one text x = (rest : List ℕ) → ◌≡◌ {A = Read A} (one (text ++ rest)) (x, rest)
+abbrev pub Again : {A : Type 0} → (List ℕ → ReadBytes A) → List ℕ → A → Type 0
+Again {A} one text x = (rest : List ℕ) → ◌≡◌ {A = ReadBytes A} (one (text ++ rest)) (x, rest)
 
 pub bytes_again : (n : ℕ) (text : List ℕ) → length text ≡ n → Again (bytes_at n) text text
 unfolding bytes_at
@@ -21,7 +21,7 @@ number_again : (w : Width) (n : ℕ) → length (to_be_bytes w n) ≡ byte_len w
 unfolding number_at
 number_again w n size back rest =
     let whole : ltb (length (to_be_bytes w n)) (byte_len w) ≡ false = le-ltb _ _ (omega (arith, size)) in
-    ap (λ (r : Read (List ℕ)). number_in w r) (bytes_again (byte_len w) (to_be_bytes w n) size rest)
+    ap (λ (r : ReadBytes (List ℕ)). number_in w r) (bytes_again (byte_len w) (to_be_bytes w n) size rest)
     ∙ rw (whole, back) refl
 
 pub u16_again : (n : ℕ) → n < 2 ^ 16 → Again (number_at w16) (to_be_bytes w16 n) n

@@ -9,7 +9,7 @@ use Rattle.dms_base.specs.declared.kind.ItemKind.{ItemKind}
 use Rattle.dms_desc.specs.declared.structure.Item.{Item}
 use Rattle.dms_desc.specs.declared.structure.Group.{Group}
 use Rattle.dms_desc.specs.declared.structure.KeyPart.{KeyPart}
-use Rattle.dms_desc_bytes.specs.Reading.{Read, byte_at, kind_at, flag_at, literal_at, item_at, group_at, part_at, several, list_at}
+use Rattle.dms_desc_bytes.specs.Reading.{ReadBytes, byte_at, kind_at, flag_at, literal_at, item_at, group_at, part_at, several, list_at}
 use Rattle.dms_desc_bytes.specs.Spelling.{count_byte, name_bytes, kind_bytes, literal_bytes, flag, item_bytes, group_bytes, part_bytes}
 use Rattle.dms_desc_bytes.proofs.Fields.{Again, flag_again, small_count}
 use Rattle.dms_desc_bytes.proofs.Values.{Spelled, Typed, name_again, kind_again, literal_again}
@@ -21,16 +21,16 @@ pub record SpelledItem (i : Item) : Type 0 where
   pub initial : Spelled i.initial
 
 -- the readers of an item, from its last field to its first
-abbrev item_of : List ℕ → ItemKind → Bool → Read Value → Read Item
+abbrev item_of : List ℕ → ItemKind → Bool → ReadBytes Value → ReadBytes Item
 item_of name kind required initial = (record { name = name; kind = kind; required = required; initial = initial.0 }, initial.1)
 
-abbrev required_on : List ℕ → ItemKind → Read Bool → Read Item
+abbrev required_on : List ℕ → ItemKind → ReadBytes Bool → ReadBytes Item
 required_on name kind required = item_of name kind required.0 (literal_at required.1)
 
-abbrev kind_on : List ℕ → Read ItemKind → Read Item
+abbrev kind_on : List ℕ → ReadBytes ItemKind → ReadBytes Item
 kind_on name kind = required_on name kind.0 (flag_at kind.1)
 
-abbrev name_on : Read (List ℕ) → Read Item
+abbrev name_on : ReadBytes (List ℕ) → ReadBytes Item
 name_on name = kind_on name.0 (kind_at name.1)
 
 pub two : (a b rest : List ℕ) → a ++ b ++ rest ≡ a ++ (b ++ rest)
@@ -55,7 +55,7 @@ item_again i good rest =
     ∙ ap (required_on i.name i.kind) (flag_again i.required (l ++ rest))
     ∙ ap (item_of i.name i.kind i.required) (literal_again i.initial good.initial rest)
 
-abbrev group_of : Read (List ℕ) → Read Group
+abbrev group_of : ReadBytes (List ℕ) → ReadBytes Group
 group_of name = (record { name = name.0; first = (byte_at name.1).0; count = (byte_at (byte_at name.1).1).0 }, (byte_at (byte_at name.1).1).1)
 
 pub group_again : (g : Group) → is_name g.name ≡ true → Again group_at (group_bytes g) g
@@ -64,7 +64,7 @@ group_again g good rest =
     ap group_at (append_assoc (name_bytes g.name) (g.first ∷ g.count ∷ []) rest)
     ∙ ap group_of (name_again g.name good (g.first ∷ g.count ∷ rest))
 
-abbrev part_of : ℕ → Read Bool → Read KeyPart
+abbrev part_of : ℕ → ReadBytes Bool → ReadBytes KeyPart
 part_of item d = (record { item = item; descending = d.0 }, d.1)
 
 pub part_again : (p : KeyPart) → Again part_at (part_bytes p) p
@@ -74,17 +74,17 @@ part_again p rest = ap (part_of p.item) (flag_again p.descending rest)
 -- ---- lists
 
 -- each element is read again, the first one known by k
-abbrev pub EachAgain : {A : Type 0} → (ℕ → List ℕ → Read A) → (A → List ℕ) → ℕ → List A → Type 0
+abbrev pub EachAgain : {A : Type 0} → (ℕ → List ℕ → ReadBytes A) → (A → List ℕ) → ℕ → List A → Type 0
 EachAgain one spell k [] = Unit {0}
 EachAgain one spell k (x ∷ xs) = Again (one k) (spell x) x × EachAgain one spell (k + 1) xs
 
-abbrev first_on : {A : Type 0} → (ℕ → List ℕ → Read A) → ℕ → ℕ → Read A → Read (List A)
+abbrev first_on : {A : Type 0} → (ℕ → List ℕ → ReadBytes A) → ℕ → ℕ → ReadBytes A → ReadBytes (List A)
 first_on one k n first = (first.0 ∷ (several one k n first.1).0, (several one k n first.1).1)
 
-abbrev rest_on : {A : Type 0} → A → Read (List A) → Read (List A)
+abbrev rest_on : {A : Type 0} → A → ReadBytes (List A) → ReadBytes (List A)
 rest_on first others = (first ∷ others.0, others.1)
 
-pub several_again : {A : Type 0} (one : ℕ → List ℕ → Read A) (spell : A → List ℕ) (k : ℕ) (xs : List A) → EachAgain one spell k xs → Again (several one k (length xs)) (flat_map spell xs) xs
+pub several_again : {A : Type 0} (one : ℕ → List ℕ → ReadBytes A) (spell : A → List ℕ) (k : ℕ) (xs : List A) → EachAgain one spell k xs → Again (several one k (length xs)) (flat_map spell xs) xs
 unfolding several
 several_again one spell k [] each rest = refl
 several_again {A} one spell k (x ∷ xs) each rest =
@@ -93,14 +93,14 @@ several_again {A} one spell k (x ∷ xs) each rest =
     ∙ ap (first_on one (k + 1) (length xs)) (each.0 (flat_map spell xs ++ rest))
     ∙ ap (rest_on x) (several_again one spell (k + 1) xs each.1 rest)
 
-pub list_again : {A : Type 0} (one : List ℕ → Read A) (spell : A → List ℕ) (xs : List A) → length xs ≤ 255 → EachAgain (λ k. one) spell 1 xs → Again (list_at one) (count_byte xs ∷ flat_map spell xs) xs
+pub list_again : {A : Type 0} (one : List ℕ → ReadBytes A) (spell : A → List ℕ) (xs : List A) → length xs ≤ 255 → EachAgain (λ k. one) spell 1 xs → Again (list_at one) (count_byte xs ∷ flat_map spell xs) xs
 unfolding list_at
 list_again {A} one spell xs few each rest =
     ap (λ (n : ℕ). several (λ k. one) 1 n (flat_map spell xs ++ rest)) (small_count (length xs) few)
     ∙ several_again (λ k. one) spell 1 xs each rest
 
 -- what holds for each element that passes a test holds for each of a list that passes it
-pub each_again : {A : Type 0} (one : List ℕ → Read A) (spell : A → List ℕ) (test : A → Bool) → ((x : A) → test x ≡ true → Again one (spell x) x) → (k : ℕ) (xs : List A) → list_all test xs ≡ true → EachAgain (λ k. one) spell k xs
+pub each_again : {A : Type 0} (one : List ℕ → ReadBytes A) (spell : A → List ℕ) (test : A → Bool) → ((x : A) → test x ≡ true → Again one (spell x) x) → (k : ℕ) (xs : List A) → list_all test xs ≡ true → EachAgain (λ k. one) spell k xs
 each_again one spell test law k [] all = tt
 each_again one spell test law k (x ∷ xs) all =
     let parts = and_parts (test x) (list_all test xs) all in

@@ -9,7 +9,7 @@ use Rattle.dms_desc.specs.declared.structure.KeyPart.{KeyPart}
 use Rattle.dms_desc.specs.Shape.{Tree, Shape}
 use Rattle.dms_desc.specs.Shape.Tree.{Empty}
 use Rattle.dms_desc_bytes.specs.declared.reading.Head.{Head}
-use Rattle.dms_desc_bytes.specs.Reading.{Read, byte_at, name_at, number_at, flag_at, list_at, item_at, group_at, part_at, tree_at, data_set_at, where_at, set_at, fields_at, structure_at}
+use Rattle.dms_desc_bytes.specs.Reading.{ReadBytes, byte_at, name_at, number_at, flag_at, list_at, item_at, group_at, part_at, tree_at, data_set_at, where_at, set_at, fields_at, structure_at}
 use Rattle.dms_desc_bytes.specs.Spelling.{count_byte, flag, name_bytes, item_bytes, group_bytes, part_bytes, tree_bytes, data_set_bytes, where_bytes, set_bytes, is_data_set, structure_bytes}
 use Rattle.dms_desc_bytes.proofs.Fields.{Again, u16_again, u32_again, flag_again}
 use Rattle.dms_desc_bytes.proofs.Values.{name_again}
@@ -53,13 +53,13 @@ seven a b c d e f rest =
 abbrev data_set_of : Head → ℕ → List Item → List Group → Tree → Shape
 data_set_of h population items groups t = record { number = h.number; kind = h.kind; name = h.name; owner = h.owner; population = population; items = items; groups = groups; cond = t; set = 0; form = 0; duplicates = false; parts = [] }
 
-abbrev groups_on : Head → ℕ → List Item → Read (List Group) → Read Shape
+abbrev groups_on : Head → ℕ → List Item → ReadBytes (List Group) → ReadBytes Shape
 groups_on h population items groups = (data_set_of h population items groups.0 (tree_at 100 groups.1).0, (tree_at 100 groups.1).1)
 
-abbrev items_on : Head → ℕ → Read (List Item) → Read Shape
+abbrev items_on : Head → ℕ → ReadBytes (List Item) → ReadBytes Shape
 items_on h population items = groups_on h population items.0 (list_at group_at items.1)
 
-abbrev population_on : Head → Read ℕ → Read Shape
+abbrev population_on : Head → ReadBytes ℕ → ReadBytes Shape
 population_on h population = items_on h population.0 (list_at item_at population.1)
 
 same_data_set : (s : Shape) → SpelledDataSet s → data_set_of (head_of s) s.population s.items s.groups s.cond ≡ s
@@ -78,12 +78,12 @@ data_set_again s good rest =
     ∙ ap (population_on h) (u32_again s.population good.population ((count_byte s.items ∷ is) ++ after_items))
     ∙ ap (items_on h s.population) (list_again item_at item_bytes s.items good.few_items good.items after_items)
     ∙ ap (groups_on h s.population s.items) (list_again group_at group_bytes s.groups good.few_groups good.groups (t ++ rest))
-    ∙ ap (λ (r : Read Tree). (data_set_of h s.population s.items s.groups r.0, r.1)) (good.verify rest)
+    ∙ ap (λ (r : ReadBytes Tree). (data_set_of h s.population s.items s.groups r.0, r.1)) (good.verify rest)
     ∙ ap (λ (x : Shape). (x, rest)) (same_data_set s good)
 
 -- ---- sets and subsets
 
-where_case : (b : Bool) (t : Tree) (rest : List ℕ) → (b ≡ true → Again (tree_at 100) (tree_bytes t) t) → (b ≡ false → t ≡ Empty) → ◌≡◌ {A = Read Tree} (cond b (tree_at 100 (cond b (tree_bytes t) [] ++ rest)) (Empty, cond b (tree_bytes t) [] ++ rest)) (t, rest)
+where_case : (b : Bool) (t : Tree) (rest : List ℕ) → (b ≡ true → Again (tree_at 100) (tree_bytes t) t) → (b ≡ false → t ≡ Empty) → ◌≡◌ {A = ReadBytes Tree} (cond b (tree_at 100 (cond b (tree_bytes t) [] ++ rest)) (Empty, cond b (tree_bytes t) [] ++ rest)) (t, rest)
 where_case true t rest has lacks = has refl rest
 where_case false t rest has lacks = ap (λ (x : Tree). (x, rest)) (sym (lacks refl))
 
@@ -94,16 +94,16 @@ where_again s good rest = where_case (eqb s.kind 4) s.cond rest good.has_where g
 abbrev set_of : Head → ℕ → ℕ → Bool → ℕ → List KeyPart → Tree → Shape
 set_of h set form duplicates population parts t = record { number = h.number; kind = h.kind; name = h.name; owner = h.owner; population = population; items = []; groups = []; cond = t; set = set; form = form; duplicates = duplicates; parts = parts }
 
-abbrev parts_on : Head → ℕ → ℕ → Bool → ℕ → Read (List KeyPart) → Read Shape
+abbrev parts_on : Head → ℕ → ℕ → Bool → ℕ → ReadBytes (List KeyPart) → ReadBytes Shape
 parts_on h set form duplicates population parts = (set_of h set form duplicates population parts.0 (where_at h.kind parts.1).0, (where_at h.kind parts.1).1)
 
-abbrev entries_on : Head → ℕ → ℕ → Bool → Read ℕ → Read Shape
+abbrev entries_on : Head → ℕ → ℕ → Bool → ReadBytes ℕ → ReadBytes Shape
 entries_on h set form duplicates population = parts_on h set form duplicates population.0 (list_at part_at population.1)
 
-abbrev duplicates_on : Head → ℕ → ℕ → Read Bool → Read Shape
+abbrev duplicates_on : Head → ℕ → ℕ → ReadBytes Bool → ReadBytes Shape
 duplicates_on h set form duplicates = entries_on h set form duplicates.0 (number_at w32 duplicates.1)
 
-abbrev set_on : Head → Read ℕ → Read Shape
+abbrev set_on : Head → ReadBytes ℕ → ReadBytes Shape
 set_on h set = duplicates_on h set.0 (byte_at set.1).0 (flag_at (byte_at set.1).1)
 
 same_set : (s : Shape) → SpelledSet s → set_of (head_of s) s.set s.form s.duplicates s.population s.parts s.cond ≡ s
@@ -127,7 +127,7 @@ set_again s good rest =
     ∙ ap (duplicates_on h s.set s.form) (flag_again s.duplicates after_flag)
     ∙ ap (entries_on h s.set s.form s.duplicates) (u32_again s.population good.population ((count_byte s.parts ∷ ps) ++ (w ++ rest)))
     ∙ ap (parts_on h s.set s.form s.duplicates s.population) (list_again part_at part_bytes s.parts good.few_parts (all_parts 1 s.parts) (w ++ rest))
-    ∙ ap (λ (r : Read Tree). (set_of h s.set s.form s.duplicates s.population s.parts r.0, r.1)) (where_again s good rest)
+    ∙ ap (λ (r : ReadBytes Tree). (set_of h s.set s.form s.duplicates s.population s.parts r.0, r.1)) (where_again s good rest)
     ∙ ap (λ (x : Shape). (x, rest)) (same_set s good)
 
 -- ---- structures
@@ -139,7 +139,7 @@ pub record SpelledShape (s : Shape) : Type 0 where
   pub data_set : is_data_set s.kind ≡ true → SpelledDataSet s
   pub set : is_data_set s.kind ≡ false → SpelledSet s
 
-fields_case : (b : Bool) (s : Shape) (rest : List ℕ) → (b ≡ true → SpelledDataSet s) → (b ≡ false → SpelledSet s) → ◌≡◌ {A = Read Shape} (cond b (data_set_at (head_of s) (cond b (data_set_bytes s) (set_bytes s) ++ rest)) (set_at (head_of s) (cond b (data_set_bytes s) (set_bytes s) ++ rest))) (s, rest)
+fields_case : (b : Bool) (s : Shape) (rest : List ℕ) → (b ≡ true → SpelledDataSet s) → (b ≡ false → SpelledSet s) → ◌≡◌ {A = ReadBytes Shape} (cond b (data_set_at (head_of s) (cond b (data_set_bytes s) (set_bytes s) ++ rest)) (set_at (head_of s) (cond b (data_set_bytes s) (set_bytes s) ++ rest))) (s, rest)
 fields_case true s rest data_set set = data_set_again s (data_set refl) rest
 fields_case false s rest data_set set = set_again s (set refl) rest
 
@@ -147,10 +147,10 @@ fields_again : (s : Shape) → SpelledShape s → Again (fields_at (head_of s)) 
 unfolding fields_at
 fields_again s good rest = fields_case (is_data_set s.kind) s rest good.data_set good.set
 
-abbrev owner_on : ℕ → ℕ → List ℕ → Read ℕ → Read Shape
+abbrev owner_on : ℕ → ℕ → List ℕ → ReadBytes ℕ → ReadBytes Shape
 owner_on n kind name owner = fields_at (record { number = n; kind = kind; name = name; owner = owner.0 }) owner.1
 
-abbrev name_on : ℕ → ℕ → Read (List ℕ) → Read Shape
+abbrev name_on : ℕ → ℕ → ReadBytes (List ℕ) → ReadBytes Shape
 name_on n kind name = owner_on n kind name.0 (number_at w16 name.1)
 
 pub structure_again : (s : Shape) → SpelledShape s → Again (structure_at s.number) (structure_bytes s) s

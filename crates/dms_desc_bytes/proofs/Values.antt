@@ -21,7 +21,7 @@ use Rattle.dms_base.specs.declared.kind.ItemKind.TheVariants.{Alpha, Number as D
 use Rattle.dms_desc.specs.Kinds.{is_link}
 use Rattle.dms_desc.specs.Conds.{is_null}
 use Rattle.dms_desc_bytes.specs.Members.{is_plain}
-use Rattle.dms_desc_bytes.specs.Reading.{Read, name_at, name_or_unknown, text_or_null, text_at, long_at, truth_at, bits_at, literal_at, kind_at, unshifted}
+use Rattle.dms_desc_bytes.specs.Reading.{ReadBytes, name_at, name_or_unknown, text_or_null, text_at, long_at, truth_at, bits_at, literal_at, kind_at, unshifted}
 use Rattle.dms_desc_bytes.specs.Spelling.{name_bytes, literal_bytes, kind_bytes, shifted}
 use Rattle.dms_desc_bytes.proofs.Fields.{Again, u64_again, flag_again, counted_again}
 
@@ -35,7 +35,7 @@ pub name_again : (name : List ℕ) → is_name name ≡ true → Again name_at (
 unfolding name_at
 name_again name good rest =
     let short = name_short name good in
-    ap (λ (r : Read (List ℕ)). (name_or_unknown (name_of r.0), r.1)) (counted_again name (omega (arith, short)) rest) ∙ rw good refl
+    ap (λ (r : ReadBytes (List ℕ)). (name_or_unknown (name_of r.0), r.1)) (counted_again name (omega (arith, short)) rest) ∙ rw good refl
 
 -- ---- literals
 
@@ -66,22 +66,22 @@ text_again : (text : List ℕ) → length text ≤ 200 → list_all is_printable
 unfolding literal_at text_at text_of
 text_again text few plain ends rest =
     let small : leb (length (trimmed text)) 200 ≡ true = le-leb _ _ (omega (arith, ap length ends, few)) in
-    ap (λ (r : Read (List ℕ)). (text_or_null (text_of r.0), r.1)) (counted_again text (omega (arith, few)) rest)
+    ap (λ (r : ReadBytes (List ℕ)). (text_or_null (text_of r.0), r.1)) (counted_again text (omega (arith, few)) rest)
     ∙ rw (plain, small, ends) refl
 
 number_again : (z : ℤ) → unsigned_abs z < 2 ^ 63 → Again literal_at (literal_bytes (Number z)) (Number z)
 unfolding literal_at long_at
 number_again z low rest =
-    ap (λ (r : Read ℕ). (Number (unshifted r.0), r.1)) (u64_again (shifted z) (shifted_low z low) rest)
+    ap (λ (r : ReadBytes ℕ). (Number (unshifted r.0), r.1)) (u64_again (shifted z) (shifted_low z low) rest)
     ∙ ap (λ (y : ℤ). (Number y, rest)) (shifted_again z low)
 
 truth_again : (b : Bool) → Again literal_at (literal_bytes (Truth b)) (Truth b)
 unfolding literal_at truth_at
-truth_again b rest = ap (λ (r : Read Bool). (Truth r.0, r.1)) (flag_again b rest)
+truth_again b rest = ap (λ (r : ReadBytes Bool). (Truth r.0, r.1)) (flag_again b rest)
 
 bits_again : (n : ℕ) → n < 2 ^ 64 → Again literal_at (literal_bytes (Bits n)) (Bits n)
 unfolding literal_at bits_at
-bits_again n low rest = ap (λ (r : Read ℕ). (Bits r.0, r.1)) (u64_again n low rest)
+bits_again n low rest = ap (λ (r : ReadBytes ℕ). (Bits r.0, r.1)) (u64_again n low rest)
 
 null_again : Again literal_at (literal_bytes Null) Null
 unfolding literal_at

@@ -1,6 +1,6 @@
 -- Restores one after another.
 use Rattle.std.proofs.Common.{ℕ, ◌≡◌, ◌==◌, ◌||◌, inl, inr, Bool, true, false, List, [], ◌∷◌, ◌++◌, Some, None, refl, sym, ◌∙◌, ap, subst}
-use Rattle.dms_history.specs.Events.{block_in, Content, Stored, Counts, Event, change, quiet, control, begin}
+use Rattle.dms_history.specs.Events.{block_in, AllBlocks, Stored, Counts, Event, change, quiet, control, begin}
 use Rattle.dms_history.specs.Lists.{has}
 use Rattle.dms_history.specs.Places.{is_described, is_point, IsLive}
 use Rattle.dms_history.specs.Pick.{blocks_at, Dumps}
@@ -41,7 +41,7 @@ was_live live m n next counts described at on = elim (bool_cases (has (is_point 
       ]
 ]
 
-one_step : (dumps : Dumps) (base : Content) (d : Disk) (s : RestoreStep) → Steady dumps d.history base d.stored → May dumps base d s → StepsKeep dumps base d (moved d s)
+one_step : (dumps : Dumps) (base : AllBlocks) (d : Disk) (s : RestoreStep) → Steady dumps d.history base d.stored → May dumps base d s → StepsKeep dumps base d (moved d s)
 one_step dumps base d (began how m) steady ready =
     let r = restore_begins how dumps d.history base (here dumps d.history d.stored) d.stored m ready in
     record { steady = r.steady; points = λ n at. record { lives = live_in d.history.live m n at; same = sym (r.points n at) } }
@@ -70,7 +70,7 @@ however_often dumps base d (s ∷ ss) steady may =
 pub here_unpending : (dumps : Dumps) (t : History) (stored : Stored) → t.pending ≡ None → here dumps t stored ≡ stored
 here_unpending dumps t stored none = ap (λ o. here_by o dumps stored) none
 
-pub steady_of : (dumps : Dumps) (t : History) (base : Content) (stored : Stored) → t.pending ≡ None → Sound (from_control t.live) base stored → Steady dumps t base stored
+pub steady_of : (dumps : Dumps) (t : History) (base : AllBlocks) (stored : Stored) → t.pending ≡ None → Sound (from_control t.live) base stored → Steady dumps t base stored
 steady_of dumps t base stored none sound = record {
   sound = subst (λ (s : Stored). Sound (from_control t.live) base s) (sym (here_unpending dumps t stored none)) sound;
   restored = λ p is. absurd (none_not_some p (sym none ∙ is));

@@ -1,6 +1,6 @@
 -- What stands after a Begin, among entries and among their events.
 use Rattle.std.proofs.Common.{ℕ, ◌≡◌, inl, inr, true, false, List, [], ◌∷◌, ◌++◌, Option, Some, None, refl, sym, ◌∙◌, ap, subst, append_assoc}
-use Rattle.dms_history.specs.Events.{Block, How, Event, change, begin}
+use Rattle.dms_history.specs.Events.{BlockBytes, How, Event, change, begin}
 use Rattle.dms_history.specs.Images.{last_after}
 use Rattle.dms_history.specs.History.{History, history_from, history}
 use Rattle.dms_history.specs.Agrees.{ends_restore, BeginsAloneEvents}
@@ -22,7 +22,7 @@ next_ends [] h e vs is first = absurd (not_empty [] vs e (sym is))
 next_ends (event d ∷ xs) h e vs is first = let head : d ≡ e = cc in subst (λ (k : Event). ends_restore k ≡ true) head (first (event d) xs refl)
 next_ends (range f b place bytes ∷ xs) h e vs is first = absurd (true_not_false (sym (first (range f b place bytes) xs refl)))
 
-change_not_begin : (f b : ℕ) (before : Option Block) (after : Block) (m : ℕ) (how : How) → change f b before after ≡ begin m how → ⊥
+change_not_begin : (f b : ℕ) (before : Option BlockBytes) (after : BlockBytes) (m : ℕ) (how : How) → change f b before after ≡ begin m how → ⊥
 change_not_begin f b before after m how is = absurd cc
 
 alone_from : (xs : List Logged) (h : History) → BeginsAlone xs → BeginsAloneEvents (events_from h xs)
@@ -37,7 +37,7 @@ alone_from (event d ∷ xs) h alone (u ∷ us) vs m how e is =
 alone_from (range f b place bytes ∷ xs) h alone us vs m how e is =
     go (last_after f b h.live) us is (λ g. alone_from xs g (λ ps qs n o x at. alone (range f b place bytes ∷ ps) qs n o x (ap (λ (l : List Logged). range f b place bytes ∷ l) at)))
   where
-    go : (o : Option Block) (us : List Event) → range_change f b place bytes o ++ events_from (history_from h (range_change f b place bytes o)) xs ≡ us ++ begin m how ∷ (e ∷ vs)
+    go : (o : Option BlockBytes) (us : List Event) → range_change f b place bytes o ++ events_from (history_from h (range_change f b place bytes o)) xs ≡ us ++ begin m how ∷ (e ∷ vs)
         → ((g : History) → BeginsAloneEvents (events_from g xs)) → ends_restore e ≡ true
     go None us is rest = rest h us vs m how e is
     go (Some old) [] is rest = absurd cc

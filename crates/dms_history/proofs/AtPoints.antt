@@ -1,7 +1,7 @@
 -- The content at each live point is what the entries tell.
 use Rattle.std.proofs.Common.{ℕ, ◌<◌, ◌≡◌, ◌||◌, ◌⊎◌, inl, inr, Bool, true, false, cond, List, [], ◌∷◌, ◌++◌, length, None, refl, sym, ◌∙◌, ap, subst, arith, append_assoc}
 use Rattle.std.proofs.lemmas.List.FromFn.{fill_by_all}
-use Rattle.dms_history.specs.Events.{Content, Event, change, quiet, control, begin, block_in}
+use Rattle.dms_history.specs.Events.{AllBlocks, Event, change, quiet, control, begin, block_in}
 use Rattle.dms_history.specs.Replay.{Chain, replay, with_block}
 use Rattle.dms_history.specs.Images.{last_after, choice}
 use Rattle.dms_history.specs.Lists.{has, until_last, after_last, until_first, after_first}
@@ -86,7 +86,7 @@ pub or_no : (b c : Bool) → b || c ≡ false → (b ≡ false) × (c ≡ false)
 or_no true c e = absurd cc
 or_no false c e = (refl, e)
 
-pub replay_append : (xs ys : List Event) (c : Content) → replay (xs ++ ys) c ≡ replay ys (replay xs c)
+pub replay_append : (xs ys : List Event) (c : AllBlocks) → replay (xs ++ ys) c ≡ replay ys (replay xs c)
 replay_append [] ys c = refl
 replay_append (change g b before after ∷ xs) ys c = replay_append xs ys (with_block c g b after)
 replay_append (quiet n ∷ xs) ys c = replay_append xs ys c
@@ -116,11 +116,11 @@ each_point entries base stored n sound found from_control =
     let long : b < length (replay (mid ++ late) start f) = omega (arith, low, replay_length (mid ++ late) start f behind_chain) in
     let quiet_now : last_after f b (after_last is_control entries) ≡ None =
     ap (λ (l : List Event). last_after f b (after_last is_control l)) (sym whole) ∙ after_front is_control before (mid ++ late) f b none in
-    sound.stands f b (subst (λ (c : Content). b < length (c f)) (sym now) long) quiet_now
-    ∙ ap (λ (c : Content). block_in c f b) now
+    sound.stands f b (subst (λ (c : AllBlocks). b < length (c f)) (sym now) long) quiet_now
+    ∙ ap (λ (c : AllBlocks). block_in c f b) now
     ∙ (none_stands (mid ++ late) start f b behind_chain none long).1 in
     let count : (f : ℕ) → reached_count f 0 before ≡ length (replay mid start f) =
-    λ f. reached_any before f 0 (length (base f)) from_control ∙ chain_reached before base f before_chain ∙ ap (λ (c : Content). length (c f)) there in
+    λ f. reached_any before f 0 (length (base f)) from_control ∙ chain_reached before base f before_chain ∙ ap (λ (c : AllBlocks). length (c f)) there in
     (λ i f. sym (fill_by_all (choice mid late stored f) (replay mid start f) (reached_count f 0 before) [] (sym (count f))
     (λ k low. sym (choice_gives_content mid late start stored behind_chain kept f k (omega (arith, low, count f))))) i)
     ∙ sym there

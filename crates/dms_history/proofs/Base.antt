@@ -2,7 +2,7 @@
 use Rattle.std.proofs.Common.{ℕ, ◌<◌, ◌≡◌, ◌||◌, ◌⊎◌, inl, inr, Bool, true, false, cond, List, [], ◌∷◌, ◌++◌, length, Option, Some, None, refl, sym, ◌∙◌, ap, subst, arith, append_assoc}
 use Rattle.std.proofs.lemmas.List.FromFn.{length-map-range_with_len, get_or-map-range_with_len}
 use Rattle.std.proofs.lemmas.Bool.Decides.{nat_tests}
-use Rattle.dms_history.specs.Events.{Block, Content, Stored, Counts, Event, change, quiet, control, begin, block_in}
+use Rattle.dms_history.specs.Events.{BlockBytes, AllBlocks, Stored, Counts, Event, change, quiet, control, begin, block_in}
 use Rattle.dms_history.specs.Replay.{TellsBefore, Chain, replay, with_block}
 use Rattle.dms_history.specs.Images.{is_at, or_else, last_after, first_before, value, choice}
 use Rattle.dms_history.specs.Lists.{has, after_last}
@@ -65,18 +65,18 @@ none_first (begin n how ∷ es) f b none = none_first es f b none
 -- ---- the fields of what stands behind the first Control
 
 record Fields (all : List Event) : Type 0 where
-  linked : (xs ys : List Event) (f b : ℕ) (before : Option Block) (after old : Block) → xs ++ change f b before after ∷ ys ≡ all → last_after f b xs ≡ Some old → before ≡ Some old
-  grows : (xs ys : List Event) (f b : ℕ) (before : Option Block) (after : Block) → xs ++ change f b before after ∷ ys ≡ all → has is_control xs ≡ true → FitsCount before b (reached_count f 0 xs)
+  linked : (xs ys : List Event) (f b : ℕ) (before : Option BlockBytes) (after old : BlockBytes) → xs ++ change f b before after ∷ ys ≡ all → last_after f b xs ≡ Some old → before ≡ Some old
+  grows : (xs ys : List Event) (f b : ℕ) (before : Option BlockBytes) (after : BlockBytes) → xs ++ change f b before after ∷ ys ≡ all → has is_control xs ≡ true → FitsCount before b (reached_count f 0 xs)
   recounts : (xs ys : List Event) (n later : ℕ) (counts : Counts) (described : Bool) → xs ++ control n later counts described ∷ ys ≡ all → has is_control xs ≡ true → (f : ℕ) → counts f ≡ reached_count f 0 xs
 
 -- entries that were read, those that follow, and the content between them
-record Walk (xs es : List Event) (c : Content) : Type 0 where
+record Walk (xs es : List Event) (c : AllBlocks) : Type 0 where
   lengths : (f : ℕ) → length (c f) ≡ reached_count f 0 xs
-  afters : (f b : ℕ) (x : Block) → last_after f b xs ≡ Some x → (b < length (c f)) × (block_in c f b ≡ x)
-  firsts : (f b : ℕ) (o : Block) → last_after f b xs ≡ None → b < length (c f) → first_before f b es ≡ Some (Some o) → block_in c f b ≡ o
+  afters : (f b : ℕ) (x : BlockBytes) → last_after f b xs ≡ Some x → (b < length (c f)) × (block_in c f b ≡ x)
+  firsts : (f b : ℕ) (o : BlockBytes) → last_after f b xs ≡ None → b < length (c f) → first_before f b es ≡ Some (Some o) → block_in c f b ≡ o
 
-tells_of : (xs es : List Event) (c : Content) (f b : ℕ) (before : Option Block) (after : Block) → Walk xs (change f b before after ∷ es) c → FitsCount before b (reached_count f 0 xs)
-    → ((old : Block) → last_after f b xs ≡ Some old → before ≡ Some old) → TellsBefore b before (c f)
+tells_of : (xs es : List Event) (c : AllBlocks) (f b : ℕ) (before : Option BlockBytes) (after : BlockBytes) → Walk xs (change f b before after ∷ es) c → FitsCount before b (reached_count f 0 xs)
+    → ((old : BlockBytes) → last_after f b xs ≡ Some old → before ≡ Some old) → TellsBefore b before (c f)
 tells_of xs es c f b None after walk grows linked = grows ∙ sym (walk.lengths f)
 tells_of xs es c f b (Some old) after walk grows linked =
     let low : b < length (c f) = omega (arith, grows, walk.lengths f) in
@@ -85,7 +85,7 @@ tells_of xs es c f b (Some old) after walk grows linked =
       | inl none ↦ (low, sym (walk.firsts f b old none low (ap (λ t. cond t (Some (Some old)) (first_before f b es)) (at_self f b))))
     ]
 
-moves : (xs es : List Event) (c : Content) (f b : ℕ) (before : Option Block) (after : Block) → Walk xs (change f b before after ∷ es) c → TellsBefore b before (c f)
+moves : (xs es : List Event) (c : AllBlocks) (f b : ℕ) (before : Option BlockBytes) (after : BlockBytes) → Walk xs (change f b before after ∷ es) c → TellsBefore b before (c f)
     → Walk (xs ++ change f b before after ∷ []) es (with_block c f b after)
 moves xs es c f b before after walk tells =
     let e = change f b before after in
@@ -116,7 +116,7 @@ moves xs es c f b before after walk tells =
           ];
     }
 
-walks : (all : List Event) → Fields all → (es xs : List Event) (c : Content) → xs ++ es ≡ all → has is_control xs ≡ true → has is_begin es ≡ false → Walk xs es c → Chain es c
+walks : (all : List Event) → Fields all → (es xs : List Event) (c : AllBlocks) → xs ++ es ≡ all → has is_control xs ≡ true → has is_begin es ≡ false → Walk xs es c → Chain es c
 walks all fields [] xs c is found off walk = tt
 walks all fields (change f b before after ∷ es) xs c is found off walk =
     let tells = tells_of xs es c f b before after walk (fields.grows xs es f b before after is found) (λ old last. fields.linked xs es f b before after old is last) in (
@@ -184,7 +184,7 @@ start_walk n later k described rest counted = record {
   firsts = λ f b o none low first. content_block k _ f b (subst (λ j. b < j) (content_length k _ f) low) ∙ ap (λ t. value None t (counted f b)) first;
 }
   where
-    not_some : (x : Block) → None ≡ Some x → ⊥
+    not_some : (x : BlockBytes) → None ≡ Some x → ⊥
     not_some x e = absurd cc
 
 chain_from : (all : List Event) (k : Counts) (counted : Stored) → Fields all → has is_begin all ≡ false → Starts all k → Chain all (content_of k (choice [] all counted))
@@ -194,7 +194,7 @@ chain_from all k counted fields off (n, later, rest, described, is) =
     let off_rest : has is_begin rest ≡ false = sym (ap (λ (l : List Event). has is_begin l) is) ∙ off in
     subst (λ (l : List Event). Chain l base) (sym is) (
       (λ f. sym (content_length k (choice [] all counted) f)),
-      subst (λ (c : Content). Chain rest c) same (walks all fields rest (control n later k described ∷ []) (content_of k (choice [] (control n later k described ∷ rest) counted)) (sym is) refl off_rest (start_walk n later k described rest counted)),
+      subst (λ (c : AllBlocks). Chain rest c) same (walks all fields rest (control n later k described ∷ []) (content_of k (choice [] (control n later k described ∷ rest) counted)) (sym is) refl off_rest (start_walk n later k described rest counted)),
     )
 
 pub after_behind : (p : Event → Bool) (os xs : List Event) → has p xs ≡ true → after_last p (os ++ xs) ≡ after_last p xs

@@ -1,11 +1,11 @@
 -- What has a base agrees.
 use Rattle.std.proofs.Common.{ℕ, ◌<◌, ◌≡◌, ◌||◌, inl, inr, Bool, true, false, cond, List, [], ◌∷◌, ◌++◌, length, get_or, Option, Some, None, refl, sym, ◌∙◌, ap, subst, arith, append_assoc}
-use Rattle.dms_history.specs.Events.{Block, Content, Stored, Counts, Event, change, quiet, control, begin}
+use Rattle.dms_history.specs.Events.{BlockBytes, AllBlocks, Stored, Counts, Event, change, quiet, control, begin}
 use Rattle.dms_history.specs.Replay.{TellsBefore, Chain, replay, with_block}
 use Rattle.dms_history.specs.Images.{is_at, or_else, last_after, first_before, value, choice}
 use Rattle.dms_history.specs.Lists.{has, after_last}
 use Rattle.dms_history.specs.Places.{is_control}
-use Rattle.dms_history.specs.Base.{Sound, opening, from_control, first_counts, Opened, base_of}
+use Rattle.dms_history.specs.Base.{Sound, opening, from_control, first_counts, OpenedFrom, base_of}
 use Rattle.dms_history.specs.Agrees.{FitsCount}
 use Rattle.dms_history.specs.LawsOfBase.{AgreesLeadsToBase, BaseAgrees}
 use Rattle.dms_history.proofs.Picks.{tells_le, place_cases, laid_length, in_file, replay_length, first_none, option_cases, or_none, if_none, if_some, some_is, last_append, last_stands, none_stands, chain_split}
@@ -52,12 +52,12 @@ first_is (begin m how ∷ os) n later k described zs off = first_is os n later k
 
 -- ---- counts and blocks by the chain
 
-reached : (xs : List Event) (base : Content) (f : ℕ) → Chain (from_control xs) base → has is_control (from_control xs) ≡ true → reached_count f 0 xs ≡ length (replay (from_control xs) base f)
+reached : (xs : List Event) (base : AllBlocks) (f : ℕ) → Chain (from_control xs) base → has is_control (from_control xs) ≡ true → reached_count f 0 xs ≡ length (replay (from_control xs) base f)
 reached xs base f chain found =
     ap (λ (l : List Event). reached_count f 0 l) (sym (parts xs)) ∙ reached_append (opening xs) (from_control xs) f 0 ∙ reached_any (from_control xs) f _ (length (base f)) found ∙ chain_reached (from_control xs) base f chain
 
 -- a block that was logged is there
-pub logged_below : (es : List Event) (c : Content) (f b : ℕ) (x : Block) → Chain es c → last_after f b es ≡ Some x → b < length (replay es c f)
+pub logged_below : (es : List Event) (c : AllBlocks) (f b : ℕ) (x : BlockBytes) → Chain es c → last_after f b es ≡ Some x → b < length (replay es c f)
 logged_below [] c f b x chain last = absurd cc
 logged_below (change g k before after ∷ es) c f b x chain last =
     let le = tells_le k before (c g) chain.0 in
@@ -77,16 +77,16 @@ logged_below (quiet n ∷ es) c f b x chain last = logged_below es c f b x chain
 logged_below (control n next counts described ∷ es) c f b x chain last = logged_below es c f b x chain.1 last
 logged_below (begin n how ∷ es) c f b x chain last = absurd chain
 
-pub told : (before : Option Block) (b : ℕ) (l : List Block) → TellsBefore b before l → b < length l → before ≡ Some (get_or l b [])
+pub told : (before : Option BlockBytes) (b : ℕ) (l : List BlockBytes) → TellsBefore b before l → b < length l → before ≡ Some (get_or l b [])
 told None b l tells low = absurd (omega arith)
 told (Some old) b l tells low = ap (λ x. Some x) tells.1
 
-grown : (before : Option Block) (b : ℕ) (l : List Block) → TellsBefore b before l → FitsCount before b (length l)
+grown : (before : Option BlockBytes) (b : ℕ) (l : List BlockBytes) → TellsBefore b before l → FitsCount before b (length l)
 grown None b l tells = tells
 grown (Some old) b l tells = tells.0
 
 -- the Image that is the last of its block, and the first
-pub last_at : (es : List Event) (f b : ℕ) (x : Block) → last_after f b es ≡ Some x → (xs : List Event) × (ys : List Event) × (before : Option Block) × (es ≡ xs ++ change f b before x ∷ ys)
+pub last_at : (es : List Event) (f b : ℕ) (x : BlockBytes) → last_after f b es ≡ Some x → (xs : List Event) × (ys : List Event) × (before : Option BlockBytes) × (es ≡ xs ++ change f b before x ∷ ys)
 last_at [] f b x last = absurd cc
 last_at (change g k before after ∷ es) f b x last = elim (option_cases (last_after f b es)) [
   | inr (y, is) ↦
@@ -104,7 +104,7 @@ last_at (quiet n ∷ es) f b x last = let r = last_at es f b x last in (quiet n 
 last_at (control n next counts described ∷ es) f b x last = let r = last_at es f b x last in (control n next counts described ∷ r.0, r.1, r.2, ap (λ (l : List Event). control n next counts described ∷ l) r.3)
 last_at (begin n how ∷ es) f b x last = let r = last_at es f b x last in (begin n how ∷ r.0, r.1, r.2, ap (λ (l : List Event). begin n how ∷ l) r.3)
 
-pub first_at : (es : List Event) (f b : ℕ) (o : Option Block) → first_before f b es ≡ Some o → (xs : List Event) × (ys : List Event) × (after : Block) × (es ≡ xs ++ change f b o after ∷ ys) × (last_after f b xs ≡ None)
+pub first_at : (es : List Event) (f b : ℕ) (o : Option BlockBytes) → first_before f b es ≡ Some o → (xs : List Event) × (ys : List Event) × (after : BlockBytes) × (es ≡ xs ++ change f b o after ∷ ys) × (last_after f b xs ≡ None)
 first_at [] f b o first = absurd cc
 first_at (change g k before after ∷ es) f b o first = elim (place_cases f b g k) [
   | inl place ↦
@@ -122,11 +122,11 @@ has_skip : (xs ys : List Event) (e : Event) → is_control e ≡ false → has i
 has_skip [] ys e off = ap (λ b. b || has is_control ys) off
 has_skip (x ∷ xs) ys e off = ap (λ b. is_control x || b) (has_skip xs ys e off)
 
-first_pick : (es : List Event) (s : Stored) (f b : ℕ) (x : Block) → first_before f b es ≡ Some (Some x) → choice [] es s f b ≡ x
+first_pick : (es : List Event) (s : Stored) (f b : ℕ) (x : BlockBytes) → first_before f b es ≡ Some (Some x) → choice [] es s f b ≡ x
 unfolding choice
 first_pick es s f b x is = ap (λ t. value None t (s f b)) is
 
-logged_some : (xs ys : List Event) (f b : ℕ) (before : Option Block) (after : Block) → last_after f b (xs ++ change f b before after ∷ ys) ≡ None → ⊥
+logged_some : (xs ys : List Event) (f b : ℕ) (before : Option BlockBytes) (after : BlockBytes) → last_after f b (xs ++ change f b before after ∷ ys) ≡ None → ⊥
 logged_some xs ys f b before after none =
     let both = or_none (last_after f b (change f b before after ∷ ys)) (last_after f b xs) (sym (last_append xs (change f b before after ∷ ys) f b) ∙ none) in
     let last = or_none (last_after f b ys) (cond (is_at f b f b) (Some after) None) both.0 in
@@ -185,7 +185,7 @@ agrees_leads first live next counted agrees found =
 
 -- ---- to the agreement
 
-module _ (live : List Event) (base : Content) (counted : Stored) (sound : Sound (from_control live) base counted) (opened : Opened (opening live) base) where
+module _ (live : List Event) (base : AllBlocks) (counted : Stored) (sound : Sound (from_control live) base counted) (opened : OpenedFrom (opening live) base) where
   -- a split behind the first Control
   behind_split : (xs ys : List Event) (e : Event) → live ≡ xs ++ e ∷ ys → has is_control xs ≡ true → Chain (from_control xs) base × Chain (e ∷ ys) (replay (from_control xs) base)
   behind_split xs ys e is found =
@@ -194,7 +194,7 @@ module _ (live : List Event) (base : Content) (counted : Stored) (sound : Sound 
   same_opening : (xs ys : List Event) (e : Event) → live ≡ xs ++ e ∷ ys → has is_control xs ≡ true → opening xs ≡ opening live
   same_opening xs ys e is found = sym (ap (λ (l : List Event). opening l) is ∙ (opening_append xs (e ∷ ys) found).0)
 
-  linked_of : (xs ys : List Event) (f b : ℕ) (before : Option Block) (after old : Block) → live ≡ xs ++ change f b before after ∷ ys → last_after f b xs ≡ Some old → before ≡ Some old
+  linked_of : (xs ys : List Event) (f b : ℕ) (before : Option BlockBytes) (after old : BlockBytes) → live ≡ xs ++ change f b before after ∷ ys → last_after f b xs ≡ Some old → before ≡ Some old
   linked_of xs ys f b before after old is last = elim (bool_cases (has is_control xs)) [
     | inl found ↦
         let (front, back) = behind_split xs ys (change f b before after) is found in
@@ -212,7 +212,7 @@ module _ (live : List Event) (base : Content) (counted : Stored) (sound : Sound 
     | inr off ↦ opened.linked xs (opening ys) f b before after old (ap (λ (l : List Event). opening l) is ∙ opening_none xs (change f b before after ∷ ys) off) last
   ]
 
-  grows_of : (xs ys : List Event) (f b : ℕ) (before : Option Block) (after : Block) → live ≡ xs ++ change f b before after ∷ ys → has is_control xs ≡ true → FitsCount before b (reached_count f 0 xs)
+  grows_of : (xs ys : List Event) (f b : ℕ) (before : Option BlockBytes) (after : BlockBytes) → live ≡ xs ++ change f b before after ∷ ys → has is_control xs ≡ true → FitsCount before b (reached_count f 0 xs)
   grows_of xs ys f b before after is found =
       let (front, back) = behind_split xs ys (change f b before after) is found in
       subst (λ k. FitsCount before b k) (sym (reached xs base f front (starts_has (from_control xs) (first_counts xs) (has_starts xs found)))) (grown before b (replay (from_control xs) base f) back.0)
@@ -226,7 +226,7 @@ module _ (live : List Event) (base : Content) (counted : Stored) (sound : Sound 
   counts_of os zs n later counts described is off f =
       (subst (λ (l : List Event). Chain l base) (ap (λ (l : List Event). from_control l) is ∙ (opening_front os n later counts described zs off).1) sound.chain).0 f
 
-  counted_of : (xs ys zs : List Event) (f b : ℕ) (before : Option Block) (after : Block) (n later : ℕ) (counts : Counts) (described : Bool)
+  counted_of : (xs ys zs : List Event) (f b : ℕ) (before : Option BlockBytes) (after : BlockBytes) (n later : ℕ) (counts : Counts) (described : Bool)
       → live ≡ xs ++ change f b before after ∷ (ys ++ control n later counts described ∷ zs) → has is_control (xs ++ ys) ≡ false → b < counts f
   counted_of xs ys zs f b before after n later counts described is off =
       let os : List Event = xs ++ change f b before after ∷ ys in
@@ -238,7 +238,7 @@ module _ (live : List Event) (base : Content) (counted : Stored) (sound : Sound 
         | inl out ↦ absurd (logged_some xs ys f b before after out)
       ]
 
-  stands_of : (f b : ℕ) (x : Block) → last_after f b live ≡ Some x → last_after f b (after_last is_control live) ≡ None → counted f b ≡ x
+  stands_of : (f b : ℕ) (x : BlockBytes) → last_after f b live ≡ Some x → last_after f b (after_last is_control live) ≡ None → counted f b ≡ x
   stands_of f b x last none = elim (bool_cases (has is_control live)) [
     | inr off ↦ absurd (some_not_none x (sym none ∙ ap (λ (l : List Event). last_after f b l) (all_after live off) ∙ last))
     | inl found ↦

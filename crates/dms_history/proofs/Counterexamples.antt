@@ -1,6 +1,6 @@
 -- Small trails that show why two sentences of the agreement are needed, and what a place before the first Control means.
 use Rattle.std.proofs.Common.{ℕ, ◌<◌, ◌≡◌, true, false, List, [], ◌∷◌, ◌++◌, length, get_or, Option, Some, None, refl, sym, ◌∙◌, ap, arith, inl, inr}
-use Rattle.dms_history.specs.Events.{Block, Content, Stored, Counts, rebuild, Event, change, quiet, control, begin}
+use Rattle.dms_history.specs.Events.{BlockBytes, AllBlocks, Stored, Counts, rebuild, Event, change, quiet, control, begin}
 use Rattle.dms_history.specs.Places.{IsLive}
 use Rattle.dms_history.specs.History.{history, next_number}
 use Rattle.dms_history.specs.Images.{is_at, choice}
@@ -24,14 +24,14 @@ true_not_false e = absurd cc
 abbrev above : List Event
 above = control 0 1 (λ _. 0) true ∷ change 3 1 (Some (7 ∷ [])) (8 ∷ []) ∷ []
 
-before_image : Option Block
+before_image : Option BlockBytes
 before_image = Some (7 ∷ [])
 
 both_ways : (before_image ≡ None → 1 ≡ reached_count 3 0 (control 0 1 (λ _. 0) true ∷ [])) × (1 ≡ reached_count 3 0 (control 0 1 (λ _. 0) true ∷ []) → before_image ≡ None)
 unfolding before_image
 both_ways = (λ e. absurd cc, λ e. absurd (omega (arith, e)))
 
-no_base : (base : Content) (counted : Stored) → Sound (from_control above) base counted → ⊥
+no_base : (base : AllBlocks) (counted : Stored) → Sound (from_control above) base counted → ⊥
 no_base base counted sound =
     let none : 0 ≡ length (base 3) = sound.chain.0 3 in
     let low : 1 < length (base 3) = sound.chain.1.0.0 in
@@ -67,7 +67,7 @@ numbers =
     let three = numbers_quiet more more 1 two (omega arith) (omega arith) in
     numbers_begin logged logged 1 (rebuild 2) three refl
 
-nothing : Content
+nothing : AllBlocks
 nothing f = []
 
 lists_agree : (stored : Stored) → ListAgrees true logged (next_number rebuilding) (here false_dumps (history rebuilding) stored)
@@ -84,7 +84,7 @@ lists_agree stored = base_agrees true logged (next_number rebuilding) (here fals
 ended : List Event
 ended = control 0 1 (λ _. 0) true ∷ change 3 0 None (7 ∷ []) ∷ quiet 1 ∷ control 1 2 one_block true ∷ []
 
-no_base_then : (base : Content) (written : Stored) → written 3 0 ≡ 9 ∷ [] → Sound ended base written → ⊥
+no_base_then : (base : AllBlocks) (written : Stored) → written 3 0 ≡ 9 ∷ [] → Sound ended base written → ⊥
 unfolding ended
 no_base_then base written is sound =
     let low = logged_below ended base 3 0 (7 ∷ []) sound.chain refl in

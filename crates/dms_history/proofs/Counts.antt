@@ -2,7 +2,7 @@
 use Rattle.std.proofs.Common.{ℕ, ◌+◌, max, ◌≡◌, ◌==◌, inl, inr, true, cond, List, [], ◌∷◌, ◌++◌, length, Option, Some, None, refl, sym, ◌∙◌, ap, arith}
 use Rattle.std.proofs.lemmas.Bool.{cases_eq}
 use Rattle.std.proofs.lemmas.Bool.Decides.{nat_tests}
-use Rattle.dms_history.specs.Events.{Block, Content, Event, change, quiet, control, begin}
+use Rattle.dms_history.specs.Events.{BlockBytes, AllBlocks, Event, change, quiet, control, begin}
 use Rattle.dms_history.specs.Replay.{TellsBefore, Chain, replay, with_block}
 use Rattle.dms_history.specs.Lists.{has}
 use Rattle.dms_history.specs.Places.{is_control}
@@ -28,7 +28,7 @@ reached_any (begin n how ∷ xs) f k j found = reached_any xs f k j found
 
 -- ---- by the chain
 
-pub count_one : (c : Content) (f g b : ℕ) (before : Option Block) (after : Block) → TellsBefore b before (c g) → reached_count f (length (c f)) (change g b before after ∷ []) ≡ length (with_block c g b after f)
+pub count_one : (c : AllBlocks) (f g b : ℕ) (before : Option BlockBytes) (after : BlockBytes) → TellsBefore b before (c g) → reached_count f (length (c f)) (change g b before after ∷ []) ≡ length (with_block c g b after f)
 count_one c f g b None after tells = elim (cases_eq g f) [
   | inl same ↦
       let long : b ≡ length (c f) = tells ∙ ap (λ j. length (c j)) same in
@@ -47,7 +47,7 @@ count_one c f g b (Some old) after tells = elim (cases_eq f g) [
   | inr other ↦ sym (ap length (in_others c g b after f other))
 ]
 
-pub chain_reached : (es : List Event) (c : Content) (f : ℕ) → Chain es c → reached_count f (length (c f)) es ≡ length (replay es c f)
+pub chain_reached : (es : List Event) (c : AllBlocks) (f : ℕ) → Chain es c → reached_count f (length (c f)) es ≡ length (replay es c f)
 chain_reached [] c f chain = refl
 chain_reached (change g b before after ∷ es) c f chain =
     reached_append (change g b before after ∷ []) es f (length (c f)) ∙ ap (λ k. reached_count f k es) (count_one c f g b before after chain.0) ∙ chain_reached es (with_block c g b after) f chain.1

@@ -1,7 +1,7 @@
 -- What a restore gives by any rule.
 use Rattle.std.proofs.Common.{ℕ, ◌<◌, ◌≡◌, ◌||◌, inl, inr, Bool, true, false, cond, List, [], ◌∷◌, ◌++◌, length, None, refl, sym, ◌∙◌, ap, subst, arith}
 use Rattle.std.proofs.lemmas.List.FromFn.{fill_by_all}
-use Rattle.dms_history.specs.Events.{Content, Stored, How, halt_load, back_out, roll_back, rebuild, reconstruct, Event, change, quiet, control, begin, block_in}
+use Rattle.dms_history.specs.Events.{AllBlocks, Stored, How, halt_load, back_out, roll_back, rebuild, reconstruct, Event, change, quiet, control, begin, block_in}
 use Rattle.dms_history.specs.Replay.{Chain, replay}
 use Rattle.dms_history.specs.Images.{last_after, first_before, value, choice}
 use Rattle.dms_history.specs.Lists.{has, until_first, after_first, after_last}
@@ -123,7 +123,7 @@ at_from entries n stored at =
     as_content entries n stored ∙ (λ i. content_of (count_from entries n at i) (pick_from entries n stored at i)) ∙ sym (as_content (from_control entries) n stored)
 
 -- at each live point, whatever stands before the first Control
-pub at_point : (entries : List Event) (base : Content) (counted : Stored) (n : ℕ) → Sound (from_control entries) base counted → IsLive entries n → blocks_at entries counted n ≡ replay (until_first (is_point n) (from_control entries)) base
+pub at_point : (entries : List Event) (base : AllBlocks) (counted : Stored) (n : ℕ) → Sound (from_control entries) base counted → IsLive entries n → blocks_at entries counted n ≡ replay (until_first (is_point n) (from_control entries)) base
 at_point entries base counted n sound at =
     let more = live_from entries n at in
     at_from entries n counted at ∙ each_point (from_control entries) base counted n sound more.found (controlled (from_control entries) n more)
@@ -151,19 +151,19 @@ opening_never_counts live counted n at = record { lives = live_from live n at; s
 
 -- ---- the rule gives the chosen point
 
-module _ (entries : List Event) (base : Content) (counted : Stored) (m : ℕ) (sound : Sound (from_control entries) base counted) (at : IsLive entries m) where
-  abbrev pub right : Content
+module _ (entries : List Event) (base : AllBlocks) (counted : Stored) (m : ℕ) (sound : Sound (from_control entries) base counted) (at : IsLive entries m) where
+  abbrev pub right : AllBlocks
   right = replay (until_first (is_point m) (from_control entries)) base
 
   pub count_right : (f : ℕ) → count_at entries m f ≡ length (right f)
-  count_right f = sym (content_length (count_at entries m) (pick entries m counted) f) ∙ ap (λ (c : Content). length (c f)) (sym (as_content entries m counted) ∙ at_point entries base counted m sound at)
+  count_right f = sym (content_length (count_at entries m) (pick entries m counted) f) ∙ ap (λ (c : AllBlocks). length (c f)) (sym (as_content entries m counted) ∙ at_point entries base counted m sound at)
 
   log_right : (stored : Stored) (f b : ℕ) → stored f b ≡ counted f b → b < count_at entries m f → pick entries m stored f b ≡ block_in right f b
   unfolding pick choice
   log_right stored f b same low =
       ap (λ x. value (last_after f b (after_last is_control (until_first (is_point m) entries))) (first_before f b (after_first (is_point m) entries)) x) same
       ∙ sym (content_block (count_at entries m) (pick entries m counted) f b low)
-      ∙ ap (λ (c : Content). block_in c f b) (sym (as_content entries m counted) ∙ at_point entries base counted m sound at)
+      ∙ ap (λ (c : AllBlocks). block_in c f b) (sym (as_content entries m counted) ∙ at_point entries base counted m sound at)
 
   dump_right : (dump : Dump) (f b : ℕ) → DumpServes dump entries counted m → b < count_at entries m f → dump_pick entries dump m f b ≡ block_in right f b
   unfolding dump_pick
@@ -188,13 +188,13 @@ module _ (entries : List Event) (base : Content) (counted : Stored) (m : ℕ) (s
       let start = replay (until_first (is_point p) front) base in
       let late_chain : Chain late start = (chain_split (until_first (is_point p) front) late base (subst (λ (l : List Event). Chain l base) (sym halves) chain)).1 in
       let now : replay front base ≡ replay late start = ap (λ (l : List Event). replay l base) (sym halves) ∙ replay_append (until_first (is_point p) front) late base in
-      let low_now : b < length (replay late start f) = subst (λ (c : Content). b < length (c f)) now (omega (arith, low, count_right f)) in
+      let low_now : b < length (replay late start f) = subst (λ (c : AllBlocks). b < length (c f)) now (omega (arith, low, count_right f)) in
       ap (λ (l : List Event). value (last_after f b l) None (block_in dump.blocks f b)) same_late
       ∙ elim (option_cases (last_after f b late)) [
-        | inr (x, is) ↦ ap (λ o. value o None (block_in dump.blocks f b)) is ∙ sym (last_stands late start f b x late_chain is) ∙ ap (λ (c : Content). block_in c f b) (sym now)
+        | inr (x, is) ↦ ap (λ o. value o None (block_in dump.blocks f b)) is ∙ sym (last_stands late start f b x late_chain is) ∙ ap (λ (c : AllBlocks). block_in c f b) (sym now)
         | inl none ↦
-            ap (λ o. value o None (block_in dump.blocks f b)) none ∙ ap (λ (c : Content). block_in c f b) was
-            ∙ sym (none_stands late start f b late_chain none low_now).1 ∙ ap (λ (c : Content). block_in c f b) (sym now)
+            ap (λ o. value o None (block_in dump.blocks f b)) none ∙ ap (λ (c : AllBlocks). block_in c f b) was
+            ∙ sym (none_stands late start f b late_chain none low_now).1 ∙ ap (λ (c : AllBlocks). block_in c f b) (sym now)
       ]
 
   restore_right : (how : How) (dumps : Dumps) (stored : Stored) (f b : ℕ) → ((f b : ℕ) → may_hold_anything how f b ≡ false → stored f b ≡ counted f b) → HasDump how dumps entries counted m

@@ -1,6 +1,6 @@
 -- A restore, however often it is stopped.
 use Rattle.std.proofs.Common.{ℕ, ◌≡◌, ◌||◌, ◌⊎◌, inl, inr, Bool, true, false, cond, List, [], ◌∷◌, ◌++◌, length, refl, sym, ◌∙◌}
-use Rattle.dms_history.specs.Events.{Content, Counts, Event, change, quiet, control, begin}
+use Rattle.dms_history.specs.Events.{AllBlocks, Counts, Event, change, quiet, control, begin}
 use Rattle.dms_history.specs.Replay.{Chain, replay, with_block}
 use Rattle.dms_history.specs.Lists.{has, until_first}
 use Rattle.dms_history.proofs.AtPoints.{true_or, or_true_right}
@@ -46,7 +46,7 @@ until_until p q (e ∷ es) found = go (p e) (has p es) (λ more. until_until p q
     ]
     go false false rest more at = absurd (false_is_true at)
 
-pub chain_control : (es : List Event) (c : Content) (m next : ℕ) (counts : Counts) (described : Bool) → Chain es c → ((f : ℕ) → counts f ≡ length (replay es c f)) → Chain (es ++ control m next counts described ∷ []) c
+pub chain_control : (es : List Event) (c : AllBlocks) (m next : ℕ) (counts : Counts) (described : Bool) → Chain es c → ((f : ℕ) → counts f ≡ length (replay es c f)) → Chain (es ++ control m next counts described ∷ []) c
 chain_control [] c m next counts described chain are = (are, tt)
 chain_control (change g b before after ∷ es) c m next counts described chain are = (chain.0, chain_control es (with_block c g b after) m next counts described chain.1 are)
 chain_control (quiet n ∷ es) c m next counts described chain are = chain_control es c m next counts described chain are

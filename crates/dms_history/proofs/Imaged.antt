@@ -1,6 +1,6 @@
 -- A block with an Image itself since the last Control has a change from the first Control on.
 use Rattle.std.proofs.Common.{ℕ, ◌≡◌, ◌||◌, inl, inr, Bool, true, false, cond, List, [], ◌∷◌, ◌++◌, Option, Some, None, refl, sym, ◌∙◌, ap, subst}
-use Rattle.dms_history.specs.Events.{Block, Counts, Event, change, quiet, control, begin}
+use Rattle.dms_history.specs.Events.{BlockBytes, Counts, Event, change, quiet, control, begin}
 use Rattle.dms_history.specs.Lists.{has, after_last}
 use Rattle.dms_history.specs.Places.{is_control}
 use Rattle.dms_history.specs.Images.{or_else, last_after}
@@ -53,7 +53,7 @@ no_control (x ∷ xs) acc none off =
     let both = or_no (is_control_logged x) (has is_control_logged xs) off in
     no_control xs (acc ++ changes_of acc x) (has_append is_control acc (changes_of acc x) ∙ (λ i. none i || one x both.0 i)) both.1
   where
-    changed : (f b place : ℕ) (bytes : List ℕ) (o : Option Block) → has is_control (range_change f b place bytes o) ≡ false
+    changed : (f b place : ℕ) (bytes : List ℕ) (o : Option BlockBytes) → has is_control (range_change f b place bytes o) ≡ false
     changed f b place bytes None = refl
     changed f b place bytes (Some old) = refl
 
@@ -62,7 +62,7 @@ no_control (x ∷ xs) acc none off =
     one (range f b place bytes) off = changed f b place bytes (last_after f b acc)
 
 -- a change in the last part of a list, which begins with a Control
-part_told : (P zs : List Event) (n next : ℕ) (counts : Counts) (described : Bool) (f b : ℕ) (old : Block) → last_after f b (control n next counts described ∷ zs) ≡ Some old
+part_told : (P zs : List Event) (n next : ℕ) (counts : Counts) (described : Bool) (f b : ℕ) (old : BlockBytes) → last_after f b (control n next counts described ∷ zs) ≡ Some old
     → last_after f b (from_control (P ++ control n next counts described ∷ zs)) ≡ Some old
 part_told P zs n next counts described f b old last =
     let c = control n next counts described in
@@ -73,7 +73,7 @@ part_told P zs n next counts described f b old last =
     ]
 
 pub image_told : (ls : List Logged) (f b : ℕ) → HasImages ls → has is_control (all_changes ls) ≡ true → has (is_image f b) (after_last is_control_logged ls) ≡ true
-    → (old : Block) × (last_after f b (from_control (all_changes ls)) ≡ Some old)
+    → (old : BlockBytes) × (last_after f b (from_control (all_changes ls)) ≡ Some old)
 unfolding all_changes
 image_told ls f b images found image = elim (bool_cases (has is_control_logged ls)) [
   | inr off ↦ absurd (true_not_false (sym found ∙ no_control ls [] refl off))

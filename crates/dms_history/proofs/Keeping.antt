@@ -1,6 +1,6 @@
 -- What a database keeps between two calls.
 use Rattle.std.proofs.Common.{ℕ, ◌≡◌, inl, inr, Bool, true, List, [], ◌∷◌, ◌++◌, take, Some, None, refl, sym, ◌∙◌, ap, subst, arith}
-use Rattle.dms_history.specs.Events.{Content, Stored, How, Event, change, quiet, control, begin}
+use Rattle.dms_history.specs.Events.{AllBlocks, Stored, How, Event, change, quiet, control, begin}
 use Rattle.dms_history.specs.Replay.{apply, replay}
 use Rattle.dms_history.specs.Lists.{has}
 use Rattle.dms_history.specs.Places.{is_control, is_point}
@@ -8,7 +8,7 @@ use Rattle.dms_history.specs.History.{History, after_event, history, next_number
 use Rattle.dms_history.specs.Images.{or_else, last_after}
 use Rattle.dms_history.specs.Pick.{Dumps}
 use Rattle.dms_history.specs.Here.{here}
-use Rattle.dms_history.specs.Base.{opening, from_control, base_of, Sound, Opened}
+use Rattle.dms_history.specs.Base.{opening, from_control, base_of, Sound, OpenedFrom}
 use Rattle.dms_history.specs.Agrees.{Numbered}
 use Rattle.dms_history.specs.Restores.{Steady}
 use Rattle.dms_history.specs.Ranges.{Logged, event, range, patched, all_changes, told_events, live_step, live_logged}
@@ -45,10 +45,10 @@ none_not_some x e = absurd cc
 -- ---- one more entry
 
 -- all that is kept depends on what the entries say
-kept_same : (first : Bool) (es more : List Entry) (dumps : Dumps) (base : Content) (stored : Stored) → logged more ≡ logged es → Kept first es dumps base stored → Kept first more dumps base stored
+kept_same : (first : Bool) (es more : List Entry) (dumps : Dumps) (base : AllBlocks) (stored : Stored) → logged more ≡ logged es → Kept first es dumps base stored → Kept first more dumps base stored
 kept_same first es more dumps base stored same k = record {
   steady = subst (λ (l : List Logged). Steady dumps (history (told_events l)) base stored) (sym same) k.steady;
-  opened = subst (λ (l : List Logged). Opened (opening (history (told_events l)).live) base) (sym same) k.opened;
+  opened = subst (λ (l : List Logged). OpenedFrom (opening (history (told_events l)).live) base) (sym same) k.opened;
   numbered = subst (λ (l : List Logged). Numbered (history (told_events l)).live (next_number (told_events l))) (sym same) k.numbered;
   alone = subst BeginsAlone (sym same) k.alone;
   images = subst (λ (l : List Logged). HasImages (live_logged [] l)) (sym same) k.images;
@@ -62,18 +62,18 @@ live_append : (xs ys live : List Logged) → live_logged live (xs ++ ys) ≡ liv
 live_append [] ys live = refl
 live_append (x ∷ xs) ys live = live_append xs ys (live_step live x)
 
-module _ (first : Bool) (es : List Entry) (e : Entry) (l : Logged) (ev : Event) (dumps : Dumps) (base : Content) (is : events (es ++ e ∷ []) ≡ events es ++ ev ∷ []) where
+module _ (first : Bool) (es : List Entry) (e : Entry) (l : Logged) (ev : Event) (dumps : Dumps) (base : AllBlocks) (is : events (es ++ e ∷ []) ≡ events es ++ ev ∷ []) where
   one_step : history_of (es ++ e ∷ []) ≡ after_event (history_of es) ev
   one_step = ap history is ∙ one_more_event (events es) ev
 
   kept_event : (others : Dumps) (stored written : Stored) → Kept first es dumps base stored → logged (es ++ e ∷ []) ≡ logged es ++ l ∷ []
-      → Steady others (after_event (history_of es) ev) base written → Opened (opening (after_event (history_of es) ev).live) base
+      → Steady others (after_event (history_of es) ev) base written → OpenedFrom (opening (after_event (history_of es) ev).live) base
       → Numbered (after_event (history_of es) ev).live (next_number (events es ++ ev ∷ []))
       → ((xs : List Logged) (m : ℕ) (how : How) → logged es ≡ xs ++ event (begin m how) ∷ [] → ends_restore_logged l ≡ true)
       → HasImages (live_step (live_logged [] (logged es)) l) → Kept first (es ++ e ∷ []) others base written
   kept_event others stored written k says steady opened numbered alone images = record {
     steady = subst (λ (h : History). Steady others h base written) (sym one_step) steady;
-    opened = subst (λ (h : History). Opened (opening h.live) base) (sym one_step) opened;
+    opened = subst (λ (h : History). OpenedFrom (opening h.live) base) (sym one_step) opened;
     numbered = subst (λ (h : History). Numbered h.live (next_of (es ++ e ∷ []))) (sym one_step) (subst (λ (k : List Event). Numbered (after_event (history_of es) ev).live (next_number k)) (sym is) numbered);
     alone = subst BeginsAlone (sym says) (alone_more (logged es) l k.alone alone);
     images = subst (λ (k : List Logged). HasImages (live_logged [] k)) (sym says) (subst HasImages (sym (live_append (logged es) (l ∷ []) [])) images);
@@ -86,8 +86,8 @@ module _ (first : Bool) (es : List Entry) (e : Entry) (l : Logged) (ev : Event) 
       ap (λ (h : History). replay (from_control h.live) base) one_step ∙ ap (λ (k : List Event). replay (from_control k) base) grows
       ∙ ap (λ (k : List Event). replay k base) (opening_append (live_of es) (ev ∷ []) found).1 ∙ replay_append (from_control (live_of es)) (ev ∷ []) base
 
-still_opened : (live : List Event) (e : Event) (base : Content) → has is_control live ≡ true → Opened (opening live) base → Opened (opening (live ++ e ∷ [])) base
-still_opened live e base found opened = subst (λ (l : List Event). Opened l base) (sym (opening_append live (e ∷ []) found).0) opened
+still_opened : (live : List Event) (e : Event) (base : AllBlocks) → has is_control live ≡ true → OpenedFrom (opening live) base → OpenedFrom (opening (live ++ e ∷ [])) base
+still_opened live e base found opened = subst (λ (l : List Event). OpenedFrom l base) (sym (opening_append live (e ∷ []) found).0) opened
 
 -- ---- a database that runs
 
@@ -189,7 +189,7 @@ kept_begin first es dumps others base right stored m kind k ready =
     let live = live_of es in
     kept_event first es (begin_restore m kind) (event ev) ev dumps base (begin_sealed es m kind) others right stored k (says_one es (begin_restore m kind) (event ev) refl)
     (restore_begins how others (history_of es) base (here dumps (history_of es) right) stored m ready).steady
-    (subst (λ (l : List Event). Opened l base) (sym ((opening_stays live).1 m ready.point_lives)) k.opened)
+    (subst (λ (l : List Event). OpenedFrom l base) (sym ((opening_stays live).1 m ready.point_lives)) k.opened)
     (numbers_begin (events es) live m how k.numbered ready.point_lives.found)
     (λ xs n other at. refl)
     ((images_go_on (live_logged [] (logged es)) k.images).cuts m)
@@ -273,7 +273,7 @@ kept_first one rest dumps stored =
     let is : events es ≡ c ∷ [] = control_sealed [] one rest 0 1 [] ∙ ap (λ (l : List Event). l ++ c ∷ []) nothing_yet in
     record {
       steady = subst (λ (l : List Event). Steady dumps (history l) (λ f. []) stored) (sym is) (first_steady dumps stored);
-      opened = subst (λ (l : List Event). Opened (opening (history l).live) (λ f. [])) (sym is) first_opened;
+      opened = subst (λ (l : List Event). OpenedFrom (opening (history l).live) (λ f. [])) (sym is) first_opened;
       numbered = subst (λ (l : List Event). Numbered (history l).live (next_number l)) (sym is) first_numbered;
       alone = subst BeginsAlone (sym says) (alone_more [] (event c) (λ xs ys m how x at. absurd (not_empty xs (x ∷ ys) (event (begin m how)) (sym at))) (λ xs m how at. absurd (not_empty xs [] (event (begin m how)) (sym at))));
       images = subst (λ (k : List Logged). HasImages (live_logged [] k)) (sym says)
@@ -285,8 +285,8 @@ kept_first one rest dumps stored =
     first_steady dumps stored = steady_of dumps (history (control 0 1 (counts_in []) true ∷ [])) (λ f. []) stored first_pending
         (subst (λ (l : List Event). Sound (from_control l) (λ f. []) stored) (sym first_live) (record { chain = (λ f. refl, tt); stands = λ f b low none. absurd (omega (arith, low)) }))
 
-    first_opened : Opened (opening (history (control 0 1 (counts_in []) true ∷ [])).live) (λ f. [])
-    first_opened = subst (λ (l : List Event). Opened (opening l) (λ f. [])) (sym first_live) (record { leads = λ f b x at. absurd (none_not_some x at); linked = λ xs ys f b before after old at last. absurd (not_empty xs ys (change f b before after) (sym at)) })
+    first_opened : OpenedFrom (opening (history (control 0 1 (counts_in []) true ∷ [])).live) (λ f. [])
+    first_opened = subst (λ (l : List Event). OpenedFrom (opening l) (λ f. [])) (sym first_live) (record { leads = λ f b x at. absurd (none_not_some x at); linked = λ xs ys f b before after old at last. absurd (not_empty xs ys (change f b before after) (sym at)) })
 
     first_numbered : Numbered (history (control 0 1 (counts_in []) true ∷ [])).live (next_number (control 0 1 (counts_in []) true ∷ []))
     first_numbered = subst (λ (l : List Event). Numbered l (next_number (control 0 1 (counts_in []) true ∷ []))) (sym first_live) (numbers_first (counts_in []) true)

@@ -1,6 +1,6 @@
 -- A restore that is pending, or none.
 use Rattle.std.proofs.Common.{◌≡◌, inl, inr, true, false, List, Some, sym, ◌∙◌, ap, subst}
-use Rattle.dms_history.specs.Events.{Stored, Event, Content, block_in}
+use Rattle.dms_history.specs.Events.{Stored, Event, AllBlocks, block_in}
 use Rattle.dms_history.specs.Lists.{has, until_first}
 use Rattle.dms_history.specs.Places.{is_described, is_point}
 use Rattle.dms_history.specs.History.{history, pending_point, last_number}
@@ -47,4 +47,4 @@ pending_cuts entries p alone is =
 
 pub here_fixed : HereFixed
 here_fixed dumps h base one two p is first second =
-    here_is dumps h p one is ∙ ap (λ (c : Content). block_in c) (first.restored p is ∙ sym (second.restored p is)) ∙ sym (here_is dumps h p two is)
+    here_is dumps h p one is ∙ ap (λ (c : AllBlocks). block_in c) (first.restored p is ∙ sym (second.restored p is)) ∙ sym (here_is dumps h p two is)

@@ -4,7 +4,7 @@ use Rattle.std.proofs.Common.{ℕ, ◌≤◌, ◌<◌, ◌≡◌, inl, inr, true
 use Rattle.std.proofs.lemmas.Bool.{cases_lt}
 use Rattle.std.proofs.lemmas.Bool.Decides.{nat_tests}
 use Rattle.dms_history.proofs.Picks.{some_is}
-use Rattle.dms_history.specs.Events.{Content, Stored, Event, change, quiet, control, begin}
+use Rattle.dms_history.specs.Events.{AllBlocks, Stored, Event, change, quiet, control, begin}
 use Rattle.dms_history.specs.Replay.{replay}
 use Rattle.dms_history.specs.Lists.{has, until_first, after_first}
 use Rattle.dms_history.specs.Places.{is_point, is_described, is_control, point_numbers, IsLive}
@@ -48,7 +48,7 @@ each_below live next n numbered free (k ∷ ks) all =
 -- ---- one more event
 
 -- no number gets its place
-stays : (live more : List Event) (next : ℕ) (base : Content) (counted later : Stored) (ps : List LivePoint) → Numbered live next → numbers_from live more ≡ []
+stays : (live more : List Event) (next : ℕ) (base : AllBlocks) (counted later : Stored) (ps : List LivePoint) → Numbered live next → numbers_from live more ≡ []
     → Sound (from_control live) base counted → Sound (from_control (live ++ more)) base later → ListsPoints live counted ps → ListsPoints (live ++ more) later ps
 unfolding live_numbers
 stays live more next base counted later ps numbered none sound grown listed =

@@ -2,16 +2,16 @@
 use Rattle.std.proofs.Common.{ℕ, ◌+◌, ◌-◌, ◌<◌, ◌≤◌, ◌≡◌, inl, inr, List, ◌++◌, length, take, drop, get_or, sym, ◌∙◌, ap, arith, length-append, length-take, length-drop}
 use Rattle.std.proofs.lemmas.List.{ext_get_or, get_or_append_left, get_or-take, get_or-drop, get_or-append_right}
 use Rattle.std.proofs.lemmas.Bool.{cases_lt}
-use Rattle.dms_history.specs.Events.{Block}
+use Rattle.dms_history.specs.Events.{BlockBytes}
 use Rattle.dms_history.specs.Ranges.{patched}
 use Rattle.dms_history.specs.LawsOfRanges.{RangeFits}
 
-patched_length : (place : ℕ) (bytes : List ℕ) (old : Block) → place + length bytes ≤ length old → length (patched place bytes old) ≡ length old
+patched_length : (place : ℕ) (bytes : List ℕ) (old : BlockBytes) → place + length bytes ≤ length old → length (patched place bytes old) ≡ length old
 unfolding patched
 patched_length place bytes old fits =
     omega (arith, length-append (take place old) (bytes ++ drop (place + length bytes) old), length-append bytes (drop (place + length bytes) old), length-take place old, length-drop (place + length bytes) old)
 
-patched_at : (place n : ℕ) (old new : Block) → place + n ≤ length old → length new ≡ length old
+patched_at : (place n : ℕ) (old new : BlockBytes) → place + n ≤ length old → length new ≡ length old
     → ((i : ℕ) → i < place → get_or new i 0 ≡ get_or old i 0) → ((i : ℕ) → place + n ≤ i → i < length old → get_or new i 0 ≡ get_or old i 0)
     → (i : ℕ) → i < length old → get_or (patched place (take n (drop place new)) old) i 0 ≡ get_or new i 0
 unfolding patched

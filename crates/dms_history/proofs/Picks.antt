@@ -3,23 +3,23 @@ use Rattle.std.proofs.Common.{ℕ, suc, ◌+◌, ◌<◌, ◌≤◌, ◌≡◌, 
 use Rattle.std.proofs.lemmas.List.{get_or_at, get_or_append_left, get_or-take, get_or-drop, get_or-append_right}
 use Rattle.std.proofs.lemmas.Bool.{cases_eq, cases_lt}
 use Rattle.std.proofs.lemmas.Bool.Decides.{nat_tests}
-use Rattle.dms_history.specs.Events.{Block, Content, Event, change, quiet, control, begin, block_in}
+use Rattle.dms_history.specs.Events.{BlockBytes, AllBlocks, Event, change, quiet, control, begin, block_in}
 use Rattle.dms_history.specs.Replay.{with_block, replay, TellsBefore, Chain}
 use Rattle.dms_history.specs.Images.{is_at, or_else, last_after, first_before, else_stored, value, choice}
 use Rattle.dms_history.specs.LawsOfPoints.{ChoiceGivesContent}
 
 -- ---- one block is written
 
-abbrev laid : ℕ → Block → List Block → List Block
+abbrev laid : ℕ → BlockBytes → List BlockBytes → List BlockBytes
 laid b x l = take b l ++ (x ∷ drop (suc b) l)
 
-pub laid_length : (b : ℕ) (x : Block) (l : List Block) → b ≤ length l → length (laid b x l) ≡ max (length l) (b + 1)
+pub laid_length : (b : ℕ) (x : BlockBytes) (l : List BlockBytes) → b ≤ length l → length (laid b x l) ≡ max (length l) (b + 1)
 laid_length b x l le = omega (arith, length-append (take b l) (x ∷ drop (suc b) l), length-take b l, length-drop (suc b) l)
 
-laid_here : (b : ℕ) (x : Block) (l : List Block) → b ≤ length l → get_or (laid b x l) b [] ≡ x
+laid_here : (b : ℕ) (x : BlockBytes) (l : List BlockBytes) → b ≤ length l → get_or (laid b x l) b [] ≡ x
 laid_here b x l le = get_or_at (take b l) x (drop (suc b) l) [] b (omega (arith, length-take b l))
 
-laid_other : (b : ℕ) (x : Block) (l : List Block) (k : ℕ) → b ≤ length l → k ≢ b → k < length l → get_or (laid b x l) k [] ≡ get_or l k []
+laid_other : (b : ℕ) (x : BlockBytes) (l : List BlockBytes) (k : ℕ) → b ≤ length l → k ≢ b → k < length l → get_or (laid b x l) k [] ≡ get_or l k []
 laid_other b x l k le other low = elim (cases_lt k b) [
   | inl less ↦ get_or_append_left (take b l) (x ∷ drop (suc b) l) [] k (omega (arith, length-take b l)) ∙ get_or-take b l k [] less
   | inr no_less ↦
@@ -31,33 +31,33 @@ laid_other b x l k le other low = elim (cases_lt k b) [
       ∙ ap (λ j. get_or l j []) place
 ]
 
-pub in_file : (c : Content) (f b : ℕ) (x : Block) → with_block c f b x f ≡ laid b x (c f)
+pub in_file : (c : AllBlocks) (f b : ℕ) (x : BlockBytes) → with_block c f b x f ≡ laid b x (c f)
 unfolding with_block
 in_file c f b x = grind (arith, nat_tests)
 
-pub in_others : (c : Content) (f b : ℕ) (x : Block) (g : ℕ) → g ≢ f → with_block c f b x g ≡ c g
+pub in_others : (c : AllBlocks) (f b : ℕ) (x : BlockBytes) (g : ℕ) → g ≢ f → with_block c f b x g ≡ c g
 unfolding with_block
 in_others c f b x g other = grind (arith, nat_tests)
 
-pub write_here : (c : Content) (f b : ℕ) (x : Block) → b ≤ length (c f) → block_in (with_block c f b x) f b ≡ x
-write_here c f b x le = ap (λ (l : List Block). get_or l b []) (in_file c f b x) ∙ laid_here b x (c f) le
+pub write_here : (c : AllBlocks) (f b : ℕ) (x : BlockBytes) → b ≤ length (c f) → block_in (with_block c f b x) f b ≡ x
+write_here c f b x le = ap (λ (l : List BlockBytes). get_or l b []) (in_file c f b x) ∙ laid_here b x (c f) le
 
-pub write_other : (c : Content) (f b : ℕ) (x : Block) (g k : ℕ) → b ≤ length (c f) → (g ≡ f → k ≡ b → ⊥) → k < length (c g) → block_in (with_block c f b x) g k ≡ block_in c g k
+pub write_other : (c : AllBlocks) (f b : ℕ) (x : BlockBytes) (g k : ℕ) → b ≤ length (c f) → (g ≡ f → k ≡ b → ⊥) → k < length (c g) → block_in (with_block c f b x) g k ≡ block_in c g k
 write_other c f b x g k le apart low = elim (cases_eq g f) [
   | inl same ↦
-      ap (λ j. block_in (with_block c f b x) j k) same ∙ ap (λ (l : List Block). get_or l k []) (in_file c f b x)
+      ap (λ j. block_in (with_block c f b x) j k) same ∙ ap (λ (l : List BlockBytes). get_or l k []) (in_file c f b x)
       ∙ laid_other b x (c f) k le (λ e. apart same e) (subst (λ j. k < length (c j)) same low) ∙ ap (λ j. block_in c j k) (sym same)
-  | inr other ↦ ap (λ (l : List Block). get_or l k []) (in_others c f b x g other)
+  | inr other ↦ ap (λ (l : List BlockBytes). get_or l k []) (in_others c f b x g other)
 ]
 
-pub write_length : (c : Content) (f b : ℕ) (x : Block) (g : ℕ) → b ≤ length (c f) → length (c g) ≤ length (with_block c f b x g)
+pub write_length : (c : AllBlocks) (f b : ℕ) (x : BlockBytes) (g : ℕ) → b ≤ length (c f) → length (c g) ≤ length (with_block c f b x g)
 write_length c f b x g le = elim (cases_eq g f) [
   | inl same ↦ subst (λ j. length (c j) ≤ length (with_block c f b x j)) (sym same) (omega (arith, ap length (in_file c f b x), laid_length b x (c f) le))
   | inr other ↦ omega (arith, ap length (in_others c f b x g other))
 ]
 
 -- another block than the one that is written was there
-pub write_old : (c : Content) (f b : ℕ) (x : Block) (g k : ℕ) → b ≤ length (c f) → (g ≡ f → k ≡ b → ⊥) → k < length (with_block c f b x g) → k < length (c g)
+pub write_old : (c : AllBlocks) (f b : ℕ) (x : BlockBytes) (g k : ℕ) → b ≤ length (c f) → (g ≡ f → k ≡ b → ⊥) → k < length (with_block c f b x g) → k < length (c g)
 write_old c f b x g k le apart low = elim (cases_eq g f) [
   | inl same ↦
       let other : k ≢ b = λ e. apart same e in
@@ -68,7 +68,7 @@ write_old c f b x g k le apart low = elim (cases_eq g f) [
 
 -- ---- events
 
-pub tells_le : (b : ℕ) (before : Option Block) (l : List Block) → TellsBefore b before l → b ≤ length l
+pub tells_le : (b : ℕ) (before : Option BlockBytes) (l : List BlockBytes) → TellsBefore b before l → b ≤ length l
 tells_le b None l t = omega (arith, t)
 tells_le b (Some old) l t = omega (arith, t.0)
 
@@ -101,7 +101,7 @@ if_some false x y e = absurd cc
 pub some_is : {A : Type 0} (x y : A) → Some x ≡ Some y → x ≡ y
 some_is x y e = cc
 
-pub replay_length : (es : List Event) (c : Content) (f : ℕ) → Chain es c → length (c f) ≤ length (replay es c f)
+pub replay_length : (es : List Event) (c : AllBlocks) (f : ℕ) → Chain es c → length (c f) ≤ length (replay es c f)
 replay_length [] c f chain = omega arith
 replay_length (change g k before after ∷ es) c f chain =
     omega (arith, write_length c g k after f (tells_le k before (c g) chain.0), replay_length es (with_block c g k after) f chain.1)
@@ -110,7 +110,7 @@ replay_length (control n next counts described ∷ es) c f chain = replay_length
 replay_length (begin n how ∷ es) c f chain = absurd chain
 
 -- what isn't logged was there and stands as it did
-pub none_stands : (es : List Event) (c : Content) (f b : ℕ) → Chain es c → last_after f b es ≡ None → b < length (replay es c f) → (b < length (c f)) × (block_in (replay es c) f b ≡ block_in c f b)
+pub none_stands : (es : List Event) (c : AllBlocks) (f b : ℕ) → Chain es c → last_after f b es ≡ None → b < length (replay es c f) → (b < length (c f)) × (block_in (replay es c) f b ≡ block_in c f b)
 none_stands [] c f b chain none low = (low, refl)
 none_stands (change g k before after ∷ es) c f b chain none low =
     let le = tells_le k before (c g) chain.0 in
@@ -128,7 +128,7 @@ none_stands (control n next counts described ∷ es) c f b chain none low = none
 none_stands (begin n how ∷ es) c f b chain none low = absurd chain
 
 -- what is logged last stands in the content
-pub last_stands : (es : List Event) (c : Content) (f b : ℕ) (x : Block) → Chain es c → last_after f b es ≡ Some x → block_in (replay es c) f b ≡ x
+pub last_stands : (es : List Event) (c : AllBlocks) (f b : ℕ) (x : BlockBytes) → Chain es c → last_after f b es ≡ Some x → block_in (replay es c) f b ≡ x
 last_stands [] c f b x chain last = absurd cc
 last_stands (change g k before after ∷ es) c f b x chain last =
     let le = tells_le k before (c g) chain.0 in
@@ -153,7 +153,7 @@ last_stands (control n next counts described ∷ es) c f b x chain last = last_s
 last_stands (begin n how ∷ es) c f b x chain last = absurd chain
 
 -- the first before-image of a block that was there is what it was
-pub first_old : (es : List Event) (c : Content) (f b : ℕ) (o : Option Block) → Chain es c → b < length (c f) → first_before f b es ≡ Some o → o ≡ Some (block_in c f b)
+pub first_old : (es : List Event) (c : AllBlocks) (f b : ℕ) (o : Option BlockBytes) → Chain es c → b < length (c f) → first_before f b es ≡ Some o → o ≡ Some (block_in c f b)
 first_old [] c f b o chain low first = absurd cc
 first_old (change g k before after ∷ es) c f b o chain low first =
     let le = tells_le k before (c g) chain.0 in
@@ -167,7 +167,7 @@ first_old (change g k before after ∷ es) c f b o chain low first =
           first_old es (with_block c g k after) f b o chain.1 (omega (arith, low, write_length c g k after f le)) rest ∙ ap (λ x. Some x) (write_other c g k after f b le apart.0 low)
     ]
   where
-    told : (before : Option Block) → TellsBefore b before (c f) → b < length (c f) → before ≡ Some (block_in c f b)
+    told : (before : Option BlockBytes) → TellsBefore b before (c f) → b < length (c f) → before ≡ Some (block_in c f b)
     told None tells low = absurd (omega arith)
     told (Some old) tells low = ap (λ x. Some x) tells.1
 first_old (quiet n ∷ es) c f b o chain low first = first_old es c f b o chain low first
@@ -183,13 +183,13 @@ first_none (change g k before after ∷ es) f b none = elim (place_cases f b g k
       λ i. or_else (rest i) (cond (apart.1 i) (Some after) None)
 ]
   where
-    not_none : (x : Option Block) → Some x ≡ None → ⊥
+    not_none : (x : Option BlockBytes) → Some x ≡ None → ⊥
     not_none x e = absurd cc
 first_none (quiet n ∷ es) f b none = first_none es f b none
 first_none (control n next counts described ∷ es) f b none = first_none es f b none
 first_none (begin n how ∷ es) f b none = first_none es f b none
 
-pub chain_split : (xs ys : List Event) (c : Content) → Chain (xs ++ ys) c → Chain xs c × Chain ys (replay xs c)
+pub chain_split : (xs ys : List Event) (c : AllBlocks) → Chain (xs ++ ys) c → Chain xs c × Chain ys (replay xs c)
 chain_split [] ys c chain = (tt, chain)
 chain_split (change g k before after ∷ xs) ys c chain = let (first, rest) = chain_split xs ys (with_block c g k after) chain.1 in ((chain.0, first), rest)
 chain_split (quiet n ∷ xs) ys c chain = chain_split xs ys c chain

@@ -2,7 +2,7 @@
 use Rattle.std.proofs.Common.{ℕ, ◌<◌, ◌≤◌, ◌≡◌, true, false, cond, List, [], Option, Some, None, sym, ◌∙◌, ap, subst, arith}
 use Rattle.std.proofs.lemmas.List.{get_or_past}
 use Rattle.dms_history.specs.declared.dumped.Dumped.{Dumped}
-use Rattle.dms_history.specs.Events.{Block, Stored, How, halt_load, back_out, roll_back, rebuild, reconstruct, Event, block_in}
+use Rattle.dms_history.specs.Events.{BlockBytes, Stored, How, halt_load, back_out, roll_back, rebuild, reconstruct, Event, block_in}
 use Rattle.dms_history.specs.Lists.{has, until_first, after_first}
 use Rattle.dms_history.specs.Places.{is_point}
 use Rattle.dms_history.specs.History.{Pending}
@@ -23,7 +23,7 @@ late_none live front n p q is cut off = (λ i. after_first (is_point (is i)) (cu
 pub late_some : (live front late : List Event) (n p q : ℕ) → p ≡ q → until_first (is_point n) live ≡ front → after_first (is_point q) front ≡ late → between p n live ≡ late
 late_some live front late n p q is cut follows = (λ i. after_first (is_point (is i)) (cut i)) ∙ follows
 
-pub by_dump : (live : List Event) (dump : Dump) (n f b : ℕ) (late : List Event) (o : Option Block) → between dump.point n live ≡ late → last_after f b late ≡ o
+pub by_dump : (live : List Event) (dump : Dump) (n f b : ℕ) (late : List Event) (o : Option BlockBytes) → between dump.point n live ≡ late → last_after f b late ≡ o
     → value o None (block_in dump.blocks f b) ≡ dump_pick live dump n f b
 unfolding dump_pick
 by_dump live dump n f b late o is last = sym (λ i. value ((ap (λ (l : List Event). last_after f b l) is ∙ last) i) None (block_in dump.blocks f b))
@@ -33,7 +33,7 @@ by_dump live dump n f b late o is last = sym (λ i. value ((ap (λ (l : List Eve
 not_true : false ≡ true → ⊥
 not_true e = absurd cc
 
-pub restore_by_dump : (how : How) (dumps : Dumps) (live : List Event) (n f b : ℕ) (stored : Stored) (dumped : Dumped) (x : Block) → may_hold_anything how f b ≡ true → GoesBy how dumps f b dumped
+pub restore_by_dump : (how : How) (dumps : Dumps) (live : List Event) (n f b : ℕ) (stored : Stored) (dumped : Dumped) (x : BlockBytes) → may_hold_anything how f b ≡ true → GoesBy how dumps f b dumped
     → ((dump : Dump) → IsDumped dump f b dumped → x ≡ dump_pick live dump n f b) → x ≡ restore_pick how dumps live n stored f b
 unfolding restore_pick
 restore_by_dump halt_load dumps live n f b stored dumped x on goes is = absurd (not_true on)
@@ -43,7 +43,7 @@ restore_by_dump (rebuild d) dumps live n f b stored dumped x on goes is = is (du
 restore_by_dump (reconstruct d named) dumps live n f b stored dumped x on goes is =
     is (dumps d) goes ∙ sym (ap (λ k. cond k (dump_pick live (dumps d) n f b) (pick live n stored f b)) on)
 
-pub restore_by_audit : (how : How) (dumps : Dumps) (live : List Event) (n f b : ℕ) (stored : Stored) (x : Block) → may_hold_anything how f b ≡ false → x ≡ pick live n stored f b → x ≡ restore_pick how dumps live n stored f b
+pub restore_by_audit : (how : How) (dumps : Dumps) (live : List Event) (n f b : ℕ) (stored : Stored) (x : BlockBytes) → may_hold_anything how f b ≡ false → x ≡ pick live n stored f b → x ≡ restore_pick how dumps live n stored f b
 unfolding restore_pick
 restore_by_audit halt_load dumps live n f b stored x off is = is
 restore_by_audit back_out dumps live n f b stored x off is = is
@@ -53,13 +53,13 @@ restore_by_audit (reconstruct d named) dumps live n f b stored x off is = is ∙
 
 -- ---- what counts
 
-pub here_there : (p : Pending) (dumps : Dumps) (stored : Stored) (f b : ℕ) (x : Block) → b < count_at p.entries p.point f → x ≡ restore_pick p.how dumps p.entries p.point stored f b → x ≡ here_by (Some p) dumps stored f b
+pub here_there : (p : Pending) (dumps : Dumps) (stored : Stored) (f b : ℕ) (x : BlockBytes) → b < count_at p.entries p.point f → x ≡ restore_pick p.how dumps p.entries p.point stored f b → x ≡ here_by (Some p) dumps stored f b
 here_there p dumps stored f b x low is = is ∙ sym (outcome_block p.how dumps p.entries p.point f b stored low)
 
 pub here_beyond : (p : Pending) (dumps : Dumps) (stored : Stored) (f b : ℕ) → count_at p.entries p.point f ≤ b → [] ≡ here_by (Some p) dumps stored f b
 here_beyond p dumps stored f b high = sym (get_or_past (outcome p.how dumps p.entries p.point stored f) b [] (omega (arith, high, outcome_length p.how dumps p.entries p.point f stored)))
 
-pub here_at : (o : Option Pending) (p : Pending) (dumps : Dumps) (stored : Stored) (f b k : ℕ) (x : Block) → o ≡ Some p → k ≡ count_at p.entries p.point f → b < k
+pub here_at : (o : Option Pending) (p : Pending) (dumps : Dumps) (stored : Stored) (f b k : ℕ) (x : BlockBytes) → o ≡ Some p → k ≡ count_at p.entries p.point f → b < k
     → x ≡ restore_pick p.how dumps p.entries p.point stored f b → x ≡ here_by o dumps stored f b
 here_at o p dumps stored f b k x is count low value_is = subst (λ q. x ≡ here_by q dumps stored f b) (sym is) (here_there p dumps stored f b x (omega (arith, count, low)) value_is)
 

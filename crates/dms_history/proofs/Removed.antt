@@ -1,11 +1,11 @@
 -- Old files are removed from the front of a trail.
 use Rattle.std.proofs.Common.{ℕ, ◌<◌, ◌≡◌, inl, inr, Bool, true, false, cond, List, [], ◌∷◌, ◌++◌, length, Some, refl, sym, ◌∙◌, ap, subst, append_assoc}
-use Rattle.dms_history.specs.Events.{Content, Event, change, block_in}
+use Rattle.dms_history.specs.Events.{AllBlocks, Event, change, block_in}
 use Rattle.dms_history.specs.Replay.{Chain, replay}
 use Rattle.dms_history.specs.Images.{or_else, last_after}
 use Rattle.dms_history.specs.Lists.{has, until_first, after_last}
 use Rattle.dms_history.specs.Places.{is_control, is_described, is_point, IsLive}
-use Rattle.dms_history.specs.Base.{Sound, opening, from_control, Opened}
+use Rattle.dms_history.specs.Base.{Sound, opening, from_control, OpenedFrom}
 use Rattle.dms_history.specs.LawsOfBase.{PrefixGoes}
 use Rattle.dms_history.proofs.Picks.{last_append, last_stands, chain_split}
 use Rattle.dms_history.proofs.AtPoints.{bool_cases, or_no, replay_append, or_true_right}
@@ -35,7 +35,7 @@ behind_none (x ∷ xs) ys off =
     )
 
 -- what a chain leads to
-opened_by : (os : List Event) (c : Content) → Chain os c → Opened os (replay os c)
+opened_by : (os : List Event) (c : AllBlocks) → Chain os c → OpenedFrom os (replay os c)
 opened_by os c chain = record {
   leads = λ f b x last. (logged_below os c f b x chain last, last_stands os c f b x chain last);
   linked = λ xs ys f b before after old is last.
@@ -43,7 +43,7 @@ opened_by os c chain = record {
       told before b (replay xs c f) parts.1.0 (logged_below xs c f b old parts.0 last) ∙ ap (λ x. Some x) (last_stands xs c f b old parts.0 last);
 }
 
-tail_opened : (xs os : List Event) (base : Content) → Opened (xs ++ os) base → Opened os base
+tail_opened : (xs os : List Event) (base : AllBlocks) → OpenedFrom (xs ++ os) base → OpenedFrom os base
 tail_opened xs os base opened = record {
   leads = λ f b x last. opened.leads f b x (last_append xs os f b ∙ ap (λ o. or_else o (last_after f b xs)) last);
   linked = λ us vs f b before after old is last.
@@ -80,7 +80,7 @@ front_goes xs ys base counted sound opened found = elim (bool_cases (has is_cont
       let same : Sound (from_control ys) base counted = subst (λ (l : List Event). Sound l base counted) r.1 sound in record {
         later = base;
         sound = same;
-        opened = tail_opened xs (opening ys) base (subst (λ (l : List Event). Opened l base) r.0 opened);
+        opened = tail_opened xs (opening ys) base (subst (λ (l : List Event). OpenedFrom l base) r.0 opened);
         points = λ n at none.
             let whole = live_whole xs ys n at none in
             record { lives = whole; same = at_point (xs ++ ys) base counted n sound whole ∙ ap (λ (l : List Event). replay (until_first (is_point n) l) base) r.1 ∙ sym (at_point ys base counted n same at) };
@@ -101,12 +101,12 @@ front_goes xs ys base counted sound opened found = elim (bool_cases (has is_cont
       let same : Sound all later counted = record {
         chain = chains.1;
         stands = λ f b low none.
-            sound.stands f b (subst (λ (c : Content). b < length (c f)) (sym now) low) (ap (λ (l : List Event). last_after f b l) late ∙ none)
-            ∙ ap (λ (c : Content). block_in c f b) now;
+            sound.stands f b (subst (λ (c : AllBlocks). b < length (c f)) (sym now) low) (ap (λ (l : List Event). last_after f b l) late ∙ none)
+            ∙ ap (λ (c : AllBlocks). block_in c f b) now;
       } in record {
         later = later;
         sound = same;
-        opened = subst (λ (c : Content). Opened os c) (sym through) (opened_by os (replay (from_control xs) base) start.1);
+        opened = subst (λ (c : AllBlocks). OpenedFrom os c) (sym through) (opened_by os (replay (from_control xs) base) start.1);
         points = λ n at none.
             let whole = live_whole xs ys n at none in
             let none_behind : has (is_point n) (from_control xs) ≡ false =

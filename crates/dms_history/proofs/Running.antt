@@ -1,7 +1,7 @@
 -- A database that runs: its points go on, and what a block seals at once.
 use Rattle.std.proofs.Common.{ℕ, ◌<◌, ◌≤◌, ◌≡◌, ◌||◌, ◌==◌, inl, inr, Bool, true, false, cond, List, [], ◌∷◌, ◌++◌, length, None, refl, sym, ◌∙◌, ap, subst, arith, append_assoc}
 use Rattle.std.proofs.lemmas.Bool.Decides.{nat_tests}
-use Rattle.dms_history.specs.Events.{Content, Stored, Event, change, quiet, control, begin}
+use Rattle.dms_history.specs.Events.{AllBlocks, Stored, Event, change, quiet, control, begin}
 use Rattle.dms_history.specs.Replay.{Chain, replay}
 use Rattle.dms_history.specs.Lists.{has, until_first, after_last}
 use Rattle.dms_history.specs.Places.{is_control, is_described, is_point, IsLive}
@@ -111,7 +111,7 @@ control_stands live base stored n next counts described sound =
     ends_with (control m later k d ∷ xs) = (control m later k d ∷ xs, refl)
     ends_with (begin m how ∷ xs) = ends_with xs
 
-    count_is : (ys : List Event) (c : Content) → Chain (ys ++ control n next counts described ∷ []) c → (f : ℕ) → counts f ≡ length (replay (ys ++ control n next counts described ∷ []) c f)
+    count_is : (ys : List Event) (c : AllBlocks) → Chain (ys ++ control n next counts described ∷ []) c → (f : ℕ) → counts f ≡ length (replay (ys ++ control n next counts described ∷ []) c f)
     count_is [] c chain f = chain.0 f
     count_is (change g b before after ∷ ys) c chain f = count_is ys _ chain.1 f
     count_is (quiet m ∷ ys) c chain f = count_is ys c chain f
@@ -136,7 +136,7 @@ control_stands live base stored n next counts described sound =
 
 -- ---- what one block seals
 
-seals : (es : List Event) (dumps : Dumps) (h : History) (base : Content) (stored : Stored) → h.pending ≡ None → has is_control h.live ≡ true → Sound (from_control h.live) base stored
+seals : (es : List Event) (dumps : Dumps) (h : History) (base : AllBlocks) (stored : Stored) → h.pending ≡ None → has is_control h.live ≡ true → Sound (from_control h.live) base stored
     → Chain (from_control h.live ++ es) base → has is_control es ≡ false
     → ((history_from h es).live ≡ h.live ++ es) × ((history_from h es).pending ≡ None) × Sound (from_control (history_from h es).live) base stored
 seals [] dumps h base stored none found sound chain off = (sym (append_none h.live), none, sound)

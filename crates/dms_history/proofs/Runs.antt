@@ -1,6 +1,6 @@
 -- What keeps entries and stored blocks sound.
 use Rattle.std.proofs.Common.{ℕ, ◌<◌, ◌≡◌, ◌||◌, inl, inr, Bool, true, false, cond, List, [], ◌∷◌, ◌++◌, length, Option, Some, None, refl, sym, ◌∙◌, ap, subst}
-use Rattle.dms_history.specs.Events.{Block, Content, Event, change, quiet, control, begin, block_in}
+use Rattle.dms_history.specs.Events.{BlockBytes, AllBlocks, Event, change, quiet, control, begin, block_in}
 use Rattle.dms_history.specs.Replay.{TellsBefore, Chain, replay, with_block}
 use Rattle.dms_history.specs.Images.{is_at, last_after}
 use Rattle.dms_history.specs.Lists.{has, after_last}
@@ -10,14 +10,14 @@ use Rattle.dms_history.proofs.Picks.{or_none, last_append, tells_le, write_other
 use Rattle.dms_history.proofs.AtPoints.{bool_cases, replay_append}
 use Rattle.dms_history.proofs.HalfDone.{chain_control}
 
-chain_push : (es : List Event) (c : Content) (f b : ℕ) (before : Option Block) (after : Block) → Chain es c → TellsBefore b before (replay es c f) → Chain (es ++ change f b before after ∷ []) c
+chain_push : (es : List Event) (c : AllBlocks) (f b : ℕ) (before : Option BlockBytes) (after : BlockBytes) → Chain es c → TellsBefore b before (replay es c f) → Chain (es ++ change f b before after ∷ []) c
 chain_push [] c f b before after chain tells = (tells, tt)
 chain_push (change g k old new ∷ es) c f b before after chain tells = (chain.0, chain_push es (with_block c g k new) f b before after chain.1 tells)
 chain_push (quiet n ∷ es) c f b before after chain tells = chain_push es c f b before after chain tells
 chain_push (control n next counts described ∷ es) c f b before after chain tells = (chain.0, chain_push es c f b before after chain.1 tells)
 chain_push (begin n how ∷ es) c f b before after chain tells = absurd chain
 
-chain_quiet : (es : List Event) (c : Content) (n : ℕ) → Chain es c → Chain (es ++ quiet n ∷ []) c
+chain_quiet : (es : List Event) (c : AllBlocks) (n : ℕ) → Chain es c → Chain (es ++ quiet n ∷ []) c
 chain_quiet [] c n chain = tt
 chain_quiet (change g k old new ∷ es) c n chain = (chain.0, chain_quiet es (with_block c g k new) n chain.1)
 chain_quiet (quiet m ∷ es) c n chain = chain_quiet es c n chain
@@ -49,7 +49,7 @@ after_push p (e ∷ es) x off = elim (bool_cases (has p (e ∷ es))) [
 true_not_false : true ≡ false → ⊥
 true_not_false e = absurd cc
 
-if_none : (b : Bool) (x : Block) → cond b (Some x) None ≡ None → b ≡ false
+if_none : (b : Bool) (x : BlockBytes) → cond b (Some x) None ≡ None → b ≡ false
 if_none true x e = absurd cc
 if_none false x e = refl
 
@@ -68,9 +68,9 @@ changes entries base stored f b before after sound tells =
           elim (place_cases g k f b) [
             | inl place ↦ absurd (true_not_false (sym place.2 ∙ off))
             | inr apart ↦
-                let counted : k < length (with_block now f b after g) = subst (λ (c : Content). k < length (c g)) grown low in
+                let counted : k < length (with_block now f b after g) = subst (λ (c : AllBlocks). k < length (c g)) grown low in
                 let old : k < length (now g) = write_old now f b after g k le apart.0 counted in
-                sound.stands g k old both.1 ∙ sym (write_other now f b after g k le apart.0 old) ∙ ap (λ (c : Content). block_in c g k) (sym grown)
+                sound.stands g k old both.1 ∙ sym (write_other now f b after g k le apart.0 old) ∙ ap (λ (c : AllBlocks). block_in c g k) (sym grown)
           ];
     }
 
@@ -82,7 +82,7 @@ quiets entries base stored n sound =
       stands = λ f b low none.
           let more : last_after f b (after_last is_control entries ++ quiet n ∷ []) ≡ None = ap (λ (l : List Event). last_after f b l) (sym (after_push is_control entries (quiet n) refl)) ∙ none in
           let both = or_none (last_after f b (quiet n ∷ [])) (last_after f b (after_last is_control entries)) (sym (last_append (after_last is_control entries) (quiet n ∷ []) f b) ∙ more) in
-          sound.stands f b (subst (λ (c : Content). b < length (c f)) same low) both.1 ∙ ap (λ (c : Content). block_in c f b) (sym same);
+          sound.stands f b (subst (λ (c : AllBlocks). b < length (c f)) same low) both.1 ∙ ap (λ (c : AllBlocks). block_in c f b) (sym same);
     }
 
 pub writes_early : WritesEarly
@@ -96,5 +96,5 @@ controls entries base stored written n next counts described sound count stand =
     let same : replay (entries ++ control n next counts described ∷ []) base ≡ replay entries base = replay_append entries (control n next counts described ∷ []) base in
     record {
       chain = chain_control entries base n next counts described sound.chain count;
-      stands = λ f b low none. stand f b (subst (λ (c : Content). b < length (c f)) same low) ∙ ap (λ (c : Content). block_in c f b) (sym same);
+      stands = λ f b low none. stand f b (subst (λ (c : AllBlocks). b < length (c f)) same low) ∙ ap (λ (c : AllBlocks). block_in c f b) (sym same);
     }

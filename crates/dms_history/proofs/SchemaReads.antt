@@ -1,7 +1,7 @@
 -- The Schema at a point.
 use Rattle.std.proofs.Common.{ℕ, ◌+◌, ◌<◌, ◌≡◌, ◌==◌, ◌||◌, inl, inr, Bool, true, false, cond, List, [], ◌∷◌, ◌++◌, length, Option, Some, None, refl, sym, ◌∙◌, ap, arith, append_assoc}
 use Rattle.std.proofs.lemmas.Bool.Decides.{nat_tests}
-use Rattle.dms_history.specs.Events.{Block, Event}
+use Rattle.dms_history.specs.Events.{BlockBytes, Event}
 use Rattle.dms_history.specs.Images.{last_after}
 use Rattle.dms_history.specs.Lists.{has, until_first}
 use Rattle.dms_history.specs.Places.{is_point, is_described}
@@ -186,7 +186,7 @@ abbrev told_whole : Logged → Bool
 told_whole (event e) = is_described e
 told_whole (range f b place bytes) = false
 
-range_plain : (f b place : ℕ) (bytes : List ℕ) (o : Option Block) → has is_described (range_change f b place bytes o) ≡ false
+range_plain : (f b place : ℕ) (bytes : List ℕ) (o : Option BlockBytes) → has is_described (range_change f b place bytes o) ≡ false
 range_plain f b place bytes None = refl
 range_plain f b place bytes (Some old) = refl
 

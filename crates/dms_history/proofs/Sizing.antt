@@ -1,12 +1,12 @@
 -- Whole blocks stay whole.
 use Rattle.std.proofs.Common.{ℕ, ◌≤◌, ◌<◌, ◌≡◌, inl, inr, Bool, true, false, cond, List, [], ◌∷◌, length, Option, Some, None, sym, ◌∙◌, ap, arith}
-use Rattle.dms_history.specs.Events.{Block, Content, Event, change, quiet, control, begin, block_in}
+use Rattle.dms_history.specs.Events.{BlockBytes, AllBlocks, Event, change, quiet, control, begin, block_in}
 use Rattle.dms_history.specs.Replay.{replay, with_block}
 use Rattle.dms_history.specs.Images.{is_at, first_before}
 use Rattle.dms_history.specs.Sizes.{AllSized, IsSizedBefore, ImagesSized, SizedReplay, SizedBase}
 use Rattle.dms_history.proofs.Picks.{tells_le, write_here, write_other, write_old, place_cases, option_cases, replay_length, none_stands, first_old, first_none, some_is}
 
-sized_block : (c : Content) (f b : ℕ) (x : Block) → AllSized c → b ≤ length (c f) → length x ≡ 1024 → AllSized (with_block c f b x)
+sized_block : (c : AllBlocks) (f b : ℕ) (x : BlockBytes) → AllSized c → b ≤ length (c f) → length x ≡ 1024 → AllSized (with_block c f b x)
 sized_block c f b x sized le len g k low = elim (place_cases g k f b) [
   | inl place ↦ (λ i. length (block_in (with_block c f b x) (sym place.0 i) (sym place.1 i))) ∙ ap length (write_here c f b x le) ∙ len
   | inr apart ↦
@@ -22,11 +22,11 @@ sized_replay (quiet n ∷ es) c chain sized images = sized_replay es c chain siz
 sized_replay (control n next counts described ∷ es) c chain sized images = sized_replay es c chain.1 sized images
 sized_replay (begin n how ∷ es) c chain sized images = absurd chain
 
-before_sized : (es : List Event) (f b : ℕ) (old : Block) → ImagesSized es → first_before f b es ≡ Some (Some old) → length old ≡ 1024
+before_sized : (es : List Event) (f b : ℕ) (old : BlockBytes) → ImagesSized es → first_before f b es ≡ Some (Some old) → length old ≡ 1024
 before_sized [] f b old images is = absurd cc
 before_sized (change g k before after ∷ es) f b old images is = go (is_at f b g k) is (λ more. before_sized es f b old images.1 more)
   where
-    one : (before : Option Block) → IsSizedBefore before → before ≡ Some old → length old ≡ 1024
+    one : (before : Option BlockBytes) → IsSizedBefore before → before ≡ Some old → length old ≡ 1024
     one None sized is = absurd cc
     one (Some x) sized is = sym (ap length (some_is x old is)) ∙ sized
 

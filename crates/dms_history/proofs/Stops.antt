@@ -2,7 +2,7 @@
 use Rattle.std.proofs.Common.{ℕ, ◌<◌, ◌≡◌, ◌||◌, ◌&&◌, inl, inr, Bool, true, false, cond, List, [], ◌∷◌, ◌++◌, map, length, Option, Some, None, refl, sym, ◌∙◌, ap, subst, arith}
 use Rattle.std.specs.List.{range_with_len}
 use Rattle.std.proofs.lemmas.List.FromFn.{fill_by_all}
-use Rattle.dms_history.specs.Events.{Block, Content, Stored, Counts, How, halt_load, back_out, roll_back, rebuild, reconstruct, Event, control, block_in}
+use Rattle.dms_history.specs.Events.{BlockBytes, AllBlocks, Stored, Counts, How, halt_load, back_out, roll_back, rebuild, reconstruct, Event, control, block_in}
 use Rattle.dms_history.specs.Replay.{Chain, replay}
 use Rattle.dms_history.specs.Images.{last_after, first_before, value, choice}
 use Rattle.dms_history.specs.Lists.{has, until_first, after_first, after_last}
@@ -71,7 +71,7 @@ restore_begins how dumps t base counted stored m ready =
     (subst (λ (l : List Event). Chain l base) (sym (split_first (is_point m) (from_control entries) (live_from entries m ready.point_lives).found)) ready.sound.chain)).0 in
     let sound : Sound (from_control front) base (block_in left) = record {
       chain = subst (λ (l : List Event). Chain l base) (sym cut) front_chain;
-      stands = λ f b low none. ap (λ (c : Content). block_in c f b) now;
+      stands = λ f b low none. ap (λ (c : AllBlocks). block_in c f b) now;
     } in
     let pending : Pending = record { entries = entries; point = m; how = how } in
     record {
@@ -98,7 +98,7 @@ pub log_same : (entries : List Event) (m f b : ℕ) (written stored : Stored) �
 unfolding pick choice
 log_same entries m f b written stored same = go (last_after f b (after_last is_control (until_first (is_point m) entries))) (first_before f b (after_first (is_point m) entries)) same
   where
-    go : (o : Option Block) (first : Option (Option Block)) → (is_none o && has_no_before first ≡ true → written f b ≡ stored f b) → value o first (written f b) ≡ value o first (stored f b)
+    go : (o : Option BlockBytes) (first : Option (Option BlockBytes)) → (is_none o && has_no_before first ≡ true → written f b ≡ stored f b) → value o first (written f b) ≡ value o first (stored f b)
     go (Some x) first at = refl
     go None None at = at refl
     go None (Some None) at = at refl
@@ -127,7 +127,7 @@ here_is dumps t p stored is = ap (λ o. here_by o dumps stored) is
 pub restore_writes : RestoreWrites
 restore_writes dumps t base stored written p is steady same =
     let left : outcome p.how dumps p.entries p.point written ≡ outcome p.how dumps p.entries p.point stored = outcome_same p.how dumps p.entries p.point written stored same in
-    let equal : here dumps t written ≡ here dumps t stored = here_is dumps t p written is ∙ ap (λ (c : Content). block_in c) left ∙ sym (here_is dumps t p stored is) in record {
+    let equal : here dumps t written ≡ here dumps t stored = here_is dumps t p written is ∙ ap (λ (c : AllBlocks). block_in c) left ∙ sym (here_is dumps t p stored is) in record {
       steady = record {
         sound = subst (λ (s : Stored). Sound (from_control t.live) base s) (sym equal) steady.sound;
         restored = λ q is_q. subst (λ (r : Pending). outcome r.how dumps r.entries r.point written ≡ replay (from_control t.live) base) (some_is p q (sym is ∙ is_q)) (left ∙ steady.restored p is);
@@ -147,13 +147,13 @@ restore_ends dumps t base stored written p next counts described is steady count
     let at = steady.point_lives p is in
     let controlled : has is_control t.live ≡ true = has_front (is_point m) is_control t.live (controlled t.live m at) in
     let grown : from_control (t.live ++ e ∷ []) ≡ from_control t.live ++ e ∷ [] = (opening_append t.live (e ∷ []) controlled).1 in
-    let count_is : (f : ℕ) → counts f ≡ length (replay (from_control t.live) base f) = λ f. count f ∙ ap (λ (c : Content). length (c f)) right in
+    let count_is : (f : ℕ) → counts f ≡ length (replay (from_control t.live) base f) = λ f. count f ∙ ap (λ (c : AllBlocks). length (c f)) right in
     let now : replay (from_control (t.live ++ e ∷ [])) base ≡ replay (from_control t.live) base = ap (λ (l : List Event). replay l base) grown ∙ replay_append (from_control t.live) (e ∷ []) base in
     let sound : Sound (from_control (t.live ++ e ∷ [])) base written = record {
       chain = subst (λ (l : List Event). Chain l base) (sym grown) (chain_control (from_control t.live) base m next counts described steady.sound.chain count_is);
       stands = λ f b low none.
-          let under : b < counts f = omega (arith, subst (λ (c : Content). b < length (c f)) now low, count_is f) in
-          stand f b under ∙ ap (λ (s : Stored). s f b) (here_is dumps t p stored is) ∙ ap (λ (c : Content). block_in c f b) (right ∙ sym now);
+          let under : b < counts f = omega (arith, subst (λ (c : AllBlocks). b < length (c f)) now low, count_is f) in
+          stand f b under ∙ ap (λ (s : Stored). s f b) (here_is dumps t p stored is) ∙ ap (λ (c : AllBlocks). block_in c f b) (right ∙ sym now);
     } in record {
       steady = record { sound = sound; restored = λ q none. absurd (none_not_some q none); point_lives = λ q none. absurd (none_not_some q none) };
       points = λ n live.
@@ -214,7 +214,7 @@ pub log_takes : (entries : List Event) (m f b : ℕ) (s : Stored) → is_unlogge
 unfolding pick choice
 log_takes entries m f b s on = go (last_after f b (after_last is_control (until_first (is_point m) entries))) (first_before f b (after_first (is_point m) entries)) on
   where
-    go : (o : Option Block) (first : Option (Option Block)) → is_none o && has_no_before first ≡ true → value o first (s f b) ≡ s f b
+    go : (o : Option BlockBytes) (first : Option (Option BlockBytes)) → is_none o && has_no_before first ≡ true → value o first (s f b) ≡ s f b
     go (Some x) first at = absurd (true_not_false (sym at))
     go None None at = refl
     go None (Some None) at = refl

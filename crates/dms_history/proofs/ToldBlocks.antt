@@ -4,7 +4,7 @@ use Rattle.std.proofs.Common.{ℕ, ◌<◌, ◌≤◌, ◌≡◌, ◌&&◌, inl,
 use Rattle.std.proofs.lemmas.Bool.{cases_lt}
 use Rattle.std.proofs.lemmas.Bool.Decides.{nat_tests}
 use Rattle.std.proofs.lemmas.List.{get_or_past}
-use Rattle.dms_history.specs.Events.{Block, Stored, Event}
+use Rattle.dms_history.specs.Events.{BlockBytes, Stored, Event}
 use Rattle.dms_history.specs.Lists.{has, until_first, after_first, after_last}
 use Rattle.dms_history.specs.Places.{is_control, is_point}
 use Rattle.dms_history.specs.History.{Pending}
@@ -23,25 +23,25 @@ none_not_some x e = absurd cc
 true_not_false : true ≡ false → ⊥
 true_not_false e = absurd cc
 
-told_value : (o : Option Block) (first : Option (Option Block)) (st x : Block) → or_else o (undone_to first) ≡ Some x → value o first st ≡ x
+told_value : (o : Option BlockBytes) (first : Option (Option BlockBytes)) (st x : BlockBytes) → or_else o (undone_to first) ≡ Some x → value o first st ≡ x
 told_value (Some y) first st x is = some_is y x is
 told_value None None st x is = absurd (none_not_some x is)
 told_value None (Some None) st x is = absurd (none_not_some x is)
 told_value None (Some (Some old)) st x is = some_is old x is
 
-kept_value : (o : Option Block) (first : Option (Option Block)) (st : Block) → or_else o (undone_to first) ≡ None → value o first st ≡ st
+kept_value : (o : Option BlockBytes) (first : Option (Option BlockBytes)) (st : BlockBytes) → or_else o (undone_to first) ≡ None → value o first st ≡ st
 kept_value (Some y) first st is = absurd (none_not_some y (sym is))
 kept_value None None st is = refl
 kept_value None (Some None) st is = refl
 kept_value None (Some (Some old)) st is = absurd (none_not_some old (sym is))
 
-none_unlogged : (o : Option Block) (first : Option (Option Block)) → or_else o (undone_to first) ≡ None → is_none o && has_no_before first ≡ true
+none_unlogged : (o : Option BlockBytes) (first : Option (Option BlockBytes)) → or_else o (undone_to first) ≡ None → is_none o && has_no_before first ≡ true
 none_unlogged (Some y) first is = absurd (none_not_some y (sym is))
 none_unlogged None None is = refl
 none_unlogged None (Some None) is = refl
 none_unlogged None (Some (Some old)) is = absurd (none_not_some old (sym is))
 
-unlogged_none : (o : Option Block) (first : Option (Option Block)) → is_none o && has_no_before first ≡ true → or_else o (undone_to first) ≡ None
+unlogged_none : (o : Option BlockBytes) (first : Option (Option BlockBytes)) → is_none o && has_no_before first ≡ true → or_else o (undone_to first) ≡ None
 unlogged_none (Some y) first is = absurd (true_not_false (sym is))
 unlogged_none None None is = refl
 unlogged_none None (Some None) is = refl
@@ -72,7 +72,7 @@ counts_is (Some p) dumps stored f b on =
     let low : b < count_at p.entries p.point f = grind (arith, nat_tests, both.0) in
     outcome_block p.how dumps p.entries p.point f b stored low ∙ takes_is p.how dumps p.entries p.point f b stored both.1
 
-past_end : (blocks : List Block) (b : ℕ) → length blocks ≤ b → slice_index_or blocks b [] ≡ []
+past_end : (blocks : List BlockBytes) (b : ℕ) → length blocks ≤ b → slice_index_or blocks b [] ≡ []
 past_end blocks b high = get_or_past blocks b [] high
 
 counts_elsewhere : (o : Option Pending) (dumps : Dumps) (one two : Stored) (f b : ℕ) → counts_stored o f b ≡ false → here_by o dumps one f b ≡ here_by o dumps two f b
@@ -105,7 +105,7 @@ module _ (live : List Event) (n f b : ℕ) where
   unfolding told_block
   told_nowhere off = sym (λ i. or_else (last_after f b (after_last is_control (until_none (is_point n) live off i))) (undone_to (first_before f b (after_none (is_point n) live off i))))
 
-  pub told_redone : (front mid : List Event) (x : Block) → until_first (is_point n) live ≡ front → after_last is_control front ≡ mid → last_after f b mid ≡ Some x → Some x ≡ told_block live n f b
+  pub told_redone : (front mid : List Event) (x : BlockBytes) → until_first (is_point n) live ≡ front → after_last is_control front ≡ mid → last_after f b mid ≡ Some x → Some x ≡ told_block live n f b
   unfolding told_block
   told_redone front mid x cut behind last =
       sym (ap (λ o. or_else o (undone_to (first_before f b (after_first (is_point n) live)))) (ap (λ (l : List Event). last_after f b (after_last is_control l)) cut ∙ ap (λ (l : List Event). last_after f b l) behind ∙ last))

@@ -1,6 +1,6 @@
 -- Ranges as changes.
 use Rattle.std.proofs.Common.{ℕ, ◌≡◌, ◌||◌, inl, inr, Bool, true, false, cond, List, [], ◌∷◌, ◌++◌, map, Option, Some, None, refl, sym, ◌∙◌, ap, subst, append_assoc}
-use Rattle.dms_history.specs.Events.{Block, Event, change, quiet, control, begin, block_in}
+use Rattle.dms_history.specs.Events.{BlockBytes, Event, change, quiet, control, begin, block_in}
 use Rattle.dms_history.specs.Images.{is_at, or_else, last_after}
 use Rattle.dms_history.specs.Replay.{replay, with_block}
 use Rattle.dms_history.specs.Lists.{has, until_first}
@@ -51,7 +51,7 @@ pub changes_tail : (xs : List Logged) (acc : List Event) → (zs : List Event) �
 changes_tail [] acc = ([], sym (append_none acc))
 changes_tail (x ∷ xs) acc = let r = changes_tail xs (acc ++ changes_of acc x) in (changes_of acc x ++ r.0, r.1 ∙ append_assoc acc (changes_of acc x) r.0)
 
-range_none : (n f b place : ℕ) (bytes : List ℕ) (o : Option Block) → has (is_point n) (range_change f b place bytes o) ≡ false
+range_none : (n f b place : ℕ) (bytes : List ℕ) (o : Option BlockBytes) → has (is_point n) (range_change f b place bytes o) ≡ false
 range_none n f b place bytes None = refl
 range_none n f b place bytes (Some old) = refl
 
@@ -133,7 +133,7 @@ pub history_append : (xs ys : List Event) (t : History) → history_from t (xs +
 history_append [] ys t = refl
 history_append (x ∷ xs) ys t = history_append xs ys (after_event t x)
 
-history_changed : (t : History) (f b place : ℕ) (bytes : List ℕ) (o : Option Block) → (history_from t (range_change f b place bytes o)).live ≡ t.live ++ range_change f b place bytes o
+history_changed : (t : History) (f b place : ℕ) (bytes : List ℕ) (o : Option BlockBytes) → (history_from t (range_change f b place bytes o)).live ≡ t.live ++ range_change f b place bytes o
 history_changed t f b place bytes None = sym (append_none t.live)
 history_changed t f b place bytes (Some old) = refl
 
@@ -164,7 +164,7 @@ change_none f b acc (event (control n next counts described)) none off = refl
 change_none f b acc (event (begin n how)) none off = refl
 change_none f b acc (range g k place bytes) none off = go (last_after g k acc) refl
   where
-    go : (o : Option Block) → last_after g k acc ≡ o → last_after f b (range_change g k place bytes o) ≡ None
+    go : (o : Option BlockBytes) → last_after g k acc ≡ o → last_after f b (range_change g k place bytes o) ≡ None
     go None is = refl
     go (Some old) is = elim (place_cases f b g k) [
       | inl at ↦ absurd (some_not_none old (sym is ∙ (λ i. last_after (at.0 i) (at.1 i) acc) ∙ none))

@@ -1,13 +1,13 @@
 -- Trails, dumps and blocks that agree are steady.
 use Rattle.std.proofs.Common.{ℕ, ◌<◌, ◌≡◌, ◌||◌, inl, inr, Bool, true, false, List, [], ◌∷◌, ◌++◌, length, Some, None, refl, sym, ◌∙◌, ap, subst, arith, append_assoc}
 use Rattle.std.proofs.lemmas.List.{ext_get_or}
-use Rattle.dms_history.specs.Events.{Block, Content, Stored, How, Event, change, quiet, control, begin, block_in}
+use Rattle.dms_history.specs.Events.{BlockBytes, AllBlocks, Stored, How, Event, change, quiet, control, begin, block_in}
 use Rattle.dms_history.specs.Replay.{replay}
 use Rattle.dms_history.specs.Images.{or_else, last_after}
 use Rattle.dms_history.specs.Lists.{has, until_first}
 use Rattle.dms_history.specs.Pick.{reached_count, count_at}
 use Rattle.dms_history.specs.Places.{is_control, is_point, is_begin}
-use Rattle.dms_history.specs.Base.{Sound, opening, from_control, Opened, base_of}
+use Rattle.dms_history.specs.Base.{Sound, opening, from_control, OpenedFrom, base_of}
 use Rattle.dms_history.specs.Here.{outcome, here}
 use Rattle.dms_history.specs.History.{Pending, History, after_event, history_from, history, next_number}
 use Rattle.dms_history.specs.Agrees.{ends_restore, BeginsAloneEvents}
@@ -96,14 +96,14 @@ count_front entries m found =
     let same = until_until (is_point m) (is_point m) entries (has_self (is_point m) entries found) in
     λ i f. reached_count f 0 (same i)
 
-pub content_same : (c d : Content) → ((f : ℕ) → length (c f) ≡ length (d f)) → ((f b : ℕ) → b < length (d f) → block_in c f b ≡ block_in d f b) → c ≡ d
+pub content_same : (c d : AllBlocks) → ((f : ℕ) → length (c f) ≡ length (d f)) → ((f b : ℕ) → b < length (d f) → block_in c f b ≡ block_in d f b) → c ≡ d
 content_same c d long same = λ i f. ext_get_or [] (c f) (d f) (long f) (λ k low. same f k (omega (arith, low, long f))) i
 
 has_until : (p : Event → Bool) (es : List Event) → has p (until_first p es) ≡ true → has p es ≡ true
 has_until p es found = has_front p p es found
 
 -- a block with a live after-image stands so in the content that the entries give
-block_last : (live : List Event) (base : Content) (counted : Stored) (f b : ℕ) (x : Block) → Sound (from_control live) base counted → Opened (opening live) base → last_after f b live ≡ Some x
+block_last : (live : List Event) (base : AllBlocks) (counted : Stored) (f b : ℕ) (x : BlockBytes) → Sound (from_control live) base counted → OpenedFrom (opening live) base → last_after f b live ≡ Some x
     → (b < length (replay (from_control live) base f)) × (block_in (replay (from_control live) base) f b ≡ x)
 block_last live base counted f b x sound opened last =
     let all = from_control live in
@@ -157,6 +157,6 @@ steady_agrees first entries dumps stored base steady opened numbered empty =
     record {
       lists = base_agrees first t.live (next_number entries) (here dumps t stored) base steady.sound opened numbered empty;
       restored = λ p f b x is last.
-          ap (λ (s : Stored). s f b) (here_is dumps t p stored is) ∙ ap (λ (c : Content). block_in c f b) (steady.restored p is)
+          ap (λ (s : Stored). s f b) (here_is dumps t p stored is) ∙ ap (λ (c : AllBlocks). block_in c f b) (steady.restored p is)
           ∙ (block_last t.live base (here dumps t stored) f b x steady.sound opened last).1;
     }

@@ -1,6 +1,6 @@
 -- The entries of the audit, as its sealed blocks hold them one after another.
 use Rattle.std.specs.Prelude.{ℕ, ◌+◌, ◌*◌, ◌==◌, ◌&&◌, nat_le, nat_lt, if◌then◌else◌, Bool, List, [], ◌∷◌, Option}
-use Rattle.dms_history.specs.Events.{Block, Counts, How, halt_load, back_out, roll_back, rebuild, reconstruct}
+use Rattle.dms_history.specs.Events.{BlockBytes, Counts, How, halt_load, back_out, roll_back, rebuild, reconstruct}
 use Rattle.dms_history.specs.Lists.{has}
 use Rattle.dms_history.specs.declared.event.FileCount.{FileCount}
 use Rattle.dms_history.specs.declared.event.Row.{Row}
@@ -19,7 +19,7 @@ pub data Kind : Type 0 where
 -- quiet_point n, control_point n next counts, begin_restore n kind
 pub data Entry : Type 0 where
   schema_part : ℕ → ℕ → List ℕ → Entry
-  image : ℕ → ℕ → Option Block → Block → Entry
+  image : ℕ → ℕ → Option BlockBytes → BlockBytes → Entry
   byte_range : ℕ → ℕ → ℕ → List ℕ → Entry
   quiet_point : ℕ → Entry
   control_point : ℕ → ℕ → List FileCount → Entry

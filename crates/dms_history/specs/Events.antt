@@ -2,16 +2,16 @@
 use Rattle.std.specs.Prelude.{ℕ, Bool, List, [], Option, slice_index_or}
 
 -- the bytes of one block of a structure file
-abbrev pub Block : Type 0
-Block = List ℕ
+abbrev pub BlockBytes : Type 0
+BlockBytes = List ℕ
 
 -- the blocks of each structure file, by the file's number
-abbrev pub Content : Type 0
-Content = ℕ → List Block
+abbrev pub AllBlocks : Type 0
+AllBlocks = ℕ → List BlockBytes
 
 -- block b of structure file f, as something holds it
 abbrev pub Stored : Type 0
-Stored = ℕ → ℕ → Block
+Stored = ℕ → ℕ → BlockBytes
 
 -- how many blocks each structure file has, by the file's number
 abbrev pub Counts : Type 0
@@ -32,11 +32,11 @@ pub data How : Type 0 where
 --   counts says how many blocks each file has, and described says that it stands directly after a whole Schema.
 -- begin n how: a restore to point n begins.
 pub data Event : Type 0 where
-  change : ℕ → ℕ → Option Block → Block → Event
+  change : ℕ → ℕ → Option BlockBytes → BlockBytes → Event
   quiet : ℕ → Event
   control : ℕ → ℕ → Counts → Bool → Event
   begin : ℕ → How → Event
 
 -- block b of file f in a content, no bytes where it isn't there
-abbrev pub block_in : Content → ℕ → ℕ → Block
+abbrev pub block_in : AllBlocks → ℕ → ℕ → BlockBytes
 block_in content f b = slice_index_or (content f) b []

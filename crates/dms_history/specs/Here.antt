@@ -1,6 +1,6 @@
 -- What counts as each block while a restore may be half done.
 use Rattle.std.specs.Prelude.{ℕ, if◌then◌else◌, List, Option, Some, None}
-use Rattle.dms_history.specs.Events.{Content, Stored, How, halt_load, back_out, roll_back, rebuild, reconstruct, Event, block_in}
+use Rattle.dms_history.specs.Events.{AllBlocks, Stored, How, halt_load, back_out, roll_back, rebuild, reconstruct, Event, block_in}
 use Rattle.dms_history.specs.History.{Pending, History}
 use Rattle.dms_history.specs.Pick.{Dumps, count_at, pick, dump_pick, content_of}
 
@@ -13,7 +13,7 @@ restore_pick (rebuild d) dumps live m stored = dump_pick live (dumps d) m
 restore_pick (reconstruct d named) dumps live m stored = λ f b. if named f b then dump_pick live (dumps d) m f b else pick live m stored f b
 
 -- the content that a restore to point m is to leave
-unfoldable pub outcome : How → Dumps → List Event → ℕ → Stored → Content
+unfoldable pub outcome : How → Dumps → List Event → ℕ → Stored → AllBlocks
 outcome how dumps live m stored = content_of (count_at live m) (restore_pick how dumps live m stored)
 
 abbrev pub here_by : Option Pending → Dumps → Stored → Stored

@@ -1,9 +1,9 @@
 -- What a database keeps between two calls.
 use Rattle.std.specs.Prelude.{ℕ, ◌≡◌, Bool, true, List, [], length}
-use Rattle.dms_history.specs.Events.{Content, Stored}
+use Rattle.dms_history.specs.Events.{AllBlocks, Stored}
 use Rattle.dms_history.specs.Replay.{replay}
 use Rattle.dms_history.specs.Pick.{Dumps}
-use Rattle.dms_history.specs.Base.{opening, from_control, Opened}
+use Rattle.dms_history.specs.Base.{opening, from_control, OpenedFrom}
 use Rattle.dms_history.specs.Agrees.{Numbered}
 use Rattle.dms_history.specs.Restores.{Steady}
 use Rattle.dms_history.specs.Ranges.{live_logged}
@@ -12,16 +12,16 @@ use Rattle.dms_history.specs.Entries.{Entry}
 use Rattle.dms_history.specs.EntryEvents.{logged, history_of, live_of, next_of, BeginsAlone}
 
 -- the content that entries tell over a base: the base is the content at the first live Control
-abbrev pub content_told : List Entry → Content → Content
+abbrev pub content_told : List Entry → AllBlocks → AllBlocks
 content_told entries base = replay (from_control (live_of entries)) base
 
 -- All that a database keeps between two calls. first: its trail begins with audit file 1. base: the content at the first live Control.
-pub record Kept (first : Bool) (entries : List Entry) (dumps : Dumps) (base : Content) (stored : Stored) : Type 0 where
+pub record Kept (first : Bool) (entries : List Entry) (dumps : Dumps) (base : AllBlocks) (stored : Stored) : Type 0 where
   -- The live entries tell over the base what counts as each block that doesn't change after the last Control, and a pending restore is
   -- to leave what they tell.
   pub steady : Steady dumps (history_of entries) base stored
   -- The changes before the first live Control lead to the base.
-  pub opened : Opened (opening (live_of entries)) base
+  pub opened : OpenedFrom (opening (live_of entries)) base
   -- The numbers of live Quiets and Controls never fall, and are below the next number.
   pub numbered : Numbered (live_of entries) (next_of entries)
   -- Only Schema parts stand after a Begin up to the next Begin or Control.

@@ -1,6 +1,6 @@
 -- Laws: entries, their events, and one more entry that is sealed.
 use Rattle.std.specs.Prelude.{ℕ, ◌+◌, ◌*◌, ◌≤◌, ◌<◌, ◌≡◌, ◌≢◌, ◌↔◌, true, false, List, [], ◌∷◌, ◌++◌, Option, Some, None, ◌⊎◌, take}
-use Rattle.dms_history.specs.Events.{Block, Event, change, quiet, control, begin}
+use Rattle.dms_history.specs.Events.{BlockBytes, Event, change, quiet, control, begin}
 use Rattle.dms_history.specs.Images.{last_after}
 use Rattle.dms_history.specs.History.{after_event, history, History, history_from}
 use Rattle.dms_history.specs.Ranges.{patched, live_logged}
@@ -41,13 +41,13 @@ abbrev pub SchemaSealed : Type 0
 SchemaSealed = (entries : List Entry) (part parts : ℕ) (bytes : List ℕ) → events (entries ++ schema_part part parts bytes ∷ []) ≡ events entries
 
 abbrev pub ImageSealed : Type 0
-ImageSealed = (entries : List Entry) (f b : ℕ) (before : Option Block) (after : Block)
+ImageSealed = (entries : List Entry) (f b : ℕ) (before : Option BlockBytes) (after : BlockBytes)
     → events (entries ++ image f b before after ∷ []) ≡ events entries ++ change f b before after ∷ []
 
 -- A Range is a change of the block as it was last logged; where it wasn't, the Range is left out.
 abbrev pub RangeSealed : Type 0
 RangeSealed = (entries : List Entry) (f b place : ℕ) (bytes : List ℕ)
-    → ((old : Block) → last_after f b (history (events entries)).live ≡ Some old
+    → ((old : BlockBytes) → last_after f b (history (events entries)).live ≡ Some old
     → events (entries ++ byte_range f b place bytes ∷ []) ≡ events entries ++ change f b (Some old) (patched place bytes old) ∷ [])
     × (last_after f b (history (events entries)).live ≡ None → events (entries ++ byte_range f b place bytes ∷ []) ≡ events entries)
 

@@ -1,6 +1,6 @@
 -- Laws: entries with Ranges are a list of changes with whole images.
 use Rattle.std.specs.Prelude.{ℕ, ◌+◌, ◌<◌, ◌≤◌, ◌≡◌, ◌⊎◌, Bool, true, false, List, [], ◌∷◌, ◌++◌, map, length, take, drop, slice_index_or, Some, None}
-use Rattle.dms_history.specs.Events.{Block, Content, Stored, Counts, Event, change, control, block_in}
+use Rattle.dms_history.specs.Events.{BlockBytes, AllBlocks, Stored, Counts, Event, change, control, block_in}
 use Rattle.dms_history.specs.Replay.{replay, with_block}
 use Rattle.dms_history.specs.Lists.{has, until_first, after_last}
 use Rattle.dms_history.specs.Images.{last_after}
@@ -25,19 +25,19 @@ LeftOut = (xs : List Logged) (f b : ℕ) → (has (is_image f b) xs ≡ false �
 
 -- A sealed Range is a change like others: what it tells stood there, and the content is the old one with the bytes.
 abbrev pub RangeChanges : Type 0
-RangeChanges = (entries : List Event) (base : Content) (stored : Stored) (f b place : ℕ) (bytes : List ℕ) (old : Block) → Sound entries base stored → last_after f b entries ≡ Some old
+RangeChanges = (entries : List Event) (base : AllBlocks) (stored : Stored) (f b place : ℕ) (bytes : List ℕ) (old : BlockBytes) → Sound entries base stored → last_after f b entries ≡ Some old
     → Sound (entries ++ changes_of entries (range f b place bytes)) base stored
     × (replay (entries ++ changes_of entries (range f b place bytes)) base ≡ with_block (replay entries base) f b (patched place bytes (block_in (replay entries base) f b)))
 
 -- The same over a whole history without a pending restore: a Range of a block with a change since the first Control.
-pub record RangeSteady (dumps : Dumps) (h : History) (base : Content) (stored : Stored) (f b place : ℕ) (bytes : List ℕ) (old : Block) : Type 0 where
+pub record RangeSteady (dumps : Dumps) (h : History) (base : AllBlocks) (stored : Stored) (f b place : ℕ) (bytes : List ℕ) (old : BlockBytes) : Type 0 where
   pub is : history_from h (changes_of h.live (range f b place bytes)) ≡ after_event h (change f b (Some old) (patched place bytes old))
   pub steady : Steady dumps (after_event h (change f b (Some old) (patched place bytes old))) base stored
   pub content : replay (from_control (after_event h (change f b (Some old) (patched place bytes old))).live) base
       ≡ with_block (replay (from_control h.live) base) f b (patched place bytes (block_in (replay (from_control h.live) base) f b))
 
 abbrev pub RangesSteady : Type 0
-RangesSteady = (dumps : Dumps) (h : History) (base : Content) (stored : Stored) (f b place : ℕ) (bytes : List ℕ) (old : Block) → h.pending ≡ None → has is_control h.live ≡ true
+RangesSteady = (dumps : Dumps) (h : History) (base : AllBlocks) (stored : Stored) (f b place : ℕ) (bytes : List ℕ) (old : BlockBytes) → h.pending ≡ None → has is_control h.live ≡ true
     → Steady dumps h base stored → last_after f b (from_control h.live) ≡ Some old → RangeSteady dumps h base stored f b place bytes old
 
 -- Every live Range that isn't left out has a live Image itself of its block before it: after the last live Control before the Range,
@@ -66,6 +66,6 @@ ImagesGoOn = (live : List Logged) → HasImages live → ImagesOn live
 
 -- A patched block is as long as it was, and the bytes between the first and the last that differ patch one block to the other.
 abbrev pub RangeFits : Type 0
-RangeFits = (place n : ℕ) (old new : Block) → place + n ≤ length old → length new ≡ length old
+RangeFits = (place n : ℕ) (old new : BlockBytes) → place + n ≤ length old → length new ≡ length old
     → ((i : ℕ) → i < place → slice_index_or new i 0 ≡ slice_index_or old i 0) → ((i : ℕ) → place + n ≤ i → i < length old → slice_index_or new i 0 ≡ slice_index_or old i 0)
     → (patched place (take n (drop place new)) old ≡ new) × ((bytes : List ℕ) → place + length bytes ≤ length old → length (patched place bytes old) ≡ length old)

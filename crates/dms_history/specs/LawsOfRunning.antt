@@ -1,6 +1,6 @@
 -- Laws: each step of a database that runs keeps it steady.
 use Rattle.std.specs.Prelude.{ℕ, ◌<◌, ◌≤◌, ◌≡◌, Bool, true, false, List, [], ◌∷◌, ◌++◌, length, Option, None}
-use Rattle.dms_history.specs.Events.{Block, Content, Stored, Counts, Event, change, quiet, control, block_in}
+use Rattle.dms_history.specs.Events.{BlockBytes, AllBlocks, Stored, Counts, Event, change, quiet, control, block_in}
 use Rattle.dms_history.specs.Replay.{TellsBefore, Chain, replay}
 use Rattle.dms_history.specs.Lists.{has, after_last}
 use Rattle.dms_history.specs.Places.{is_control, is_described, IsLive}
@@ -14,27 +14,27 @@ use Rattle.dms_history.specs.Points.{HasPoint}
 
 -- One more change is sealed, which tells what stood before it.
 abbrev pub ChangesBlock : Type 0
-ChangesBlock = (entries : List Event) (base : Content) (stored : Stored) (f b : ℕ) (before : Option Block) (after : Block) → Sound entries base stored
+ChangesBlock = (entries : List Event) (base : AllBlocks) (stored : Stored) (f b : ℕ) (before : Option BlockBytes) (after : BlockBytes) → Sound entries base stored
     → TellsBefore b before (replay entries base f) → Sound (entries ++ change f b before after ∷ []) base stored
 
 -- One more quiet point is sealed.
 abbrev pub Quiets : Type 0
-Quiets = (entries : List Event) (base : Content) (stored : Stored) (n : ℕ) → Sound entries base stored → Sound (entries ++ quiet n ∷ []) base stored
+Quiets = (entries : List Event) (base : AllBlocks) (stored : Stored) (n : ℕ) → Sound entries base stored → Sound (entries ++ quiet n ∷ []) base stored
 
 -- Blocks with a change after the last Control are written, torn or whole, synced or not: each other block that is there stays.
 abbrev pub WritesEarly : Type 0
-WritesEarly = (entries : List Event) (base : Content) (stored written : Stored) → Sound entries base stored
+WritesEarly = (entries : List Event) (base : AllBlocks) (stored written : Stored) → Sound entries base stored
     → ((f b : ℕ) → b < length (replay entries base f) → last_after f b (after_last is_control entries) ≡ None → written f b ≡ stored f b) → Sound entries base written
 
 -- All blocks stand as the content is, and a Control with its counts is sealed.
 abbrev pub Controls : Type 0
-Controls = (entries : List Event) (base : Content) (stored written : Stored) (n next : ℕ) (counts : Counts) (described : Bool) → Sound entries base stored
+Controls = (entries : List Event) (base : AllBlocks) (stored written : Stored) (n next : ℕ) (counts : Counts) (described : Bool) → Sound entries base stored
     → ((f : ℕ) → counts f ≡ length (replay entries base f)) → ((f b : ℕ) → b < length (replay entries base f) → written f b ≡ block_in (replay entries base) f b)
     → Sound (entries ++ control n next counts described ∷ []) base written
 
 -- The same four over a whole history, whose prefix may have been removed.
-pub record RunsOn (dumps : Dumps) (h : History) (base : Content) (stored : Stored) : Type 0 where
-  pub change : (f b : ℕ) (before : Option Block) (after : Block) → TellsBefore b before (replay (from_control h.live) base f) → Steady dumps (after_event h (change f b before after)) base stored
+pub record RunsOn (dumps : Dumps) (h : History) (base : AllBlocks) (stored : Stored) : Type 0 where
+  pub change : (f b : ℕ) (before : Option BlockBytes) (after : BlockBytes) → TellsBefore b before (replay (from_control h.live) base f) → Steady dumps (after_event h (change f b before after)) base stored
   pub quiet : (n : ℕ) → Steady dumps (after_event h (quiet n)) base stored
   pub writes : (written : Stored) → ((f b : ℕ) → b < length (replay (from_control h.live) base f) → last_after f b (after_last is_control (from_control h.live)) ≡ None → written f b ≡ stored f b)
       → Steady dumps h base written
@@ -43,32 +43,32 @@ pub record RunsOn (dumps : Dumps) (h : History) (base : Content) (stored : Store
       → Steady dumps (after_event h (control n next counts described)) base written
 
 abbrev pub RunsSteady : Type 0
-RunsSteady = (dumps : Dumps) (h : History) (base : Content) (stored : Stored) → h.pending ≡ None → has is_control h.live ≡ true → Steady dumps h base stored
+RunsSteady = (dumps : Dumps) (h : History) (base : AllBlocks) (stored : Stored) → h.pending ≡ None → has is_control h.live ≡ true → Steady dumps h base stored
     → RunsOn dumps h base stored
 
 -- What one audit block seals at once, changes and quiet points in turn: all of it is live.
-pub record SealedRun (dumps : Dumps) (h : History) (base : Content) (stored : Stored) (es : List Event) : Type 0 where
+pub record SealedRun (dumps : Dumps) (h : History) (base : AllBlocks) (stored : Stored) (es : List Event) : Type 0 where
   pub live : (history_from h es).live ≡ h.live ++ es
   pub none : (history_from h es).pending ≡ None
   pub steady : Steady dumps (history_from h es) base stored
 
 abbrev pub SealsRun : Type 0
-SealsRun = (dumps : Dumps) (h : History) (base : Content) (stored : Stored) (es : List Event) → h.pending ≡ None → has is_control h.live ≡ true → Steady dumps h base stored
+SealsRun = (dumps : Dumps) (h : History) (base : AllBlocks) (stored : Stored) (es : List Event) → h.pending ≡ None → has is_control h.live ≡ true → Steady dumps h base stored
     → Chain (from_control h.live ++ es) base → has is_control es ≡ false → SealedRun dumps h base stored es
 
 -- Each live point stays live with its content while the list of live entries goes on, whatever was written by then.
 abbrev pub PointsGoOn : Type 0
-PointsGoOn = (live more : List Event) (base : Content) (counted later : Stored) (n : ℕ) → Sound (from_control live) base counted → Sound (from_control (live ++ more)) base later
+PointsGoOn = (live more : List Event) (base : AllBlocks) (counted later : Stored) (n : ℕ) → Sound (from_control live) base counted → Sound (from_control (live ++ more)) base later
     → IsLive live n → HasPoint (live ++ more) later n (blocks_at live counted n)
 
 -- A new quiet point is live, with the content of now.
 abbrev pub QuietIsLive : Type 0
-QuietIsLive = (live : List Event) (next : ℕ) (base : Content) (counted : Stored) (n : ℕ) → Numbered live next → next ≤ n
+QuietIsLive = (live : List Event) (next : ℕ) (base : AllBlocks) (counted : Stored) (n : ℕ) → Numbered live next → next ≤ n
     → has is_described live ≡ true → Sound (from_control live) base counted
     → HasPoint (live ++ quiet n ∷ []) counted n (replay (from_control live) base)
 
 -- Behind a Control the files hold the content.
 abbrev pub ControlStands : Type 0
-ControlStands = (live : List Event) (base : Content) (stored : Stored) (n next : ℕ) (counts : Counts) (described : Bool)
+ControlStands = (live : List Event) (base : AllBlocks) (stored : Stored) (n next : ℕ) (counts : Counts) (described : Bool)
     → Sound (from_control (live ++ control n next counts described ∷ [])) base stored
     → content_of counts stored ≡ replay (from_control (live ++ control n next counts described ∷ [])) base

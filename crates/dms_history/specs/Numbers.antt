@@ -1,6 +1,6 @@
 -- Laws: the numbers of points.
 use Rattle.std.specs.Prelude.{ℕ, ◌+◌, ◌-◌, ◌^◌, ◌<◌, ◌≤◌, ◌≡◌, Bool, true, false, List, [], ◌∷◌, ◌++◌, min, Option, Some}
-use Rattle.dms_history.specs.Events.{Block, Stored, Counts, How, Event, change, quiet, control, begin}
+use Rattle.dms_history.specs.Events.{BlockBytes, Stored, Counts, How, Event, change, quiet, control, begin}
 use Rattle.dms_history.specs.Lists.{has, until_first}
 use Rattle.dms_history.specs.Places.{is_control, is_point, IsLive}
 use Rattle.dms_history.specs.History.{History, after_event, last_point, next_number}
@@ -49,7 +49,7 @@ UsedOnce = (entries : List Event) → IsNumberedInTurn entries → (xs ys zs : L
 -- ---- what is sealed next keeps the numbers in order
 
 abbrev pub NumbersChange : Type 0
-NumbersChange = (entries live : List Event) (f b : ℕ) (before : Option Block) (after : Block) → Numbered live (next_number entries)
+NumbersChange = (entries live : List Event) (f b : ℕ) (before : Option BlockBytes) (after : BlockBytes) → Numbered live (next_number entries)
     → Numbered (live ++ change f b before after ∷ []) (next_number (entries ++ change f b before after ∷ []))
 
 abbrev pub NumbersQuiet : Type 0
@@ -87,7 +87,7 @@ LastLives = (h : History) (next : ℕ) → Numbered h.live next → LastsOver h
 
 -- The next number after one more entry, exactly.
 pub record NextSteps (entries : List Event) : Type 0 where
-  pub change : (f b : ℕ) (before : Option Block) (after : Block) → next_number (entries ++ change f b before after ∷ []) ≡ next_number entries
+  pub change : (f b : ℕ) (before : Option BlockBytes) (after : BlockBytes) → next_number (entries ++ change f b before after ∷ []) ≡ next_number entries
   pub quiet : (n : ℕ) → next_number entries ≤ n → n < 2 ^ 64 - 1 → next_number (entries ++ quiet n ∷ []) ≡ n + 1
   pub control : (n next : ℕ) (counts : Counts) (described : Bool) → next_number (entries ++ control n next counts described ∷ []) ≡ min (2 ^ 64 - 1) next
   pub begin : (m : ℕ) (how : How) → next_number (entries ++ begin m how ∷ []) ≡ next_number entries

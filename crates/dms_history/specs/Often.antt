@@ -1,6 +1,6 @@
 -- Restores one after another, each stopped anywhere or not.
 use Rattle.std.specs.Prelude.{ℕ, ◌<◌, ◌≡◌, Bool, true, List, [], ◌∷◌, length, Some}
-use Rattle.dms_history.specs.Events.{Content, Stored, Counts, How, control, begin}
+use Rattle.dms_history.specs.Events.{AllBlocks, Stored, Counts, How, control, begin}
 use Rattle.dms_history.specs.History.{Pending, History, after_event}
 use Rattle.dms_history.specs.Pick.{Dumps, count_at}
 use Rattle.dms_history.specs.Here.{outcome, here}
@@ -45,27 +45,27 @@ pub record MayEnd (dumps : Dumps) (d : Disk) (written : Stored) (m : ℕ) (count
   pub stand : (f b : ℕ) → b < counts f → written f b ≡ here dumps d.history d.stored f b
 
 -- A restore is begun where it may be, over a pending one too; it writes blocks, torn or whole; it ends when all stand as they are to be.
-abbrev pub May : Dumps → Content → Disk → RestoreStep → Type 0
+abbrev pub May : Dumps → AllBlocks → Disk → RestoreStep → Type 0
 May dumps base d (began how m) = Ready how dumps d.history.live base (here dumps d.history d.stored) d.stored m
 May dumps base d (wrote written) = MayWrite dumps d written
 May dumps base d (ended written m next counts described) = MayEnd dumps d written m counts
 
-abbrev pub AllMay : Dumps → Content → Disk → List RestoreStep → Type 0
+abbrev pub AllMay : Dumps → AllBlocks → Disk → List RestoreStep → Type 0
 AllMay dumps base d [] = Unit {0}
 AllMay dumps base d (s ∷ ss) = May dumps base d s × AllMay dumps base (moved d s) ss
 
 -- the content at a point, a restore pending or not
-abbrev pub content_at : Dumps → Disk → ℕ → Content
+abbrev pub content_at : Dumps → Disk → ℕ → AllBlocks
 content_at dumps d n = blocks_at d.history.live (here dumps d.history d.stored) n
 
 -- The database is steady after all steps, and each point that is live then was live before them, with the same content.
-pub record StepsKeep (dumps : Dumps) (base : Content) (d later : Disk) : Type 0 where
+pub record StepsKeep (dumps : Dumps) (base : AllBlocks) (d later : Disk) : Type 0 where
   pub steady : Steady dumps later.history base later.stored
   pub points : (n : ℕ) → IsLive later.history.live n → HasPoint d.history.live (here dumps d.history d.stored) n (content_at dumps later n)
 
 -- Law: what holds at every moment holds after all steps, and each point that is live then was live before them.
 abbrev pub HoweverOften : Type 0
-HoweverOften = (dumps : Dumps) (base : Content) (d : Disk) (steps : List RestoreStep) → Steady dumps d.history base d.stored → AllMay dumps base d steps
+HoweverOften = (dumps : Dumps) (base : AllBlocks) (d : Disk) (steps : List RestoreStep) → Steady dumps d.history base d.stored → AllMay dumps base d steps
     → StepsKeep dumps base d (all_moved d steps)
 
 abbrev pub begun : How → History → ℕ → Stored → Disk
@@ -74,7 +74,7 @@ begun how h m stored = record { history = after_event h (begin m how); stored = 
 -- Law: a restore is begun over blocks that may hold anything where its rule doesn't look, and whatever follows,
 -- each point that is live in the end has the content that it had before.
 abbrev pub FromAnything : Type 0
-FromAnything = (how : How) (dumps : Dumps) (h : History) (base : Content) (counted stored : Stored) (m : ℕ) (steps : List RestoreStep) → Ready how dumps h.live base counted stored m
+FromAnything = (how : How) (dumps : Dumps) (h : History) (base : AllBlocks) (counted stored : Stored) (m : ℕ) (steps : List RestoreStep) → Ready how dumps h.live base counted stored m
     → AllMay dumps base (begun how h m stored) steps
     → (n : ℕ) → IsLive (all_moved (begun how h m stored) steps).history.live n
     → HasPoint h.live counted n (content_at dumps (all_moved (begun how h m stored) steps) n)

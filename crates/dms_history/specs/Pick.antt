@@ -1,7 +1,7 @@
 -- A block at a point, by the audit or by a dump.
 use Rattle.std.specs.Prelude.{ℕ, ◌+◌, ◌==◌, max, if◌then◌else◌, List, [], ◌∷◌, map, Some, None}
 use Rattle.std.specs.List.{range_with_len}
-use Rattle.dms_history.specs.Events.{Content, Stored, Counts, Event, change, quiet, control, begin, block_in}
+use Rattle.dms_history.specs.Events.{AllBlocks, Stored, Counts, Event, change, quiet, control, begin, block_in}
 use Rattle.dms_history.specs.Lists.{until_first, after_first, after_last}
 use Rattle.dms_history.specs.Places.{is_control, is_point}
 use Rattle.dms_history.specs.Images.{last_after, value, choice}
@@ -28,7 +28,7 @@ pick live n stored =
 -- a dump: its point, and all blocks of all files
 pub record Dump : Type 0 where
   pub point : ℕ
-  pub blocks : Content
+  pub blocks : AllBlocks
 
 -- a dump for each number; of one that isn't present nothing is said
 abbrev pub Dumps : Type 0
@@ -43,9 +43,9 @@ unfoldable pub dump_pick : List Event → Dump → ℕ → Stored
 dump_pick live dump n f b = value (last_after f b (between dump.point n live)) None (block_in dump.blocks f b)
 
 -- the content that has so many blocks of each file
-unfoldable pub content_of : Counts → Stored → Content
+unfoldable pub content_of : Counts → Stored → AllBlocks
 content_of counts blocks f = map (blocks f) (range_with_len 0 (counts f))
 
 -- The content at point n. A block not below its file's count there isn't there.
-unfoldable pub blocks_at : List Event → Stored → ℕ → Content
+unfoldable pub blocks_at : List Event → Stored → ℕ → AllBlocks
 blocks_at live here n = content_of (count_at live n) (pick live n here)

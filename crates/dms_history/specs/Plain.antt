@@ -6,7 +6,7 @@ use Rattle.dms_history.specs.declared.event.How as declared_how
 use Rattle.dms_history.specs.declared.event.How.TheVariants.{HaltLoad, BackOut, Rollback, Rebuild, Reconstruct}
 use Rattle.dms_history.specs.declared.event.Event.TheVariants.{Changed, Quiet, Controlled, Begun}
 use Rattle.dms_history.specs.declared.event.Event as declared_event
-use Rattle.dms_history.specs.Events.{Block, How, halt_load, back_out, roll_back, rebuild, reconstruct, Event, change, quiet, control, begin}
+use Rattle.dms_history.specs.Events.{BlockBytes, How, halt_load, back_out, roll_back, rebuild, reconstruct, Event, change, quiet, control, begin}
 use Rattle.dms_history.specs.Entries.{counts_in, named_by}
 
 abbrev pub how_seen : declared_how.How → How
@@ -26,9 +26,9 @@ abbrev pub events_seen : List declared_event.Event → List Event
 events_seen events = map event_seen events
 
 -- lent blocks
-abbrev pub blocks_seen : List (Bor Block) → List Block
+abbrev pub blocks_seen : List (Bor BlockBytes) → List BlockBytes
 blocks_seen blocks = map (λ r. r.now) blocks
 
 -- block b of a list of lent blocks, no bytes where it has none
-abbrev pub block_of : List (Bor Block) → ℕ → Block
+abbrev pub block_of : List (Bor BlockBytes) → ℕ → BlockBytes
 block_of blocks b = slice_index_or (blocks_seen blocks) b []

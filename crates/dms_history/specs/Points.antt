@@ -1,19 +1,19 @@
 -- The live points, in the order of their places.
 use Rattle.std.specs.Prelude.{ℕ, ◌<◌, ◌≡◌, ◌==◌, ◌&&◌, not, nat_le, if◌then◌else◌, true, List, [], ◌∷◌, ◌++◌, map}
-use Rattle.dms_history.specs.Events.{Content, Stored, Event, change, quiet, control, begin}
+use Rattle.dms_history.specs.Events.{AllBlocks, Stored, Event, change, quiet, control, begin}
 use Rattle.dms_history.specs.Lists.{has}
 use Rattle.dms_history.specs.Places.{is_point, is_described, IsLive}
 use Rattle.dms_history.specs.Pick.{blocks_at}
 
 -- A point is live, and these are its blocks.
-pub record HasPoint (live : List Event) (counted : Stored) (n : ℕ) (blocks : Content) : Type 0 where
+pub record HasPoint (live : List Event) (counted : Stored) (n : ℕ) (blocks : AllBlocks) : Type 0 where
   pub lives : IsLive live n
   pub same : blocks_at live counted n ≡ blocks
 
 -- a number and the content there
 pub record LivePoint : Type 0 where
   pub number : ℕ
-  pub blocks : Content
+  pub blocks : AllBlocks
 
 abbrev pub numbers_of : List LivePoint → List ℕ
 numbers_of points = map (λ (p : LivePoint). p.number) points

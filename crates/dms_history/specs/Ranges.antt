@@ -1,6 +1,6 @@
 -- Entries by themselves, Ranges among them, and the changes that they mean.
 use Rattle.std.specs.Prelude.{ℕ, ◌+◌, Bool, false, List, [], ◌∷◌, ◌++◌, length, take, drop, Option, Some, None}
-use Rattle.dms_history.specs.Events.{Block, Event, change, quiet, control, begin}
+use Rattle.dms_history.specs.Events.{BlockBytes, Event, change, quiet, control, begin}
 use Rattle.dms_history.specs.Lists.{until_first}
 use Rattle.dms_history.specs.Places.{is_control, is_point}
 use Rattle.dms_history.specs.Images.{is_at, last_after}
@@ -12,12 +12,12 @@ pub data Logged : Type 0 where
   range : ℕ → ℕ → ℕ → List ℕ → Logged
 
 -- bytes over a block
-unfoldable pub patched : ℕ → List ℕ → Block → Block
+unfoldable pub patched : ℕ → List ℕ → BlockBytes → BlockBytes
 patched place bytes old = take place old ++ (bytes ++ drop (place + length bytes) old)
 
 -- A Range's before-image is the after-image of the last live change of its block, and its after-image is that with the Range's bytes.
 -- Where there is no such change the Range is left out.
-abbrev pub range_change : ℕ → ℕ → ℕ → List ℕ → Option Block → List Event
+abbrev pub range_change : ℕ → ℕ → ℕ → List ℕ → Option BlockBytes → List Event
 range_change f b place bytes None = []
 range_change f b place bytes (Some old) = change f b (Some old) (patched place bytes old) ∷ []
 

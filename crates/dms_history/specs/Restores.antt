@@ -1,6 +1,6 @@
 -- When a restore may begin, which blocks it may write, and what holds of a database at every moment of it.
 use Rattle.std.specs.Prelude.{ℕ, ◌≡◌, ◌&&◌, if◌then◌else◌, Bool, true, false, List, Option, Some, None}
-use Rattle.dms_history.specs.Events.{Block, Content, Stored, How, halt_load, back_out, roll_back, rebuild, reconstruct, Event}
+use Rattle.dms_history.specs.Events.{BlockBytes, AllBlocks, Stored, How, halt_load, back_out, roll_back, rebuild, reconstruct, Event}
 use Rattle.dms_history.specs.Replay.{replay}
 use Rattle.dms_history.specs.Lists.{until_first, after_first, after_last}
 use Rattle.dms_history.specs.Places.{is_control, is_point, IsLive}
@@ -36,7 +36,7 @@ may_hold_anything (rebuild d) f b = true
 may_hold_anything (reconstruct d named) f b = named f b
 
 -- A restore to point m may begin over live entries with a base: counted is what counted as each block, stored is what is there now.
-pub record Ready (how : How) (dumps : Dumps) (live : List Event) (base : Content) (counted stored : Stored) (m : ℕ) : Type 0 where
+pub record Ready (how : How) (dumps : Dumps) (live : List Event) (base : AllBlocks) (counted stored : Stored) (m : ℕ) : Type 0 where
   pub sound : Sound (from_control live) base counted
   pub same : (f b : ℕ) → may_hold_anything how f b ≡ false → stored f b ≡ counted f b
   pub point_lives : IsLive live m
@@ -47,7 +47,7 @@ is_none None = true
 is_none (Some x) = false
 
 -- there is no first change, or it has no before-image
-abbrev pub has_no_before : Option (Option Block) → Bool
+abbrev pub has_no_before : Option (Option BlockBytes) → Bool
 has_no_before None = true
 has_no_before (Some before) = is_none before
 
@@ -67,7 +67,7 @@ takes_stored (reconstruct d named) live m f b = if named f b then false else is_
 -- What holds at every moment, with or without a pending restore: there is a base, and over it the live entries tell what counts as each
 -- block that doesn't change after the last Control; where a restore is pending it is to leave what the live entries tell, and its point
 -- is live.
-pub record Steady (dumps : Dumps) (h : History) (base : Content) (stored : Stored) : Type 0 where
+pub record Steady (dumps : Dumps) (h : History) (base : AllBlocks) (stored : Stored) : Type 0 where
   pub sound : Sound (from_control h.live) base (here dumps h stored)
   pub restored : (p : Pending) → h.pending ≡ Some p → outcome p.how dumps p.entries p.point stored ≡ replay (from_control h.live) base
   pub point_lives : (p : Pending) → h.pending ≡ Some p → IsLive h.live p.point

@@ -1,6 +1,6 @@
 -- What the audit tells of a block at a point, and which blocks come from the structure files.
 use Rattle.std.specs.Prelude.{ℕ, ◌≡◌, nat_lt, ◌&&◌, Bool, true, false, List, Option, Some, None}
-use Rattle.dms_history.specs.Events.{Block, Stored, Event}
+use Rattle.dms_history.specs.Events.{BlockBytes, Stored, Event}
 use Rattle.dms_history.specs.Lists.{until_first, after_first, after_last}
 use Rattle.dms_history.specs.Places.{is_control, is_point}
 use Rattle.dms_history.specs.History.{Pending, History}
@@ -10,18 +10,18 @@ use Rattle.dms_history.specs.Here.{here}
 use Rattle.dms_history.specs.Restores.{is_unlogged, takes_stored}
 
 -- the before-image of the first change, where it has one
-abbrev pub undone_to : Option (Option Block) → Option Block
+abbrev pub undone_to : Option (Option BlockBytes) → Option BlockBytes
 undone_to None = None
 undone_to (Some before) = before
 
 -- The last after-image between the last Control at or before the place and that place, else the before-image of the first change after
 -- the place.
-unfoldable pub told_block : List Event → ℕ → ℕ → ℕ → Option Block
+unfoldable pub told_block : List Event → ℕ → ℕ → ℕ → Option BlockBytes
 told_block live m f b = or_else (last_after f b (after_last is_control (until_first (is_point m) live))) (undone_to (first_before f b (after_first (is_point m) live)))
 
 -- Law: a block at a point is what the audit tells of it, and else what is stored.
 pub record TellsBlock (live : List Event) (m f b : ℕ) : Type 0 where
-  pub told : (stored : Stored) (x : Block) → told_block live m f b ≡ Some x → pick live m stored f b ≡ x
+  pub told : (stored : Stored) (x : BlockBytes) → told_block live m f b ≡ Some x → pick live m stored f b ≡ x
   pub kept : (stored : Stored) → told_block live m f b ≡ None → pick live m stored f b ≡ stored f b
   pub unlogged : told_block live m f b ≡ None → is_unlogged live m f b ≡ true
   pub logged : is_unlogged live m f b ≡ true → told_block live m f b ≡ None

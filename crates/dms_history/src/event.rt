@@ -27,7 +27,7 @@ pub enum How<'a> {
 
 /// A block of a structure file got a new content.
 #[derive(Clone, Copy)]
-pub struct Change<'a> {
+pub struct BlockChange<'a> {
     pub file: u32,
     pub block: u32,
     /// What stood there before; none where the block is new.
@@ -57,7 +57,7 @@ pub struct Begin<'a> {
 /// One event of the audit.
 #[derive(Clone, Copy)]
 pub enum Event<'a> {
-    Changed(Change<'a>),
+    Changed(BlockChange<'a>),
     /// A quiet point with its number.
     Quiet(u64),
     Controlled(Control<'a>),

@@ -58,7 +58,7 @@ pub fn restore_pick<'a>(
     block: u64,
     stored: &'a [u8],
 ) -> &'a [u8]
-    ensures { (dumps : Dumps) → GoesBy (how_seen how.now) dumps file block dumped.entry → result.now ≡ restore_pick (how_seen how.now) dumps (events_seen live.now) point (λ _ _. stored.now) file block }
+    ensures { (d : Dumps) → GoesBy (how_seen how.now) d file block dumped.entry → result.now ≡ restore_pick (how_seen how.now) d (events_seen live.now) point (λ _ _. stored.now) file block }
 {
     if goes_by_dump(how, file, block) {
         dump_pick(live, dumped, point, file, block)

@@ -12,7 +12,7 @@ ghost use Rattle.dms_history.specs.Ranges.{patched};
 ghost use Rattle.dms_history.specs.Entries.{counts_in, is_in_row, named_by};
 ghost use Rattle.dms_history.specs.Plain.{event_seen, events_seen, block_of, blocks_seen};
 
-use crate::event::{Change, Event, FileCount, Row};
+use crate::event::{BlockChange, Event, FileCount, Row};
 use std::alloc::{AllocError, Global};
 
 /// Whether an event is a Quiet or a Control of a point.
@@ -91,7 +91,7 @@ fn after_control(events: &[Event]) -> usize
 }
 
 /// Whether a change is of a block of a file.
-fn is_of(change: &Change, file: u32, block: u64) -> bool
+fn is_of(change: &BlockChange, file: u32, block: u64) -> bool
     ensures { result ≡ is_at file block change.now.file change.now.block }
 {
     change.file == file && u64::from(change.block) == block

@@ -1,5 +1,5 @@
 use crate::{
-    Begin, Change, Control, Dumped, Event, FileCount, How, Row, blocks_at, here, is_live,
+    Begin, BlockChange, Control, Dumped, Event, FileCount, How, Row, blocks_at, here, is_live,
     last_point, ranged, read_history, told,
 };
 use std::test::Fail;
@@ -13,14 +13,14 @@ fn two_points<'a>() -> [Event<'a>; 5] {
             counts: &[],
             described: true,
         }),
-        Event::Changed(Change {
+        Event::Changed(BlockChange {
             file: 30001,
             block: 0,
             before: None,
             after: &[7],
         }),
         Event::Quiet(1),
-        Event::Changed(Change {
+        Event::Changed(BlockChange {
             file: 30001,
             block: 0,
             before: Some(&[7]),
@@ -89,7 +89,7 @@ fn leaves_a_block_that_a_voided_change_made_new(rt: HostRuntime) -> Result<(), F
             }],
             described: true,
         }),
-        Event::Changed(Change {
+        Event::Changed(BlockChange {
             file: 30001,
             block: 0,
             before: None,
@@ -117,7 +117,7 @@ fn tells_a_block_of_the_audit(rt: HostRuntime) -> Result<(), Fail> {
 
 #[test]
 fn takes_a_range_over_the_image_before_it(rt: HostRuntime) -> Result<(), Fail> {
-    let logged = [Event::Changed(Change {
+    let logged = [Event::Changed(BlockChange {
         file: 30001,
         block: 0,
         before: Some(&[1, 2, 3]),

@@ -4,6 +4,7 @@ use Rattle.std.specs.Global.{Vec}
 use Rattle.std.specs.declared.option.Option.{Option}
 use Rattle.dms_moments.specs.Moments.{Clock}
 use Rattle.dms_block.specs.declared.block.Block.{Block}
+use Rattle.dms_block.specs.declared.block.BlockId.{BlockId}
 use Rattle.dms_block.specs.declared.change.Change.{Change}
 use Rattle.dms_block.specs.Content.{Content, changed, limit}
 use Rattle.dms_block.specs.Held.{BlockPoint, BlockStop, Held, Uses}
@@ -30,6 +31,10 @@ owns_of files f = nat_lt 30000 f && nat_le f (30000 + length files)
 abbrev pub taken_back : ℕ → Option Block → List Block → List Block
 taken_back b None blocks = take b blocks
 taken_back b (Some x) blocks = set blocks b x
+
+-- what a change of a block takes away, as the log of a point keeps it
+abbrev pub undo_entry : ℕ → BlockId → BlockLists → BlockUndo
+undo_entry point id lists = record { point = point; id = id; old = old_in id.block (slice_index_or lists (place id.file) []) }
 
 abbrev pub undo : BlockUndo → BlockLists → BlockLists
 undo u files = set files (place u.id.file) (taken_back u.id.block u.old (slice_index_or files (place u.id.file) []))

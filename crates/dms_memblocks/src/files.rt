@@ -1,6 +1,6 @@
-ghost use Rattle.std.specs.Prelude.{◌≡◌, ◌≤◌, ◌<◌, ◌+◌, ◌^◌, ◌++◌, ◌∷◌, [], length, take, drop, slice_index_or, OnOk, OnErr};
+ghost use Rattle.std.specs.Prelude.{◌≡◌, ◌≤◌, ◌<◌, ◌+◌, ◌^◌, ◌++◌, ◌∷◌, [], length, take, drop, OnOk, OnErr};
 ghost use Rattle.dms_block.specs.Content.{FitsIn};
-ghost use Rattle.dms_memblocks.specs.Undoing.{AreSmall, PutAll, content_of, old_in, owns_of, place, put_at, rows, undo, undone};
+ghost use Rattle.dms_memblocks.specs.Undoing.{AreSmall, PutAll, content_of, owns_of, place, put_at, rows, undo, undo_entry, undone};
 
 use crate::BlockUndo;
 use crate::undo::{old_of, place_of, put_block, restore};
@@ -37,7 +37,7 @@ fn put(
 ) -> Result<(), BlockFault>
     requires file { place change.now.id.file < length files.old.items }
     ensures files { OnOk result (rows files.new.items ≡ put_at (place change.now.id.file) change.now.id.block change.now.block (rows files.old.items)) }
-    ensures log { OnOk result (log.new.items ≡ log.old.items ++ (record { point = point; id = change.now.id; old = old_in change.now.id.block (slice_index_or (rows files.old.items) (place change.now.id.file) []) } ∷ [])) }
+    ensures log { OnOk result (log.new.items ≡ log.old.items ++ (undo_entry point change.now.id (rows files.old.items) ∷ [])) }
     ensures err { OnErr result ((rows files.new.items ≡ rows files.old.items) × (log.new.items ≡ log.old.items)) }
     ensures memory { OnErr result (result ≡ Err BlockFault.Memory) }
 {

@@ -23,12 +23,12 @@ abbrev pub IsUnder : Described → Point → Type 0
 IsUnder desc p = (db : Db) → p.db ≡ Some db → p.schema ≡ spelling desc
 
 -- the bytes of files by their numbers
-abbrev pub Files : Type 0
-Files = ℕ → List ℕ
+abbrev pub StopFiles : Type 0
+StopFiles = ℕ → List ℕ
 
 -- what a stop leaves
 pub record Stop : Type 0 where
-  pub files : Files
+  pub files : StopFiles
   pub points : List Point
   pub next : ℕ
   pub said : List ℕ
@@ -36,7 +36,7 @@ pub record Stop : Type 0 where
 -- The first so many of the points, not fewer than were made durable, and a next number that has fallen by no more than the points
 -- that are missing: each of them may give its number back. Where none is missing it hasn't fallen. The files are whole, as
 -- the store means it
-pub record LeavesPrefix (whole : Files → Type 0) (durable : ℕ) (points : List Point) (next : ℕ) (stop : Stop) : Type 0 where
+pub record LeavesPrefix (whole : StopFiles → Type 0) (durable : ℕ) (points : List Point) (next : ℕ) (stop : Stop) : Type 0 where
   pub count : ℕ
   pub enough : durable ≤ count
   pub within : count ≤ length points
@@ -45,24 +45,24 @@ pub record LeavesPrefix (whole : Files → Type 0) (durable : ℕ) (points : Lis
   pub files : whole stop.files
 
 -- the text of a stop is this one, where it is told
-abbrev pub TextIs : Option (List ℕ) → Stop → Type 0
-TextIs said stop = (t : List ℕ) → said ≡ Some t → stop.said ≡ t
+abbrev pub StopTextIs : Option (List ℕ) → Stop → Type 0
+StopTextIs said stop = (t : List ℕ) → said ≡ Some t → stop.said ≡ t
 
 -- the text of then and a prefix of these bytes, where it is told
-abbrev pub TextGrows : Option (List ℕ) → List ℕ → Stop → Type 0
-TextGrows said bytes stop = (t : List ℕ) → said ≡ Some t → (n : ℕ) × (stop.said ≡ t ++ take n bytes)
+abbrev pub StopTextGrows : Option (List ℕ) → List ℕ → Stop → Type 0
+StopTextGrows said bytes stop = (t : List ℕ) → said ≡ Some t → (n : ℕ) × (stop.said ≡ t ++ take n bytes)
 
 -- at each moment of a call that prints nothing
-abbrev pub Leaves : (Files → Type 0) → Clock Stop → Clock Stop → ℕ → List Point → ℕ → Option (List ℕ) → Type 0
-Leaves whole old new durable points next said = Runs old new (λ stop. LeavesPrefix whole durable points next stop × TextIs said stop)
+abbrev pub StoreLeaves : (StopFiles → Type 0) → Clock Stop → Clock Stop → ℕ → List Point → ℕ → Option (List ℕ) → Type 0
+StoreLeaves whole old new durable points next said = Runs old new (λ stop. LeavesPrefix whole durable points next stop × StopTextIs said stop)
 
 -- at each moment of a call that prints these bytes
-abbrev pub LeavesText : (Files → Type 0) → Clock Stop → Clock Stop → ℕ → List Point → ℕ → Option (List ℕ) → List ℕ → Type 0
-LeavesText whole old new durable points next said bytes = Runs old new (λ stop. LeavesPrefix whole durable points next stop × TextGrows said bytes stop)
+abbrev pub StoreLeavesText : (StopFiles → Type 0) → Clock Stop → Clock Stop → ℕ → List Point → ℕ → Option (List ℕ) → List ℕ → Type 0
+StoreLeavesText whole old new durable points next said bytes = Runs old new (λ stop. LeavesPrefix whole durable points next stop × StopTextGrows said bytes stop)
 
 -- a call makes no point, and as many stay durable
-abbrev pub Stays : List Point → ℕ → List Point → ℕ → Type 0
-Stays points durable points' durable' = (points' ≡ points) × (durable ≤ durable')
+abbrev pub PointsStayDurable : List Point → ℕ → List Point → ℕ → Type 0
+PointsStayDurable points durable points' durable' = (points' ≡ points) × (durable ≤ durable')
 
 -- what definitions know of a point
 abbrev pub told : Point → ℕ × Option Db

@@ -9,7 +9,7 @@ use Rattle.dms_block.specs.Counts.{Faults, CausedBy}
 use Rattle.dms_block.specs.Held.{IsUpToOne}
 use Rattle.dms_desc.specs.Shape.{Described}
 use Rattle.dms_model.specs.Db.{Db}
-use Rattle.dms_model.specs.Points.{Files, Point, Stop, LeavesPrefix, TextIs, Leaves, LeavesText, Stays, IsUnder}
+use Rattle.dms_model.specs.Points.{StopFiles, Point, Stop, LeavesPrefix, StopTextIs, StoreLeaves, StoreLeavesText, PointsStayDurable, IsUnder}
 use Rattle.dms_block.specs.Texts.{PrintsPrefix}
 
 -- how many blocks were changed, how often quiet points were made durable, and how often the store went back to the last one
@@ -66,7 +66,7 @@ pub record Seen : Type 1 where
   pub here : Point
   -- what stops may leave, and what holds of the files in each of them
   pub clock : Clock Stop
-  pub whole : Files → Type 0
+  pub whole : StopFiles → Type 0
   -- how often calls failed
   pub faults : Faults
   -- how many blocks were read, and what else it did on its disk
@@ -74,15 +74,15 @@ pub record Seen : Type 1 where
   pub effort : Effort
 
 -- where the points are told, and there is a number for one more
-abbrev pub IfTold : Seen → Type 0 → Type 0
-IfTold s P = s.tells → s.next + 1 < 2 ^ 64 → P
+abbrev pub IfPointsTold : Seen → Type 0 → Type 0
+IfPointsTold s P = s.tells → s.next + 1 < 2 ^ 64 → P
 
 -- whatever a call does: it stays the same kind of store, and a fault has a cause
-pub record HasCauses {T : Type 0} (result : Result T BlockFault) (old new : Seen) : Type 0 where
+pub record HasStoreCauses {T : Type 0} (result : Result T BlockFault) (old new : Seen) : Type 0 where
   pub tells : old.tells → new.tells
   pub desc : new.desc ≡ old.desc
-  pub whole : (files : Files) → new.whole files → old.whole files
-  pub whole_on : (files : Files) → old.whole files → new.whole files
+  pub whole : (files : StopFiles) → new.whole files → old.whole files
+  pub whole_on : (files : StopFiles) → old.whole files → new.whole files
   pub cause : CausedBy result old.faults new.faults
   pub reads : old.reads ≤ new.reads
 
@@ -90,7 +90,7 @@ pub record HasCauses {T : Type 0} (result : Result T BlockFault) (old new : Seen
 pub record IsSilent (old new : Seen) : Type 0 where
   pub next : new.next ≡ old.next
   pub said : new.said ≡ old.said
-  pub leaves : IfTold old (Leaves old.whole old.clock new.clock old.durable old.points old.next old.said)
+  pub leaves : IfPointsTold old (StoreLeaves old.whole old.clock new.clock old.durable old.points old.next old.said)
 
 -- a call says nothing and gives no number back
 pub record IsMute (old new : Seen) : Type 0 where
@@ -101,11 +101,11 @@ pub record IsMute (old new : Seen) : Type 0 where
 pub record SaysPart (old new : Seen) (bytes : List ℕ) : Type 0 where
   pub next : new.next ≡ old.next
   pub part : PrintsPrefix old.said new.said bytes
-  pub leaves : IfTold old (LeavesText old.whole old.clock new.clock old.durable old.points old.next old.said bytes)
+  pub leaves : IfPointsTold old (StoreLeavesText old.whole old.clock new.clock old.durable old.points old.next old.said bytes)
 
 -- no quiet point is made, and what is durable stays durable
 abbrev pub StaysDurable : Seen → Seen → Type 0
-StaysDurable old new = IfTold old (Stays old.points old.durable new.points new.durable)
+StaysDurable old new = IfPointsTold old (PointsStayDurable old.points old.durable new.points new.durable)
 
 -- the store is usable, and what is durable stays durable
 pub record KeepsPoints (old new : Seen) : Type 0 where
@@ -121,20 +121,20 @@ pub record Keeps (old new : Seen) : Type 0 where
   pub points : StaysDurable old new
 
 -- a quiet point was made
-pub record MadeQuiet (old new : Seen) : Type 0 where
+pub record QuietMade (old new : Seen) : Type 0 where
   pub sound : new.sound
   pub next : old.next + 1 < 2 ^ 64 → new.next ≡ old.next + 1
   pub db : old.next + 1 < 2 ^ 64 → new.db ≡ old.db
   pub mark : old.next + 1 < 2 ^ 64 → new.mark ≡ old.db
-  pub points : IfTold old (Stays (old.points ++ old.here ∷ []) old.durable new.points new.durable)
+  pub points : IfPointsTold old (PointsStayDurable (old.points ++ old.here ∷ []) old.durable new.points new.durable)
 
 -- all quiet points are durable
-pub record MadeDurable (old new : Seen) : Type 0 where
+pub record PointsDurable (old new : Seen) : Type 0 where
   pub sound : new.sound
   pub db : new.db ≡ old.db
   pub mark : new.mark ≡ old.mark
-  pub points : IfTold old (new.points ≡ old.points)
-  pub durable : IfTold old (new.durable ≡ length old.points)
+  pub points : IfPointsTold old (new.points ≡ old.points)
+  pub durable : IfPointsTold old (new.durable ≡ length old.points)
 
 -- What is told hangs together. Where stops are told some outcome of a stop now is possible. A point that was made now has the next number and, where that is told, the database; and where
 -- a point's database is told it stands under the store's description. A stop now leaves the first so many points, at least
@@ -144,9 +144,9 @@ pub record StoreAgrees (s : Seen) : Type 0 where
   pub number : s.here.number ≡ s.next
   pub here : (db : Db) → s.db ≡ Some db → s.here.db ≡ Some db
   pub under : IsUnder s.desc s.here
-  pub points : IfTold s (AllByRecursion (IsUnder s.desc) s.points)
-  pub stop : IfTold s ((x : Stop) → Now s.clock x → LeavesPrefix s.whole s.durable s.points s.next x × TextIs s.said x)
-  pub durable : IfTold s (s.durable ≤ length s.points)
+  pub points : IfPointsTold s (AllByRecursion (IsUnder s.desc) s.points)
+  pub stop : IfPointsTold s ((x : Stop) → Now s.clock x → LeavesPrefix s.whole s.durable s.points s.next x × StopTextIs s.said x)
+  pub durable : IfPointsTold s (s.durable ≤ length s.points)
 
 -- a store that was made now: no quiet point yet, the next number, and this database, also to go back to
 pub record Starts (desc : Described) (next : ℕ) (db : Db) (s : Seen) : Type 0 where

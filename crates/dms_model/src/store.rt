@@ -2,9 +2,9 @@ ghost use Rattle.std.specs.Prelude.{◌≡◌, ◌<◌, ◌+◌, ◌*◌, ◌^�
 ghost use Rattle.std.specs.FinMap.{get};
 ghost use Rattle.dms_model.specs.Db.{Db};
 ghost use Rattle.dms_model.specs.Members.{first_member, last_member};
-ghost use Rattle.dms_model.specs.Points.{Leaves};
+ghost use Rattle.dms_model.specs.Points.{StoreLeaves};
 ghost use Rattle.dms_block.specs.Texts.{Prints};
-ghost use Rattle.dms_model.specs.Seen.{Seen, StoreAgrees, GoesBack, HasCauses, IfTold, IsMute, IsSilent, Keeps, KeepsPoints, MadeQuiet, MadeDurable, SaysPart, Spends, Syncs};
+ghost use Rattle.dms_model.specs.Seen.{Seen, StoreAgrees, GoesBack, HasStoreCauses, IfPointsTold, IsMute, IsSilent, Keeps, KeepsPoints, QuietMade, PointsDurable, SaysPart, Spends, Syncs};
 ghost use Rattle.dms_model.specs.Stores.{Tells};
 ghost use Rattle.dms_model.specs.Fitting.{IsDataSet, IsNumber, IsStructure, MayStart, PutFits, Puts, RecordFits, SpotFits};
 ghost use Rattle.dms_block.specs.Faults.{Unbroken, Undamaged, NotFull};
@@ -39,7 +39,7 @@ pub trait Store {
         ensures undamaged { (d : Db) → (seen self.old).db ≡ Some d → Undamaged result }
         ensures mute_fault { IsErrOf result BlockFault.Say → ⊥ }
         ensures room { NotFull result }
-        ensures causes { HasCauses result (seen self.old) (seen self.new) };
+        ensures causes { HasStoreCauses result (seen self.old) (seen self.new) };
 
     /// The first member of a structure, for an owner (0 where it is disjoint), after a bound. It is the database's where
     /// the owner is below 2^32 - 1 and the bound's key fits the structure's, with a member's number below 2^32 - 1.
@@ -62,7 +62,7 @@ pub trait Store {
         ensures undamaged { (d : Db) → (seen self.old).db ≡ Some d → Undamaged result }
         ensures mute_fault { IsErrOf result BlockFault.Say → ⊥ }
         ensures room { NotFull result }
-        ensures causes { HasCauses result (seen self.old) (seen self.new) };
+        ensures causes { HasStoreCauses result (seen self.old) (seen self.new) };
 
     /// The last member of a structure, for an owner (0 where it is disjoint), before a bound. It is the database's where
     /// the owner is below 2^32 - 1 and the bound's key fits the structure's, with a member's number below 2^32 - 1.
@@ -85,7 +85,7 @@ pub trait Store {
         ensures undamaged { (d : Db) → (seen self.old).db ≡ Some d → Undamaged result }
         ensures mute_fault { IsErrOf result BlockFault.Say → ⊥ }
         ensures room { NotFull result }
-        ensures causes { HasCauses result (seen self.old) (seen self.new) };
+        ensures causes { HasStoreCauses result (seen self.old) (seen self.new) };
 
     /// Stores a new record of a data set under the least free number, with null links, or replaces all items but the
     /// links of the record with this number, which keeps its owner. It does so where that record stands, or the owner of
@@ -110,33 +110,33 @@ pub trait Store {
         ensures effort { Spends (64 * length (seen self.old).desc.structures) (seen self.old).effort (seen self.new).effort }
         ensures undamaged { (d : Db) → (seen self.old).db ≡ Some d → Undamaged result }
         ensures mute_fault { IsErrOf result BlockFault.Say → ⊥ }
-        ensures causes { HasCauses result (seen self.old) (seen self.new) };
+        ensures causes { HasStoreCauses result (seen self.old) (seen self.new) };
 
     /// Makes a quiet point, and answers its number. Takes no memory. Where the next number is 2^64 - 1 it stays so.
     fn quiet(&mut self) -> Result<u64, BlockFault>
         requires { (seen self.old).sound }
         ensures number { (seen self.old).next + 1 < 2 ^ 64 → IfOk result (λ n. n ≡ (seen self.old).next) }
-        ensures made { OnOk result (MadeQuiet (seen self.old) (seen self.new)) }
+        ensures made { OnOk result (QuietMade (seen self.old) (seen self.new)) }
         ensures mute { IsMute (seen self.old) (seen self.new) }
-        ensures leaves { let s = seen self.old in IfTold s (Leaves s.whole s.clock (seen self.new).clock s.durable (s.points ++ s.here ∷ []) (s.next + 1) s.said) }
+        ensures leaves { let s = seen self.old in IfPointsTold s (StoreLeaves s.whole s.clock (seen self.new).clock s.durable (s.points ++ s.here ∷ []) (s.next + 1) s.said) }
         ensures memory { IsErrOf result BlockFault.Memory → ⊥ }
         ensures same { same_store self.old self.new }
         ensures effort { (seen self.new).effort ≡ (seen self.old).effort }
         ensures undamaged { (d : Db) → (seen self.old).db ≡ Some d → Undamaged result }
         ensures mute_fault { IsErrOf result BlockFault.Say → ⊥ }
-        ensures causes { HasCauses result (seen self.old) (seen self.new) };
+        ensures causes { HasStoreCauses result (seen self.old) (seen self.new) };
 
     /// Makes all quiet points so far durable. Takes no memory.
     fn sync(&mut self) -> Result<(), BlockFault>
         requires { (seen self.old).sound }
-        ensures made { OnOk result (MadeDurable (seen self.old) (seen self.new)) }
+        ensures made { OnOk result (PointsDurable (seen self.old) (seen self.new)) }
         ensures memory { IsErrOf result BlockFault.Memory → ⊥ }
         ensures silent { IsSilent (seen self.old) (seen self.new) }
         ensures same { same_store self.old self.new }
         ensures effort { Syncs result (seen self.old).effort (seen self.new).effort }
         ensures undamaged { (d : Db) → (seen self.old).db ≡ Some d → Undamaged result }
         ensures mute_fault { IsErrOf result BlockFault.Say → ⊥ }
-        ensures causes { HasCauses result (seen self.old) (seen self.new) };
+        ensures causes { HasStoreCauses result (seen self.old) (seen self.new) };
 
     /// Goes back to the last quiet point, or to the database that it began with.
     fn back_out(&mut self, alloc: Global) -> Result<(), BlockFault>
@@ -148,7 +148,7 @@ pub trait Store {
         ensures effort { GoesBack result (seen self.old).effort (seen self.new).effort }
         ensures undamaged { (d : Db) → (seen self.old).db ≡ Some d → Undamaged result }
         ensures mute_fault { IsErrOf result BlockFault.Say → ⊥ }
-        ensures causes { HasCauses result (seen self.old) (seen self.new) };
+        ensures causes { HasStoreCauses result (seen self.old) (seen self.new) };
 
     /// Prints. Takes no memory of its own. A failed call prints the first bytes or none.
     fn say(&mut self, bytes: &[u8]) -> Result<(), BlockFault>
@@ -159,7 +159,7 @@ pub trait Store {
         ensures fault { IsOkUnless result BlockFault.Say }
         ensures same { same_store self.old self.new }
         ensures effort { (seen self.new).effort ≡ (seen self.old).effort }
-        ensures causes { HasCauses result (seen self.old) (seen self.new) };
+        ensures causes { HasStoreCauses result (seen self.old) (seen self.new) };
 
     /// What a sound store tells hangs together.
     ghost agrees: { (s : Self) → (seen s).sound → StoreAgrees (seen s) };

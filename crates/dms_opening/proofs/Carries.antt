@@ -7,7 +7,7 @@ use Rattle.std.specs.declared.result.Result.TheVariants.{Ok, Err}
 use Rattle.dms_moments.specs.Moments.{After, Clock, Now, Runs, Steps}
 use Rattle.dms_site.specs.declared.site.Site.{Ghosts}
 use Rattle.dms_site.specs.Files.{Files, Left, stored_of}
-use Rattle.dms_history.specs.Events.{Content}
+use Rattle.dms_history.specs.Events.{AllBlocks}
 use Rattle.dms_history.specs.History.{Pending, History}
 use Rattle.dms_history.specs.Entries.{Entry, begin_restore, by_halt_load, control_point}
 use Rattle.dms_history.specs.EntryEvents.{history_of}
@@ -136,7 +136,7 @@ module _ (a b : LogView) (plan : OpeningPlan) (w : BeginsWhole a plan b) (ready 
     counted : (f : ℕ) → count_of plan.counts.items f ≡ length (last_blocks (λ g. []) (points c) f)
     counted f =
         plans.counts_are f ∙ sym (outcome_length restore.how ((telling a).dumps a.files) restore.entries restore.point f (stored_of a.files))
-        ∙ ap (λ (x : Content). length (x f)) (sym marked)
+        ∙ ap (λ (x : AllBlocks). length (x f)) (sym marked)
 
     abbrev found : List Entry
     found = trail_entries a.end.total a.first a.files

@@ -3,7 +3,7 @@ use Rattle.std.proofs.Common.{ℕ, ◌<◌, ◌≡◌, List, ◌++◌, length, s
 use Rattle.dms_moments.specs.Moments.{Clock, Runs}
 use Rattle.dms_moments.specs.MomentLaws.{runs_on}
 use Rattle.dms_site.specs.Files.{Left, stored_of}
-use Rattle.dms_history.specs.Events.{Content, block_in}
+use Rattle.dms_history.specs.Events.{AllBlocks, block_in}
 use Rattle.dms_history.specs.History.{Pending}
 use Rattle.dms_history.specs.Pick.{count_at}
 use Rattle.dms_history.specs.Here.{outcome, here_by}
@@ -49,9 +49,9 @@ module _ (p : Pending) (a b : LogView) (table : List Told) (point next : ℕ) (c
     all_durable = e.all_durable ∙ ap length keeps.points_same;
     next_same = e.next_same ∙ keeps.next_same;
     written = λ f k low.
-        let under : k < count_at p.entries p.point f = omega (arith, low, ap (λ (x : Content). length (x f)) e.content_is, outcome_size (telling b) p b f) in
+        let under : k < count_at p.entries p.point f = omega (arith, low, ap (λ (x : AllBlocks). length (x f)) e.content_is, outcome_size (telling b) p b f) in
         ap (λ s. s f k) e.blocks_same ∙ restored.restored f k under
         ∙ ap (λ o. here_by o ((telling b).dumps b.files) (stored_of b.files) f k) begun.begun.pending
-        ∙ ap (λ (x : Content). block_in x f k) (sym e.content_is);
+        ∙ ap (λ (x : AllBlocks). block_in x f k) (sym e.content_is);
     only = e.only;
   }

@@ -2,7 +2,7 @@
 use Rattle.std.proofs.Common.{ℕ, ◌≤◌, ◌≡◌, Bool, true, false, List, [], ◌∷◌, map, Option, Some, None, refl, sym, ◌∙◌, ap, subst, arith}
 use Rattle.std.specs.Prelude.{◌==◌}
 use Rattle.dms_site.specs.Files.{Files, stored_of}
-use Rattle.dms_history.specs.Events.{Content, Stored, Event, halt_load}
+use Rattle.dms_history.specs.Events.{AllBlocks, Stored, Event, halt_load}
 use Rattle.dms_history.specs.Lists.{has, until_first}
 use Rattle.dms_history.specs.Places.{is_point, IsLive}
 use Rattle.dms_history.specs.History.{Pending, last_point}
@@ -60,7 +60,7 @@ module _ (t : Telling) (files : Files) (w : IsWhole t files) (begins : Bool) (po
   counted = here dumps (history_of es) stored
 
   -- what the opening is to leave
-  abbrev pub left : Content
+  abbrev pub left : AllBlocks
   left = outcome p.how dumps p.entries p.point stored
 
   -- The point of the restore is the last one, it is live, and the restore is to leave its content.

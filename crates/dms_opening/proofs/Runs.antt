@@ -5,7 +5,7 @@ use Rattle.dms_site.specs.declared.site.Site.{Ghosts}
 use Rattle.dms_site.specs.Files.{Files}
 use Rattle.dms_block.specs.Held.{Held}
 use Rattle.dms_audfile.specs.declared.audit_end.AuditEnd.{AuditEnd}
-use Rattle.dms_history.specs.Events.{Content}
+use Rattle.dms_history.specs.Events.{AllBlocks}
 use Rattle.dms_running.specs.Points.{DescribedPoint}
 use Rattle.dms_restore.specs.declared.log.Log.{Log}
 use Rattle.dms_restore.specs.Logging.{LogView, telling, points}
@@ -26,7 +26,7 @@ starts_from files point next schema counts v s r described numbered pointed coun
   runs = r.runs;
   written = r.written;
   numbered = numbered ∙ sym r.next_is;
-  counted = λ f. ap (λ (c : List ℕ). count_of c f) counted ∙ r.last.counted f ∙ ap (λ (c : Content). length (c f)) (sym r.content_is);
+  counted = λ f. ap (λ (c : List ℕ). count_of c f) counted ∙ r.last.counted f ∙ ap (λ (c : AllBlocks). length (c f)) (sym r.content_is);
   pointed = subst (λ (m : List ℕ). IsMarkOf (points v) s.point m) (sym marked) (subst (λ n. IsMarkOf (points v) n counts) (sym pointed) r.last);
   under = r.under ∙ sym described;
   unchanged = λ same. record { content_is = r.content_is; counts_are = counted ∙ sym marked };

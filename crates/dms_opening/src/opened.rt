@@ -7,7 +7,7 @@ ghost use Rattle.dms_audfile.specs.Counting.{CountedAt};
 ghost use Rattle.dms_running.specs.Standing.{IsWhole};
 ghost use Rattle.dms_restore.specs.Logging.{telling_of, waits};
 ghost use Rattle.dms_restore.specs.Views.{view_of};
-ghost use Rattle.dms_wal.specs.Database.{IsUsable, held};
+ghost use Rattle.dms_wal.specs.Database.{IsRunningUsable, held};
 ghost use Rattle.dms_wal.specs.Lifting.{AreCounts};
 ghost use Rattle.dms_wal.specs.Marks.{IsDescription};
 ghost use Rattle.dms_opening.specs.Openings.{IsTrailFound, NamesStructures, OpensAt, RunsFrom, RunsWhere, ReopensSince, TellsOpened, RefusesFiles, IsFullFault, IsFullIn, SealsFew, CanOpen, StaysUnopened, MayHaveWritten, IsOpenable, IsNoRefusal};
@@ -84,7 +84,7 @@ impl<S: Site> Opened<S> {
         requires limit { limit ≤ 9999 }
         requires described { IsDescription self.schema.items }
         requires table { AreCounts self.counts.items }
-        ensures usable { IfOk result (λ r. (IsTrue S.tells → (files : Files) × RunsFrom files self.point self.next self.schema.items self.counts.items (view_of S.Site self.log)) → IsUsable S.Site r) }
+        ensures usable { IfOk result (λ r. (IsTrue S.tells → (files : Files) × RunsFrom files self.point self.next self.schema.items self.counts.items (view_of S.Site self.log)) → IsRunningUsable S.Site r) }
         ensures tells { IfOk result (λ r. (files : Files) → RunsFrom files self.point self.next self.schema.items self.counts.items (view_of S.Site self.log)
             → TellsOpened (telling_of self.log.end.total self.log.first) files self.next (held S.Site r)) }
         ensures log { IfOk result (λ r. (r.log.site ≡ self.log.site) × (r.log.first ≡ self.log.first) × (r.log.end.total ≡ self.log.end.total) × (r.log.end.limit ≡ limit)) }

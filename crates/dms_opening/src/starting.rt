@@ -13,7 +13,7 @@ ghost use Rattle.dms_restore.specs.Begins.{BegunAt, LeavesEach};
 ghost use Rattle.dms_opening.specs.Starts.{MayOpen, BegunFrom};
 
 use dms_audfile::AudFault;
-use dms_audrec::How;
+use dms_audrec::BeginHow;
 use dms_restore::{Begun, Log};
 use dms_site::Site;
 
@@ -58,7 +58,7 @@ pub(crate) fn start<S: Site>(
     ensures kind_then { IfErr result (λ e. IsSameTrail log e.1) }
 {
     if begins {
-        log.begin(point, How::HaltLoad)
+        log.begin(point, BeginHow::HaltLoad)
     } else {
         Ok(Begun { log })
     }

@@ -1,6 +1,6 @@
 -- What a crate above needs of a log.
 use Rattle.std.proofs.Common.{ℕ, ◌≡◌, List, [], None, refl, sym, ◌∙◌, ap, subst}
-use Rattle.dms_history.specs.Events.{Block, block_in}
+use Rattle.dms_history.specs.Events.{BlockBytes, block_in}
 use Rattle.dms_history.specs.Entries.{Entry}
 use Rattle.dms_history.specs.EntryEvents.{events}
 use Rattle.dms_history.specs.Images.{last_after}
@@ -17,7 +17,7 @@ unfolding told_events
 nothing_logged f k = refl
 
 -- Where nothing waits, a block with a change since the last Control has its newest Image sealed, and that has the bytes of the content.
-pub changed_newest : (v : LogView) → LogRuns v → Reads v → waits v.end ≡ [] → (f k : ℕ) (bytes : Block) → IsChangedBlock v f k → block_in (content v) f k ≡ bytes → IsNewestSealed v f k bytes
+pub changed_newest : (v : LogView) → LogRuns v → Reads v → waits v.end ≡ [] → (f k : ℕ) (bytes : BlockBytes) → IsChangedBlock v f k → block_in (content v) f k ≡ bytes → IsNewestSealed v f k bytes
 changed_newest v r read nothing f k bytes changed is = record {
   sealed = newest_sealed (telling v) (tells v r read) (state v) r.runs read f k bytes nothing changed is;
   none_waits = ap (λ (l : List Entry). last_after f k (events l)) nothing ∙ nothing_logged f k;

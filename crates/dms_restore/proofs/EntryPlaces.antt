@@ -7,7 +7,7 @@ use Rattle.std.proofs.lemmas.List.{length-take, drop-drop}
 use Rattle.dms_site.specs.Files.{Files, range}
 use Rattle.dms_fields.specs.Prefix.{byte_first, number_first, bytes_first}
 use Rattle.dms_fields.specs.PrefixLaws.{bind_some, stop_some, go_some}
-use Rattle.dms_history.specs.Events.{Block, change, control}
+use Rattle.dms_history.specs.Events.{BlockBytes, change, control}
 use Rattle.dms_history.specs.Entries.{Entry, schema_part, image, byte_range, quiet_point, control_point, begin_restore, counts_in}
 use Rattle.dms_history.specs.declared.event.FileCount.{FileCount}
 use Rattle.dms_audrec.specs.Reading.{schema_at, before_at, image_at, quiet_at, control_at, begin_at, entry_at, counts_at}
@@ -98,7 +98,7 @@ number_of (quiet_point n) = 3
 number_of (control_point n next counts) = 4
 number_of (begin_restore n kind) = 5
 
-abbrev before_of : Entry → Option Block
+abbrev before_of : Entry → Option BlockBytes
 before_of (schema_part part parts bytes) = None
 before_of (image f b before after) = before
 before_of (byte_range f b place bytes) = None
@@ -106,7 +106,7 @@ before_of (quiet_point n) = None
 before_of (control_point n next counts) = None
 before_of (begin_restore n kind) = None
 
-abbrev after_of : Entry → Block
+abbrev after_of : Entry → BlockBytes
 after_of (schema_part part parts bytes) = []
 after_of (image f b before after) = after
 after_of (byte_range f b place bytes) = []
@@ -149,9 +149,9 @@ begin_number bytes x e =
     ap (λ (y : Entry × List ℕ). number_of y.0) (sym (go_some _ _ x r5).1)
 
 -- the parts of an Image and of a Control behind its kind
-pub record ImageParts (bytes : List ℕ) (before : Option Block) (after : Block) : Type 0 where
+pub record ImageParts (bytes : List ℕ) (before : Option BlockBytes) (after : BlockBytes) : Type 0 where
   pub new : before ≡ None → (after ≡ take 1024 (drop 9 bytes)) × (length after ≡ 1024)
-  pub old : (y : Block) → before ≡ Some y → (y ≡ take 1024 (drop 9 bytes)) × (length y ≡ 1024) × (after ≡ take 1024 (drop 1033 bytes)) × (length after ≡ 1024)
+  pub old : (y : BlockBytes) → before ≡ Some y → (y ≡ take 1024 (drop 9 bytes)) × (length y ≡ 1024) × (after ≡ take 1024 (drop 1033 bytes)) × (length after ≡ 1024)
 
 some_is : {A : Type 0} (x y : A) → Some x ≡ Some y → x ≡ y
 some_is x y is = cc
@@ -288,13 +288,13 @@ behind_kind [] x e = absurd (none_not_some x e)
 behind_kind (kind ∷ rest) x e = kind_read kind rest x e
 
 -- Where the blocks of an Image stand.
-pub record ImageThere (files : Files) (p : EntryPlace) (f b : ℕ) (before : Option Block) (after : Block) : Type 0 where
+pub record ImageThere (files : Files) (p : EntryPlace) (f b : ℕ) (before : Option BlockBytes) (after : BlockBytes) : Type 0 where
   pub bounds : (30001 ≤ f) × (f ≤ 30200) × (b < 2097152)
   pub new : before ≡ None → (range (4096 * p.block + p.offset + 10) 1024 (files p.file) ≡ after) × (length after ≡ 1024)
-  pub old : (y : Block) → before ≡ Some y
+  pub old : (y : BlockBytes) → before ≡ Some y
       → (range (4096 * p.block + p.offset + 10) 1024 (files p.file) ≡ y) × (length y ≡ 1024) × (range (4096 * p.block + p.offset + 1034) 1024 (files p.file) ≡ after) × (length after ≡ 1024)
 
-pub image_there : (files : Files) (p : EntryPlace) (f b : ℕ) (before : Option Block) (after : Block) → entry_there files p ≡ Some (image f b before after) → ImageThere files p f b before after
+pub image_there : (files : Files) (p : EntryPlace) (f b : ℕ) (before : Option BlockBytes) (after : BlockBytes) → entry_there files p ≡ Some (image f b before after) → ImageThere files p f b before after
 image_there files p f b before after is =
     let (x, at, same) = read_there files p (image f b before after) is in
     let bytes = used_from (block_at p.block (files p.file)) p.offset in
@@ -351,7 +351,7 @@ control_there files p n next counts is =
 
 -- ---- as they are kept in memory
 
-pub new_stands : (files : Files) (p : EntryPlace) (i : ImageAt) (f b start : ℕ) (after : Block) → IsInAudit p → start < 2 ^ 33 → start ≡ 4096 * p.block + p.offset → entry_there files p ≡ Some (image f b None after)
+pub new_stands : (files : Files) (p : EntryPlace) (i : ImageAt) (f b start : ℕ) (after : BlockBytes) → IsInAudit p → start < 2 ^ 33 → start ≡ 4096 * p.block + p.offset → entry_there files p ≡ Some (image f b None after)
     → i ≡ record { file = f; block = b; is_new = true; audit = p.file; at = start + 10 } → StandsAsImage files i f b None after
 new_stands files p i f b start after audit low begins there is =
     let image = image_there files p f b None after there in
@@ -359,11 +359,11 @@ new_stands files p i f b start after audit low begins there is =
     let same : start + 10 ≡ 4096 * p.block + p.offset + 10 = omega (arith, begins) in
     let here : range (start + 10) 1024 (files p.file) ≡ after = ap (λ k. range k 1024 (files p.file)) same ∙ at.0 in
     subst (λ (j : ImageAt). StandsAsImage files j f b None after) (sym is) (record {
-      event_is = ap (λ (x : Block). change f b None x) here;
+      event_is = ap (λ (x : BlockBytes). change f b None x) here;
       whole = (ap length here ∙ at.1, λ old. absurd (true_not_false old), image.bounds.0, image.bounds.1, image.bounds.2, audit.0, omega (arith, low));
     })
 
-pub old_stands : (files : Files) (p : EntryPlace) (i : ImageAt) (f b start : ℕ) (before after : Block) → IsInAudit p → start < 2 ^ 33 → start ≡ 4096 * p.block + p.offset → entry_there files p ≡ Some (image f b (Some before) after)
+pub old_stands : (files : Files) (p : EntryPlace) (i : ImageAt) (f b start : ℕ) (before after : BlockBytes) → IsInAudit p → start < 2 ^ 33 → start ≡ 4096 * p.block + p.offset → entry_there files p ≡ Some (image f b (Some before) after)
     → i ≡ record { file = f; block = b; is_new = false; audit = p.file; at = start + 1034 } → StandsAsImage files i f b (Some before) after
 old_stands files p i f b start before after audit low begins there is =
     let image = image_there files p f b (Some before) after there in

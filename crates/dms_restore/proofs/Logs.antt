@@ -3,7 +3,7 @@ use Rattle.std.proofs.Common.{ℕ, ◌+◌, ◌*◌, ◌^◌, ◌<◌, ◌≡◌
 use Rattle.dms_moments.specs.Moments.{Clock, Now, Steps}
 use Rattle.dms_moments.specs.MomentLaws.{steps_weaken}
 use Rattle.dms_site.specs.Files.{Files, Left, InFile, Torn, OnDisk}
-use Rattle.dms_history.specs.Events.{Block}
+use Rattle.dms_history.specs.Events.{BlockBytes}
 use Rattle.dms_history.specs.Replay.{TellsBefore}
 use Rattle.dms_history.specs.Entries.{Entry, image, quiet_point}
 use Rattle.dms_history.specs.EntryEvents.{next_of}
@@ -21,7 +21,7 @@ use Rattle.dms_running.proofs.NoRoom.{full_runs, full_entries, full_points, full
 use Rattle.dms_restore.specs.Logging.{telling_of, waits, LogView, view, telling, state, Ends, LogRuns, points, durable, here, next, content, PrintsNothing, IsNewestSealed, SealsWaiting, LogsImage, LogsQuiet, LogsNothing, LogsWrite}
 use Rattle.dms_restore.proofs.Trails.{is_telling, first_low, waits_is, ends_waiting, plain_waits, seals_as, appended_as, sealed_as, settled_as, ends_written}
 
-some_not_none : (x : Block) → Some x ≡ None → ⊥
+some_not_none : (x : BlockBytes) → Some x ≡ None → ⊥
 some_not_none x e = absurd cc
 
 -- what is read of it
@@ -150,7 +150,7 @@ module _ (a : LogView) (r : LogRuns a) (read : Reads a) where
 
   -- ---- an Image
 
-  module _ (f k : ℕ) (before : Option Block) (after : Block) (told : TellsBefore k before (content a f)) (sized : length after ≡ 1024) (e : Entry) (is : e ≡ image f k before after) where
+  module _ (f k : ℕ) (before : Option BlockBytes) (after : BlockBytes) (told : TellsBefore k before (content a f)) (sized : length after ≡ 1024) (e : Entry) (is : e ≡ image f k before after) where
     pub image_leave : (later : Clock Left) → ((first : ℕ) (waiting : List Entry) → AreNoBegins waiting → EndsAt a.end first waiting a.files a.clock → Steps (ends.Seals a.end.total a.end.tag first (waiting ++ e ∷ [])) a.clock later)
         → LeavesPoints (telling a) (points a) (next a) (state a) later
     image_leave later steps = log_leaves (telling a) tells (state a) r.runs read f k before after told sized later
@@ -244,5 +244,5 @@ module _ (a : LogView) (r : LogRuns a) (read : Reads a) where
       }
 
 -- a block whose newest Image is sealed has a sealed change
-pub newest_logged : (a : LogView) (f k : ℕ) (bytes : Block) → IsNewestSealed a f k bytes → IsLogged (telling a) a.files f k
+pub newest_logged : (a : LogView) (f k : ℕ) (bytes : BlockBytes) → IsNewestSealed a f k bytes → IsLogged (telling a) a.files f k
 newest_logged a f k bytes newest none = absurd (some_not_none bytes (sym newest.sealed ∙ none))

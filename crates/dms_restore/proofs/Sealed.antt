@@ -6,7 +6,7 @@ use Rattle.std.specs.declared.result.Result.TheVariants.{Ok, Err}
 use Rattle.dms_moments.specs.Moments.{Clock, Steps}
 use Rattle.dms_moments.specs.MomentLaws.{runs_none, runs_on, steps_on}
 use Rattle.dms_site.specs.Files.{Files, Left, Same}
-use Rattle.dms_history.specs.Events.{Content, Event}
+use Rattle.dms_history.specs.Events.{AllBlocks, Event}
 use Rattle.dms_history.specs.Lists.{until_first, after_first}
 use Rattle.dms_history.specs.Places.{IsLive, is_point}
 use Rattle.dms_history.specs.History.{last_point}
@@ -117,7 +117,7 @@ module _ (a b : LogView) (s : SealedAlone a b) where
       lives = subst (λ (l : List Entry). IsLive (live_of l) m) (sym s.same.entries_same) by.last.lives;
     };
     next_is = by.next_is ∙ sym s.same.next_same;
-    count = λ f. by.count f ∙ ap (λ (c : Content). length (c f)) (sym (content_then m));
+    count = λ f. by.count f ∙ ap (λ (c : AllBlocks). length (c f)) (sym (content_then m));
   }
 
   pub went_back_then : (m : ℕ) (c : LogView) (es : List Entry) → WentBackTo m b c es → WentBackTo m a c es

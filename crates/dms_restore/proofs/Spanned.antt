@@ -8,7 +8,7 @@ use Rattle.dms_running.proofs.Described.{ends_there, place_is_point}
 use Rattle.dms_running.proofs.OneMore.{history_entry, history_schema}
 use Rattle.std.proofs.Common.{append_assoc, ◌-◌, ℕ, zero, suc, ◌+◌, ◌≤◌, ◌<◌, ◌≡◌, inl, inr, Bool, true, false, cond, List, [], ◌∷◌, ◌++◌, length, take, drop, get_or, Option, Some, None, refl, sym, ◌∙◌, ap, subst, arith, length-append, length-drop}
 use Rattle.std.proofs.lemmas.Bool.Decides.{nat_tests}
-use Rattle.dms_history.specs.Events.{Block, Event, change, quiet, control, begin}
+use Rattle.dms_history.specs.Events.{BlockBytes, Event, change, quiet, control, begin}
 use Rattle.dms_history.specs.Lists.{has, until_first}
 use Rattle.dms_history.specs.Places.{is_point}
 use Rattle.dms_history.specs.Ranges.{told_events}
@@ -30,7 +30,7 @@ use Rattle.dms_restore.specs.declared.live.LiveEntry.{LiveEntry}
 use Rattle.dms_restore.specs.LiveEntries.{events_at}
 use Rattle.dms_restore.specs.declared.schemas.SchemaSpan.{SchemaSpan}
 use Rattle.dms_restore.specs.declared.schemas.SchemaHistory.{SchemaHistory}
-use Rattle.dms_restore.specs.SchemaSpans.{part_bytes, span_bytes, last_span, read_on, IsWithin, AllWithin, IsSchemaTraced}
+use Rattle.dms_restore.specs.SchemaSpans.{part_bytes, span_bytes, last_span, read_on, IsSpanWithin, SpansWithin, IsSchemaTraced}
 
 true_not_false : true ≡ false → ⊥
 true_not_false e = absurd cc
@@ -44,33 +44,33 @@ cut_more zero (suc n) (e ∷ es) more le = ap (λ (l : List Entry). e ∷ l) (cu
 cut_more (suc i) n [] more le = absurd (omega (arith, le))
 cut_more (suc i) n (e ∷ es) more le = cut_more i n es more (omega (arith, le))
 
-pub span_more : (es more : List Entry) (s : Option SchemaSpan) → IsWithin (length es) s → span_bytes (es ++ more) s ≡ span_bytes es s
+pub span_more : (es more : List Entry) (s : Option SchemaSpan) → IsSpanWithin (length es) s → span_bytes (es ++ more) s ≡ span_bytes es s
 span_more es more None le = refl
 span_more es more (Some s) le = ap (λ (l : List Entry). Some (part_bytes l)) (cut_more s.first s.parts es more le)
 
-within_more : (n m : ℕ) (s : Option SchemaSpan) → n ≤ m → IsWithin n s → IsWithin m s
+within_more : (n m : ℕ) (s : Option SchemaSpan) → n ≤ m → IsSpanWithin n s → IsSpanWithin m s
 within_more n m None le one = tt
 within_more n m (Some s) le one = omega (arith, le, one)
 
-all_more : (n m : ℕ) (ss : List (Option SchemaSpan)) → n ≤ m → AllWithin n ss → AllWithin m ss
+all_more : (n m : ℕ) (ss : List (Option SchemaSpan)) → n ≤ m → SpansWithin n ss → SpansWithin m ss
 all_more n m [] le all = tt
 all_more n m (s ∷ ss) le all = (within_more n m s le all.0, all_more n m ss le all.1)
 
-all_push : (n : ℕ) (ss : List (Option SchemaSpan)) (s : Option SchemaSpan) → AllWithin n ss → IsWithin n s → AllWithin n (ss ++ s ∷ [])
+all_push : (n : ℕ) (ss : List (Option SchemaSpan)) (s : Option SchemaSpan) → SpansWithin n ss → IsSpanWithin n s → SpansWithin n (ss ++ s ∷ [])
 all_push n [] s all one = (one, tt)
 all_push n (t ∷ ss) s all one = (all.0, all_push n ss s all.1 one)
 
-all_take : (n k : ℕ) (ss : List (Option SchemaSpan)) → AllWithin n ss → AllWithin n (take k ss)
+all_take : (n k : ℕ) (ss : List (Option SchemaSpan)) → SpansWithin n ss → SpansWithin n (take k ss)
 all_take n zero ss all = tt
 all_take n (suc k) [] all = tt
 all_take n (suc k) (s ∷ ss) all = (all.0, all_take n k ss all.1)
 
-at_within : (n k : ℕ) (ss : List (Option SchemaSpan)) → AllWithin n ss → IsWithin n (get_or ss k None)
+at_within : (n k : ℕ) (ss : List (Option SchemaSpan)) → SpansWithin n ss → IsSpanWithin n (get_or ss k None)
 at_within n k [] all = tt
 at_within n zero (s ∷ ss) all = all.0
 at_within n (suc k) (s ∷ ss) all = at_within n k ss all.1
 
-last_within : (n : ℕ) (ss : List (Option SchemaSpan)) → AllWithin n ss → IsWithin n (last_span ss)
+last_within : (n : ℕ) (ss : List (Option SchemaSpan)) → SpansWithin n ss → IsSpanWithin n (last_span ss)
 last_within n ss all = at_within n (length ss - 1) ss all
 
 get_front : (ss : List (Option SchemaSpan)) (s : Option SchemaSpan) (k : ℕ) → k < length ss → get_or (ss ++ s ∷ []) k None ≡ get_or ss k None
@@ -204,12 +204,12 @@ module _ (entries : List Entry) (e : Entry) (ev : Event) (old new : SchemaHistor
     reading = λ some. absurd (omega (arith, some, read));
     each = each_stays;
     count = ap length before ∙ length-append old.before.items (old.last ∷ []) ∙ ap (λ k. k + 1) t.count ∙ sym (ap length lives ∙ length-append (live_of entries) (ev ∷ []));
-    within = subst (AllWithin (length (entries ++ e ∷ []))) (sym before)
+    within = subst (SpansWithin (length (entries ++ e ∷ []))) (sym before)
         (all_push (length (entries ++ e ∷ [])) old.before.items old.last (all_more (length entries) (length (entries ++ e ∷ [])) old.before.items longer t.within) (within_more (length entries) (length (entries ++ e ∷ [])) old.last longer t.last_within));
-    last_within = subst (IsWithin (length (entries ++ e ∷ []))) (sym last) (within_more (length entries) (length (entries ++ e ∷ [])) old.last longer t.last_within);
+    last_within = subst (IsSpanWithin (length (entries ++ e ∷ []))) (sym last) (within_more (length entries) (length (entries ++ e ∷ [])) old.last longer t.last_within);
   }
 
-pub image_traced : (entries : List Entry) (f b : ℕ) (old_bytes : Option Block) (after : Block) (old new : SchemaHistory) → new.before.items ≡ old.before.items ++ old.last ∷ [] → new.last ≡ old.last → new.read ≡ 0 → new.all ≡ 0
+pub image_traced : (entries : List Entry) (f b : ℕ) (old_bytes : Option BlockBytes) (after : BlockBytes) (old new : SchemaHistory) → new.before.items ≡ old.before.items ++ old.last ∷ [] → new.last ≡ old.last → new.read ≡ 0 → new.all ≡ 0
     → IsSchemaTraced entries old → IsSchemaTraced (entries ++ image f b old_bytes after ∷ []) new
 image_traced entries f b old_bytes after old new before last read all t =
     entry_traced entries (image f b old_bytes after) (change f b old_bytes after) old new t refl (λ r. refl) (ap (λ (h : History). h.live) (history_entry entries (image f b old_bytes after) (change f b old_bytes after) refl))
@@ -340,7 +340,7 @@ module _ (entries : List Entry) (part parts : ℕ) (bytes : List ℕ) (old new :
   -- it is whole, or it isn't
   record Noted : Type 0 where
     pub is : span_bytes (entries ++ e ∷ []) new.last ≡ cond (is_whole (record { read = new.read; all = new.all })) (Some (after_schema r e).bytes) (schema_of (live_entries entries))
-    pub within : IsWithin (length (entries ++ e ∷ [])) new.last
+    pub within : IsSpanWithin (length (entries ++ e ∷ [])) new.last
 
   noted : Noted
   noted = elim (bool_cases (is_whole (record { read = new.read; all = new.all }))) [
@@ -353,14 +353,14 @@ module _ (entries : List Entry) (part parts : ℕ) (bytes : List ℕ) (old new :
         record {
           is = ap (span_bytes (entries ++ e ∷ [])) to ∙ ap (λ (l : List Entry). Some (part_bytes l)) all_of ∙ ap (λ (l : List ℕ). Some l) (sym now.0)
               ∙ sym (ap (λ b. cond b (Some (after_schema r e).bytes) (schema_of (live_entries entries))) on);
-          within = subst (IsWithin (length (entries ++ e ∷ []))) (sym to) (omega (arith, size.1, now.1));
+          within = subst (IsSpanWithin (length (entries ++ e ∷ []))) (sym to) (omega (arith, size.1, now.1));
         }
     | inr off ↦
         let to : new.last ≡ old.last = last ∙ ap (λ b. cond b (Some (record { first = new.begun; parts = new.all })) old.last) off in
         record {
           is = ap (span_bytes (entries ++ e ∷ [])) to ∙ span_more entries (e ∷ []) old.last t.last_within ∙ t.last_is
               ∙ sym (ap (λ b. cond b (Some (after_schema r e).bytes) (schema_of (live_entries entries))) off);
-          within = subst (IsWithin (length (entries ++ e ∷ []))) (sym to) (within_more (length entries) (length (entries ++ e ∷ [])) old.last part_longer t.last_within);
+          within = subst (IsSpanWithin (length (entries ++ e ∷ []))) (sym to) (within_more (length entries) (length (entries ++ e ∷ [])) old.last part_longer t.last_within);
         }
   ]
     where
@@ -382,7 +382,7 @@ module _ (entries : List Entry) (part parts : ℕ) (bytes : List ℕ) (old new :
         ∙ t.each n k was (ap (λ (l : List Event). length (until_first (is_point n) l)) (sym part_lives) ∙ at)
         ∙ sym ((schema_stays entries n).0 e refl (place_is_point entries n ∙ was));
     count = ap (λ v. length v.items) before ∙ t.count ∙ sym (ap length part_lives);
-    within = subst (λ v. AllWithin (length (entries ++ e ∷ [])) v.items) (sym before) (all_more (length entries) (length (entries ++ e ∷ [])) old.before.items part_longer t.within);
+    within = subst (λ v. SpansWithin (length (entries ++ e ∷ [])) v.items) (sym before) (all_more (length entries) (length (entries ++ e ∷ [])) old.before.items part_longer t.within);
     last_within = noted.within;
   }
 
@@ -445,8 +445,8 @@ module _ (entries : List Entry) (m : ℕ) (kind : Kind) (kept : ℕ) (old new : 
         ∙ span_more entries (b ∷ []) (get_or old.before.items k None) (at_within (length entries) k old.before.items t.within)
         ∙ t.each n k was at_old ∙ sym ((schema_stays entries n).1 m kind place);
     count = ap length before ∙ length_take kept old.before.items (omega (arith, kept_is, front_short (is_point m) (live_of entries), t.count)) ∙ sym size;
-    within = subst (AllWithin (length (entries ++ b ∷ []))) (sym before) (all_take (length (entries ++ b ∷ [])) kept old.before.items (all_more (length entries) (length (entries ++ b ∷ [])) old.before.items begin_longer t.within));
-    last_within = subst (IsWithin (length (entries ++ b ∷ []))) (sym last)
+    within = subst (SpansWithin (length (entries ++ b ∷ []))) (sym before) (all_take (length (entries ++ b ∷ [])) kept old.before.items (all_more (length entries) (length (entries ++ b ∷ [])) old.before.items begin_longer t.within));
+    last_within = subst (IsSpanWithin (length (entries ++ b ∷ []))) (sym last)
         (last_within (length (entries ++ b ∷ [])) (take kept old.before.items) (all_take (length (entries ++ b ∷ [])) kept old.before.items (all_more (length entries) (length (entries ++ b ∷ [])) old.before.items begin_longer t.within)));
   }
 
@@ -460,8 +460,8 @@ schema_none h before last read all = record {
   reading = λ some. absurd (omega (arith, some, read));
   each = λ n k found at. absurd (true_not_false (sym found));
   count = ap length before;
-  within = subst (AllWithin 0) (sym before) tt;
-  last_within = subst (IsWithin 0) (sym last) tt;
+  within = subst (SpansWithin 0) (sym before) tt;
+  last_within = subst (IsSpanWithin 0) (sym last) tt;
 }
 
 -- a part was read and, where its Schema is whole with it, that was noted

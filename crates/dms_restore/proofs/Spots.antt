@@ -8,7 +8,7 @@ use Rattle.std.specs.declared.cmp.Ordering.TheVariants.{Less, Equal, Greater}
 use Rattle.std.specs.Ordering.{is_eq, nat_cmp, ordering_then}
 use Rattle.std.specs.BTreeMap.{Updates}
 use Rattle.dms_site.specs.Files.{Files}
-use Rattle.dms_history.specs.Events.{Block, Event, quiet}
+use Rattle.dms_history.specs.Events.{BlockBytes, Event, quiet}
 use Rattle.dms_history.specs.Images.{is_at, or_else, last_after, first_before}
 use Rattle.dms_history.specs.Lists.{has, after_last}
 use Rattle.dms_history.proofs.Cuts.{Rest}
@@ -47,11 +47,11 @@ named_set files f b g k now was s is = ap (option_map (bytes_of files)) (picked 
     inside false = refl
 
 -- a block that wasn't named gets its place
-pub named_new : (files : Files) (f b g k : ℕ) (now was : Option (Option AuditSpot)) (s : Option AuditSpot) (o : Option Block) → bytes_of files s ≡ o → now ≡ cond (is_eq (block_cmp (g, k) (f, b))) (Some s) was → (is_at f b g k ≡ true → was ≡ None)
+pub named_new : (files : Files) (f b g k : ℕ) (now was : Option (Option AuditSpot)) (s : Option AuditSpot) (o : Option BlockBytes) → bytes_of files s ≡ o → now ≡ cond (is_eq (block_cmp (g, k) (f, b))) (Some s) was → (is_at f b g k ≡ true → was ≡ None)
     → option_map (bytes_of files) now ≡ or_else (option_map (bytes_of files) was) (cond (is_at f b g k) (Some o) None)
-named_new files f b g k now was s o same is new = named_set files f b g k now was s is ∙ ap (λ (x : Option Block). cond (is_at f b g k) (Some x) (option_map (bytes_of files) was)) same ∙ chosen (is_at f b g k) refl
+named_new files f b g k now was s o same is new = named_set files f b g k now was s is ∙ ap (λ (x : Option BlockBytes). cond (is_at f b g k) (Some x) (option_map (bytes_of files) was)) same ∙ chosen (is_at f b g k) refl
   where
-    nothing : (w : Option (Option Block)) → w ≡ or_else w None
+    nothing : (w : Option (Option BlockBytes)) → w ≡ or_else w None
     nothing None = refl
     nothing (Some x) = refl
 
@@ -59,15 +59,15 @@ named_new files f b g k now was s o same is new = named_set files f b g k now wa
     chosen true on = sym (ap (λ w. or_else (option_map (bytes_of files) w) (Some o)) (new on))
     chosen false off = nothing (option_map (bytes_of files) was)
 
-nothing : (w : Option (Option Block)) → or_else w None ≡ w
+nothing : (w : Option (Option BlockBytes)) → or_else w None ≡ w
 nothing None = refl
 nothing (Some x) = refl
 
-pub or_nothing : (w : Option (Option Block)) → w ≡ or_else w None
+pub or_nothing : (w : Option (Option BlockBytes)) → w ≡ or_else w None
 or_nothing None = refl
 or_nothing (Some x) = refl
 
-or_assoc : (x y z : Option (Option Block)) → or_else (or_else x y) z ≡ or_else x (or_else y z)
+or_assoc : (x y z : Option (Option BlockBytes)) → or_else (or_else x y) z ≡ or_else x (or_else y z)
 or_assoc None y z = refl
 or_assoc (Some x) y z = refl
 
@@ -94,14 +94,14 @@ pub new_there : (spots : Spots) (f b g k : ℕ) → is_some (spot_of spots g k) 
 new_there spots f b g k off on = key_is spots f b g k on ∙ none_off (spot_of spots g k) off
 
 -- a block that is named stays as it was
-pub named_stays : (files : Files) (spots : Spots) (f b g k : ℕ) (o : Option Block) → is_some (spot_of spots g k) ≡ true → named files spots f b ≡ or_else (named files spots f b) (cond (is_at f b g k) (Some o) None)
+pub named_stays : (files : Files) (spots : Spots) (f b g k : ℕ) (o : Option BlockBytes) → is_some (spot_of spots g k) ≡ true → named files spots f b ≡ or_else (named files spots f b) (cond (is_at f b g k) (Some o) None)
 named_stays files spots f b g k o on = chosen (is_at f b g k) refl
   where
-    kept : (w : Option (Option AuditSpot)) (z : Option (Option Block)) → is_some w ≡ true → option_map (bytes_of files) w ≡ or_else (option_map (bytes_of files) w) z
+    kept : (w : Option (Option AuditSpot)) (z : Option (Option BlockBytes)) → is_some w ≡ true → option_map (bytes_of files) w ≡ or_else (option_map (bytes_of files) w) z
     kept None z there = absurd cc
     kept (Some x) z there = refl
 
-    nothing : (w : Option (Option Block)) → w ≡ or_else w None
+    nothing : (w : Option (Option BlockBytes)) → w ≡ or_else w None
     nothing None = refl
     nothing (Some x) = refl
 
@@ -120,7 +120,7 @@ events_more files es i d low = ap (events_at files) (take_more es i d low) ∙ p
 -- ---- the loops over entries
 
 -- one more Image is redone
-pub redo_more : (files : Files) (f b : ℕ) (es : List Event) (i : ImageAt) (was now : Option (Option Block)) → was ≡ option_map (λ x. Some x) (last_after f b es)
+pub redo_more : (files : Files) (f b : ℕ) (es : List Event) (i : ImageAt) (was now : Option (Option BlockBytes)) → was ≡ option_map (λ x. Some x) (last_after f b es)
     → now ≡ cond (is_at f b i.file i.block) (Some (Some (after_in files i))) was → now ≡ option_map (λ x. Some x) (last_after f b (es ++ event_at files (Changed i) ∷ []))
 redo_more files f b es i was now is step =
     step ∙ ap (λ w. cond (is_at f b i.file i.block) (Some (Some (after_in files i))) w) is ∙ inside (is_at f b i.file i.block)
@@ -142,7 +142,7 @@ first_other files f b es (Quiet n) off = first_append f b es (quiet n ∷ []) �
 first_other files f b es (Controlled c) off = first_append f b es (event_at files (Controlled c) ∷ []) ∙ nothing (first_before f b es)
 
 -- one more Image is undone
-pub undo_more : (files : Files) (f b : ℕ) (es : List Event) (i : ImageAt) (start was now : Option (Option Block)) → was ≡ or_else start (first_before f b es)
+pub undo_more : (files : Files) (f b : ℕ) (es : List Event) (i : ImageAt) (start was now : Option (Option BlockBytes)) → was ≡ or_else start (first_before f b es)
     → now ≡ or_else was (cond (is_at f b i.file i.block) (Some (before_in files i)) None) → now ≡ or_else start (first_before f b (es ++ event_at files (Changed i) ∷ []))
 undo_more files f b es i start was now is step =
     let c = cond (is_at f b i.file i.block) (Some (before_in files i)) None in

@@ -2,7 +2,7 @@
 use Rattle.std.specs.Prelude.{option_map}
 use Rattle.std.proofs.Common.{ℕ, ◌≡◌, ◌⊎◌, inl, inr, Bool, true, false, cond, List, [], ◌∷◌, ◌++◌, length, Option, Some, None, refl, sym, ◌∙◌, ap, subst}
 use Rattle.dms_site.specs.Files.{Files}
-use Rattle.dms_history.specs.Events.{Block, Event}
+use Rattle.dms_history.specs.Events.{BlockBytes, Event}
 use Rattle.dms_history.specs.Lists.{until_first, after_first, until_last, after_last}
 use Rattle.dms_history.specs.Places.{is_control, is_point}
 use Rattle.dms_history.specs.Images.{is_at, or_else, last_after, first_before}
@@ -107,12 +107,12 @@ lists_all spots left table so empty f b s is = elim (so.all f b s is) [
 
 -- ---- whole blocks
 
-some_or : (o : Option Block) (t : Bool) (x y : Block) → or_else o (cond t (Some x) None) ≡ Some y → (o ≡ Some y) ⊎ (x ≡ y)
+some_or : (o : Option BlockBytes) (t : Bool) (x y : BlockBytes) → or_else o (cond t (Some x) None) ≡ Some y → (o ≡ Some y) ⊎ (x ≡ y)
 some_or (Some z) t x y is = inl is
 some_or None true x y is = inr (some_is x y is)
 some_or None false x y is = absurd (none_not_some y is)
 
-whole_last : (files : Files) (f b : ℕ) (es : List LiveEntry) (x : Block) → AllStandWhole files es → last_after f b (events_at files es) ≡ Some x → length x ≡ 1024
+whole_last : (files : Files) (f b : ℕ) (es : List LiveEntry) (x : BlockBytes) → AllStandWhole files es → last_after f b (events_at files es) ≡ Some x → length x ≡ 1024
 whole_last files f b [] x all is = absurd (none_not_some x is)
 whole_last files f b (Changed i ∷ es) x all is = elim (some_or (last_after f b (events_at files es)) (is_at f b i.file i.block) (after_in files i) x is) [
   | inl later ↦ whole_last files f b es x all.1 later
@@ -121,15 +121,15 @@ whole_last files f b (Changed i ∷ es) x all is = elim (some_or (last_after f b
 whole_last files f b (Quiet n ∷ es) x all is = whole_last files f b es x all.1 is
 whole_last files f b (Controlled c ∷ es) x all is = whole_last files f b es x all.1 is
 
-some_cond : (t : Bool) (o : Option Block) (z : Option (Option Block)) (y : Block) → cond t (Some o) z ≡ Some (Some y) → (o ≡ Some y) ⊎ (z ≡ Some (Some y))
+some_cond : (t : Bool) (o : Option BlockBytes) (z : Option (Option BlockBytes)) (y : BlockBytes) → cond t (Some o) z ≡ Some (Some y) → (o ≡ Some y) ⊎ (z ≡ Some (Some y))
 some_cond true o z y is = inl (some_is o (Some y) is)
 some_cond false o z y is = inr is
 
-before_whole : (new : Bool) (x y : Block) → cond new None (Some x) ≡ Some y → (new ≡ false → length x ≡ 1024) → length y ≡ 1024
+before_whole : (new : Bool) (x y : BlockBytes) → cond new None (Some x) ≡ Some y → (new ≡ false → length x ≡ 1024) → length y ≡ 1024
 before_whole true x y is whole = absurd (none_not_some y is)
 before_whole false x y is whole = ap length (sym (some_is x y is)) ∙ whole refl
 
-whole_first : (files : Files) (f b : ℕ) (es : List LiveEntry) (x : Block) → AllStandWhole files es → first_before f b (events_at files es) ≡ Some (Some x) → length x ≡ 1024
+whole_first : (files : Files) (f b : ℕ) (es : List LiveEntry) (x : BlockBytes) → AllStandWhole files es → first_before f b (events_at files es) ≡ Some (Some x) → length x ≡ 1024
 whole_first files f b [] x all is = absurd (none_not_some (Some x) is)
 whole_first files f b (Changed i ∷ es) x all is = elim (some_cond (is_at f b i.file i.block) (before_in files i) (first_before f b (events_at files es)) x is) [
   | inl here ↦ before_whole i.is_new _ x here all.0.1
@@ -140,16 +140,16 @@ whole_first files f b (Controlled c ∷ es) x all is = whole_first files f b es 
 
 -- ---- the table
 
-told_cases : (o : Option Block) (first : Option (Option Block)) → undone_to (or_else (option_map (λ x. Some x) o) first) ≡ or_else o (undone_to first)
+told_cases : (o : Option BlockBytes) (first : Option (Option BlockBytes)) → undone_to (or_else (option_map (λ x. Some x) o) first) ≡ or_else o (undone_to first)
 told_cases None first = refl
 told_cases (Some x) first = refl
 
-told_whole : (o : Option Block) (first : Option (Option Block)) (x : Block) → or_else o (undone_to first) ≡ Some x → (o ≡ Some x) ⊎ (first ≡ Some (Some x))
+told_whole : (o : Option BlockBytes) (first : Option (Option BlockBytes)) (x : BlockBytes) → or_else o (undone_to first) ≡ Some x → (o ≡ Some x) ⊎ (first ≡ Some (Some x))
 told_whole (Some y) first x is = inl is
 told_whole None None x is = absurd (none_not_some x is)
-told_whole None (Some before) x is = inr (ap (λ (p : Option Block). Some p) is)
+told_whole None (Some before) x is = inr (ap (λ (p : Option BlockBytes). Some p) is)
 
-has_spot : (files : Files) (o : Option (Option AuditSpot)) (x : Block) → undone_to (option_map (bytes_of files) o) ≡ Some x → (s : AuditSpot) × (o ≡ Some (Some s))
+has_spot : (files : Files) (o : Option (Option AuditSpot)) (x : BlockBytes) → undone_to (option_map (bytes_of files) o) ≡ Some x → (s : AuditSpot) × (o ≡ Some (Some s))
 has_spot files None x is = absurd (none_not_some x is)
 has_spot files (Some None) x is = absurd (none_not_some x is)
 has_spot files (Some (Some s)) x is = (s, refl)
@@ -167,7 +167,7 @@ module _ (files : Files) (spots : Spots) (front behind : List LiveEntry) (live :
   told_named : (f b : ℕ) → told_block live m f b ≡ undone_to (named files spots f b)
   told_named f b = told_is f b ∙ sym (told_cases (last_after f b late) (first_before f b (events_at files behind))) ∙ ap undone_to (sym (names f b))
 
-  sized : (f b : ℕ) (x : Block) → told_block live m f b ≡ Some x → length x ≡ 1024
+  sized : (f b : ℕ) (x : BlockBytes) → told_block live m f b ≡ Some x → length x ≡ 1024
   sized f b x is = elim (told_whole (last_after f b late) (first_before f b (events_at files behind)) x (sym (told_is f b) ∙ is)) [
     | inl last ↦
         let es = events_at files front in

@@ -5,7 +5,7 @@ use Rattle.std.proofs.lemmas.Bool.{cases_eq}
 use Rattle.dms_moments.specs.Moments.{Clock, Steps}
 use Rattle.dms_site.specs.Files.{Files, Left, range, with_file, overlaid, InFile, Torn, OnDisk, stored_of}
 use Rattle.dms_site.specs.StoredLaws.{stored_whole, stored_apart}
-use Rattle.dms_history.specs.Events.{Block, Event}
+use Rattle.dms_history.specs.Events.{BlockBytes, Event}
 use Rattle.dms_history.specs.Told.{told_block}
 use Rattle.dms_history.proofs.Picks.{some_is}
 use Rattle.dms_running.specs.Restoring.{IsKept, Rewritten, Rewrites, StandsAsTold, RestoredTo}
@@ -18,7 +18,7 @@ pub each_later : (live : List Event) (m : ℕ) (keeps : ℕ → ℕ → Type 0) 
 each_later live m keeps x y [] blocks step each = tt
 each_later live m keeps x y (t ∷ ts) blocks step each =
     let same : bytes_at y t ≡ bytes_at x t = ap (λ (l : List ℕ). range t.at 1024 l) (step.others t.audit blocks.0.2) in
-    ((each.0.0 ∙ ap (λ (b : Block). Some b) (sym same), ap length same ∙ each.0.1), each_later live m keeps x y ts blocks.1 step each.1)
+    ((each.0.0 ∙ ap (λ (b : BlockBytes). Some b) (sym same), ap length same ∙ each.0.1), each_later live m keeps x y ts blocks.1 step each.1)
 
 -- one of them
 pub each_at : (live : List Event) (m : ℕ) (files : Files) (ts : List Told) (i : ℕ) (d : Told) → EachIsTold live m files ts → i < length ts

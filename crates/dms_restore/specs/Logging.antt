@@ -2,7 +2,7 @@
 use Rattle.std.specs.Prelude.{ℕ, ◌+◌, ◌≤◌, ◌==◌, ◌≡◌, List, [], ◌∷◌, ◌++◌, length, take, Option, Some, None}
 use Rattle.dms_moments.specs.Moments.{Clock}
 use Rattle.dms_site.specs.Files.{Files, Left, stored_of}
-use Rattle.dms_history.specs.Events.{Block, Content}
+use Rattle.dms_history.specs.Events.{BlockBytes, AllBlocks}
 use Rattle.dms_history.specs.Replay.{with_block}
 use Rattle.dms_history.specs.Lists.{after_last}
 use Rattle.dms_history.specs.Places.{is_control}
@@ -78,12 +78,12 @@ here v = here_now (telling v) (state v)
 abbrev pub next : LogView → ℕ
 next v = next_now (telling v) (state v)
 
-abbrev pub content : LogView → Content
+abbrev pub content : LogView → AllBlocks
 content v = content_now (telling v) (state v)
 
 -- The newest Image of block b of file f since the last Control is sealed, and it has these bytes: so the sealed audit tells of the
 -- block, and no Image of it waits.
-pub record IsNewestSealed (v : LogView) (f b : ℕ) (bytes : Block) : Type 0 where
+pub record IsNewestSealed (v : LogView) (f b : ℕ) (bytes : BlockBytes) : Type 0 where
   pub sealed : last_after f b (after_last is_control (live_of (trail_entries v.end.total v.first v.files))) ≡ Some bytes
   pub none_waits : last_after f b (events (waits v.end)) ≡ None
 
@@ -104,7 +104,7 @@ abbrev pub entries : LogView → List Entry
 entries v = entries_now (telling v) (state v)
 
 -- An Image was logged: it stands behind the old entries, the content has the block, and no structure file changed.
-pub record LogsImage (a b : LogView) (f k : ℕ) (before : Option Block) (after : Block) : Type 0 where
+pub record LogsImage (a b : LogView) (f k : ℕ) (before : Option BlockBytes) (after : BlockBytes) : Type 0 where
   pub entries_are : entries b ≡ entries a ++ image f k before after ∷ []
   pub points_same : points b ≡ points a
   pub next_same : next b ≡ next a

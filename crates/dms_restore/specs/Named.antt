@@ -4,7 +4,7 @@ use Rattle.std.specs.declared.cmp.Ordering.{Ordering}
 use Rattle.std.specs.Ordering.{nat_cmp, ordering_then}
 use Rattle.std.specs.BTreeMap.{BTreeMap, get}
 use Rattle.dms_site.specs.Files.{Files, range}
-use Rattle.dms_history.specs.Events.{Block, Event}
+use Rattle.dms_history.specs.Events.{BlockBytes, Event}
 use Rattle.dms_history.specs.Lists.{until_first, after_first, after_last}
 use Rattle.dms_history.specs.Places.{is_control, is_point}
 use Rattle.dms_history.specs.Images.{is_at, or_else, last_after, first_before}
@@ -29,23 +29,23 @@ Spots = BTreeMap (ℕ × ℕ) (Option AuditSpot)
 abbrev pub spot_of : Spots → ℕ → ℕ → Option (Option AuditSpot)
 spot_of spots f b = get block_cmp spots (f, b)
 
-abbrev pub bytes_of : Files → Option AuditSpot → Option Block
+abbrev pub bytes_of : Files → Option AuditSpot → Option BlockBytes
 bytes_of files None = None
 bytes_of files (Some s) = Some (range s.at 1024 (files s.audit))
 
 -- what stands there
-abbrev pub named : Files → Spots → ℕ → ℕ → Option (Option Block)
+abbrev pub named : Files → Spots → ℕ → ℕ → Option (Option BlockBytes)
 named files spots f b = option_map (bytes_of files) (spot_of spots f b)
 
 -- what stands there once the block after a change is noted, and once the block before it is noted where none was
-abbrev pub named_after : Files → Spots → ImageAt → ℕ → ℕ → Option (Option Block)
+abbrev pub named_after : Files → Spots → ImageAt → ℕ → ℕ → Option (Option BlockBytes)
 named_after files spots i f b = if is_at f b i.file i.block then Some (Some (after_in files i)) else named files spots f b
 
-abbrev pub named_before : Files → Spots → ImageAt → ℕ → ℕ → Option (Option Block)
+abbrev pub named_before : Files → Spots → ImageAt → ℕ → ℕ → Option (Option BlockBytes)
 named_before files spots i f b = or_else (named files spots f b) (if is_at f b i.file i.block then Some (before_in files i) else None)
 
 -- What the changes up to a point and behind it tell: the last block after one, behind the last Control; else the first block before one.
-abbrev pub named_in : List Event → List Event → ℕ → ℕ → Option (Option Block)
+abbrev pub named_in : List Event → List Event → ℕ → ℕ → Option (Option BlockBytes)
 named_in front behind f b = or_else (option_map (λ x. Some x) (last_after f b (after_last is_control front))) (first_before f b behind)
 
 -- each of the table stands where the spots say

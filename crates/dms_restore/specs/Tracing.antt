@@ -1,7 +1,7 @@
 -- The live entries of a trail and its pending restore, as they are kept in memory.
 use Rattle.std.specs.Prelude.{ℕ, ◌≤◌, ◌≡◌, ◌⊎◌, if◌then◌else◌, Bool, List, [], ◌∷◌, ◌++◌, length, take, Option, Some, None}
 use Rattle.dms_site.specs.Files.{Files}
-use Rattle.dms_history.specs.Events.{Block, How, halt_load, back_out, roll_back, rebuild, reconstruct, change, control}
+use Rattle.dms_history.specs.Events.{BlockBytes, How, halt_load, back_out, roll_back, rebuild, reconstruct, change, control}
 use Rattle.dms_history.specs.Lists.{until_first, after_first}
 use Rattle.dms_history.specs.Places.{is_point}
 use Rattle.dms_history.specs.History.{Pending}
@@ -30,13 +30,13 @@ MatchesHow Rollback how = how ≡ roll_back
 MatchesHow (ByDump d) how = (how ≡ rebuild d) ⊎ ((named : ℕ → ℕ → Bool) × (how ≡ reconstruct d named))
 
 -- an Image stands there whole
-pub record StandsAsImage (files : Files) (i : ImageAt) (f b : ℕ) (before : Option Block) (after : Block) : Type 0 where
+pub record StandsAsImage (files : Files) (i : ImageAt) (f b : ℕ) (before : Option BlockBytes) (after : BlockBytes) : Type 0 where
   pub event_is : event_at files (Changed i) ≡ change f b before after
   pub whole : StandsWhole files (Changed i)
 
 -- Where such an Image is the entry at a place, it stands there whole.
-abbrev pub TellsImage : ImageAt → EntryPlace → ℕ → ℕ → Option Block → Type 0
-TellsImage i place f b before = (files : Files) (after : Block) → IsInAudit place → entry_there files place ≡ Some (image f b before after) → StandsAsImage files i f b before after
+abbrev pub TellsImage : ImageAt → EntryPlace → ℕ → ℕ → Option BlockBytes → Type 0
+TellsImage i place f b before = (files : Files) (after : BlockBytes) → IsInAudit place → entry_there files place ≡ Some (image f b before after) → StandsAsImage files i f b before after
 
 -- a Control stands there whole
 pub record StandsAsControl (files : Files) (c : ControlAt) (point next : ℕ) (counts : List FileCount) (described : Bool) : Type 0 where

@@ -22,7 +22,7 @@ use crate::rereading::{disk_or_memory, point_told};
 use crate::restoring::write_all;
 use crate::{Log, Told};
 use dms_audfile::AudFault;
-use dms_audrec::{Entry, How};
+use dms_audrec::{BeginHow, Entry};
 use dms_site::Site;
 use std::alloc::Global;
 
@@ -50,7 +50,7 @@ impl<S: Site> Log<S> {
         ensures say_faults { S.say_faults self.new.site ≡ S.say_faults self.old.site }
     {
         self.end
-            .append(&mut self.site, &Entry::Begin(point, How::BackOut))
+            .append(&mut self.site, &Entry::Begin(point, BeginHow::BackOut))
     }
 
     /// Writes all blocks of the table of the pending restore's point, and syncs. Never reads a structure file.

@@ -18,7 +18,7 @@ ghost use Rattle.dms_restore.specs.Table.{AreBlocks, IsTable};
 use crate::restoring::write_all;
 use crate::{Log, Told};
 use dms_audfile::AudFault;
-use dms_audrec::{Entry, How};
+use dms_audrec::{BeginHow, Entry};
 use dms_site::Site;
 
 /// A database over which a restore is begun.
@@ -33,7 +33,7 @@ pub struct Restored<S: Site> {
 
 impl<S: Site> Log<S> {
     /// Begins a restore by the audit to the last point. What waits is sealed first.
-    pub fn begin(self, point: u64, how: How<'_>) -> Result<Begun<S>, (AudFault, Log<S>)>
+    pub fn begin(self, point: u64, how: BeginHow<'_>) -> Result<Begun<S>, (AudFault, Log<S>)>
         requires by_audit { ByAudit (how_of (how_seen how)) }
         ensures begun { IfOk result (λ b. IsTrue S.tells → let a = view_of S.Site self in LogRuns a → LastIs a point
             → BegunAt (begun_to a point (how_of (how_seen how.entry))) (view_of S.Site b.log)) }

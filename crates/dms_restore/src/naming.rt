@@ -3,7 +3,7 @@
 ghost use Rattle.std.specs.Prelude.{◌≡◌, ◌⊎◌, ◌-◌, ◌++◌, [], ◌∷◌, ℕ, ◌<◌, List, Option, if◌then◌else◌, Some, None, option_map, OnOk, IfNone, IfSome};
 ghost use Rattle.std.specs.BTreeMap.{btree_map_len};
 ghost use Rattle.dms_site.specs.Files.{Files};
-ghost use Rattle.dms_history.specs.Events.{Block, Event};
+ghost use Rattle.dms_history.specs.Events.{BlockBytes, Event};
 ghost use Rattle.dms_history.specs.Images.{is_at, or_else, last_after, first_before};
 ghost use Rattle.dms_restore.specs.declared.live.AuditSpot as spot;
 ghost use Rattle.dms_restore.specs.declared.live.LiveEntry.TheVariants.{Changed};
@@ -83,7 +83,7 @@ fn undo_one(
     entry: &LiveEntry,
 ) -> Result<(), AllocError>
     ensures from { OnOk result ((f b : ℕ) (s : spot.AuditSpot) → spot_of spots.new f b ≡ Some (Some s) → (spot_of spots.old f b ≡ Some (Some s)) ⊎ IsImageSpot entry.now f b s) }
-    ensures names { OnOk result ((files : Files) (f b : ℕ) (start : Option (Option Block)) (es : List Event) → named files spots.old f b ≡ or_else start (first_before f b es)
+    ensures names { OnOk result ((files : Files) (f b : ℕ) (start : Option (Option BlockBytes)) (es : List Event) → named files spots.old f b ≡ or_else start (first_before f b es)
         → named files spots.new f b ≡ or_else start (first_before f b (es ++ event_at files entry.now ∷ []))) }
 {
     match entry {

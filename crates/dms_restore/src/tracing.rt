@@ -3,7 +3,7 @@
 ghost use Rattle.std.specs.Prelude.{◌≡◌, ◌≤◌, ◌++◌, [], ◌∷◌, ◌+◌, ◌*◌, ◌/◌, ◌^◌, ◌<◌, ℕ, Option, List, Some, None, if◌then◌else◌, length, take, drop, OnOk, IfOk, ◌==◌, ◌&&◌};
 ghost use Rattle.std.specs.Option.{option_copied};
 ghost use Rattle.dms_site.specs.Files.{Files};
-ghost use Rattle.dms_history.specs.Events.{Block, control};
+ghost use Rattle.dms_history.specs.Events.{BlockBytes, control};
 ghost use Rattle.dms_history.specs.Lists.{until_first, after_first};
 ghost use Rattle.dms_history.specs.Places.{is_point};
 ghost use Rattle.dms_history.specs.declared.event.FileCount.{FileCount};
@@ -21,7 +21,7 @@ ghost use Rattle.dms_restore.specs.Tracing.{MatchesHow, StandsAsImage, StandsAsC
 use crate::placing::place;
 use crate::{ControlAt, HowAt, ImageAt, LiveEntry, PendingAt};
 use dms_audfile::EntryPlace;
-use dms_audrec::{Entry, How};
+use dms_audrec::{BeginHow, Entry};
 use std::alloc::{AllocError, Global};
 
 /// The live entries of a trail, the restore that is pending, and what its last entries say.
@@ -64,7 +64,7 @@ fn new_image(place: &EntryPlace, file: u32, block: u32) -> ImageAt
 
 /// The Image of a block that isn't new, at a place.
 fn old_image(place: &EntryPlace, file: u32, block: u32) -> ImageAt
-    ensures { (before : Block) → TellsImage result place.now file block (Some before) }
+    ensures { (before : BlockBytes) → TellsImage result place.now file block (Some before) }
 {
     ImageAt {
         file,
@@ -179,7 +179,7 @@ impl TrailHistory {
 
     /// Adds an Image.
     fn add_image(&mut self, image: ImageAt) -> Result<(), AllocError>
-        ensures { OnOk result ((files : Files) (entries : List meaning.Entry) (f b : ℕ) (before : Option Block) (after : Block) → StandsAsImage files image f b before after
+        ensures { OnOk result ((files : Files) (entries : List meaning.Entry) (f b : ℕ) (before : Option BlockBytes) (after : BlockBytes) → StandsAsImage files image f b before after
             → IsTracedOn files entries (meaning.image f b before after) self.old self.new) }
     {
         self.push(LiveEntry::Changed(image))
@@ -277,14 +277,14 @@ impl TrailHistory {
 }
 
 /// How a restore goes, without its rows.
-fn how_at(how: How<'_>) -> HowAt
+fn how_at(how: BeginHow<'_>) -> HowAt
     ensures { MatchesHow result (how_of (how_seen how.entry)) }
 {
     match how {
-        How::HaltLoad => HowAt::HaltLoad,
-        How::BackOut => HowAt::BackOut,
-        How::Rollback => HowAt::Rollback,
-        How::Rebuild(dump) => HowAt::ByDump(dump),
-        How::Reconstruct(dump, _) => HowAt::ByDump(dump),
+        BeginHow::HaltLoad => HowAt::HaltLoad,
+        BeginHow::BackOut => HowAt::BackOut,
+        BeginHow::Rollback => HowAt::Rollback,
+        BeginHow::Rebuild(dump) => HowAt::ByDump(dump),
+        BeginHow::Reconstruct(dump, _) => HowAt::ByDump(dump),
     }
 }

@@ -9,7 +9,7 @@ use Rattle.dms_desc.specs.Shape.{Described, described}
 use Rattle.dms_feed.specs.Lines.{raw_lines}
 use Rattle.dms_model.specs.Db.{Db}
 use Rattle.dms_model.specs.declared.store.Store.{Ghosts}
-use Rattle.dms_model.specs.Points.{Quiet, Stop, LeavesPrefix, TextIs}
+use Rattle.dms_model.specs.Points.{Quiet, Stop, LeavesPrefix, StopTextIs}
 use Rattle.dms_model.specs.Seen.{Seen}
 use Rattle.dms_runner.specs.Answers.{script_run, script_events, unanswered_events}
 use Rattle.dms_runner.specs.Events.{RunEvent, goes_back, text_of, quiets_of, durable_after, CrashesWithin, Performs}
@@ -38,7 +38,7 @@ module _ (b a : Seen) (es : List RunEvent) (stop : Stop) where
   no_text : text_of (es ++ goes_back ∷ []) ≡ text_of es
   no_text = text_on es (goes_back ∷ []) ∙ append-nil (text_of es)
 
-  closes : b.tells → Performs b a (es ++ goes_back ∷ []) → LeavesPrefix a.whole a.durable a.points a.next stop → TextIs a.said stop
+  closes : b.tells → Performs b a (es ++ goes_back ∷ []) → LeavesPrefix a.whole a.durable a.points a.next stop → StopTextIs a.said stop
       → CrashesWithin b.whole b.said b.points b.durable b.next (es ++ goes_back ∷ []) stop
   closes tells did left text =
       let grew : PointsGrow b.points (quiets_of es) a.points = subst (λ (q : List Quiet). PointsGrow b.points q a.points) no_more (did.grew tells) in

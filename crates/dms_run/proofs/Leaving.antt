@@ -4,7 +4,7 @@ use Rattle.std.specs.List.{AllByRecursion}
 use Rattle.std.proofs.lemmas.List.{append_assoc, take-append-drop, length-append, length-take-le, length-map}
 use Rattle.std.proofs.Math.Seq.{take-append-add}
 use Rattle.dms_model.specs.Db.{Db}
-use Rattle.dms_model.specs.Points.{Files, Point, Quiet, Stop, told as told_point, known}
+use Rattle.dms_model.specs.Points.{StopFiles, Point, Quiet, Stop, told as told_point, known}
 use Rattle.dms_runner.specs.Answers.{last_quiet}
 use Rattle.dms_runner.specs.EventLaws.{any}
 use Rattle.dms_runner.specs.Events.{RunEvent, text_of, quiets_of, durable_after, durable_by, CrashesWithin}
@@ -39,7 +39,7 @@ each_behind points front (c ∷ cs) (q ∷ qs) are same =
 -- ---- how many are left
 
 -- what is left of the quiet points behind points that were all durable
-record Cut (whole : Files → Type 0) (points : List Point) (durable next : ℕ) (quiets : List Quiet) (stop : Stop) : Type 0 where
+record Cut (whole : StopFiles → Type 0) (points : List Point) (durable next : ℕ) (quiets : List Quiet) (stop : Stop) : Type 0 where
   made : List Quiet
   rest : List Quiet
   more : List Point
@@ -55,7 +55,7 @@ map_take f zero l = grind arith
 map_take f (suc k) [] = refl
 map_take f (suc k) (x ∷ xs) = ap (λ (t : List _). f x ∷ t) (map_take f k xs)
 
-cut_of : (whole : Files → Type 0) (points : List Point) (durable next : ℕ) (quiets : List Quiet) (stop : Stop) → length points ≤ durable → LeavesQuiets whole durable points next quiets stop → Cut whole points durable next quiets stop
+cut_of : (whole : StopFiles → Type 0) (points : List Point) (durable next : ℕ) (quiets : List Quiet) (stop : Stop) → length points ≤ durable → LeavesQuiets whole durable points next quiets stop → Cut whole points durable next quiets stop
 cut_of whole points durable next quiets stop le left =
     let g = left.grew in
     let f = left.front in
@@ -93,7 +93,7 @@ durable_shift c n s n' s' (x ∷ es) e f =
 
 -- ---- a stop
 
-module _ (whole : Files → Type 0) (entry : Option (List ℕ)) (points : List Point) (n : ℕ) (db : Db) (next : ℕ) (events : List RunEvent) (stop : Stop) where
+module _ (whole : StopFiles → Type 0) (entry : Option (List ℕ)) (points : List Point) (n : ℕ) (db : Db) (next : ℕ) (events : List RunEvent) (stop : Stop) where
   pub stop_leaves : EndsWith points n db → CrashesWithin whole entry points (length points) next events stop → RunLeaves whole entry points n db next events stop
   stop_leaves ends s =
       let b = durable_after (length points) (length points) s.before in

@@ -3,7 +3,7 @@ use Rattle.std.specs.Prelude.{ℕ, ◌≡◌, ◌≤◌, ◌+◌, ◌⊎◌, Lis
 use Rattle.std.specs.List.{AllByRecursion}
 use Rattle.std.specs.declared.option.Option.{Option}
 use Rattle.dms_model.specs.Db.{Db}
-use Rattle.dms_model.specs.Points.{Files, Point, Quiet, Stop, told, known}
+use Rattle.dms_model.specs.Points.{StopFiles, Point, Quiet, Stop, told, known}
 use Rattle.dms_runner.specs.Answers.{last_quiet}
 use Rattle.dms_runner.specs.Events.{RunEvent, text_of, quiets_of, durable_after}
 use Rattle.dms_run.specs.States.{EndsWith, HasState}
@@ -28,7 +28,7 @@ pub record PrintedUpTo (entry : List ℕ) (events : List RunEvent) (left : ℕ) 
 -- these events. The stop leaves the points of entry as they were and behind them exactly the first so many of the quiet points, each with its
 -- own database, at least those of the syncpoints before what was printed last. The next number rose by one at least for each of these quiet
 -- points, and the files are whole as the store means it.
-pub record RunLeaves (whole : Files → Type 0) (entry : Option (List ℕ)) (points : List Point) (n : ℕ) (db : Db) (next : ℕ) (events : List RunEvent) (stop : Stop) : Type 0 where
+pub record RunLeaves (whole : StopFiles → Type 0) (entry : Option (List ℕ)) (points : List Point) (n : ℕ) (db : Db) (next : ℕ) (events : List RunEvent) (stop : Stop) : Type 0 where
   pub made : List Quiet
   pub rest : List Quiet
   pub front_of : made ++ rest ≡ quiets_of events

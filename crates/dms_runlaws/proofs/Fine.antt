@@ -8,7 +8,7 @@ use Rattle.std.proofs.lemmas.Bool.Decides.{nat_tests}
 use Rattle.dms_site.specs.Files.{Files}
 use Rattle.dms_fields.specs.Prefix.{byte_first, number_first, bytes_first}
 use Rattle.dms_fields.specs.PrefixLaws.{bind_some, go_some}
-use Rattle.dms_history.specs.Events.{Block, Event, change, quiet, control, begin}
+use Rattle.dms_history.specs.Events.{BlockBytes, Event, change, quiet, control, begin}
 use Rattle.dms_history.specs.Lists.{has, until_first}
 use Rattle.dms_history.specs.Places.{is_point}
 use Rattle.dms_history.specs.History.{History, history, history_from, after_event}
@@ -137,7 +137,7 @@ abbrev pub AllFine : List Entry → Type 0
 AllFine [] = Unit {0}
 AllFine (e ∷ es) = IsFine e × AllFine es
 
-sized_there : (files : Files) (p : EntryPlace) (f b : ℕ) (before : Option Block) (after : Block) → ImageThere files p f b before after → IsSizedChange before after
+sized_there : (files : Files) (p : EntryPlace) (f b : ℕ) (before : Option BlockBytes) (after : BlockBytes) → ImageThere files p f b before after → IsSizedChange before after
 sized_there files p f b None after t = record { was = tt; becomes = (t.new refl).1 }
 sized_there files p f b (Some old) after t = record { was = (t.old old refl).1; becomes = (t.old old refl).3 }
 

@@ -7,7 +7,7 @@ use Rattle.dms_site.specs.Files.{Files, stored_of}
 use Rattle.dms_model.specs.Db.{Db}
 use Rattle.dms_store.specs.Spelled.{is_spelled, db_in, some_if, spelled}
 use Rattle.dms_store.specs.Files.{whole_at}
-use Rattle.dms_history.specs.Events.{Content, Stored, Event}
+use Rattle.dms_history.specs.Events.{AllBlocks, Stored, Event}
 use Rattle.dms_history.specs.Lists.{until_first, after_first}
 use Rattle.dms_history.specs.Places.{is_described, is_point, IsLive}
 use Rattle.dms_history.specs.History.{last_point}
@@ -119,7 +119,7 @@ module _ (files : Files) (n : ℕ) (desc : Described) (db : Db) (s : StateOf fil
     | inr below ↦ absurd (omega (arith, low, outside_none f (λ up to. omega (arith, below, up))))
   ]
 
-  sized : (base : Content) → Kept (first == 10001) all (dumps_of files) base (stored_of files) → AllSized (content_told all base)
+  sized : (base : AllBlocks) → Kept (first == 10001) all (dumps_of files) base (stored_of files) → AllSized (content_told all base)
   sized base kept =
       let sound = kept.steady.sound in
       let fc = from_control live in

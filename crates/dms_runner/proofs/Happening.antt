@@ -19,7 +19,7 @@ use Rattle.std.proofs.lemmas.Bool.Decides.{nat_tests}
 use Rattle.dms_moments.specs.MomentLaws.{runs_none, runs_on, runs_weaken}
 use Rattle.dms_model.specs.declared.reply.Answer.{Answer}
 use Rattle.dms_model.specs.Db.{Db}
-use Rattle.dms_model.specs.Points.{Files, Point, Quiet, Stop, LeavesPrefix, TextIs, TextGrows, told, known}
+use Rattle.dms_model.specs.Points.{StopFiles, Point, Quiet, Stop, LeavesPrefix, StopTextIs, StopTextGrows, told, known}
 use Rattle.dms_block.specs.Texts.{Prints, PrintsPrefix}
 use Rattle.dms_desc.specs.Shape.{Described}
 use Rattle.dms_model.specs.declared.verb.Verb.{Verb}
@@ -28,7 +28,7 @@ use Rattle.dms_storeverbs.specs.Laws.{MakesWhereQuiet}
 use Rattle.dms_storeverbs.proofs.Quiet.{quiet_rule}
 use Rattle.dms_storeverbs.specs.View.{View, PerformsCall, PointsGrow, LeavesQuiets, StandsFor, view_of}
 use Rattle.dms_storeverbs.proofs.Calls.{lower, stays}
-use Rattle.dms_runner.specs.Events.{IsTold, RunEvent, calls, says, goes_back, text_of, quiets_of, durable_by, durable_after, CrashesFrom, IsCutShort, SaidWhole, Performs, PerformsPrefix, Takes, TookPart, blocks_of, syncs_of, backs_of, may_store, one_if}
+use Rattle.dms_runner.specs.Events.{IsTold, RunEvent, calls, says, goes_back, text_of, quiets_of, durable_by, durable_after, CrashesFrom, IsCutShort, SaidWhole, Performs, PerformsPrefix, TakesEvents, TookPart, blocks_of, syncs_of, backs_of, may_store, one_if}
 use Rattle.dms_runner.proofs.Texts.{prints_none, prints_on, front_none, front_all, front_of_first, front_on}
 
 pub text_on : (x y : List RunEvent) → text_of (x ++ y) ≡ text_of x ++ text_of y
@@ -52,10 +52,10 @@ backs_on [] y = omega arith
 backs_on (e ∷ x) y = omega (arith, backs_on x y)
 
 -- nothing was done
-pub takes_still : (desc : Described) (x : List RunEvent) {a b : Effort} → b ≡ a → Takes desc x a b
+pub takes_still : (desc : Described) (x : List RunEvent) {a b : Effort} → b ≡ a → TakesEvents desc x a b
 takes_still desc x {a} {b} same = record { spent = omega (arith, ap (λ (e : Effort). e.spent) same); syncs = omega (arith, ap (λ (e : Effort). e.syncs) same); outs = omega (arith, ap (λ (e : Effort). e.outs) same) }
 
-takes_on : (desc : Described) (x y : List RunEvent) {a b c : Effort} → Takes desc x a b → Takes desc y b c → Takes desc (x ++ y) a c
+takes_on : (desc : Described) (x y : List RunEvent) {a b c : Effort} → TakesEvents desc x a b → TakesEvents desc y b c → TakesEvents desc (x ++ y) a c
 takes_on desc x y p q = record {
   spent = omega (arith, p.spent, q.spent, blocks_on desc x y);
   syncs = omega (arith, p.syncs, q.syncs, syncs_on x y);
@@ -95,7 +95,7 @@ pub length_grew : {a b : List Point} {q : List Quiet} → PointsGrow a q b → l
 length_grew {a} {b} {q} x = omega (arith, ap length x.is, length-append a x.more, length-map x.more told, ap length x.spells, length-map q known)
 
 -- what is left of later points is left of all
-pub left_on : {V W : Files → Type 0} {a b : List Point} {q r : List Quiet} {low high m n : ℕ} {stop : Stop} → ((files : Files) → V files → W files) → PointsGrow a q b → low ≤ high → m + length q ≤ n → LeavesQuiets V high b n r stop → LeavesQuiets W low a m (q ++ r) stop
+pub left_on : {V W : StopFiles → Type 0} {a b : List Point} {q r : List Quiet} {low high m n : ℕ} {stop : Stop} → ((files : StopFiles) → V files → W files) → PointsGrow a q b → low ≤ high → m + length q ≤ n → LeavesQuiets V high b n r stop → LeavesQuiets W low a m (q ++ r) stop
 left_on {q = q} whole grew under fell l = record { made = q ++ l.made; rest = l.rest; all = l.all; front_of = append_assoc q l.made l.rest ∙ ap (λ (x : List Quiet). q ++ x) l.front_of; grew = grew_on grew l.grew; front = lower whole under (omega (arith, fell, length-append q l.made)) l.front }
 
 -- what is told before is told behind
@@ -154,7 +154,7 @@ ran_on a b c x y first next = record {
   durable = λ t. omega (arith, durable_on (length a.points) a.durable x y, ap (λ (n : ℕ). durable_after n (durable_after (length a.points) a.durable x) y) (length_grew (first.grew t)), durable_low_at (length b.points) (durable_after (length a.points) a.durable x) b.durable y (first.durable t), next.durable (told_on first t));
   moments = λ t. runs_on (runs_weaken (first.moments t) (stopped_first a x y)) (next.moments (told_on first t)) (λ stop s. stopped_on a b x y stop t first s);
   desc = next.desc ∙ first.desc;
-  effort = takes_on a.desc x y first.effort (subst (λ (d : Described). Takes d y b.effort c.effort) first.desc next.effort);
+  effort = takes_on a.desc x y first.effort (subst (λ (d : Described). TakesEvents d y b.effort c.effort) first.desc next.effort);
 }
 
 -- whole events
@@ -182,17 +182,17 @@ whole_on a b c x y first next =
 
 -- what a part of the events takes
 
-took_by : (a b : Seen) (x : List RunEvent) (k : ℕ) → k ≤ length x → Prints a.said b.said (text_of (take k x)) → Takes a.desc (take k x) a.effort b.effort → TookPart a b x
+took_by : (a b : Seen) (x : List RunEvent) (k : ℕ) → k ≤ length x → Prints a.said b.said (text_of (take k x)) → TakesEvents a.desc (take k x) a.effort b.effort → TookPart a b x
 took_by a b x k within text t = record { k = k; within = within; text = text; spent = omega (arith, t.spent); syncs = omega (arith, t.syncs); outs = omega (arith, t.outs) }
 
 -- nothing was done, and nothing said
 took_none : (a b : Seen) (x : List RunEvent) → b.said ≡ a.said → b.effort ≡ a.effort → TookPart a b x
 took_none a b x said same = took_by a b x 0 (omega arith) (prints_none a.said b.said said) (takes_still a.desc [] same)
 
-took_all : (a b : Seen) (x : List RunEvent) → Prints a.said b.said (text_of x) → Takes a.desc x a.effort b.effort → TookPart a b x
+took_all : (a b : Seen) (x : List RunEvent) → Prints a.said b.said (text_of x) → TakesEvents a.desc x a.effort b.effort → TookPart a b x
 took_all a b x text t =
     let all : x ≡ take (length x) x = sym (take_all (length x) x (omega arith)) in
-    took_by a b x (length x) (omega arith) (subst (λ (e : List RunEvent). Prints a.said b.said (text_of e)) all text) (subst (λ (e : List RunEvent). Takes a.desc e a.effort b.effort) all t)
+    took_by a b x (length x) (omega arith) (subst (λ (e : List RunEvent). Prints a.said b.said (text_of e)) all text) (subst (λ (e : List RunEvent). TakesEvents a.desc e a.effort b.effort) all t)
 
 took_of_first : (a b : Seen) (x y : List RunEvent) → TookPart a b x → TookPart a b (x ++ y)
 took_of_first a b x y p =
@@ -271,7 +271,7 @@ unless_cut (Err f) P only p uncut = absurd (uncut only)
 
 -- bytes
 
-stopped_says : (a : Seen) (x : List ℕ) (stop : Stop) → LeavesPrefix a.whole a.durable a.points a.next stop × TextGrows a.said x stop → CrashesFrom a (says x ∷ []) stop
+stopped_says : (a : Seen) (x : List ℕ) (stop : Stop) → LeavesPrefix a.whole a.durable a.points a.next stop × StopTextGrows a.said x stop → CrashesFrom a (says x ∷ []) stop
 stopped_says a x stop p = record {
   before = [];
   at = says x;
@@ -281,7 +281,7 @@ stopped_says a x stop p = record {
   text = λ t is. let n = p.1 t is in (n.0, n.1 ∙ ap (λ (l : List ℕ). l ++ take n.0 x) (sym (append-nil t)));
 }
 
-pub ran_says : (a b : Seen) (x y : List ℕ) → x ≡ y → (a.tells → b.tells) → ((files : Files) → b.whole files → a.whole files) → b.desc ≡ a.desc → b.effort ≡ a.effort → Sound a b → Prints a.said b.said x → SaysPart a b x → Keeps a b → a.next + 1 < 2 ^ 64 → Performs a b (says y ∷ [])
+pub ran_says : (a b : Seen) (x y : List ℕ) → x ≡ y → (a.tells → b.tells) → ((files : StopFiles) → b.whole files → a.whole files) → b.desc ≡ a.desc → b.effort ≡ a.effort → Sound a b → Prints a.said b.said x → SaysPart a b x → Keeps a b → a.next + 1 < 2 ^ 64 → Performs a b (says y ∷ [])
 ran_says a b x y is tells whole desc same undamaged text part keeps room = record {
   text = subst (λ (t : List ℕ). Prints a.said b.said t) (is ∙ sym (append-nil y)) text;
   tells = tells;
@@ -319,7 +319,7 @@ numbered false s o m = omega (arith, m.next, ap length m.quiets)
 pub step_numbers : (desc : Described) (s : Session) (name : List ℕ) (verb : Verb) → (step desc s name verb).session.next ≡ s.next + length (step desc s name verb).quiets
 step_numbers desc s name verb = numbered _ s (step desc s name verb) (quiet_rule desc s name verb)
 
-stopped_calls : (a : Seen) (verb : Verb) (o : Outcome) (stop : Stop) → LeavesQuiets a.whole a.durable a.points a.next o.quiets stop × TextIs a.said stop → CrashesFrom a (calls verb o ∷ []) stop
+stopped_calls : (a : Seen) (verb : Verb) (o : Outcome) (stop : Stop) → LeavesQuiets a.whole a.durable a.points a.next o.quiets stop × StopTextIs a.said stop → CrashesFrom a (calls verb o ∷ []) stop
 stopped_calls a verb o stop p = record {
   before = [];
   at = calls verb o;
@@ -344,7 +344,7 @@ up_by true m n is = omega (arith, is)
 up_by false m n is = omega (arith, is)
 
 call_takes : (desc : Described) (verb : Verb) (o : Outcome) (answer : Answer) {a b : Effort} → answer.reply ≡ o.reply → answer.sync ≡ o.sync → Costs (block_limit desc verb) (asks_back_out verb) (Ok answer) a b → (is_waits answer.reply ≡ true → b.spent ≤ a.spent)
-    → Takes desc (calls verb o ∷ []) a b
+    → TakesEvents desc (calls verb o ∷ []) a b
 unfolding may_store
 call_takes desc verb o answer {a} {b} reply sync costs idle = record {
   spent = spent_by (stores verb) (is_waits o.reply) desc a.spent b.spent costs.spent (λ waits. idle (ap is_waits reply ∙ waits));
@@ -367,7 +367,7 @@ took_call a b verb x result said costs = record {
   outs = omega (arith, costs.few_outs.1);
 }
 
-pub ran_calls : (a b : Seen) {programs : List Program} {pending : Bool} {since : ℕ} {waits : List Wait} (verb : Verb) (o : Outcome) (answer : Answer) → (a.tells → b.tells) → ((files : Files) → b.whole files → a.whole files) → b.desc ≡ a.desc → Costs (block_limit a.desc verb) (asks_back_out verb) (Ok answer) a.effort b.effort → (is_waits answer.reply ≡ true → b.effort.spent ≤ a.effort.spent)
+pub ran_calls : (a b : Seen) {programs : List Program} {pending : Bool} {since : ℕ} {waits : List Wait} (verb : Verb) (o : Outcome) (answer : Answer) → (a.tells → b.tells) → ((files : StopFiles) → b.whole files → a.whole files) → b.desc ≡ a.desc → Costs (block_limit a.desc verb) (asks_back_out verb) (Ok answer) a.effort b.effort → (is_waits answer.reply ≡ true → b.effort.spent ≤ a.effort.spent)
     → b.faults ≡ a.faults → IsMute a b → a.next + length o.quiets ≤ b.next → PerformsCall o a b (view_of b.db b.mark b.next programs pending since waits) (Ok answer) → Performs a b (calls verb o ∷ [])
 ran_calls a b verb o answer tells whole desc costs idle same mute next did = record {
   text = prints_none a.said b.said mute.said;
@@ -394,7 +394,7 @@ part_calls a b v verb o {result} costs cause mute did = record {
 
 -- the way back
 
-stopped_back : (a : Seen) (stop : Stop) → LeavesPrefix a.whole a.durable a.points a.next stop × TextIs a.said stop → CrashesFrom a (goes_back ∷ []) stop
+stopped_back : (a : Seen) (stop : Stop) → LeavesPrefix a.whole a.durable a.points a.next stop × StopTextIs a.said stop → CrashesFrom a (goes_back ∷ []) stop
 stopped_back a stop p = record {
   before = [];
   at = goes_back;
@@ -405,11 +405,11 @@ stopped_back a stop p = record {
 }
 
 -- where nobody works nothing is done
-pub back_takes : {T : Type 0} (r : Result T BlockFault) (works : Bool) (desc : Described) {a b : Effort} → (works ≡ true → GoesBack r a b) → (works ≡ false → b ≡ a) → Takes desc (goes_back ∷ []) a b
+pub back_takes : {T : Type 0} (r : Result T BlockFault) (works : Bool) (desc : Described) {a b : Effort} → (works ≡ true → GoesBack r a b) → (works ≡ false → b ≡ a) → TakesEvents desc (goes_back ∷ []) a b
 back_takes r true desc back stays = let p = back refl in record { spent = omega (arith, p.spent); syncs = omega (arith, p.syncs); outs = omega (arith, p.few.1) }
 back_takes r false desc back stays = takes_still desc (goes_back ∷ []) (stays refl)
 
-pub ran_back : (a b : Seen) → (a.tells → b.tells) → ((files : Files) → b.whole files → a.whole files) → b.desc ≡ a.desc → Takes a.desc (goes_back ∷ []) a.effort b.effort → (IsTold a → IsTold b) → Sound a b → IsSilent a b → StaysDurable a b → a.next + 1 < 2 ^ 64 → Performs a b (goes_back ∷ [])
+pub ran_back : (a b : Seen) → (a.tells → b.tells) → ((files : StopFiles) → b.whole files → a.whole files) → b.desc ≡ a.desc → TakesEvents a.desc (goes_back ∷ []) a.effort b.effort → (IsTold a → IsTold b) → Sound a b → IsSilent a b → StaysDurable a b → a.next + 1 < 2 ^ 64 → Performs a b (goes_back ∷ [])
 ran_back a b tells whole desc takes told undamaged silent points room = record {
   text = prints_none a.said b.said silent.said;
   tells = tells;
@@ -424,7 +424,7 @@ ran_back a b tells whole desc takes told undamaged silent points room = record {
   effort = takes;
 }
 
-pub part_back : {cut : Type 0} (a b : Seen) → Takes a.desc (goes_back ∷ []) a.effort b.effort → Sound a b → IsSilent a b → a.next + 1 < 2 ^ 64 → PerformsPrefix cut a b (goes_back ∷ [])
+pub part_back : {cut : Type 0} (a b : Seen) → TakesEvents a.desc (goes_back ∷ []) a.effort b.effort → Sound a b → IsSilent a b → a.next + 1 < 2 ^ 64 → PerformsPrefix cut a b (goes_back ∷ [])
 part_back a b takes undamaged silent room = record {
   took = λ uncut. record { k = 0; within = omega arith; text = prints_none a.said b.said silent.said; spent = omega (arith, takes.spent); syncs = omega (arith, takes.syncs); outs = omega (arith, takes.outs) };
   said_whole = λ uncut. whole_none a.said b.said (goes_back ∷ []) silent.said;

@@ -1,7 +1,7 @@
 -- A stop within events, told of all of them.
 use Rattle.std.proofs.Common.{ℕ, ◌≡◌, ◌≤◌, ◌+◌, ◌⊎◌, inl, inr, ⊎_elim, List, [], ◌∷◌, ◌++◌, length, take, Some, None, refl, sym, ◌∙◌, ap, arith, append_assoc, length-append, length-take}
 use Rattle.std.specs.declared.option.Option.{Option}
-use Rattle.dms_model.specs.Points.{Files, Point, Quiet, Stop, LeavesPrefix}
+use Rattle.dms_model.specs.Points.{StopFiles, Point, Quiet, Stop, LeavesPrefix}
 use Rattle.dms_storeverbs.specs.View.{LeavesQuiets}
 use Rattle.dms_storeverbs.proofs.Calls.{lower}
 use Rattle.dms_runner.specs.Events.{RunEvent, text_of, quiets_of, durable_by, durable_after}
@@ -57,16 +57,16 @@ places (x ∷ xs) a us (y ∷ ys) b vs is = ⊎_elim
     q))
     (places xs a us ys b vs (ap tail_of is))
 
-left_lower : {W : Files → Type 0} {low high next : ℕ} {points : List Point} {q : List Quiet} {stop : Stop} → low ≤ high → LeavesQuiets W high points next q stop → LeavesQuiets W low points next q stop
+left_lower : {W : StopFiles → Type 0} {low high next : ℕ} {points : List Point} {q : List Quiet} {stop : Stop} → low ≤ high → LeavesQuiets W high points next q stop → LeavesQuiets W low points next q stop
 left_lower low l = record { made = l.made; rest = l.rest; all = l.all; front_of = l.front_of; grew = l.grew; front = lower (λ files w. w) low (omega arith) l.front }
 
-left_more : {W : Files → Type 0} {durable next : ℕ} {points : List Point} {q all : List Quiet} (r : List Quiet) {stop : Stop} → all ≡ q ++ r → LeavesQuiets W durable points next q stop → LeavesQuiets W durable points next all stop
+left_more : {W : StopFiles → Type 0} {durable next : ℕ} {points : List Point} {q all : List Quiet} (r : List Quiet) {stop : Stop} → all ≡ q ++ r → LeavesQuiets W durable points next q stop → LeavesQuiets W durable points next all stop
 left_more r is l = record { made = l.made; rest = l.rest ++ r; all = l.all; front_of = sym (append_assoc l.made l.rest r) ∙ ap (λ (x : List Quiet). x ++ r) l.front_of ∙ sym is; grew = l.grew; front = l.front }
 
-length_front : {W : Files → Type 0} {durable next : ℕ} {points : List Point} {stop : Stop} → LeavesPrefix W durable points next stop → durable ≤ length stop.points
+length_front : {W : StopFiles → Type 0} {durable next : ℕ} {points : List Point} {stop : Stop} → LeavesPrefix W durable points next stop → durable ≤ length stop.points
 length_front {points = points} f = omega (arith, ap (λ (l : List Point). length l) f.is, length-take f.count points, f.enough, f.within)
 
-next_left : {W : Files → Type 0} {high durable next : ℕ} {points : List Point} {q : List Quiet} {stop : Stop} → LeavesQuiets W high points next q stop → durable ≤ high → durable ≡ length points → next ≤ stop.next
+next_left : {W : StopFiles → Type 0} {high durable next : ℕ} {points : List Point} {q : List Quiet} {stop : Stop} → LeavesQuiets W high points next q stop → durable ≤ high → durable ≡ length points → next ≤ stop.next
 next_left l under all = omega (arith, l.front.not_fallen, length_grew l.grew, l.front.enough, under, all)
 
 pub whole_law : WholeLaw
@@ -92,7 +92,7 @@ quiets_behind : (x y z : List RunEvent) (e : RunEvent) → x ≡ y ++ e ∷ z �
 quiets_behind x y z e is = omega (arith, length-append (quiets_of y) e.quiets, ap (λ (l : List RunEvent). length (quiets_of l)) is, ap length (quiets_on y (e ∷ z)), length-append (quiets_of y) (e.quiets ++ quiets_of z), length-append e.quiets (quiets_of z))
 
 -- no more quiet points are left than there are
-left_most : {W : Files → Type 0} {durable next : ℕ} {points : List Point} {q : List Quiet} {stop : Stop} → LeavesQuiets W durable points next q stop → length stop.points ≤ length points + length q
+left_most : {W : StopFiles → Type 0} {durable next : ℕ} {points : List Point} {q : List Quiet} {stop : Stop} → LeavesQuiets W durable points next q stop → length stop.points ≤ length points + length q
 left_most {q = q} l = omega (arith, ap (λ (x : List Point). length x) l.front.is, length-take l.front.count l.all, length_grew l.grew, length-append l.made l.rest, ap length l.front_of)
 
 pub sync_law : SyncLaw

@@ -5,7 +5,7 @@ use Rattle.std.specs.declared.result.Result.TheVariants.{Ok, Err}
 use Rattle.dms_block.specs.declared.block_fault.BlockFault.TheVariants.{Say}
 use Rattle.dms_block.specs.Counts.{Faults, Raised}
 use Rattle.dms_model.specs.declared.store.Store.{Ghosts}
-use Rattle.dms_model.specs.Points.{Files}
+use Rattle.dms_model.specs.Points.{StopFiles}
 use Rattle.dms_storeverbs.specs.declared.engine.Engine.{Engine}
 use Rattle.dms_storeverbs.specs.View.{seen}
 use Rattle.dms_runner.specs.declared.run.RunFault.{RunFault}
@@ -36,7 +36,7 @@ pub record LastsRun {St : Type 0} {g : Ghosts St} {T : Type 0} (result : Result 
   pub same : g.same_store old.store new.store
   pub tells : (seen old).tells → (seen new).tells
   pub desc : (seen new).desc ≡ (seen old).desc
-  pub whole : (files : Files) → (seen new).whole files → (seen old).whole files
-  pub whole_on : (files : Files) → (seen old).whole files → (seen new).whole files
+  pub whole : (files : StopFiles) → (seen new).whole files → (seen old).whole files
+  pub whole_on : (files : StopFiles) → (seen old).whole files → (seen new).whole files
   pub cause : IsBlamedOn result (seen old).faults (seen new).faults
   pub reads : (seen old).reads ≤ (seen new).reads

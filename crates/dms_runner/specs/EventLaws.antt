@@ -3,18 +3,18 @@ use Rattle.std.specs.Prelude.{ℕ, ⊤, ◌≡◌, ◌≤◌, ◌<◌, ◌+◌, 
 use Rattle.std.specs.declared.option.Option.{Option}
 use Rattle.dms_desc.specs.Shape.{Described}
 use Rattle.dms_model.specs.Db.{Db}
-use Rattle.dms_model.specs.Points.{Files, Point, Stop}
+use Rattle.dms_model.specs.Points.{StopFiles, Point, Stop}
 use Rattle.dms_model.specs.Session.{ended}
 use Rattle.dms_storeverbs.specs.View.{LeavesQuiets}
 use Rattle.dms_runner.specs.Answers.{script_run, left_by}
 use Rattle.dms_runner.specs.Events.{RunEvent, text_of, quiets_of, CrashesWithin}
 
 -- these laws ask nothing of the files
-abbrev pub any : Files → Type 0
+abbrev pub any : StopFiles → Type 0
 any files = ⊤
 
 -- a stop of which something of the files is said, too
-pub any_stop : {W : Files → Type 0} {said : Option (List ℕ)} {points : List Point} {durable next : ℕ} {events : List RunEvent} {stop : Stop} → CrashesWithin W said points durable next events stop → CrashesWithin any said points durable next events stop
+pub any_stop : {W : StopFiles → Type 0} {said : Option (List ℕ)} {points : List Point} {durable next : ℕ} {events : List RunEvent} {stop : Stop} → CrashesWithin W said points durable next events stop → CrashesWithin any said points durable next events stop
 any_stop s =
     let f = s.left.front in
     record {

@@ -6,7 +6,7 @@ use Rattle.std.specs.declared.result.Result.TheVariants.{Ok, Err}
 use Rattle.dms_block.specs.declared.block_fault.BlockFault.{BlockFault}
 use Rattle.dms_block.specs.declared.block_fault.BlockFault.TheVariants.{Say}
 use Rattle.dms_moments.specs.Moments.{Runs}
-use Rattle.dms_model.specs.Points.{Files, Point, Quiet, Stop}
+use Rattle.dms_model.specs.Points.{StopFiles, Point, Quiet, Stop}
 use Rattle.dms_block.specs.Texts.{Prints, PrintsPrefix}
 use Rattle.dms_model.specs.Db.{Db}
 use Rattle.dms_desc.specs.Shape.{Described}
@@ -72,7 +72,7 @@ backs_of [] = 0
 backs_of (e ∷ es) = one_if e.backs + backs_of es
 
 -- No more was done than these events may take.
-pub record Takes (desc : Described) (events : List RunEvent) (old new : Effort) : Type 0 where
+pub record TakesEvents (desc : Described) (events : List RunEvent) (old new : Effort) : Type 0 where
   pub spent : new.spent ≤ old.spent + blocks_of desc events
   pub syncs : new.syncs ≤ old.syncs + syncs_of events
   pub outs : new.outs ≤ old.outs + backs_of events
@@ -91,7 +91,7 @@ durable_after count durable (e ∷ es) = durable_after (count + length e.quiets)
 -- A stop within these events, where so many quiet points were durable at first. The events before one of them are over. Of the
 -- quiet points so far, those of this event too, the stop leaves the first ones, and all that were durable before this event. The
 -- text is that of the events before, whole, and a prefix of what this one says.
-pub record CrashesWithin (whole : Files → Type 0) (said : Option (List ℕ)) (points : List Point) (durable next : ℕ) (events : List RunEvent) (stop : Stop) : Type 0 where
+pub record CrashesWithin (whole : StopFiles → Type 0) (said : Option (List ℕ)) (points : List Point) (durable next : ℕ) (events : List RunEvent) (stop : Stop) : Type 0 where
   pub before : List RunEvent
   pub at : RunEvent
   pub rest : List RunEvent
@@ -115,7 +115,7 @@ pub record IsTold (s : Seen) : Type 0 where
 pub record Performs (b a : Seen) (events : List RunEvent) : Type 0 where
   pub text : Prints b.said a.said (text_of events)
   pub tells : b.tells → a.tells
-  pub whole : (files : Files) → a.whole files → b.whole files
+  pub whole : (files : StopFiles) → a.whole files → b.whole files
   pub told : IsTold b → IsTold a
   pub undamaged : IsTold b → a.faults.damaged ≡ b.faults.damaged
   pub next : b.next + length (quiets_of events) ≤ a.next
@@ -123,7 +123,7 @@ pub record Performs (b a : Seen) (events : List RunEvent) : Type 0 where
   pub durable : b.tells → durable_after (length b.points) b.durable events ≤ a.durable
   pub moments : b.tells → Runs b.clock a.clock (CrashesFrom b events)
   pub desc : a.desc ≡ b.desc
-  pub effort : Takes b.desc events b.effort a.effort
+  pub effort : TakesEvents b.desc events b.effort a.effort
 
 -- the answer is a fault of printing: the last text may have been cut off
 abbrev pub IsCutShort : {T : Type 0} → Result T BlockFault → Type 0

@@ -16,7 +16,7 @@ use Rattle.dms_storeverbs.specs.View.{StandsFor, MayStep, seen, view}
 use Rattle.dms_script.specs.declared.line.Line.{Line}
 use Rattle.dms_runner.specs.declared.waiting.WaitingLine.{WaitingLine}
 use Rattle.dms_runner.specs.Answers.{RunState, LineEffect, MayTakeLine, line_effect, line_step, lines_run, script_events, script_run}
-use Rattle.dms_runner.specs.Events.{RunEvent, IsCutShort, PerformsPrefix, Takes, TookPart}
+use Rattle.dms_runner.specs.Events.{RunEvent, IsCutShort, PerformsPrefix, TakesEvents, TookPart}
 use Rattle.dms_runner.specs.Blaming.{CutRun}
 use Rattle.dms_runner.specs.declared.run.RunFault.{RunFault}
 use Rattle.dms_runner.specs.Running.{AnswersWhole, CutInput, PassesBytes, PassesLines, PassesWaiting, TakesScriptLine}
@@ -137,7 +137,7 @@ module _ {St : Type 0} {g : Ghosts St} where
 
   -- no more was done than the events of the script may take, or than those may take whose text was said and one call that was under way
   abbrev pub EffortWithin : Engine St g → Engine St g → Db → ℕ → List ℕ → Type 0
-  EffortWithin old new db first all = Takes (seen old).desc (events_at old db first all) (seen old).effort (seen new).effort
+  EffortWithin old new db first all = TakesEvents (seen old).desc (events_at old db first all) (seen old).effort (seen new).effort
 
   abbrev pub EffortOfPart : Engine St g → Engine St g → Db → ℕ → List ℕ → Type 0
   EffortOfPart old new db first all = TookPart (seen old) (seen new) (events_at old db first all)

@@ -3,7 +3,7 @@ use Rattle.std.proofs.Common.{ℕ, ◌-◌, ◌+◌, ◌^◌, ◌≤◌, ◌<◌
 use Rattle.std.proofs.lemmas.List.{map-append}
 use Rattle.dms_moments.specs.Moments.{Clock, Now, Steps}
 use Rattle.dms_site.specs.Files.{Files, Left, stored_of}
-use Rattle.dms_history.specs.Events.{Block, Content, Stored, Event, change, quiet}
+use Rattle.dms_history.specs.Events.{BlockBytes, AllBlocks, Stored, Event, change, quiet}
 use Rattle.dms_history.specs.Replay.{TellsBefore, with_block}
 use Rattle.dms_history.specs.Base.{from_control, Sound}
 use Rattle.dms_history.specs.Pick.{Dumps, blocks_at}
@@ -27,7 +27,7 @@ use Rattle.dms_running.proofs.Plain.{plain_push, push_all, take_whole}
 use Rattle.dms_running.proofs.Stopped.{more_points, blocks_same, joined, whole_read, old_read, front_left, seals_leaves, append_runs, seal_runs}
 
 -- the content that entries tell, where the files have these blocks
-pub content_of : (t : Telling) (a : State) (xs : List Entry) (st : Stored) (d : Dumps) (base : Content) → entries_now t a ≡ xs → stored_of a.files ≡ st → MayRun t.first xs d base st → content_now t a ≡ content_told xs base
+pub content_of : (t : Telling) (a : State) (xs : List Entry) (st : Stored) (d : Dumps) (base : AllBlocks) → entries_now t a ≡ xs → stored_of a.files ≡ st → MayRun t.first xs d base st → content_now t a ≡ content_told xs base
 content_of t a xs st d base is blocks m =
     (λ i. blocks_at (live_of (is i) ++ quiet (next_of (is i)) ∷ []) (blocks i) (next_of (is i))) ∙ content_at t.first xs d base st m
 
@@ -41,7 +41,7 @@ running_whole t a r read =
 
 -- ---- lists of points
 
-image_numbers : (live : List Event) (f b : ℕ) (before : Option Block) (after : Block) → live_numbers (live ++ change f b before after ∷ []) ≡ live_numbers live
+image_numbers : (live : List Event) (f b : ℕ) (before : Option BlockBytes) (after : BlockBytes) → live_numbers (live ++ change f b before after ∷ []) ≡ live_numbers live
 unfolding live_numbers
 image_numbers live f b before after = numbers_append [] live (change f b before after ∷ []) ∙ append_none (numbers_from [] live)
 
@@ -51,7 +51,7 @@ quiet_numbers live n new =
     ap (λ (l : List ℕ). length l) (numbers_append [] live (quiet n ∷ []) ∙ ap (λ (l : List ℕ). numbers_from [] live ++ l) new) ∙ length-append (numbers_from [] live) (n ∷ [])
 
 module _ (t : Telling) (telling : IsTelling t) (a : State) (r : IsRunning t a) (read : IsAnOutcome a) where
-  abbrev pub base : Content
+  abbrev pub base : AllBlocks
   base = r.base
 
   abbrev pub all : List Entry
@@ -98,12 +98,12 @@ module _ (t : Telling) (telling : IsTelling t) (a : State) (r : IsRunning t a) (
 
   -- ---- an Image
 
-  module _ (f k : ℕ) (before : Option Block) (after : Block) (tells : TellsBefore k before (content_now t a f)) (sized : length after ≡ 1024) where
+  module _ (f k : ℕ) (before : Option BlockBytes) (after : BlockBytes) (tells : TellsBefore k before (content_now t a f)) (sized : length after ≡ 1024) where
     abbrev pub the_image : Entry
     the_image = image f k before after
 
     told : TellsBefore k before (content_told all base f)
-    told = subst (λ (c : Content). TellsBefore k before (c f)) content_is tells
+    told = subst (λ (c : AllBlocks). TellsBefore k before (c f)) content_is tells
 
     each_image : (d : Dumps) (st : Stored) → MayRun t.first all d base st → MayRun t.first (all ++ the_image ∷ []) d base st
     each_image d st m = may_image t.first all d base st m f k before after told sized
@@ -151,7 +151,7 @@ module _ (t : Telling) (telling : IsTelling t) (a : State) (r : IsRunning t a) (
       pub log_content : content_now t b ≡ with_block (content_now t a) f k after
       log_content =
           content_of t b (all ++ the_image ∷ []) (stored_of a.files) (t.dumps a.files) base (push_entries the_image tt each_image counts_image b more) (blocks_same b.files a.files more.above) (each_image (t.dumps a.files) (stored_of a.files) now_runs)
-          ∙ content_image t.first all (t.dumps a.files) base (stored_of a.files) now_runs f k before after told sized ∙ ap (λ (c : Content). with_block c f k after) (sym content_is)
+          ∙ content_image t.first all (t.dumps a.files) base (stored_of a.files) now_runs f k before after told sized ∙ ap (λ (c : AllBlocks). with_block c f k after) (sym content_is)
 
   -- ---- a quiet point
 

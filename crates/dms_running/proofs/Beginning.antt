@@ -4,7 +4,7 @@ use Rattle.std.proofs.lemmas.List.{take-append-drop}
 use Rattle.dms_moments.specs.Moments.{Clock, Now, Steps}
 use Rattle.dms_moments.specs.MomentLaws.{runs_weaken}
 use Rattle.dms_site.specs.Files.{Files, Left, stored_of}
-use Rattle.dms_history.specs.Events.{Content, Stored, How, halt_load, back_out, roll_back, rebuild, reconstruct, Event, change, quiet, control, begin}
+use Rattle.dms_history.specs.Events.{AllBlocks, Stored, How, halt_load, back_out, roll_back, rebuild, reconstruct, Event, change, quiet, control, begin}
 use Rattle.dms_history.specs.Lists.{has, until_first, after_first}
 use Rattle.dms_history.specs.Places.{is_described, is_point, IsLive}
 use Rattle.dms_history.specs.History.{History, history, after_event, last_point, next_number}
@@ -54,7 +54,7 @@ has_no_dump roll_back d live st m by_audit = tt
 has_no_dump (rebuild k) d live st m by_audit = absurd by_audit
 has_no_dump (reconstruct k named) d live st m by_audit = absurd by_audit
 
-module _ (first : Bool) (es : List Entry) (d : Dumps) (base : Content) (st : Stored) (run : MayRun first es d base st) (m : ℕ) (kind : Kind) (by_audit : ByAudit (how_of kind)) (at : IsLive (live_of es) m) where
+module _ (first : Bool) (es : List Entry) (d : Dumps) (base : AllBlocks) (st : Stored) (run : MayRun first es d base st) (m : ℕ) (kind : Kind) (by_audit : ByAudit (how_of kind)) (at : IsLive (live_of es) m) where
   abbrev pub with_begin : List Entry
   with_begin = es ++ begin_restore m kind ∷ []
 
@@ -119,7 +119,7 @@ pub all_sealed : (t : Telling) (es waiting : List Entry) (old new : Files) → A
 all_sealed t es waiting old new a none = record { sealed = a.sealed ∙ ap (λ (l : List Entry). t.entries old ++ l) (rest_nothing a.some es (sym a.rest ∙ none)); above = a.above }
 
 module _ (t : Telling) (telling : IsTelling t) (a : State) (r : IsRunning t a) (read : IsAnOutcome a) (m : ℕ) (kind : Kind) (by_audit : ByAudit (how_of kind)) (at : IsLast t a m) where
-  abbrev pub base : Content
+  abbrev pub base : AllBlocks
   base = r.base
 
   abbrev pub all : List Entry

@@ -2,7 +2,7 @@
 use Rattle.std.proofs.Common.{ℕ, ◌+◌, ◌≤◌, ◌<◌, ◌≡◌, inl, inr, Bool, true, List, [], ◌∷◌, ◌++◌, map, length, take, Some, refl, sym, ◌∙◌, ap, subst, arith, append_assoc}
 use Rattle.dms_moments.specs.Moments.{Clock, Runs}
 use Rattle.dms_site.specs.Files.{Left, Only, stored_of}
-use Rattle.dms_history.specs.Events.{Content, Stored, Event, control, block_in}
+use Rattle.dms_history.specs.Events.{AllBlocks, Stored, Event, control, block_in}
 use Rattle.dms_history.specs.Lists.{has}
 use Rattle.dms_history.specs.Places.{is_control, is_described, is_point}
 use Rattle.dms_history.specs.History.{History, history, after_event, last_point, next_number}
@@ -46,7 +46,7 @@ pub all_parts : (k all : ℕ) (bodies : List (List ℕ)) → AllSchemaParts (par
 all_parts k all [] = tt
 all_parts k all (bytes ∷ rest) = (tt, all_parts (k + 1) all rest)
 
-kept_one : (first : Bool) (es : List Entry) (e : Entry) (d : Dumps) (base : Content) (st : Stored) → IsSchemaPart e → Kept first es d base st → Kept first (es ++ e ∷ []) d base st
+kept_one : (first : Bool) (es : List Entry) (e : Entry) (d : Dumps) (base : AllBlocks) (st : Stored) → IsSchemaPart e → Kept first es d base st → Kept first (es ++ e ∷ []) d base st
 kept_one first es (schema_part part parts bytes) d base st is k = kept_schema first es d base st part parts bytes k
 kept_one first es (image f b before after) d base st is k = absurd is
 kept_one first es (byte_range f b place bytes) d base st is k = absurd is
@@ -54,12 +54,12 @@ kept_one first es (quiet_point n) d base st is k = absurd is
 kept_one first es (control_point n next counts) d base st is k = absurd is
 kept_one first es (begin_restore n kind) d base st is k = absurd is
 
-pub kept_parts : (first : Bool) (es ps : List Entry) (d : Dumps) (base : Content) (st : Stored) → AllSchemaParts ps → Kept first es d base st → Kept first (es ++ ps) d base st
+pub kept_parts : (first : Bool) (es ps : List Entry) (d : Dumps) (base : AllBlocks) (st : Stored) → AllSchemaParts ps → Kept first es d base st → Kept first (es ++ ps) d base st
 kept_parts first es [] d base st all k = subst (λ (l : List Entry). Kept first l d base st) (sym (append_none es)) k
 kept_parts first es (p ∷ ps) d base st all k =
     subst (λ (l : List Entry). Kept first l d base st) (append_assoc es (p ∷ []) ps) (kept_parts first (es ++ p ∷ []) ps d base st all.1 (kept_one first es p d base st all.0 k))
 
-module _ (first : Bool) (es : List Entry) (d : Dumps) (base : Content) (st : Stored) (n next : ℕ) (one : List ℕ) (rest : List (List ℕ)) (counts : List FileCount) where
+module _ (first : Bool) (es : List Entry) (d : Dumps) (base : AllBlocks) (st : Stored) (n next : ℕ) (one : List ℕ) (rest : List (List ℕ)) (counts : List FileCount) where
   abbrev pub schema : List Entry
   schema = schema_entries (one ∷ rest)
 
@@ -169,8 +169,8 @@ module _ (first : Bool) (es : List Entry) (d : Dumps) (base : Content) (st : Sto
     telling_it = kept_control first (es ++ schema) d base st st n next counts (kept_parts first es schema d base st schema_parts m.stands.kept)
         (record { none = ap (λ (h : History). h.pending) same_history ∙ m.none; controlled = ap (λ (h : History). has is_control h.live) same_history ∙ (idle first es d base st m).controlled })
         (ap last_point same_history ∙ ends) (ap (λ (h : History). has (is_point n) h.live) same_history ∙ placed) (omega (arith, carried, same_next))
-        (λ f. count f ∙ ap (λ (c : Content). length (c f)) (sym same_content))
-        (λ f b low. stand f b (subst (λ (c : Content). b < length (c f)) same_content low) ∙ ap (λ (c : Content). block_in c f b) (sym same_content))
+        (λ f. count f ∙ ap (λ (c : AllBlocks). length (c f)) (sym same_content))
+        (λ f b low. stand f b (subst (λ (c : AllBlocks). b < length (c f)) same_content low) ∙ ap (λ (c : AllBlocks). block_in c f b) (sym same_content))
 
     pub control_kept : Kept first (es ++ plan) d base st
     control_kept = subst (λ (l : List Entry). Kept first l d base st) behind telling_it.kept
@@ -182,7 +182,7 @@ module _ (first : Bool) (es : List Entry) (d : Dumps) (base : Content) (st : Sto
 
 module _ (t : Telling) (telling : IsTelling t) (a : State) (r : IsRunning t a) (read : IsAnOutcome a) (nothing : a.waiting ≡ []) (only : Only a.files a.clock) (written : AllWritten t a)
     (n : ℕ) (at : IsLast t a n) (counts : List FileCount) (count : (f : ℕ) → counts_in counts f ≡ length (content_now t a f)) (es : List Entry) (c : IsSchemaControl t a n counts es) where
-  abbrev pub base : Content
+  abbrev pub base : AllBlocks
   base = r.base
 
   old_is : entries_now t a ≡ t.entries a.files
@@ -201,10 +201,10 @@ module _ (t : Telling) (telling : IsTelling t) (a : State) (r : IsRunning t a) (
   placed = ap (λ (l : List Entry). has (is_point n) (live_of l)) (sym old_is) ∙ at.lives.found
 
   each_count : (f : ℕ) → counts_in counts f ≡ length (content_told (t.entries a.files) base f)
-  each_count f = count f ∙ ap (λ (k : Content). length (k f)) told
+  each_count f = count f ∙ ap (λ (k : AllBlocks). length (k f)) told
 
   each_stands : (f b : ℕ) → b < length (content_told (t.entries a.files) base f) → stored_of a.files f b ≡ block_in (content_told (t.entries a.files) base) f b
-  each_stands f b low = written f b (subst (λ (k : Content). b < length (k f)) (sym told) low) ∙ ap (λ (k : Content). block_in k f b) told
+  each_stands f b low = written f b (subst (λ (k : AllBlocks). b < length (k f)) (sym told) low) ∙ ap (λ (k : AllBlocks). block_in k f b) told
 
   kept : Kept t.first (t.entries a.files ++ plan t.first (t.entries a.files) (t.dumps a.files) base (stored_of a.files) n (next_in t a.files) c.first c.rest counts) (t.dumps a.files) base (stored_of a.files)
   kept = control_kept t.first (t.entries a.files) (t.dumps a.files) base (stored_of a.files) n (next_in t a.files) c.first c.rest counts m ends placed (omega arith) each_count each_stands

@@ -1,6 +1,6 @@
 -- The Schemas at points while entries are appended.
 use Rattle.std.proofs.Common.{ℕ, ◌+◌, ◌≡◌, ◌||◌, inl, inr, Bool, true, false, cond, List, [], ◌∷◌, ◌++◌, map, length, Option, Some, refl, sym, ◌∙◌, ap, append_assoc}
-use Rattle.dms_history.specs.Events.{Block, Stored, Event}
+use Rattle.dms_history.specs.Events.{BlockBytes, Stored, Event}
 use Rattle.dms_history.specs.Lists.{has, until_first}
 use Rattle.dms_history.specs.Places.{is_point, IsLive}
 use Rattle.dms_history.specs.Ranges.{Logged, all_changes}
@@ -210,7 +210,7 @@ last_stays es e goes none =
     ap schema_of (live_more es e goes)
     ∙ (each_schema (live_entries es)).stays e (ap is_whole (parts_append (live_entries es) (e ∷ []) no_parts ∙ none (parts_from no_parts (live_entries es))))
 
-pub last_image : (es : List Entry) (f b : ℕ) (before : Option Block) (after : Block) → schema_of (live_entries (es ++ image f b before after ∷ [])) ≡ schema_of (live_entries es)
+pub last_image : (es : List Entry) (f b : ℕ) (before : Option BlockBytes) (after : BlockBytes) → schema_of (live_entries (es ++ image f b before after ∷ [])) ≡ schema_of (live_entries es)
 last_image es f b before after = last_stays es (image f b before after) refl (λ p. refl)
 
 pub last_quiet : (es : List Entry) (n : ℕ) → schema_of (live_entries (es ++ quiet_point n ∷ [])) ≡ schema_of (live_entries es)

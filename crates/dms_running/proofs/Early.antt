@@ -4,7 +4,7 @@ use Rattle.dms_moments.specs.Moments.{Clock, Now, Steps}
 use Rattle.dms_moments.specs.MomentLaws.{runs_weaken, runs_on}
 use Rattle.dms_site.specs.Files.{Left, InFile, Torn, OnDisk, stored_of}
 use Rattle.dms_site.specs.StoredLaws.{stored_whole, stored_apart}
-use Rattle.dms_history.specs.Events.{Content, Event}
+use Rattle.dms_history.specs.Events.{AllBlocks, Event}
 use Rattle.dms_history.specs.Lists.{has, after_last}
 use Rattle.dms_history.specs.Places.{is_control}
 use Rattle.dms_history.specs.Images.{last_after}
@@ -44,7 +44,7 @@ pub after_from : (es : List Event) → has is_control es ≡ true → after_last
 after_from es found = sym (after_behind is_control (opening es) (from_control es) (from_has es found)) ∙ ap (λ (l : List Event). after_last is_control l) (parts es)
 
 module _ (t : Telling) (telling : IsTelling t) (a : State) (r : IsRunning t a) (read : IsAnOutcome a) (f b : ℕ) (structure : 30000 < f) (logged : IsLogged t a.files f b) where
-  abbrev pub base : Content
+  abbrev pub base : AllBlocks
   base = r.base
 
   abbrev pub entries : ℕ → List Entry

@@ -2,7 +2,7 @@
 use Rattle.std.proofs.Common.{ℕ, ◌≤◌, ◌<◌, ◌≡◌, Bool, true, List, [], ◌∷◌, ◌++◌, Some, sym, ◌∙◌, ap, subst, arith}
 use Rattle.dms_moments.specs.Moments.{Clock, Runs}
 use Rattle.dms_site.specs.Files.{Left, Only, stored_of}
-use Rattle.dms_history.specs.Events.{Content, Stored}
+use Rattle.dms_history.specs.Events.{AllBlocks, Stored}
 use Rattle.dms_history.specs.Replay.{replay}
 use Rattle.dms_history.specs.Lists.{has}
 use Rattle.dms_history.specs.Places.{is_point}
@@ -31,7 +31,7 @@ use Rattle.dms_running.specs.Plans.{KeepsAll, Planned}
 use Rattle.dms_running.proofs.Planned.{still_runs, plan_leaves}
 use Rattle.dms_running.proofs.Restored.{read_stands}
 
-module _ (first : Bool) (es : List Entry) (d : Dumps) (base : Content) (st : Stored) (p : Pending) (next : ℕ) (one : List ℕ) (rest : List (List ℕ)) (counts : List FileCount) (s : Stands first es d base st)
+module _ (first : Bool) (es : List Entry) (d : Dumps) (base : AllBlocks) (st : Stored) (p : Pending) (next : ℕ) (one : List ℕ) (rest : List (List ℕ)) (counts : List FileCount) (s : Stands first es d base st)
     (is : (history_of es).pending ≡ Some p) (carried : next_of es ≤ next) (count : (f : ℕ) → counts_in counts f ≡ count_at p.entries p.point f)
     (stand : (f b : ℕ) → b < count_at p.entries p.point f → st f b ≡ here d (history_of es) st f b) where
   abbrev pub schema : List Entry
@@ -52,7 +52,7 @@ module _ (first : Bool) (es : List Entry) (d : Dumps) (base : Content) (st : Sto
 
 module _ (t : Telling) (telling : IsTelling t) (p : Pending) (a : State) (r : IsBegun t p a) (read : IsAnOutcome a) (only : Only a.files a.clock) (restored : IsRestored t p a)
     (counts : List FileCount) (count : (f : ℕ) → counts_in counts f ≡ count_at p.entries p.point f) (es : List Entry) (c : IsSchemaControl t a p.point counts es) where
-  abbrev pub base : Content
+  abbrev pub base : AllBlocks
   base = r.base
 
   abbrev pub old : List Entry

@@ -4,7 +4,7 @@ use Rattle.std.proofs.lemmas.Bool.{cases_eq}
 use Rattle.dms_site.specs.Files.{Files, with_file, overlaid, InFile, Torn, stored_of}
 use Rattle.dms_site.specs.Laws.{torn_overlaid, in_file_with}
 use Rattle.dms_site.specs.StoredLaws.{stored_whole, stored_apart, stored_written}
-use Rattle.dms_history.specs.Events.{Block, Content, Stored, Event, change, block_in}
+use Rattle.dms_history.specs.Events.{BlockBytes, AllBlocks, Stored, Event, change, block_in}
 use Rattle.dms_history.specs.Replay.{TellsBefore, with_block}
 use Rattle.dms_history.specs.Lists.{after_last}
 use Rattle.dms_history.specs.Places.{is_control}
@@ -85,14 +85,14 @@ module _ (t : Telling) (s : State) (frames : Frames) (h : FramesHold t s frames)
 
 pub holds_same : (t : Telling) (a b : State) (frames : Frames) → FramesHold t a frames → content_now t b ≡ content_now t a → stored_of b.files ≡ stored_of a.files → ((f k : ℕ) → IsChanged t a f k → IsChanged t b f k) → FramesHold t b frames
 holds_same t a b frames h content blocks changes f k = record {
-  held = λ x is. let r = (h f k).held x is in (subst (λ (c : Content). k < length (c f)) (sym content) r.0, r.1 ∙ ap (λ (c : Content). block_in c f k) (sym content));
-  stands = λ low clean. ap (λ (st : Stored). st f k) blocks ∙ (h f k).stands (subst (λ (c : Content). k < length (c f)) content low) clean ∙ ap (λ (c : Content). block_in c f k) (sym content);
+  held = λ x is. let r = (h f k).held x is in (subst (λ (c : AllBlocks). k < length (c f)) (sym content) r.0, r.1 ∙ ap (λ (c : AllBlocks). block_in c f k) (sym content));
+  stands = λ low clean. ap (λ (st : Stored). st f k) blocks ∙ (h f k).stands (subst (λ (c : AllBlocks). k < length (c f)) content low) clean ∙ ap (λ (c : AllBlocks). block_in c f k) (sym content);
   changed = λ x is dirty. changes f k ((h f k).changed x is dirty);
 }
 
 -- ---- a block is changed
 
-module _ (t : Telling) (a later : State) (frames : Frames) (h : FramesHold t a frames) (f b : ℕ) (before : Option Block) (after : Block)
+module _ (t : Telling) (a later : State) (frames : Frames) (h : FramesHold t a frames) (f b : ℕ) (before : Option BlockBytes) (after : BlockBytes)
     (tells : TellsBefore b before (content_now t a f)) (grown : content_now t later ≡ with_block (content_now t a) f b after)
     (entries : entries_now t later ≡ entries_now t a ++ image f b before after ∷ []) (blocks : stored_of later.files ≡ stored_of a.files) where
   le : b ≤ length (content_now t a f)
@@ -117,7 +117,7 @@ module _ (t : Telling) (a later : State) (frames : Frames) (h : FramesHold t a f
       let long : b < length (with_block was f b after f) = omega (arith, ap length (in_file was f b after), laid_length b after (was f) le, le) in
       holds_with t later frames f b (Some x) (record {
         held = λ y is. let own : x ≡ y = some_is x y is in
-            (subst (λ (k : Content). b < length (k f)) (sym grown) long, ap (λ (z : Frame). z.block) (sym own) ∙ sym (ap (λ (k : Content). block_in k f b) grown ∙ write_here was f b after le));
+            (subst (λ (k : AllBlocks). b < length (k f)) (sym grown) long, ap (λ (z : Frame). z.block) (sym own) ∙ sym (ap (λ (k : AllBlocks). block_in k f b) grown ∙ write_here was f b after le));
         stands = λ low clean. absurd (true_not_false (clean x refl));
         changed = λ y is dirty none. elim (place_cases f b f b) [
           | inl place ↦ absurd (true_not_false (sym place.2 ∙ (both f b none).0))
@@ -127,10 +127,10 @@ module _ (t : Telling) (a later : State) (frames : Frames) (h : FramesHold t a f
       let apart : g ≡ f → k ≡ b → ⊥ = λ p q. off (sym p) (sym q) in
       record {
         held = λ y is. let r = (h g k).held y is in
-            (subst (λ (l : Content). k < length (l g)) (sym grown) (omega (arith, r.0, write_length was f b after g le)), r.1 ∙ sym (ap (λ (l : Content). block_in l g k) grown ∙ write_other was f b after g k le apart r.0));
+            (subst (λ (l : AllBlocks). k < length (l g)) (sym grown) (omega (arith, r.0, write_length was f b after g le)), r.1 ∙ sym (ap (λ (l : AllBlocks). block_in l g k) grown ∙ write_other was f b after g k le apart r.0));
         stands = λ low clean.
-            let old : k < length (was g) = write_old was f b after g k le apart (subst (λ (l : Content). k < length (l g)) grown low) in
-            ap (λ (st : Stored). st g k) blocks ∙ (h g k).stands old clean ∙ sym (ap (λ (l : Content). block_in l g k) grown ∙ write_other was f b after g k le apart old);
+            let old : k < length (was g) = write_old was f b after g k le apart (subst (λ (l : AllBlocks). k < length (l g)) grown low) in
+            ap (λ (st : Stored). st g k) blocks ∙ (h g k).stands old clean ∙ sym (ap (λ (l : AllBlocks). block_in l g k) grown ∙ write_other was f b after g k le apart old);
         changed = λ y is dirty none. (h g k).changed y is dirty (both g k none).1;
       })
 
@@ -155,23 +155,23 @@ module _ (t : Telling) (a later : State) (frames : Frames) (h : FramesHold t a f
 
   others : (g c : ℕ) → (f ≡ g → b ≡ c → ⊥) → HoldsOne t later g c (frames g c)
   others g c off = record {
-    held = λ y at. let r = (h g c).held y at in (subst (λ (k : Content). c < length (k g)) (sym same) r.0, r.1 ∙ ap (λ (k : Content). block_in k g c) (sym same));
+    held = λ y at. let r = (h g c).held y at in (subst (λ (k : AllBlocks). c < length (k g)) (sym same) r.0, r.1 ∙ ap (λ (k : AllBlocks). block_in k g c) (sym same));
     stands = λ low clean.
-        let old : c < length (content_now t a g) = subst (λ (k : Content). c < length (k g)) same low in
+        let old : c < length (content_now t a g) = subst (λ (k : AllBlocks). c < length (k g)) same low in
         let at = (h g c).stands old clean in
-        still g c off (ap length at ∙ sized g c old) ∙ at ∙ ap (λ (k : Content). block_in k g c) (sym same);
+        still g c off (ap length at ∙ sized g c old) ∙ at ∙ ap (λ (k : AllBlocks). block_in k g c) (sym same);
     changed = λ y at dirty none. (h g c).changed y at dirty (subst (λ (l : List Entry). last_after g c (after_last is_control (live_of l)) ≡ None) entries none);
   }
 
   at_content : stored_of later.files f b ≡ block_in (content_now t later) f b
-  at_content = now_there ∙ ((h f b).held x is).1 ∙ ap (λ (k : Content). block_in k f b) (sym same)
+  at_content = now_there ∙ ((h f b).held x is).1 ∙ ap (λ (k : AllBlocks). block_in k f b) (sym same)
 
   pub holds_written : FramesHold t later (with_frame frames f b (Some (record { block = x.block; dirty = false })))
   holds_written =
       let z : Frame = record { block = x.block; dirty = false } in
       holds_with t later frames f b (Some z) (record {
         held = λ y at. let own : z ≡ y = some_is z y at in let r = (h f b).held x is in
-            (subst (λ (k : Content). b < length (k f)) (sym same) r.0, ap (λ (w : Frame). w.block) (sym own) ∙ r.1 ∙ ap (λ (k : Content). block_in k f b) (sym same));
+            (subst (λ (k : AllBlocks). b < length (k f)) (sym same) r.0, ap (λ (w : Frame). w.block) (sym own) ∙ r.1 ∙ ap (λ (k : AllBlocks). block_in k f b) (sym same));
         stands = λ low clean. at_content;
         changed = λ y at dirty. let own : z ≡ y = some_is z y at in absurd (true_not_false (sym dirty ∙ ap (λ (w : Frame). w.dirty) (sym own)));
       }) others

@@ -1,7 +1,7 @@
 -- A database that may run, with one entry more or other blocks.
 use Rattle.std.proofs.Common.{ℕ, ◌-◌, ◌^◌, ◌≤◌, ◌<◌, ◌≡◌, Bool, true, false, cond, List, [], ◌∷◌, ◌++◌, map, length, Option, Some, None, refl, sym, ◌∙◌, ap, subst, arith}
 use Rattle.std.specs.Prelude.{◌&&◌, not}
-use Rattle.dms_history.specs.Events.{Block, Content, Stored, Event, change, quiet, control, begin}
+use Rattle.dms_history.specs.Events.{BlockBytes, AllBlocks, Stored, Event, change, quiet, control, begin}
 use Rattle.dms_history.specs.Replay.{TellsBefore, with_block}
 use Rattle.dms_history.specs.Lists.{has, after_last}
 use Rattle.dms_history.specs.Places.{is_control, is_described, is_point}
@@ -38,11 +38,11 @@ images_both (quiet n ∷ xs) ys one two = images_both xs ys one two
 images_both (control n next counts described ∷ xs) ys one two = images_both xs ys one two
 images_both (begin n how ∷ xs) ys one two = images_both xs ys one two
 
-before_sized : (b : ℕ) (before : Option Block) (c : Content) (f : ℕ) → TellsBefore b before (c f) → AllSized c → IsSizedBefore before
+before_sized : (b : ℕ) (before : Option BlockBytes) (c : AllBlocks) (f : ℕ) → TellsBefore b before (c f) → AllSized c → IsSizedBefore before
 before_sized b None c f tells sized = tt
 before_sized b (Some old) c f tells sized = ap length tells.1 ∙ sized f b tells.0
 
-module _ (first : Bool) (es : List Entry) (dumps : Dumps) (base : Content) (stored : Stored) (m : MayRun first es dumps base stored) where
+module _ (first : Bool) (es : List Entry) (dumps : Dumps) (base : AllBlocks) (stored : Stored) (m : MayRun first es dumps base stored) where
   pub has_one : has is_control (live_of es) ≡ true
   has_one = described_control (live_of es) m.stands.described
 
@@ -89,7 +89,7 @@ module _ (first : Bool) (es : List Entry) (dumps : Dumps) (base : Content) (stor
       }
 
   -- an Image
-  module _ (f b : ℕ) (before : Option Block) (after : Block) (tells : TellsBefore b before (content_told es base f)) (sized : length after ≡ 1024) where
+  module _ (f b : ℕ) (before : Option BlockBytes) (after : BlockBytes) (tells : TellsBefore b before (content_told es base f)) (sized : length after ≡ 1024) where
     abbrev pub with_image : List Entry
     with_image = es ++ image f b before after ∷ []
 
@@ -150,7 +150,7 @@ module _ (first : Bool) (es : List Entry) (dumps : Dumps) (base : Content) (stor
       λ i. cond (not (off i) && told i) (n ∷ []) [] ++ []
 
 -- where no restore is pending no dump counts
-pub other_dumps : (first : Bool) (es : List Entry) (dumps : Dumps) (base : Content) (stored : Stored) → MayRun first es dumps base stored → (others : Dumps) → MayRun first es others base stored
+pub other_dumps : (first : Bool) (es : List Entry) (dumps : Dumps) (base : AllBlocks) (stored : Stored) → MayRun first es dumps base stored → (others : Dumps) → MayRun first es others base stored
 other_dumps first es dumps base stored m others = record {
   stands = record {
     kept = record {

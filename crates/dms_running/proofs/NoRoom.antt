@@ -2,7 +2,7 @@
 use Rattle.std.proofs.Common.{ℕ, ◌≡◌, inl, inr, List, [], ◌++◌, map, length, take, Some, refl, sym, ◌∙◌, ap, subst, arith}
 use Rattle.dms_moments.specs.Moments.{Now, Steps}
 use Rattle.dms_site.specs.Files.{Left, stored_of}
-use Rattle.dms_history.specs.Events.{Block, Content, Stored, Event, block_in}
+use Rattle.dms_history.specs.Events.{BlockBytes, AllBlocks, Stored, Event, block_in}
 use Rattle.dms_history.specs.Lists.{until_last, after_last}
 use Rattle.dms_history.specs.Places.{is_control}
 use Rattle.dms_history.specs.Images.{or_else, last_after}
@@ -90,7 +90,7 @@ module _ (t : Telling) (telling : IsTelling t) (a : State) (r : IsRunning t a) (
 -- ---- the newest Image of a block
 
 -- a block with a change since the last Control is in the content what that change made it
-pub newest_is : (t : Telling) (telling : IsTelling t) (a : State) (r : IsRunning t a) (read : IsAnOutcome a) (f b : ℕ) (x : Block) → last_after f b (after_last is_control (live_of (entries_now t a))) ≡ Some x
+pub newest_is : (t : Telling) (telling : IsTelling t) (a : State) (r : IsRunning t a) (read : IsAnOutcome a) (f b : ℕ) (x : BlockBytes) → last_after f b (after_last is_control (live_of (entries_now t a))) ≡ Some x
     → block_in (content_now t a) f b ≡ x
 newest_is t telling a r read f b x is =
     let all = entries_now t a in
@@ -100,10 +100,10 @@ newest_is t telling a r read f b x is =
     let late : last_after f b (after_last is_control from) ≡ Some x = ap (λ (l : List Event). last_after f b l) (after_from (live_of all) (has_one t.first all (t.dumps a.files) r.base (stored_of a.files) m)) ∙ is in
     let whole : last_after f b from ≡ Some x = ap (λ (l : List Event). last_after f b l) (sym (split_last is_control from)) ∙ last_append (until_last is_control from) (after_last is_control from) f b
     ∙ ap (λ o. or_else o (last_after f b (until_last is_control from))) late in
-    ap (λ (c : Content). block_in c f b) (content_is t telling a r read) ∙ last_stands from r.base f b x s.chain whole
+    ap (λ (c : AllBlocks). block_in c f b) (content_is t telling a r read) ∙ last_stands from r.base f b x s.chain whole
 
 -- where nothing waits, a block that was changed since the last Control has its newest Image sealed, and that has the bytes of the content
-pub newest_sealed : (t : Telling) (telling : IsTelling t) (a : State) (r : IsRunning t a) (read : IsAnOutcome a) (f b : ℕ) (x : Block) → a.waiting ≡ [] → IsChanged t a f b → block_in (content_now t a) f b ≡ x
+pub newest_sealed : (t : Telling) (telling : IsTelling t) (a : State) (r : IsRunning t a) (read : IsAnOutcome a) (f b : ℕ) (x : BlockBytes) → a.waiting ≡ [] → IsChanged t a f b → block_in (content_now t a) f b ≡ x
     → last_after f b (after_last is_control (live_of (t.entries a.files))) ≡ Some x
 newest_sealed t telling a r read f b x nothing changed is =
     let all : entries_now t a ≡ t.entries a.files = ap (λ (l : List Entry). t.entries a.files ++ l) nothing ∙ append_none (t.entries a.files) in
@@ -111,5 +111,5 @@ newest_sealed t telling a r read f b x nothing changed is =
       | inl none ↦ absurd (changed none)
       | inr some ↦
           let same : some.0 ≡ x = sym (newest_is t telling a r read f b some.0 some.1) ∙ is in
-          ap (λ (l : List Entry). last_after f b (after_last is_control (live_of l))) (sym all) ∙ some.1 ∙ ap (λ (y : Block). Some y) same
+          ap (λ (l : List Entry). last_after f b (after_last is_control (live_of l))) (sym all) ∙ some.1 ∙ ap (λ (y : BlockBytes). Some y) same
     ]

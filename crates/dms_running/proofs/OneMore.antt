@@ -1,7 +1,7 @@
 -- What one more entry makes of the history and the next number, and one more event of the images of a block.
 use Rattle.std.specs.Prelude.{if◌then◌else◌}
 use Rattle.std.proofs.Common.{ℕ, ◌+◌, ◌-◌, ◌^◌, min, max, ◌≡◌, Bool, true, false, cond, Option, Some, None, List, [], ◌∷◌, ◌++◌, refl, ◌∙◌, ap, arith}
-use Rattle.dms_history.specs.Events.{Block, Event, change, quiet, control, begin}
+use Rattle.dms_history.specs.Events.{BlockBytes, Event, change, quiet, control, begin}
 use Rattle.dms_history.specs.History.{after_event, history, next_number}
 use Rattle.dms_history.specs.Images.{is_at, or_else, last_after, first_before}
 use Rattle.dms_history.specs.Ranges.{event}
@@ -45,14 +45,14 @@ next_quiet es n = omega (arith, next_append es (quiet n ∷ []) 0)
 
 -- ---- the images of a block
 
-pub last_more : (f b : ℕ) (es : List Event) (g k : ℕ) (before : Option Block) (after : Block) → last_after f b (es ++ change g k before after ∷ []) ≡ (if is_at f b g k then Some after else last_after f b es)
+pub last_more : (f b : ℕ) (es : List Event) (g k : ℕ) (before : Option BlockBytes) (after : BlockBytes) → last_after f b (es ++ change g k before after ∷ []) ≡ (if is_at f b g k then Some after else last_after f b es)
 last_more f b es g k before after = last_append es (change g k before after ∷ []) f b ∙ chosen (is_at f b g k) after (last_after f b es)
   where
-    chosen : (t : Bool) (x : Block) (o : Option Block) → or_else (or_else None (cond t (Some x) None)) o ≡ cond t (Some x) o
+    chosen : (t : Bool) (x : BlockBytes) (o : Option BlockBytes) → or_else (or_else None (cond t (Some x) None)) o ≡ cond t (Some x) o
     chosen true x o = refl
     chosen false x o = refl
 
-or_first : (t : Bool) (before : Option Block) (x y z : Option (Option Block)) → z ≡ or_else x y → cond t (Some before) z ≡ or_else (cond t (Some before) x) y
+or_first : (t : Bool) (before : Option BlockBytes) (x y z : Option (Option BlockBytes)) → z ≡ or_else x y → cond t (Some before) z ≡ or_else (cond t (Some before) x) y
 or_first true before x y z is = refl
 or_first false before x y z is = is
 

@@ -5,7 +5,7 @@ use Rattle.std.proofs.Math.Seq.{take-append-add}
 use Rattle.dms_moments.specs.Moments.{Clock, Now, Runs, Steps}
 use Rattle.dms_moments.specs.MomentLaws.{runs_none, runs_on, runs_weaken}
 use Rattle.dms_site.specs.Files.{Files, Left, Only, stored_of}
-use Rattle.dms_history.specs.Events.{Content, Stored}
+use Rattle.dms_history.specs.Events.{AllBlocks, Stored}
 use Rattle.dms_history.specs.Pick.{Dumps}
 use Rattle.dms_history.specs.Entries.{Entry}
 use Rattle.dms_history.specs.EntryEvents.{history_of, next_of}
@@ -33,13 +33,13 @@ all_left t points next x is up whole = record {
 }
 
 -- what stands over files holds over files that agree above 20,000
-pub carried : (t : Telling) (telling : IsTelling t) (x y : Files) (es : List Entry) (base : Content) → ((g : ℕ) → 20000 < g → y g ≡ x g) → Stands t.first es (t.dumps x) base (stored_of x) → Stands t.first es (t.dumps y) base (stored_of y)
+pub carried : (t : Telling) (telling : IsTelling t) (x y : Files) (es : List Entry) (base : AllBlocks) → ((g : ℕ) → 20000 < g → y g ≡ x g) → Stands t.first es (t.dumps x) base (stored_of x) → Stands t.first es (t.dumps y) base (stored_of y)
 carried t telling x y es base same s =
     subst (λ (d : Dumps). Stands t.first es d base (stored_of y)) (sym (telling.dumps_between y x (λ g above below. same g above)))
     (subst (λ (st : Stored). Stands t.first es (t.dumps x) base st) (sym (blocks_same y x same)) s)
 
 -- where a stop leaves what is read alone and nothing waits, a database that may run is running
-pub still_runs : (t : Telling) (b : State) (base : Content) → t.found b.files → Only b.files b.clock → b.waiting ≡ [] → MayRun t.first (t.entries b.files) (t.dumps b.files) base (stored_of b.files) → IsRunning t b
+pub still_runs : (t : Telling) (b : State) (base : AllBlocks) → t.found b.files → Only b.files b.clock → b.waiting ≡ [] → MayRun t.first (t.entries b.files) (t.dumps b.files) base (stored_of b.files) → IsRunning t b
 still_runs t b base found only none m =
     let is : (k : ℕ) → t.entries b.files ++ take k b.waiting ≡ t.entries b.files = λ k. ap (λ (l : List Entry). t.entries b.files ++ l) (take_nothing k b.waiting none) ∙ append_none (t.entries b.files) in
     let now_is : entries_now t b ≡ t.entries b.files = ap (λ (l : List Entry). t.entries b.files ++ l) none ∙ append_none (t.entries b.files) in
@@ -129,7 +129,7 @@ module _ (t : Telling) (es : List Entry) (start : Files) (old : Clock Left) (s :
   pub lays_sealed : (later : Files) → AreSealed t s.waiting s.files later → (t.entries later ≡ t.entries start ++ es) × ((g : ℕ) → 20000 < g → later g ≡ start g)
   lays_sealed later sealed = (sealed.sealed ∙ joined t es s.waiting start s.files l.appended, λ g up. sealed.above g up ∙ l.appended.above g up)
 
-module _ (t : Telling) (telling : IsTelling t) (es : List Entry) (a : State) (base : Content) (keeps : KeepsAll t es a.files base) (finds : t.found a.files) (only : Only a.files a.clock) where
+module _ (t : Telling) (telling : IsTelling t) (es : List Entry) (a : State) (base : AllBlocks) (keeps : KeepsAll t es a.files base) (finds : t.found a.files) (only : Only a.files a.clock) where
   planned_front : (x : Left) → Planned t es a.files x → LeavesPointsPrefix t (points_of t a.files) (length (points_of t a.files)) (next_in t a.files) x
   planned_front x p =
       all_left t (points_of t a.files) (next_in t a.files) x

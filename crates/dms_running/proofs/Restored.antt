@@ -4,7 +4,7 @@ use Rattle.dms_moments.specs.Moments.{Clock, Now, Steps}
 use Rattle.dms_moments.specs.MomentLaws.{runs_weaken}
 use Rattle.dms_site.specs.Files.{Files, Left, stored_of}
 use Rattle.dms_site.specs.StoredLaws.{stored_whole}
-use Rattle.dms_history.specs.Events.{Content, Stored, How, halt_load, back_out, roll_back, rebuild, reconstruct, Event, block_in}
+use Rattle.dms_history.specs.Events.{AllBlocks, Stored, How, halt_load, back_out, roll_back, rebuild, reconstruct, Event, block_in}
 use Rattle.dms_history.specs.History.{Pending}
 use Rattle.dms_history.specs.Base.{from_control, Sound}
 use Rattle.dms_history.specs.Pick.{Dumps, count_at, pick, content_of}
@@ -53,10 +53,10 @@ unfolding outcome
 outcomes_by q by_audit e d st = ap (λ (s : Stored). content_of (count_at q.entries q.point) s) (picks_audit q.how e q.entries q.point st by_audit ∙ sym (picks_audit q.how d q.entries q.point st by_audit))
 
 -- the content has whole blocks
-pub stands_sized : (first : Bool) (es : List Entry) (d : Dumps) (base : Content) (st : Stored) → Stands first es d base st → AllSized (content_told es base)
+pub stands_sized : (first : Bool) (es : List Entry) (d : Dumps) (base : AllBlocks) (st : Stored) → Stands first es d base st → AllSized (content_told es base)
 stands_sized first es d base st s = sized_replay (from_control (live_of es)) base s.kept.steady.sound.chain s.base_sized s.images_sized
 
-module _ (first : Bool) (es : List Entry) (base : Content) (d : Dumps) (p : Pending) (is : (history_of es).pending ≡ Some p) (by_audit : ByAudit p.how) where
+module _ (first : Bool) (es : List Entry) (base : AllBlocks) (d : Dumps) (p : Pending) (is : (history_of es).pending ≡ Some p) (by_audit : ByAudit p.how) where
   -- what counts at a block
   pub counts_as : (st : Stored) (f b : ℕ) → b < count_at p.entries p.point f → here d (history_of es) st f b ≡ pick p.entries p.point st f b
   counts_as st f b low =
@@ -66,9 +66,9 @@ module _ (first : Bool) (es : List Entry) (base : Content) (d : Dumps) (p : Pend
   pub kept_whole : (st : Stored) → Stands first es d base st → (f b : ℕ) → IsKept p.entries p.point f b → length (st f b) ≡ 1024
   kept_whole st s f b kept =
       let right : outcome p.how d p.entries p.point st ≡ content_told es base = s.kept.steady.restored p is in
-      let low : b < length (content_told es base f) = subst (λ (c : Content). b < length (c f)) right (omega (arith, kept.0, outcome_length p.how d p.entries p.point f st)) in
+      let low : b < length (content_told es base f) = subst (λ (c : AllBlocks). b < length (c f)) right (omega (arith, kept.0, outcome_length p.how d p.entries p.point f st)) in
       let block : block_in (content_told es base) f b ≡ st f b =
-      ap (λ (c : Content). block_in c f b) (sym right) ∙ outcome_block p.how d p.entries p.point f b st kept.0 ∙ ap (λ (s : Stored). s f b) (picks_audit p.how d p.entries p.point st by_audit)
+      ap (λ (c : AllBlocks). block_in c f b) (sym right) ∙ outcome_block p.how d p.entries p.point f b st kept.0 ∙ ap (λ (s : Stored). s f b) (picks_audit p.how d p.entries p.point st by_audit)
       ∙ (tells_blocks p.entries p.point f b).kept st kept.1 in
       sym (ap length block) ∙ stands_sized first es d base st s f b low
 
@@ -96,7 +96,7 @@ module _ (t : Telling) (telling : IsTelling t) (p : Pending) (a : State) (r : Is
   other_dumps : (d e : Dumps) (st : Stored) → Stands t.first es d r.base st → Stands t.first es e r.base st
   other_dumps d e st s =
       let same : here e (history_of es) st ≡ here d (history_of es) st =
-      here_is e (history_of es) p st r.pending ∙ ap (λ (c : Content). block_in c) (outcomes e d st) ∙ sym (here_is d (history_of es) p st r.pending) in
+      here_is e (history_of es) p st r.pending ∙ ap (λ (c : AllBlocks). block_in c) (outcomes e d st) ∙ sym (here_is d (history_of es) p st r.pending) in
       record {
         kept = record {
           steady = record {
@@ -144,7 +144,7 @@ module _ (t : Telling) (telling : IsTelling t) (p : Pending) (a : State) (r : Is
             let one = other_dumps (t.dumps a.files) (t.dumps x.files) (stored_of a.files) read_stands in
             ap (λ (s : Stored). map (described_in es) (live_points (live_of es) s))
             (here_is (t.dumps x.files) (history_of es) p (stored_of a.files) r.pending
-            ∙ ap (λ (c : Content). block_in c) (one.kept.steady.restored p r.pending ∙ sym (read_stands.kept.steady.restored p r.pending))
+            ∙ ap (λ (c : AllBlocks). block_in c) (one.kept.steady.restored p r.pending ∙ sym (read_stands.kept.steady.restored p r.pending))
             ∙ sym (here_is (t.dumps a.files) (history_of es) p (stored_of a.files) r.pending))
 
   pub restore_leaves : (later : Clock Left) → Steps (Rewrites (IsKept p.entries p.point)) a.clock later → LeavesAll t a later
@@ -183,9 +183,9 @@ module _ (t : Telling) (telling : IsTelling t) (p : Pending) (a : State) (r : Is
               let picked : pick p.entries p.point (stored_of b.files) f b_ ≡ some.0 = (tells_blocks p.entries p.point f b_).told (stored_of b.files) some.0 some.1 in
               let right : outcome p.how (t.dumps a.files) p.entries p.point (stored_of b.files) ≡ content_told es r.base = later_stands.kept.steady.restored p r.pending in
               let block : block_in (content_told es r.base) f b_ ≡ some.0 =
-              ap (λ (c : Content). block_in c f b_) (sym right) ∙ outcome_block p.how (t.dumps a.files) p.entries p.point f b_ (stored_of b.files) low
+              ap (λ (c : AllBlocks). block_in c f b_) (sym right) ∙ outcome_block p.how (t.dumps a.files) p.entries p.point f b_ (stored_of b.files) low
               ∙ ap (λ (s : Stored). s f b_) (picks_audit p.how (t.dumps a.files) p.entries p.point (stored_of b.files) r.by_audit) ∙ picked in
-              let under : b_ < length (content_told es r.base f) = subst (λ (c : Content). b_ < length (c f)) right (omega (arith, low, outcome_length p.how (t.dumps a.files) p.entries p.point f (stored_of b.files))) in
+              let under : b_ < length (content_told es r.base f) = subst (λ (c : AllBlocks). b_ < length (c f)) right (omega (arith, low, outcome_length p.how (t.dumps a.files) p.entries p.point f (stored_of b.files))) in
               done f b_ low some.0 some.1 (sym (ap length block) ∙ stands_sized t.first es (t.dumps a.files) r.base (stored_of b.files) later_stands f b_ under) ∙ sym (told_as ∙ picked)
         ]
 

@@ -9,7 +9,7 @@ use Rattle.dms_moments.specs.Moments.{Clock, After, Steps}
 use Rattle.dms_moments.specs.MomentLaws.{runs_none, steps_on, steps_weaken}
 use Rattle.dms_site.specs.Files.{Files, Left, range, with_file, overlaid, InFile, Torn, OnDisk, stored_of}
 use Rattle.dms_site.specs.StoredLaws.{stored_whole, stored_apart, stored_range, stored_written}
-use Rattle.dms_history.specs.Events.{Block, Event}
+use Rattle.dms_history.specs.Events.{BlockBytes, Event}
 use Rattle.dms_history.specs.Told.{told_block}
 use Rattle.dms_history.specs.declared.event.FileCount.{FileCount}
 use Rattle.dms_history.specs.Entries.{counts_in}
@@ -57,12 +57,12 @@ module _ (keeps : ℕ → ℕ → Type 0) where
       (λ x y z nx ny r s. record { files = rewritten_on x.files y.files z.files r.files s.files; said = s.said ∙ r.said })
       (λ x y nx r. r)
 
-pub told_free : (live : List Event) (m f b : ℕ) (x : Block) → told_block live m f b ≡ Some x → IsKept live m f b → ⊥
+pub told_free : (live : List Event) (m f b : ℕ) (x : BlockBytes) → told_block live m f b ≡ Some x → IsKept live m f b → ⊥
 told_free live m f b x is kept = some_not_none x (sym is ∙ kept.1)
 
 -- ---- what stands in the files as they are read
 
-pub stands_written : (f b : ℕ) (files later : Files) (x : Block) → 30000 < f → length x ≡ 1024 → later ≡ with_file files f (overlaid (1024 * b) x (files f)) → stored_of later f b ≡ x
+pub stands_written : (f b : ℕ) (files later : Files) (x : BlockBytes) → 30000 < f → length x ≡ 1024 → later ≡ with_file files f (overlaid (1024 * b) x (files f)) → stored_of later f b ≡ x
 stands_written f b files later x structure len is = ap (λ (l : Files). stored_of l f b) is ∙ stored_written files f b x structure len
 
 -- one more block stands: the write of it left those below it

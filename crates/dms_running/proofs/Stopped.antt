@@ -6,7 +6,7 @@ use Rattle.dms_moments.specs.Moments.{Clock, Now, Steps}
 use Rattle.dms_moments.specs.MomentLaws.{runs_weaken}
 use Rattle.dms_site.specs.Files.{Files, Left, stored_of}
 use Rattle.dms_site.specs.StoredLaws.{stored_same}
-use Rattle.dms_history.specs.Events.{Content, Stored, Event}
+use Rattle.dms_history.specs.Events.{AllBlocks, Stored, Event}
 use Rattle.dms_history.specs.Base.{from_control, Sound}
 use Rattle.dms_history.specs.Pick.{Dumps}
 use Rattle.dms_history.specs.Points.{LivePoint, numbers_from, live_numbers, point_at, live_points}
@@ -29,12 +29,12 @@ pub count_points : (live : List Event) (counted : Stored) → length (live_point
 unfolding live_points
 count_points live counted = length-map (live_numbers live) (point_at live counted)
 
-pub count_told : (first : Bool) (es : List Entry) (d : Dumps) (base : Content) (st : Stored) → MayRun first es d base st → length (points_told d es st) ≡ count_live es
+pub count_told : (first : Bool) (es : List Entry) (d : Dumps) (base : AllBlocks) (st : Stored) → MayRun first es d base st → length (points_told d es st) ≡ count_live es
 count_told first es d base st m =
     ap (λ (l : List DescribedPoint). length l) (points_are first es d base st m) ∙ length-map (live_points (live_of es) st) (described_in es) ∙ count_points (live_of es) st
 
 -- the points of more entries begin with those of the first ones
-pub more_points : (first : Bool) (xs ys : List Entry) (d e : Dumps) (base : Content) (one two : Stored) → AllPlain ys → MayRun first xs d base one → MayRun first (xs ++ ys) e base two
+pub more_points : (first : Bool) (xs ys : List Entry) (d e : Dumps) (base : AllBlocks) (one two : Stored) → AllPlain ys → MayRun first xs d base one → MayRun first (xs ++ ys) e base two
     → (rest : List DescribedPoint) × (points_told e (xs ++ ys) two ≡ points_told d xs one ++ rest)
 more_points first xs ys d e base one two plain before after =
     let grown = plain_grows xs ys plain in
@@ -56,7 +56,7 @@ blocks_same x y same = stored_same x y (λ g above. same g (omega (arith, above)
 pub joined : (t : Telling) (es waiting : List Entry) (old new : Files) → Appended t es old new waiting → t.entries new ++ waiting ≡ t.entries old ++ es
 joined t es waiting old new a = (λ i. a.sealed i ++ a.rest i) ∙ split_behind (t.entries old) es a.some
 
-module _ (t : Telling) (telling : IsTelling t) (a : State) (es : List Entry) (base : Content) (settled : Settled t a.files a.clock) (finds : (x : Left) → Now a.clock x → t.found x.files)
+module _ (t : Telling) (telling : IsTelling t) (a : State) (es : List Entry) (base : AllBlocks) (settled : Settled t a.files a.clock) (finds : (x : Left) → Now a.clock x → t.found x.files)
     (each : (k : ℕ) (x : Left) → Now a.clock x → MayRun t.first (t.entries a.files ++ take k es) (t.dumps x.files) base (stored_of x.files)) (plain : AllPlain es)
     (counted : (k : ℕ) → next_of (t.entries a.files ++ es) + count_live (t.entries a.files ++ take k es) ≤ next_of (t.entries a.files ++ take k es) + count_live (t.entries a.files ++ es)) (read : IsAnOutcome a) where
   abbrev pub old : List Entry

@@ -2,7 +2,7 @@
 use Rattle.std.proofs.Common.{ℕ, ◌<◌, ◌≡◌, inl, inr, true, false, Some, sym, ◌∙◌}
 use Rattle.std.proofs.lemmas.Bool.{cases_lt}
 use Rattle.dms_site.specs.Files.{Files, stored_of}
-use Rattle.dms_history.specs.Events.{Content}
+use Rattle.dms_history.specs.Events.{AllBlocks}
 use Rattle.dms_history.specs.Lists.{has}
 use Rattle.dms_history.specs.Places.{is_described, is_point, IsLive}
 use Rattle.dms_history.specs.History.{Pending}
@@ -54,7 +54,7 @@ agrees_stands first es dumps stored agrees described lives images sized =
 -- files in which scanning finds the entries hold a database where these agree so
 pub agrees_whole : (t : Telling) (files : Files) → t.found files → Agrees t.first (t.entries files) (t.dumps files) (stored_of files) → has is_described (live_of (t.entries files)) ≡ true
     → ((p : Pending) → (history_of (t.entries files)).pending ≡ Some p → IsLive (live_of (t.entries files)) p.point) → ImagesSized (from_control (live_of (t.entries files)))
-    → ((base : Content) → Kept t.first (t.entries files) (t.dumps files) base (stored_of files) → AllSized (content_told (t.entries files) base)) → NoDumpPending (t.entries files) → IsWhole t files
+    → ((base : AllBlocks) → Kept t.first (t.entries files) (t.dumps files) base (stored_of files) → AllSized (content_told (t.entries files) base)) → NoDumpPending (t.entries files) → IsWhole t files
 agrees_whole t files found agrees described lives images sized no_dump =
     let over = agrees_stands t.first (t.entries files) (t.dumps files) (stored_of files) agrees described lives images sized in
     record { found = found; base = over.0; stands = over.1; no_dump = no_dump }

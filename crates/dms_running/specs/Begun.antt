@@ -2,7 +2,7 @@
 use Rattle.std.specs.Prelude.{ℕ, ◌<◌, ◌≡◌, List, [], ◌∷◌, ◌++◌, Some}
 use Rattle.dms_moments.specs.Moments.{Clock, Now}
 use Rattle.dms_site.specs.Files.{Left, stored_of}
-use Rattle.dms_history.specs.Events.{Content, How, halt_load, back_out, roll_back, rebuild, reconstruct}
+use Rattle.dms_history.specs.Events.{AllBlocks, How, halt_load, back_out, roll_back, rebuild, reconstruct}
 use Rattle.dms_history.specs.Places.{IsLive}
 use Rattle.dms_history.specs.History.{Pending, last_point}
 use Rattle.dms_history.specs.Pick.{count_at, blocks_at}
@@ -28,7 +28,7 @@ ByAudit (reconstruct d named) = ⊥
 -- No entry waits, and in each image that a stop leaves the Begin of this restore by the audit is sealed and pending, scanning finds the
 -- entries, and the database stands over one base.
 pub record IsBegun (t : Telling) (p : Pending) (s : State) : Type 0 where
-  pub base : Content
+  pub base : AllBlocks
   pub nothing : s.waiting ≡ []
   pub settled : Settled t s.files s.clock
   pub found : (x : Left) → Now s.clock x → t.found x.files
@@ -45,7 +45,7 @@ abbrev pub IsRestored : Telling → Pending → State → Type 0
 IsRestored t p s = (f b : ℕ) → b < count_at p.entries p.point f → stored_of s.files f b ≡ here (t.dumps s.files) (history_of (t.entries s.files)) (stored_of s.files) f b
 
 -- the content that a pending restore is to leave, whatever it has written so far
-abbrev pub outcome_now : Telling → Pending → State → Content
+abbrev pub outcome_now : Telling → Pending → State → AllBlocks
 outcome_now t p s = outcome p.how (t.dumps s.files) p.entries p.point (stored_of s.files)
 
 -- m is the last point, and it is live
@@ -58,7 +58,7 @@ abbrev pub restore_to : Telling → State → ℕ → How → Pending
 restore_to t s m how = record { entries = live_of (entries_now t s); point = m; how = how }
 
 -- the content at a point
-abbrev pub content_at_point : Telling → State → ℕ → Content
+abbrev pub content_at_point : Telling → State → ℕ → AllBlocks
 content_at_point t s m = blocks_at (live_of (entries_now t s)) (stored_of s.files) m
 
 -- These entries are a whole Schema and, directly behind it, a Control of that point with the next number and these counts.

@@ -1,14 +1,14 @@
 -- How the frames of a pool, the structure files and the content of a running database go together.
 use Rattle.std.specs.Prelude.{ℕ, ◌<◌, ◌≡◌, if◌then◌else◌, Bool, true, false, length, Option, Some}
 use Rattle.dms_site.specs.Files.{stored_of}
-use Rattle.dms_history.specs.Events.{Block, block_in}
+use Rattle.dms_history.specs.Events.{BlockBytes, block_in}
 use Rattle.dms_history.specs.Images.{is_at}
 use Rattle.dms_running.specs.Telling.{Telling}
 use Rattle.dms_running.specs.Running.{State, content_now, IsChanged}
 
 -- the bytes of a block, and whether they are to be written
 pub record Frame : Type 0 where
-  pub block : Block
+  pub block : BlockBytes
   pub dirty : Bool
 
 -- the frame of each block that is held

@@ -1,6 +1,6 @@
 -- Laws: what stands agrees, and what a database that may run becomes by one entry more or by other blocks.
 use Rattle.std.specs.Prelude.{ℕ, ◌-◌, ◌^◌, ◌<◌, ◌≤◌, ◌≡◌, Bool, true, List, [], ◌∷◌, ◌++◌, length, Option, Some, None}
-use Rattle.dms_history.specs.Events.{Block, Content, Stored}
+use Rattle.dms_history.specs.Events.{BlockBytes, AllBlocks, Stored}
 use Rattle.dms_history.specs.Replay.{TellsBefore, with_block}
 use Rattle.dms_history.specs.Lists.{has, after_last}
 use Rattle.dms_history.specs.Places.{is_control, is_described, IsLive}
@@ -18,35 +18,35 @@ use Rattle.dms_running.specs.Begun.{ByAudit}
 
 -- What stands agrees: entries with the dumps and blocks.
 abbrev pub StandsAgrees : Type 0
-StandsAgrees = (first : Bool) (es : List Entry) (dumps : Dumps) (base : Content) (stored : Stored) → Stands first es dumps base stored → Agrees first es dumps stored
+StandsAgrees = (first : Bool) (es : List Entry) (dumps : Dumps) (base : AllBlocks) (stored : Stored) → Stands first es dumps base stored → Agrees first es dumps stored
 
 -- Entries that agree with the dumps and blocks stand, where a Control directly behind a whole Schema is live, the point of a restore that may
 -- be pending is live, each image has 1,024 bytes, and so has each block of the content, whatever base it is told over.
 abbrev pub AgreesStands : Type 0
 AgreesStands = (first : Bool) (es : List Entry) (dumps : Dumps) (stored : Stored) → Agrees first es dumps stored → has is_described (live_of es) ≡ true
     → ((p : Pending) → (history_of es).pending ≡ Some p → IsLive (live_of es) p.point) → ImagesSized (from_control (live_of es))
-    → ((base : Content) → Kept first es dumps base stored → AllSized (content_told es base)) → (base : Content) × Stands first es dumps base stored
+    → ((base : AllBlocks) → Kept first es dumps base stored → AllSized (content_told es base)) → (base : AllBlocks) × Stands first es dumps base stored
 
 -- An Image that tells what stood before it: it may still run, and the content has the block.
 abbrev pub RunsImage : Type 0
-RunsImage = (first : Bool) (es : List Entry) (dumps : Dumps) (base : Content) (stored : Stored) (f b : ℕ) (before : Option Block) (after : Block) → MayRun first es dumps base stored
+RunsImage = (first : Bool) (es : List Entry) (dumps : Dumps) (base : AllBlocks) (stored : Stored) (f b : ℕ) (before : Option BlockBytes) (after : BlockBytes) → MayRun first es dumps base stored
     → TellsBefore b before (content_told es base f) → length after ≡ 1024
     → MayRun first (es ++ image f b before after ∷ []) dumps base stored × (content_told (es ++ image f b before after ∷ []) base ≡ with_block (content_told es base) f b after)
 
 -- A quiet point with a number that is free: it may still run, and the content is the same.
 abbrev pub RunsQuiet : Type 0
-RunsQuiet = (first : Bool) (es : List Entry) (dumps : Dumps) (base : Content) (stored : Stored) (n : ℕ) → MayRun first es dumps base stored → next_of es ≤ n → n < 2 ^ 64 - 1
+RunsQuiet = (first : Bool) (es : List Entry) (dumps : Dumps) (base : AllBlocks) (stored : Stored) (n : ℕ) → MayRun first es dumps base stored → next_of es ≤ n → n < 2 ^ 64 - 1
     → MayRun first (es ++ quiet_point n ∷ []) dumps base stored × (content_told (es ++ quiet_point n ∷ []) base ≡ content_told es base)
 
 -- Blocks are written early, torn or whole: it may still run, where each block of the content without a change since the last Control stays.
 abbrev pub RunsWrites : Type 0
-RunsWrites = (first : Bool) (es : List Entry) (dumps : Dumps) (base : Content) (stored written : Stored) → MayRun first es dumps base stored
+RunsWrites = (first : Bool) (es : List Entry) (dumps : Dumps) (base : AllBlocks) (stored written : Stored) → MayRun first es dumps base stored
     → ((f b : ℕ) → b < length (content_told es base f) → last_after f b (after_last is_control (from_control (live_of es))) ≡ None → written f b ≡ stored f b)
     → MayRun first es dumps base written
 
 -- A Begin of a restore by the audit to the last point: all points stay, and so does the next number.
 abbrev pub BeginKeepsAll : Type 0
-BeginKeepsAll = (first : Bool) (es : List Entry) (dumps : Dumps) (base : Content) (stored : Stored) (m : ℕ) (kind : Kind) → MayRun first es dumps base stored → ByAudit (how_of kind)
+BeginKeepsAll = (first : Bool) (es : List Entry) (dumps : Dumps) (base : AllBlocks) (stored : Stored) (m : ℕ) (kind : Kind) → MayRun first es dumps base stored → ByAudit (how_of kind)
     → IsLive (live_of es) m → last_point (history_of es) ≡ Some m
     → Stands first (es ++ begin_restore m kind ∷ []) dumps base stored
     × (points_told dumps (es ++ begin_restore m kind ∷ []) stored ≡ points_told dumps es stored) × (next_of (es ++ begin_restore m kind ∷ []) ≡ next_of es)

@@ -2,7 +2,7 @@
 use Rattle.std.specs.Prelude.{ℕ, ◌<◌, ◌≤◌, ◌≡◌, List, ◌++◌, take}
 use Rattle.dms_moments.specs.Moments.{Clock, Now, Runs}
 use Rattle.dms_site.specs.Files.{Files, Left, stored_of}
-use Rattle.dms_history.specs.Events.{Content}
+use Rattle.dms_history.specs.Events.{AllBlocks}
 use Rattle.dms_history.specs.Entries.{Entry}
 use Rattle.dms_history.specs.EntryEvents.{next_of}
 use Rattle.dms_running.specs.FromDumps.{NoDumpPending}
@@ -29,7 +29,7 @@ pub record Lays (t : Telling) (es : List Entry) (start : Files) (old : Clock Lef
 
 -- What holds of each prefix of a plan: it has the points of the start, a next number that is no lower, and stands, and no restore by a dump is
 -- pending.
-pub record KeepsAll (t : Telling) (es : List Entry) (start : Files) (base : Content) : Type 0 where
+pub record KeepsAll (t : Telling) (es : List Entry) (start : Files) (base : AllBlocks) : Type 0 where
   pub points : (k : ℕ) → points_told (t.dumps start) (t.entries start ++ take k es) (stored_of start) ≡ points_of t start
   pub next : (k : ℕ) → next_in t start ≤ next_of (t.entries start ++ take k es)
   pub stands : (k : ℕ) → Stands t.first (t.entries start ++ take k es) (t.dumps start) base (stored_of start)

@@ -1,7 +1,7 @@
 -- The points that files hold, and how many of some points a stop leaves.
 use Rattle.std.specs.Prelude.{ℕ, ◌+◌, ◌≤◌, ◌≡◌, List, [], length, map, take, Option, Some, None}
 use Rattle.dms_site.specs.Files.{Files, Left, stored_of}
-use Rattle.dms_history.specs.Events.{Content, Stored}
+use Rattle.dms_history.specs.Events.{AllBlocks, Stored}
 use Rattle.dms_history.specs.Pick.{Dumps}
 use Rattle.dms_history.specs.Here.{here}
 use Rattle.dms_history.specs.Points.{LivePoint, live_points}
@@ -14,7 +14,7 @@ use Rattle.dms_running.specs.Standing.{IsWhole}
 -- a live point: its number, its blocks, and the bytes of the Schema there
 pub record DescribedPoint : Type 0 where
   pub number : ℕ
-  pub blocks : Content
+  pub blocks : AllBlocks
   pub schema : List ℕ
 
 -- the bytes of a Schema, none where there is no Schema

@@ -1,7 +1,7 @@
 -- What a restore by the audit writes, and what it keeps.
 use Rattle.std.specs.Prelude.{ℕ, ◌+◌, ◌*◌, ◌<◌, ◌≤◌, ◌^◌, ◌≡◌, List, [], ◌∷◌, length, Some, None}
 use Rattle.dms_site.specs.Files.{Files, Left, stored_of}
-use Rattle.dms_history.specs.Events.{Block, Event}
+use Rattle.dms_history.specs.Events.{BlockBytes, Event}
 use Rattle.dms_history.specs.Pick.{count_at}
 use Rattle.dms_history.specs.Told.{told_block}
 use Rattle.dms_history.specs.declared.event.FileCount.{FileCount}
@@ -24,7 +24,7 @@ pub record Rewrites (keeps : ℕ → ℕ → Type 0) (old new : Left) : Type 0 w
 
 -- block b of the file stands as the audit tells it, where it tells of it
 abbrev pub StandsAsTold : List Event → ℕ → Files → ℕ → ℕ → Type 0
-StandsAsTold live m files f b = (x : Block) → told_block live m f b ≡ Some x → length x ≡ 1024 → stored_of files f b ≡ x
+StandsAsTold live m files f b = (x : BlockBytes) → told_block live m f b ≡ Some x → length x ≡ 1024 → stored_of files f b ≡ x
 
 -- so do the first k blocks of the file
 abbrev pub RestoredTo : List Event → ℕ → Files → ℕ → ℕ → Type 0

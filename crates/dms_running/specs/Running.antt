@@ -2,7 +2,7 @@
 use Rattle.std.specs.Prelude.{ℕ, ◌+◌, ◌<◌, ◌≤◌, ◌≡◌, List, [], ◌∷◌, ◌++◌, take, length, None}
 use Rattle.dms_moments.specs.Moments.{Clock, Now, Runs}
 use Rattle.dms_site.specs.Files.{Files, Left, stored_of}
-use Rattle.dms_history.specs.Events.{Content, quiet, block_in}
+use Rattle.dms_history.specs.Events.{AllBlocks, quiet, block_in}
 use Rattle.dms_history.specs.Lists.{after_last}
 use Rattle.dms_history.specs.Places.{is_control}
 use Rattle.dms_history.specs.Images.{last_after}
@@ -47,7 +47,7 @@ here_now t s = record {
 }
 
 -- the content
-abbrev pub content_now : Telling → State → Content
+abbrev pub content_now : Telling → State → AllBlocks
 content_now t s = (here_now t s).blocks
 
 -- an entry that waits between two control points
@@ -70,7 +70,7 @@ count_live entries = length (live_numbers (live_of entries))
 -- What holds of a database that runs at every moment: scanning finds the entries of each image that a stop leaves; there, with the first so
 -- many of the entries that wait sealed besides, the database stands over one base, and no restore is pending.
 pub record IsRunning (t : Telling) (s : State) : Type 0 where
-  pub base : Content
+  pub base : AllBlocks
   pub settled : Settled t s.files s.clock
   pub found : (x : Left) → Now s.clock x → t.found x.files
   pub each : (k : ℕ) (x : Left) → Now s.clock x → MayRun t.first (t.entries s.files ++ take k s.waiting) (t.dumps x.files) base (stored_of x.files)

@@ -1,7 +1,7 @@
 -- Entries, dumps and blocks of a database.
 use Rattle.std.specs.Prelude.{◌≡◌, Bool, true, List, None}
 use Rattle.dms_site.specs.Files.{Files, stored_of}
-use Rattle.dms_history.specs.Events.{Content, Stored}
+use Rattle.dms_history.specs.Events.{AllBlocks, Stored}
 use Rattle.dms_history.specs.Lists.{has}
 use Rattle.dms_history.specs.Places.{is_described}
 use Rattle.dms_history.specs.Base.{from_control}
@@ -15,20 +15,20 @@ use Rattle.dms_running.specs.Telling.{Telling}
 
 -- All that a database keeps between two calls is kept over a base, a Control directly behind a whole Schema is live, and each block
 -- of the base and each image has 1,024 bytes.
-pub record Stands (first : Bool) (entries : List Entry) (dumps : Dumps) (base : Content) (stored : Stored) : Type 0 where
+pub record Stands (first : Bool) (entries : List Entry) (dumps : Dumps) (base : AllBlocks) (stored : Stored) : Type 0 where
   pub kept : Kept first entries dumps base stored
   pub described : has is_described (live_of entries) ≡ true
   pub base_sized : AllSized base
   pub images_sized : ImagesSized (from_control (live_of entries))
 
 -- It stands, and no restore is pending.
-pub record MayRun (first : Bool) (entries : List Entry) (dumps : Dumps) (base : Content) (stored : Stored) : Type 0 where
+pub record MayRun (first : Bool) (entries : List Entry) (dumps : Dumps) (base : AllBlocks) (stored : Stored) : Type 0 where
   pub stands : Stands first entries dumps base stored
   pub none : (history_of entries).pending ≡ None
 
 -- Files hold a database, be a restore by the audit pending or not: scanning finds its entries, all stands, and no restore by a dump is pending.
 pub record IsWhole (t : Telling) (files : Files) : Type 0 where
   pub found : t.found files
-  pub base : Content
+  pub base : AllBlocks
   pub stands : Stands t.first (t.entries files) (t.dumps files) base (stored_of files)
   pub no_dump : NoDumpPending (t.entries files)

@@ -10,7 +10,7 @@ use Rattle.dms_history.specs.Entries.{Entry}
 use Rattle.dms_history.proofs.Order.{append_none}
 use Rattle.dms_model.specs.Seen.{Effort, Seen}
 use Rattle.dms_runner.specs.Blaming.{HasBlame}
-use Rattle.dms_runner.specs.Events.{RunEvent, Takes, TookPart, backs_of, blocks_of, syncs_of, text_of}
+use Rattle.dms_runner.specs.Events.{RunEvent, TakesEvents, TookPart, backs_of, blocks_of, syncs_of, text_of}
 use Rattle.dms_runner.specs.declared.run.RunFault.{RunFault}
 use Rattle.dms_runner.specs.declared.run.RunFault.TheVariants.{Block}
 use Rattle.dms_running.specs.Telling.{Telling}
@@ -170,7 +170,7 @@ module _ {S : Type 0} (g : Ghosts S) (d : Described) (r r' : Running S) (t : Tel
     }
 
     -- the script was carried out, and then the database closed, or not closed
-    pub closed_bound : (status : Status) (files : Files) (said : Option (List ℕ)) → new.faults ≡ old.faults → Takes old.desc events old.effort new.effort → ((status ≡ DiskFault → ⊥) → FilesGrew 37 (view_of g r'.log) files) → Prints old.said said (text_of events)
+    pub closed_bound : (status : Status) (files : Files) (said : Option (List ℕ)) → new.faults ≡ old.faults → TakesEvents old.desc events old.effort new.effort → ((status ≡ DiskFault → ⊥) → FilesGrew 37 (view_of g r'.log) files) → Prints old.said said (text_of events)
         → BoundsAudit 0 (g.disk_faults r.log.site < 2 ^ 64 - 1) t d events (g.files r.log.site) files old.said said status
     closed_bound status files said faults takes few text = record {
       at_ok = λ p is c. omega (arith, whole p c, closing (λ disk. ok_not_disk (sym is ∙ disk)));

@@ -8,7 +8,7 @@ use Rattle.dms_block.specs.Texts.{Prints, PrintsPrefix}
 use Rattle.dms_desc.specs.Shape.{Described}
 use Rattle.dms_feed.specs.Lines.{raw_lines}
 use Rattle.dms_model.specs.Db.{Db}
-use Rattle.dms_model.specs.Points.{Stop, LeavesPrefix, TextIs}
+use Rattle.dms_model.specs.Points.{Stop, LeavesPrefix, StopTextIs}
 use Rattle.dms_model.specs.Seen.{Seen}
 use Rattle.dms_model.specs.Session.{ended, fresh_session}
 use Rattle.dms_moments.specs.Moments.{Runs}
@@ -118,7 +118,7 @@ module _ {S : Type 0} (g : Ghosts S) (d e e' : Described) (r r' : Running S) (sa
       (moments_under d e e' (held g r) (held g r') (held g r).whole entry n db r.next events same same' leaves)
 
   closing_of : (site : S) (status : Status) → ClosesOver g r' status site
-      → ((stop : Stop) → LeavesPrefix (held g r').whole (held g r').durable (map (point_of e') (held g r').points) (held g r').next stop → TextIs (held g r').said stop
+      → ((stop : Stop) → LeavesPrefix (held g r').whole (held g r').durable (map (point_of e') (held g r').points) (held g r').next stop → StopTextIs (held g r').said stop
       → RunLeaves (held g r).whole entry (map (point_of e) (held g r).points) n db r.next events stop)
       → r'.next + 1 < 2 ^ 64 → Runs (g.clock r'.log.site) (g.clock site) (RunLeavesFiles t d entry ps n db r.next events)
   closing_of site status closes ends room =
@@ -166,7 +166,7 @@ module _ {S : Type 0} (g : Ghosts S) (d e e' : Described) (r r' : Running S) (sa
   -- the script was carried out, and then the database closed
   pub closed_over : (left' : Option (List ℕ)) (status : Status) (site : S) → (status ≡ Ok) ⊎ IsOfClosing status → ClosesOver g r' status site → (IsTrue g.tells_said → g.said site ≡ g.said r'.log.site)
       → Runs (lifted e (held g r).clock) (lifted e' (held g r').clock) (RunLeaves (held g r).whole entry (map (point_of e) (held g r).points) n db r.next events)
-      → ((stop : Stop) → LeavesPrefix (held g r').whole (held g r').durable (map (point_of e') (held g r').points) (held g r').next stop → TextIs (held g r').said stop
+      → ((stop : Stop) → LeavesPrefix (held g r').whole (held g r').durable (map (point_of e') (held g r').points) (held g r').next stop → StopTextIs (held g r').said stop
       → RunLeaves (held g r).whole entry (map (point_of e) (held g r).points) n db r.next events stop)
       → EndsWith (map (point_of e') (held g r').points) (last_quiet_number n (quiets_of events)) (last_quiet db (quiets_of events))
       → Prints entry (said_of g r'.log) (answers_text d db r.next (raw_lines all)) → PrintsPrefix entry (said_of g r'.log) (answers_text d db r.next (raw_lines all)) → SaidWhole entry (said_of g r'.log) events

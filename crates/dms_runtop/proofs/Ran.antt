@@ -5,7 +5,7 @@ use Rattle.dms_block.specs.Held.{Held}
 use Rattle.dms_block.specs.Texts.{Prints, PrintsPrefix}
 use Rattle.dms_desc.specs.Shape.{Described}
 use Rattle.dms_model.specs.Db.{Db}
-use Rattle.dms_model.specs.Points.{Point, Stop, LeavesPrefix, TextIs}
+use Rattle.dms_model.specs.Points.{Point, Stop, LeavesPrefix, StopTextIs}
 use Rattle.dms_moments.specs.Moments.{Runs}
 use Rattle.dms_moments.specs.MomentLaws.{runs_weaken}
 use Rattle.dms_block.specs.declared.block_fault.BlockFault.TheVariants as block
@@ -78,8 +78,8 @@ moments_under d e e' a b whole entry n db next events same same' run =
     (subst (λ (x : Described). Runs (lifted e a.clock) (lifted x b.clock) (RunLeaves whole entry (map (point_of e) a.points) n db next events)) same' run)
 
 pub ends_under : (d e e' : Described) (a b : Held) (whole : Files → Type 0) (entry : Option (List ℕ)) (n : ℕ) (db : Db) (next : ℕ) (events : List RunEvent) → e ≡ d → e' ≡ d
-    → ((stop : Stop) → LeavesPrefix b.whole b.durable (map (point_of e') b.points) b.next stop → TextIs b.said stop → RunLeaves whole entry (map (point_of e) a.points) n db next events stop)
-    → (stop : Stop) → LeavesPrefix b.whole b.durable (map (point_of d) b.points) b.next stop → TextIs b.said stop → RunLeaves whole entry (map (point_of d) a.points) n db next events stop
+    → ((stop : Stop) → LeavesPrefix b.whole b.durable (map (point_of e') b.points) b.next stop → StopTextIs b.said stop → RunLeaves whole entry (map (point_of e) a.points) n db next events stop)
+    → (stop : Stop) → LeavesPrefix b.whole b.durable (map (point_of d) b.points) b.next stop → StopTextIs b.said stop → RunLeaves whole entry (map (point_of d) a.points) n db next events stop
 ends_under d e e' a b whole entry n db next events same same' ends stop front text =
     subst (λ (x : Described). RunLeaves whole entry (map (point_of x) a.points) n db next events stop) same
     (ends stop (subst (λ (x : Described). LeavesPrefix b.whole b.durable (map (point_of x) b.points) b.next stop) (sym same') front) text)
@@ -106,7 +106,7 @@ module _ {S : Type 0} (g : Ghosts S) (d : Described) (trail : Trail) (r r' : Run
       (subst (λ (p : List Point). Runs (lifted d (held g r).clock) (lifted d (held g r').clock) (RunLeaves (held g r).whole entry p n db next events)) points_are run))
 
   -- a stop within the closing control point
-  pub closing_below : (site : S) → ((stop : Stop) → LeavesPrefix (held g r').whole (held g r').durable (map (point_of d) (held g r').points) (held g r').next stop → TextIs (held g r').said stop
+  pub closing_below : (site : S) → ((stop : Stop) → LeavesPrefix (held g r').whole (held g r').durable (map (point_of d) (held g r').points) (held g r').next stop → StopTextIs (held g r').said stop
       → RunLeaves (held g r).whole entry (map (point_of d) (held g r).points) n db next events stop)
       → IsTrue g.tells → r'.next + 1 < 2 ^ 64 → LeavesUntil (held g r') (wal.lifted (telling (view_of g r'.log)) (g.clock site))
       → Runs (g.clock r'.log.site) (g.clock site) (RunLeavesFiles t d entry ps n db next events)

@@ -6,10 +6,10 @@ use Rattle.dms_tokens.specs.Cursors.{starts, is_the_sign, place_at}
 use Rattle.dms_script.specs.declared.fault.Fault.{Fault}
 use Rattle.dms_script.specs.declared.fault.Fault.TheVariants.{Bad, Memory}
 use Rattle.std.specs.declared.result.Result.{Result}
-use Rattle.dms_script.specs.Reads.{Read, Fails}
+use Rattle.dms_script.specs.Reads.{LineRead, LineFails}
 use Rattle.dms_script.specs.Verbs.{list_of}
 
-module _ {A : Type 0} (one : List A → List Lexeme → Read (List A)) where
+module _ {A : Type 0} (one : List A → List Lexeme → LineRead (List A)) where
   more : (n : ℕ) (done next : List A) (ts rest : List Lexeme) → one done ts ≡ Ok (next, rest) → starts (is_the_sign 44) rest ≡ true → list_of one (suc n) done ts ≡ list_of one n next (drop 1 rest)
   unfolding list_of
   more n done next ts rest e h = rw (e, h) refl
@@ -43,9 +43,9 @@ module _ {A : Type 0} (one : List A → List Lexeme → Read (List A)) where
   list-none m done ts is = rw is (none done ts)
 
 -- the same bad place
-pub Fails-from : {Y Z : Type 0} (e : Fault) (r : Result Y ℕ) (s : Result Z ℕ) → ((p : ℕ) → r ≡ Err p → s ≡ Err p) → Fails e r → Fails e s
-Fails-from Memory r s along h = tt
-Fails-from (Bad p) r s along h = along p h
+pub LineFails-from : {Y Z : Type 0} (e : Fault) (r : Result Y ℕ) (s : Result Z ℕ) → ((p : ℕ) → r ≡ Err p → s ≡ Err p) → LineFails e r → LineFails e s
+LineFails-from Memory r s along h = tt
+LineFails-from (Bad p) r s along h = along p h
 
 -- no comma is taken
 pub comma-no : (ts rest : List Lexeme) → starts (is_the_sign 44) ts ≡ false → rest ≡ (if starts (is_the_sign 44) ts then drop 1 ts else ts) → rest ≡ ts

@@ -40,7 +40,7 @@ use Rattle.dms_script.specs.declared.look.ItemRange.{ItemRange}
 use Rattle.dms_script.specs.Cursors.{word_at, equal_at, name_at, name_in, literal_at, literal_in, text_literal, if_kind, structure_at, target_at, key_item_at, run_at}
 use Rattle.dms_script.specs.Lines.{line_of, sound_line, sound_len, bad_by, line_from, spoken_at, program_at, whole_verb_at, colon_at}
 use Rattle.dms_script.specs.Looks.{is_wanted, if_wanted, structure_named, has_kind, counted, if_settable, target_named, key_item_of, key_item, kind_named, run_of, run_named, whole_run, upward, numbers}
-use Rattle.dms_script.specs.Reads.{Read, or_bad, ◌>>=◌}
+use Rattle.dms_script.specs.Reads.{LineRead, or_bad, ◌>>=◌}
 use Rattle.dms_script.specs.Spoken.{HasOrder, is_such, MaySetTo, TakeKey, TakesAt, IsWay, HasRestart, NamesWhatIsThere, SpeaksWell, LinesSpeakWell}
 use Rattle.dms_script.specs.Verbs.{close_line_at, word_then, open_at, close_at, first_at, last_at, member_at, path_at, find_at, create_at, store_at, list_of, list_at, setting_at, put_at, shown_at, is_over, all_shown_at, get_at, mode_at, begin_at, sync_at, finish_at, abort_at, transaction_at, area_at, verb_at}
 
@@ -163,7 +163,7 @@ module _ (desc : Described) (order : HasOrder desc) where
 
   -- FIND
 
-  abbrev Verbs : Read Verb → Type 0
+  abbrev Verbs : LineRead Verb → Type 0
   Verbs m = IfOk m (λ r. NamesWhatIsThere desc r.0)
 
   first_gives : (ts : List Lexeme) → IfOk (first_at desc ts) (λ r. IsWay desc r.0)
@@ -245,7 +245,7 @@ module _ (desc : Described) (order : HasOrder desc) where
 
   -- lists
 
-  module _ {A : Type 0} (one : List A → List Lexeme → Read (List A)) (P : List A → Type 0) (each : (done : List A) (ts : List Lexeme) → P done → IfOk (one done ts) (λ r. P r.0)) where
+  module _ {A : Type 0} (one : List A → List Lexeme → LineRead (List A)) (P : List A → Type 0) (each : (done : List A) (ts : List Lexeme) → P done → IfOk (one done ts) (λ r. P r.0)) where
     list_gives : (n : ℕ) (done : List A) (ts : List Lexeme) → P done → IfOk (list_of one n done ts) (λ r. P r.0)
     unfolding list_of
     list_gives zero done ts h = tt

@@ -2,7 +2,7 @@ ghost use Rattle.std.specs.Prelude.{◌≡◌, IfOk};
 ghost use Rattle.std.specs.Option.{option_copied};
 ghost use Rattle.dms_desc.specs.Shape.{shape_of, described};
 ghost use Rattle.dms_base.specs.Text.{text_of};
-ghost use Rattle.dms_script.specs.Reads.{Takes, TakesAs, Passes};
+ghost use Rattle.dms_script.specs.Reads.{LineTakes, TakesAs, LinePasses};
 ghost use Rattle.dms_script.specs.Cursors.{word_at, sign_at, equal_at, end_at, name_in, name_at, text_literal, literal_in, if_kind, literal_at, structure_at, target_at, key_item_at, run_at};
 
 use crate::fault::Fault;
@@ -68,7 +68,7 @@ fn literal_for(alloc: Global, kind: &ItemKind, token: &Token) -> Result<Option<L
 /// This word.
 #[tactic(auto, unfolding(crate::specs::Cursors::word_at))]
 pub fn expect_word(cursor: &mut Cursor<'_>, word: &[u8]) -> Result<(), Fault>
-    ensures { Passes result cursor.new (word_at word.now cursor.old) }
+    ensures { LinePasses result cursor.new (word_at word.now cursor.old) }
 {
     if !cursor.starts_word(word) {
         return Err(Fault::Bad(cursor.place()));
@@ -80,7 +80,7 @@ pub fn expect_word(cursor: &mut Cursor<'_>, word: &[u8]) -> Result<(), Fault>
 /// This sign.
 #[tactic(auto, unfolding(crate::specs::Cursors::sign_at))]
 pub fn expect_sign(cursor: &mut Cursor<'_>, sign: u8) -> Result<(), Fault>
-    ensures { Passes result cursor.new (sign_at sign cursor.old) }
+    ensures { LinePasses result cursor.new (sign_at sign cursor.old) }
 {
     if !cursor.starts_sign(sign) {
         return Err(Fault::Bad(cursor.place()));
@@ -92,7 +92,7 @@ pub fn expect_sign(cursor: &mut Cursor<'_>, sign: u8) -> Result<(), Fault>
 /// The sign `=`.
 #[tactic(auto, unfolding(crate::specs::Cursors::equal_at))]
 pub fn expect_equal(cursor: &mut Cursor<'_>) -> Result<(), Fault>
-    ensures { Passes result cursor.new (equal_at cursor.old) }
+    ensures { LinePasses result cursor.new (equal_at cursor.old) }
 {
     if !cursor.starts_equal() {
         return Err(Fault::Bad(cursor.place()));
@@ -104,7 +104,7 @@ pub fn expect_equal(cursor: &mut Cursor<'_>) -> Result<(), Fault>
 /// The line's end.
 #[tactic(auto, unfolding(crate::specs::Cursors::end_at))]
 pub fn expect_end(cursor: &mut Cursor<'_>) -> Result<(), Fault>
-    ensures { Passes result cursor.new (end_at cursor.old) }
+    ensures { LinePasses result cursor.new (end_at cursor.old) }
 {
     if !cursor.starts_end() {
         return Err(Fault::Bad(cursor.place()));
@@ -116,7 +116,7 @@ pub fn expect_end(cursor: &mut Cursor<'_>) -> Result<(), Fault>
 /// A name.
 #[tactic(auto, unfolding(crate::specs::Cursors::name_at))]
 pub fn read_name(cursor: &mut Cursor<'_>) -> Result<Name, Fault>
-    ensures { Takes result cursor.new (name_at cursor.old) }
+    ensures { LineTakes result cursor.new (name_at cursor.old) }
 {
     let [first, ..] = cursor.rest() else {
         return Err(Fault::Bad(0));
@@ -133,7 +133,7 @@ pub fn read_name(cursor: &mut Cursor<'_>) -> Result<Name, Fault>
 /// A literal of this kind.
 #[tactic(auto, unfolding(crate::specs::Cursors::literal_at))]
 pub fn read_literal(cursor: &mut Cursor<'_>, kind: &ItemKind) -> Result<Literal, Fault>
-    ensures { Takes result cursor.new (literal_at kind.now cursor.old) }
+    ensures { LineTakes result cursor.new (literal_at kind.now cursor.old) }
 {
     let [first, ..] = cursor.rest() else {
         return Err(Fault::Bad(0));
@@ -171,7 +171,7 @@ pub fn read_target(
     items: &[Item],
     done: &[Setting],
 ) -> Result<NamedItem, Fault>
-    ensures { Takes result cursor.new (target_at items.now done.now cursor.old) }
+    ensures { LineTakes result cursor.new (target_at items.now done.now cursor.old) }
 {
     let place = cursor.place();
     let name = read_name(cursor)?;
@@ -184,7 +184,7 @@ pub fn read_target(
 /// The name of this item, with its kind.
 #[tactic(auto, unfolding(crate::specs::Cursors::key_item_at))]
 pub fn read_key_item(cursor: &mut Cursor<'_>, item: Option<&Item>) -> Result<ItemKind, Fault>
-    ensures { Takes result cursor.new (key_item_at (option_copied item.entry) cursor.old) }
+    ensures { LineTakes result cursor.new (key_item_at (option_copied item.entry) cursor.old) }
 {
     let place = cursor.place();
     let name = read_name(cursor)?;
@@ -197,7 +197,7 @@ pub fn read_key_item(cursor: &mut Cursor<'_>, item: Option<&Item>) -> Result<Ite
 /// The name of an item or a group.
 #[tactic(auto, unfolding(crate::specs::Cursors::run_at))]
 pub fn read_run(cursor: &mut Cursor<'_>, s: &Structure) -> Result<ItemRange, Fault>
-    ensures { Takes result cursor.new (run_at (shape_of s.now) cursor.old) }
+    ensures { LineTakes result cursor.new (run_at (shape_of s.now) cursor.old) }
 {
     let place = cursor.place();
     let name = read_name(cursor)?;

@@ -2,7 +2,7 @@ ghost use Rattle.std.specs.Prelude.{◌≡◌, ◌≤◌, ◌<◌, ◌+◌, leng
 ghost use Rattle.std.specs.declared.result.Result.{Result};
 ghost use Rattle.dms_model.specs.declared.verb.Verb.{Verb};
 ghost use Rattle.dms_desc.specs.Shape.{described};
-ghost use Rattle.dms_script.specs.Reads.{Gives};
+ghost use Rattle.dms_script.specs.Reads.{LineGives};
 ghost use Rattle.dms_script.specs.Lines.{is_line_byte, sound_len, colon_at, program_at, whole_verb_at, spoken_at, line_from, sound_line, bad_by, line_of};
 
 use crate::expect::read_name;
@@ -52,7 +52,7 @@ fn sound_len(line: &[u8]) -> usize
 
 /// The place of the colon that the program's name ends with.
 fn colon(line: &[u8], cursor: &Cursor<'_>) -> Result<usize, Fault>
-    ensures gives { Gives result (colon_at line.now cursor.now) }
+    ensures gives { LineGives result (colon_at line.now cursor.now) }
     ensures within { IfOk result (λ n. n ≤ length line.now) }
 {
     let place = cursor.place();
@@ -66,7 +66,7 @@ fn colon(line: &[u8], cursor: &Cursor<'_>) -> Result<usize, Fault>
 /// The program's name, and how much of the line it and its colon take.
 #[tactic(auto, unfolding(crate::specs::Lines::program_at))]
 fn program(line: &[u8], cursor: &mut Cursor<'_>) -> Result<(Name, usize), Fault>
-    ensures gives { Gives result (program_at line.now cursor.old) }
+    ensures gives { LineGives result (program_at line.now cursor.old) }
     ensures within { IfOk result (λ r. r.1 ≤ length line.now) }
 {
     let name = read_name(cursor)?;
@@ -77,7 +77,7 @@ fn program(line: &[u8], cursor: &mut Cursor<'_>) -> Result<(Name, usize), Fault>
 /// A verb up to the line's end.
 #[tactic(auto, unfolding(crate::specs::Lines::whole_verb_at))]
 fn whole_verb(alloc: Global, desc: &Description, tokens: &[Lexeme]) -> Result<Verb, Fault>
-    ensures { Gives result (whole_verb_at (described desc.now) tokens.now) }
+    ensures { LineGives result (whole_verb_at (described desc.now) tokens.now) }
 {
     let mut cursor = Cursor::new(alloc, tokens);
     let verb = verb(&mut cursor, desc)?;
@@ -95,7 +95,7 @@ fn spoken(
     cursor: &mut Cursor<'_>,
 ) -> Result<(Name, Verb), Fault>
     requires { length line.now ≤ 2000 }
-    ensures { Gives result (spoken_at (described desc.now) line.now cursor.old) }
+    ensures { LineGives result (spoken_at (described desc.now) line.now cursor.old) }
 {
     let (name, colon) = program(line, cursor)?;
     let lexemes = tokens_from(alloc, colon as u32 + 1, &line[colon..])?;
@@ -104,7 +104,7 @@ fn spoken(
 }
 
 fn line_from(read: Result<(Name, Verb), Fault>) -> Result<Line, Memory>
-    ensures { (r : Result (List ℕ × Verb) ℕ) → Gives read r → IfOk result (λ l. l ≡ line_from r) }
+    ensures { (r : Result (List ℕ × Verb) ℕ) → LineGives read r → IfOk result (λ l. l ≡ line_from r) }
 {
     match read {
         Ok((name, verb)) => Ok(Line::Verb(name, verb)),

@@ -1,5 +1,5 @@
 ghost use Rattle.dms_desc.specs.Shape.{shape_of};
-ghost use Rattle.dms_script.specs.Reads.{Takes};
+ghost use Rattle.dms_script.specs.Reads.{LineTakes};
 ghost use Rattle.dms_script.specs.Verbs.{list_at, setting_at, shown_at};
 
 use crate::expect::{expect_equal, read_literal, read_run, read_target};
@@ -12,7 +12,7 @@ use dms_tokens::Cursor;
 /// item = literal, onto these settings. After a fault they are of no use.
 #[tactic(auto, unfolding(crate::specs::Verbs::setting_at))]
 fn setting(cursor: &mut Cursor<'_>, items: &[Item], mut done: Settings) -> Result<Settings, Fault>
-    ensures { Takes result cursor.new (setting_at items.now done cursor.old) }
+    ensures { LineTakes result cursor.new (setting_at items.now done cursor.old) }
 {
     let target = read_target(cursor, items, done.as_slice())?;
     expect_equal(cursor)?;
@@ -27,7 +27,7 @@ fn setting(cursor: &mut Cursor<'_>, items: &[Item], mut done: Settings) -> Resul
 /// item = literal {, item = literal}
 #[tactic(auto, unfolding(crate::specs::Verbs::list_at))]
 pub fn settings(cursor: &mut Cursor<'_>, items: &[Item]) -> Result<Settings, Fault>
-    ensures { Takes result cursor.new (list_at (setting_at items.now) cursor.old) }
+    ensures { LineTakes result cursor.new (list_at (setting_at items.now) cursor.old) }
 {
     let mut settings = Settings::new(cursor.alloc());
     for _turn in 0..cursor.rest().len() {
@@ -46,7 +46,7 @@ fn one_shown(
     set: &Structure,
     mut done: ItemNumbers,
 ) -> Result<ItemNumbers, Fault>
-    ensures { Takes result cursor.new (shown_at (shape_of set.now) done cursor.old) }
+    ensures { LineTakes result cursor.new (shown_at (shape_of set.now) done cursor.old) }
 {
     let run = read_run(cursor, set)?;
     push_numbers(&mut done, run)?;
@@ -56,7 +56,7 @@ fn one_shown(
 /// item {, item}
 #[tactic(auto, unfolding(crate::specs::Verbs::list_at))]
 pub fn shown(cursor: &mut Cursor<'_>, set: &Structure) -> Result<ItemNumbers, Fault>
-    ensures { Takes result cursor.new (list_at (shown_at (shape_of set.now)) cursor.old) }
+    ensures { LineTakes result cursor.new (list_at (shown_at (shape_of set.now)) cursor.old) }
 {
     let mut shown = ItemNumbers::new(cursor.alloc());
     for _turn in 0..cursor.rest().len() {

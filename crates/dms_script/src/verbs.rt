@@ -1,5 +1,5 @@
 ghost use Rattle.dms_desc.specs.Shape.{shape_of, described};
-ghost use Rattle.dms_script.specs.Reads.{Takes, Passes};
+ghost use Rattle.dms_script.specs.Reads.{LineTakes, LinePasses};
 ghost use Rattle.dms_script.specs.Verbs.{open_at, close_at, first_at, last_at, member_at, path_at, find_at, create_at, store_at, put_at, all_shown_at, get_at, mode_at, begin_at, sync_at, finish_at, abort_at, transaction_at, area_at, verb_at, close_line_at};
 
 use crate::expect::{
@@ -15,7 +15,7 @@ use dms_tokens::Cursor;
 /// OPEN UPDATE, OPEN INQUIRY
 #[tactic(auto, unfolding(crate::specs::Verbs::open_at))]
 fn open(cursor: &mut Cursor<'_>) -> Result<Verb, Fault>
-    ensures { Takes result cursor.new (open_at cursor.old) }
+    ensures { LineTakes result cursor.new (open_at cursor.old) }
 {
     expect_word(cursor, b"OPEN")?;
     if cursor.starts_word(b"UPDATE") {
@@ -28,7 +28,7 @@ fn open(cursor: &mut Cursor<'_>) -> Result<Verb, Fault>
 
 #[tactic(auto, unfolding(crate::specs::Verbs::close_at))]
 fn close(cursor: &mut Cursor<'_>) -> Result<Verb, Fault>
-    ensures { Takes result cursor.new (close_at cursor.old) }
+    ensures { LineTakes result cursor.new (close_at cursor.old) }
 {
     expect_word(cursor, b"CLOSE")?;
     Ok(Verb::Close)
@@ -37,7 +37,7 @@ fn close(cursor: &mut Cursor<'_>) -> Result<Verb, Fault>
 /// FIRST x
 #[tactic(auto, unfolding(crate::specs::Verbs::first_at))]
 fn first(cursor: &mut Cursor<'_>, desc: &Description) -> Result<Path, Fault>
-    ensures { Takes result cursor.new (first_at (described desc.now) cursor.old) }
+    ensures { LineTakes result cursor.new (first_at (described desc.now) cursor.old) }
 {
     expect_word(cursor, b"FIRST")?;
     let path = read_structure(cursor, Wanted::Path, desc)?;
@@ -47,7 +47,7 @@ fn first(cursor: &mut Cursor<'_>, desc: &Description) -> Result<Path, Fault>
 /// LAST x
 #[tactic(auto, unfolding(crate::specs::Verbs::last_at))]
 fn last(cursor: &mut Cursor<'_>, desc: &Description) -> Result<Path, Fault>
-    ensures { Takes result cursor.new (last_at (described desc.now) cursor.old) }
+    ensures { LineTakes result cursor.new (last_at (described desc.now) cursor.old) }
 {
     expect_word(cursor, b"LAST")?;
     let path = read_structure(cursor, Wanted::Path, desc)?;
@@ -57,7 +57,7 @@ fn last(cursor: &mut Cursor<'_>, desc: &Description) -> Result<Path, Fault>
 /// x AT item = literal
 #[tactic(auto, unfolding(crate::specs::Verbs::member_at))]
 fn member(cursor: &mut Cursor<'_>, desc: &Description) -> Result<Path, Fault>
-    ensures { Takes result cursor.new (member_at (described desc.now) cursor.old) }
+    ensures { LineTakes result cursor.new (member_at (described desc.now) cursor.old) }
 {
     let path = read_structure(cursor, Wanted::Path, desc)?;
     expect_word(cursor, b"AT")?;
@@ -71,7 +71,7 @@ fn member(cursor: &mut Cursor<'_>, desc: &Description) -> Result<Path, Fault>
 
 #[tactic(auto, unfolding(crate::specs::Verbs::path_at))]
 fn path(cursor: &mut Cursor<'_>, desc: &Description) -> Result<Path, Fault>
-    ensures { Takes result cursor.new (path_at (described desc.now) cursor.old) }
+    ensures { LineTakes result cursor.new (path_at (described desc.now) cursor.old) }
 {
     if cursor.starts_word(b"FIRST") {
         return first(cursor, desc);
@@ -85,7 +85,7 @@ fn path(cursor: &mut Cursor<'_>, desc: &Description) -> Result<Path, Fault>
 /// FIND path
 #[tactic(auto, unfolding(crate::specs::Verbs::find_at))]
 fn find(cursor: &mut Cursor<'_>, desc: &Description) -> Result<Verb, Fault>
-    ensures { Takes result cursor.new (find_at (described desc.now) cursor.old) }
+    ensures { LineTakes result cursor.new (find_at (described desc.now) cursor.old) }
 {
     expect_word(cursor, b"FIND")?;
     let path = path(cursor, desc)?;
@@ -95,7 +95,7 @@ fn find(cursor: &mut Cursor<'_>, desc: &Description) -> Result<Verb, Fault>
 /// CREATE D
 #[tactic(auto, unfolding(crate::specs::Verbs::create_at))]
 fn create(cursor: &mut Cursor<'_>, desc: &Description) -> Result<Verb, Fault>
-    ensures { Takes result cursor.new (create_at (described desc.now) cursor.old) }
+    ensures { LineTakes result cursor.new (create_at (described desc.now) cursor.old) }
 {
     expect_word(cursor, b"CREATE")?;
     let set = read_structure(cursor, Wanted::DataSet, desc)?;
@@ -105,7 +105,7 @@ fn create(cursor: &mut Cursor<'_>, desc: &Description) -> Result<Verb, Fault>
 /// STORE D
 #[tactic(auto, unfolding(crate::specs::Verbs::store_at))]
 fn store(cursor: &mut Cursor<'_>, desc: &Description) -> Result<Verb, Fault>
-    ensures { Takes result cursor.new (store_at (described desc.now) cursor.old) }
+    ensures { LineTakes result cursor.new (store_at (described desc.now) cursor.old) }
 {
     expect_word(cursor, b"STORE")?;
     let set = read_structure(cursor, Wanted::DataSet, desc)?;
@@ -115,7 +115,7 @@ fn store(cursor: &mut Cursor<'_>, desc: &Description) -> Result<Verb, Fault>
 /// PUT D item = literal {, item = literal}
 #[tactic(auto, unfolding(crate::specs::Verbs::put_at))]
 fn put(cursor: &mut Cursor<'_>, desc: &Description) -> Result<Verb, Fault>
-    ensures { Takes result cursor.new (put_at (described desc.now) cursor.old) }
+    ensures { LineTakes result cursor.new (put_at (described desc.now) cursor.old) }
 {
     expect_word(cursor, b"PUT")?;
     let set = read_structure(cursor, Wanted::DataSet, desc)?;
@@ -126,7 +126,7 @@ fn put(cursor: &mut Cursor<'_>, desc: &Description) -> Result<Verb, Fault>
 /// The items that are shown: those named, or all items and links.
 #[tactic(auto, unfolding(crate::specs::Verbs::all_shown_at))]
 fn all_shown(cursor: &mut Cursor<'_>, set: &Structure) -> Result<ItemNumbers, Fault>
-    ensures { Takes result cursor.new (all_shown_at (shape_of set.now) cursor.old) }
+    ensures { LineTakes result cursor.new (all_shown_at (shape_of set.now) cursor.old) }
 {
     if cursor.starts_end() || cursor.starts_sign(b';') {
         let mut all = ItemNumbers::new(cursor.alloc());
@@ -139,7 +139,7 @@ fn all_shown(cursor: &mut Cursor<'_>, set: &Structure) -> Result<ItemNumbers, Fa
 /// GET D [item {, item}]
 #[tactic(auto, unfolding(crate::specs::Verbs::get_at))]
 fn get(cursor: &mut Cursor<'_>, desc: &Description) -> Result<Verb, Fault>
-    ensures { Takes result cursor.new (get_at (described desc.now) cursor.old) }
+    ensures { LineTakes result cursor.new (get_at (described desc.now) cursor.old) }
 {
     expect_word(cursor, b"GET")?;
     let set = read_structure(cursor, Wanted::DataSet, desc)?;
@@ -150,7 +150,7 @@ fn get(cursor: &mut Cursor<'_>, desc: &Description) -> Result<Verb, Fault>
 /// AUDIT or NO-AUDIT: whether the restart record is stored.
 #[tactic(auto, unfolding(crate::specs::Verbs::mode_at))]
 fn mode(cursor: &mut Cursor<'_>) -> Result<bool, Fault>
-    ensures { Takes result cursor.new (mode_at cursor.old) }
+    ensures { LineTakes result cursor.new (mode_at cursor.old) }
 {
     if cursor.starts_word(b"AUDIT") {
         expect_word(cursor, b"AUDIT")?;
@@ -163,7 +163,7 @@ fn mode(cursor: &mut Cursor<'_>) -> Result<bool, Fault>
 /// BEGIN-TRANSACTION mode R
 #[tactic(auto, unfolding(crate::specs::Verbs::begin_at))]
 fn begin(cursor: &mut Cursor<'_>, desc: &Description) -> Result<Verb, Fault>
-    ensures { Takes result cursor.new (begin_at (described desc.now) cursor.old) }
+    ensures { LineTakes result cursor.new (begin_at (described desc.now) cursor.old) }
 {
     expect_word(cursor, b"BEGIN-TRANSACTION")?;
     let audit = mode(cursor)?;
@@ -174,7 +174,7 @@ fn begin(cursor: &mut Cursor<'_>, desc: &Description) -> Result<Verb, Fault>
 /// SYNC, or not.
 #[tactic(auto, unfolding(crate::specs::Verbs::sync_at))]
 fn sync(cursor: &mut Cursor<'_>) -> Result<bool, Fault>
-    ensures { Takes result cursor.new (sync_at cursor.old) }
+    ensures { LineTakes result cursor.new (sync_at cursor.old) }
 {
     if cursor.starts_word(b"SYNC") {
         expect_word(cursor, b"SYNC")?;
@@ -186,7 +186,7 @@ fn sync(cursor: &mut Cursor<'_>) -> Result<bool, Fault>
 /// END-TRANSACTION mode R [SYNC]
 #[tactic(auto, unfolding(crate::specs::Verbs::finish_at))]
 fn finish(cursor: &mut Cursor<'_>, desc: &Description) -> Result<Verb, Fault>
-    ensures { Takes result cursor.new (finish_at (described desc.now) cursor.old) }
+    ensures { LineTakes result cursor.new (finish_at (described desc.now) cursor.old) }
 {
     expect_word(cursor, b"END-TRANSACTION")?;
     let audit = mode(cursor)?;
@@ -198,7 +198,7 @@ fn finish(cursor: &mut Cursor<'_>, desc: &Description) -> Result<Verb, Fault>
 /// ABORT-TRANSACTION R
 #[tactic(auto, unfolding(crate::specs::Verbs::abort_at))]
 fn abort(cursor: &mut Cursor<'_>, desc: &Description) -> Result<Verb, Fault>
-    ensures { Takes result cursor.new (abort_at (described desc.now) cursor.old) }
+    ensures { LineTakes result cursor.new (abort_at (described desc.now) cursor.old) }
 {
     expect_word(cursor, b"ABORT-TRANSACTION")?;
     read_structure(cursor, Wanted::Restart, desc)?;
@@ -207,7 +207,7 @@ fn abort(cursor: &mut Cursor<'_>, desc: &Description) -> Result<Verb, Fault>
 
 #[tactic(auto, unfolding(crate::specs::Verbs::transaction_at))]
 fn transaction(cursor: &mut Cursor<'_>, desc: &Description) -> Result<Verb, Fault>
-    ensures { Takes result cursor.new (transaction_at (described desc.now) cursor.old) }
+    ensures { LineTakes result cursor.new (transaction_at (described desc.now) cursor.old) }
 {
     if cursor.starts_word(b"BEGIN-TRANSACTION") {
         return begin(cursor, desc);
@@ -220,7 +220,7 @@ fn transaction(cursor: &mut Cursor<'_>, desc: &Description) -> Result<Verb, Faul
 
 #[tactic(auto, unfolding(crate::specs::Verbs::area_at))]
 fn area(cursor: &mut Cursor<'_>, desc: &Description) -> Result<Verb, Fault>
-    ensures { Takes result cursor.new (area_at (described desc.now) cursor.old) }
+    ensures { LineTakes result cursor.new (area_at (described desc.now) cursor.old) }
 {
     if cursor.starts_word(b"CREATE") {
         return create(cursor, desc);
@@ -240,7 +240,7 @@ fn area(cursor: &mut Cursor<'_>, desc: &Description) -> Result<Verb, Fault>
 /// A verb.
 #[tactic(auto, unfolding(crate::specs::Verbs::verb_at))]
 pub fn verb(cursor: &mut Cursor<'_>, desc: &Description) -> Result<Verb, Fault>
-    ensures { Takes result cursor.new (verb_at (described desc.now) cursor.old) }
+    ensures { LineTakes result cursor.new (verb_at (described desc.now) cursor.old) }
 {
     if cursor.starts_word(b"OPEN") {
         return open(cursor);
@@ -257,7 +257,7 @@ pub fn verb(cursor: &mut Cursor<'_>, desc: &Description) -> Result<Verb, Fault>
 /// A semicolon or none, and the line's end.
 #[tactic(auto, unfolding(crate::specs::Verbs::close_line_at))]
 pub fn close_line(cursor: &mut Cursor<'_>) -> Result<(), Fault>
-    ensures { Passes result cursor.new (close_line_at cursor.old) }
+    ensures { LinePasses result cursor.new (close_line_at cursor.old) }
 {
     if cursor.starts_sign(b';') {
         expect_sign(cursor, b';')?;

@@ -22,7 +22,7 @@ use Rattle.dms_block.specs.Held as held
 use Rattle.dms_desc.specs.Shape.{Described}
 use Rattle.dms_desc_bytes.specs.Spelling.{spelling}
 use Rattle.dms_model.specs.Db.{Db}
-use Rattle.dms_model.specs.Points.{Point, Stop, LeavesPrefix, TextIs, Leaves, LeavesText, IsUnder}
+use Rattle.dms_model.specs.Points.{Point, Stop, LeavesPrefix, StopTextIs, StoreLeaves, StoreLeavesText, IsUnder}
 use Rattle.dms_model.specs.Seen as store
 use Rattle.dms_slots.specs.SlotBlocks.{file_of}
 use Rattle.dms_store.specs.Lifted.{IsUsable, Serves, db_of, effort_of, faults_with, here_of, lifted, point_of, seen_of, stop_of, store_seen}
@@ -51,10 +51,10 @@ module _ (desc : Described) where
     files = p.whole_files;
   }
 
-  pub leaves_lifted : (a b : Held) (points : List BlockPoint) (next : ℕ) → held.Leaves a b points next → Leaves a.whole (lifted desc a.clock) (lifted desc b.clock) a.durable (map (point_of desc) points) next a.said
+  pub leaves_lifted : (a b : Held) (points : List BlockPoint) (next : ℕ) → held.StoreLeaves a b points next → StoreLeaves a.whole (lifted desc a.clock) (lifted desc b.clock) a.durable (map (point_of desc) points) next a.said
   leaves_lifted a b points next run = runs_seen_as (stop_of desc) (runs_weaken run (λ x p. (front_lifted a points next x p.0, p.1)))
 
-  pub text_lifted : (a b : Held) (bytes : List ℕ) → held.LeavesText a b bytes → LeavesText a.whole (lifted desc a.clock) (lifted desc b.clock) a.durable (map (point_of desc) a.points) a.next a.said bytes
+  pub text_lifted : (a b : Held) (bytes : List ℕ) → held.StoreLeavesText a b bytes → StoreLeavesText a.whole (lifted desc a.clock) (lifted desc b.clock) a.durable (map (point_of desc) a.points) a.next a.said bytes
   text_lifted a b bytes run = runs_seen_as (stop_of desc) (runs_weaken run (λ x p. (front_lifted a a.points a.next x p.0, p.1)))
 
   blocks_here : (t : Bool) (c d : Content) → (IsTrue t → d ≡ c) → cond t c d ≡ d
@@ -123,10 +123,10 @@ module _ (desc : Described) (sound sound' : Type 0) (found found' : ℕ) (a b : 
     points = λ tells room. let s = made.points tells room in (ap (map (point_of desc)) s.0 ∙ quiet_points desc a (agrees.here tells room), s.1);
   }
 
-  pub quiet_leaves : held.BlocksAgree a → held.IfTold a (held.Leaves a b (a.points ++ a.here ∷ []) (a.next + 1))
-      → store.IfTold old (Leaves a.whole (lifted desc a.clock) (lifted desc b.clock) a.durable (map (point_of desc) a.points ++ point_of desc (here_of desc a) ∷ []) (a.next + 1) a.said)
+  pub quiet_leaves : held.BlocksAgree a → held.IfTold a (held.StoreLeaves a b (a.points ++ a.here ∷ []) (a.next + 1))
+      → store.IfTold old (StoreLeaves a.whole (lifted desc a.clock) (lifted desc b.clock) a.durable (map (point_of desc) a.points ++ point_of desc (here_of desc a) ∷ []) (a.next + 1) a.said)
   quiet_leaves agrees leaves tells room =
-      subst (λ (ps : List Point). Leaves a.whole (lifted desc a.clock) (lifted desc b.clock) a.durable ps (a.next + 1) a.said) (quiet_points desc a (agrees.here tells room))
+      subst (λ (ps : List Point). StoreLeaves a.whole (lifted desc a.clock) (lifted desc b.clock) a.durable ps (a.next + 1) a.said) (quiet_points desc a (agrees.here tells room))
       (leaves_lifted desc a b (a.points ++ a.here ∷ []) (a.next + 1) (leaves tells room))
 
   pub durable_lifted : sound' → Lasts a b → held.MadeDurable a b → store.MadeDurable old new
@@ -147,7 +147,7 @@ agrees_lifted desc sound found a schema agrees = record {
   here = here_db desc a.told a.content a.here.blocks a.here.schema schema;
   under = point_under desc (here_of desc a);
   points = λ tells room. points_under desc a.points;
-  stop = λ tells room. now_seen_as (stop_of desc) a.clock (λ y. LeavesPrefix a.whole a.durable (map (point_of desc) a.points) a.next y × TextIs a.said y)
+  stop = λ tells room. now_seen_as (stop_of desc) a.clock (λ y. LeavesPrefix a.whole a.durable (map (point_of desc) a.points) a.next y × StopTextIs a.said y)
       (λ x now. let p = agrees.stop tells room x now in (front_lifted desc a a.points a.next x p.0, p.1));
   durable = λ tells room. omega (arith, agrees.durable tells room, length-map a.points (point_of desc));
 }

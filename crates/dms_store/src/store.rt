@@ -6,8 +6,8 @@ ghost use Rattle.dms_desc.specs.Shape.{described};
 ghost use Rattle.dms_model.specs.Db.{Db};
 ghost use Rattle.dms_model.specs.Fitting.{IsDataSet, IsNumber, IsStructure, MayStart, PutFits, RecordFits, SpotFits};
 ghost use Rattle.dms_model.specs.Members.{first_member, last_member};
-ghost use Rattle.dms_model.specs.Points.{Leaves};
-ghost use Rattle.dms_model.specs.Seen.{GoesBack, HasCauses, IfTold, IsMute, IsSilent, Keeps, KeepsPoints, MadeQuiet, MadeDurable, SaysPart, Syncs};
+ghost use Rattle.dms_model.specs.Points.{StoreLeaves};
+ghost use Rattle.dms_model.specs.Seen.{GoesBack, HasStoreCauses, IfPointsTold, IsMute, IsSilent, Keeps, KeepsPoints, QuietMade, PointsDurable, SaysPart, Syncs};
 ghost use Rattle.dms_store.specs.Lifted.{IsUsable, Serves};
 ghost use Rattle.dms_model.specs.Stores.{Tells};
 ghost use Rattle.dms_store.specs.Looked.{Looked};
@@ -128,15 +128,15 @@ impl<B: Blocks> BlockStore<B> {
         requires { IsUsable (described self.old.desc) self.old.over }
         ensures desc { self.new.desc ≡ self.old.desc }
         ensures number { (seen_by self.old).next + 1 < 2 ^ 64 → IfOk result (λ n. n ≡ (seen_by self.old).next) }
-        ensures made { OnOk result (MadeQuiet (seen_by self.old) (seen_by self.new)) }
+        ensures made { OnOk result (QuietMade (seen_by self.old) (seen_by self.new)) }
         ensures mute { IsMute (seen_by self.old) (seen_by self.new) }
-        ensures leaves { let s = seen_by self.old in IfTold s (Leaves s.whole s.clock (seen_by self.new).clock s.durable (s.points ++ s.here ∷ []) (s.next + 1) s.said) }
+        ensures leaves { let s = seen_by self.old in IfPointsTold s (StoreLeaves s.whole s.clock (seen_by self.new).clock s.durable (s.points ++ s.here ∷ []) (s.next + 1) s.said) }
         ensures memory { IsErrOf result BlockFault.Memory → ⊥ }
         ensures same { B.same_blocks self.old.over.below self.new.over.below }
         ensures effort { (seen_by self.new).effort ≡ (seen_by self.old).effort }
         ensures undamaged { (d : Db) → (seen_by self.old).db ≡ Some d → Undamaged result }
         ensures mute_fault { IsErrOf result BlockFault.Say → ⊥ }
-        ensures causes { HasCauses result (seen_by self.old) (seen_by self.new) }
+        ensures causes { HasStoreCauses result (seen_by self.old) (seen_by self.new) }
     {
         note(&mut self.found, self.over.below.quiet())
     }
@@ -145,14 +145,14 @@ impl<B: Blocks> BlockStore<B> {
     pub fn sync(&mut self) -> Result<(), BlockFault>
         requires { IsUsable (described self.old.desc) self.old.over }
         ensures desc { self.new.desc ≡ self.old.desc }
-        ensures made { OnOk result (MadeDurable (seen_by self.old) (seen_by self.new)) }
+        ensures made { OnOk result (PointsDurable (seen_by self.old) (seen_by self.new)) }
         ensures memory { IsErrOf result BlockFault.Memory → ⊥ }
         ensures silent { IsSilent (seen_by self.old) (seen_by self.new) }
         ensures same { B.same_blocks self.old.over.below self.new.over.below }
         ensures effort { Syncs result (seen_by self.old).effort (seen_by self.new).effort }
         ensures undamaged { (d : Db) → (seen_by self.old).db ≡ Some d → Undamaged result }
         ensures mute_fault { IsErrOf result BlockFault.Say → ⊥ }
-        ensures causes { HasCauses result (seen_by self.old) (seen_by self.new) }
+        ensures causes { HasStoreCauses result (seen_by self.old) (seen_by self.new) }
     {
         note(&mut self.found, self.over.below.sync())
     }
@@ -168,7 +168,7 @@ impl<B: Blocks> BlockStore<B> {
         ensures effort { GoesBack result (seen_by self.old).effort (seen_by self.new).effort }
         ensures undamaged { (d : Db) → (seen_by self.old).db ≡ Some d → Undamaged result }
         ensures mute_fault { IsErrOf result BlockFault.Say → ⊥ }
-        ensures causes { HasCauses result (seen_by self.old) (seen_by self.new) }
+        ensures causes { HasStoreCauses result (seen_by self.old) (seen_by self.new) }
     {
         note(&mut self.found, self.over.below.back_out(alloc))
     }
@@ -183,7 +183,7 @@ impl<B: Blocks> BlockStore<B> {
         ensures fault { IsOkUnless result BlockFault.Say }
         ensures same { B.same_blocks self.old.over.below self.new.over.below }
         ensures effort { (seen_by self.new).effort ≡ (seen_by self.old).effort }
-        ensures causes { HasCauses result (seen_by self.old) (seen_by self.new) }
+        ensures causes { HasStoreCauses result (seen_by self.old) (seen_by self.new) }
     {
         note(&mut self.found, self.over.below.say(bytes))
     }

@@ -4,7 +4,7 @@ use Rattle.dms_desc.specs.Shape.{Described}
 use Rattle.dms_model.specs.Seen.{Seen}
 
 -- a store that may be used under this description, and whose last quiet point is the database that it has
-pub record Begins (desc : Described) (s : Seen) : Type 0 where
+pub record StartsAtMark (desc : Described) (s : Seen) : Type 0 where
   pub sound : s.sound
   pub desc_is : s.desc ≡ desc
   pub mark : s.mark ≡ s.db

@@ -2,7 +2,7 @@ ghost use Rattle.std.specs.Prelude.{◌≡◌, IfSome};
 ghost use Rattle.dms_desc.specs.Shape.{described};
 ghost use Rattle.dms_desc_bytes.specs.WellFormed.{IsWellFormed};
 ghost use Rattle.dms_model.specs.Seen.{Seen};
-ghost use Rattle.dms_storetests.specs.Beginnings.{Begins};
+ghost use Rattle.dms_storetests.specs.Beginnings.{StartsAtMark};
 
 use dasdl_compile::compile;
 use dasdl_laws::well_formed_law;
@@ -40,7 +40,7 @@ fn run_over<St: Store + Drop>(
     store: St,
     script: &[u8],
 ) -> Option<St>
-    requires begins { Begins (described desc.now) (St.seen store) }
+    requires begins { StartsAtMark (described desc.now) (St.seen store) }
     requires formed { IsWellFormed (described desc.now) }
 {
     let Ok(bytes) = Vec::from_slice(alloc, script) else {
@@ -78,7 +78,7 @@ pub fn over_list(alloc: Global, desc: &Description, script: &[u8]) -> Option<Vec
 /// A store on blocks without a record.
 fn block_store(alloc: Global, desc: &Description) -> Option<BlockStore<MemBlocks>>
     requires { IsWellFormed (described desc.now) }
-    ensures { IfSome result (λ s. Begins (described desc.now) (⟦<BlockStore<MemBlocks> as Store>⟧.seen s)) }
+    ensures { IfSome result (λ s. StartsAtMark (described desc.now) (⟦<BlockStore<MemBlocks> as Store>⟧.seen s)) }
 {
     empty_law();
     served_law();

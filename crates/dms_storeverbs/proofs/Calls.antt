@@ -14,24 +14,24 @@ use Rattle.std.proofs.lemmas.Result.{IfOk-weaker}
 use Rattle.std.proofs.lemmas.Bool.{false≢true}
 use Rattle.dms_block.specs.declared.block_fault.BlockFault.{BlockFault}
 use Rattle.dms_block.specs.Faults.{Undamaged}
-use Rattle.dms_model.specs.Points.{Files, Point, Quiet, Stop, LeavesPrefix, TextIs, told, known, Leaves, Stays}
+use Rattle.dms_model.specs.Points.{StopFiles, Point, Quiet, Stop, LeavesPrefix, StopTextIs, told, known, StoreLeaves, PointsStayDurable}
 use Rattle.dms_model.specs.Session.{Session, Outcome, answered, settle, someone_works}
 use Rattle.dms_storeverbs.specs.Apart.{Alone}
 use Rattle.dms_storeverbs.specs.View.{View, StandsFor, MatchesOutcome, PerformsCall, Room, view_of, LeavesQuiets, MakesPoints}
 
 -- fewer points are durable, and the number was no higher
-pub lower : {V W : Files → Type 0} {a b m n : ℕ} {ps : List Point} {stop : Stop} → ((files : Files) → V files → W files) → a ≤ b → m ≤ n → LeavesPrefix V b ps n stop → LeavesPrefix W a ps m stop
+pub lower : {V W : StopFiles → Type 0} {a b m n : ℕ} {ps : List Point} {stop : Stop} → ((files : StopFiles) → V files → W files) → a ≤ b → m ≤ n → LeavesPrefix V b ps n stop → LeavesPrefix W a ps m stop
 lower {stop = stop} whole low fell front = record { count = front.count; enough = omega (arith, low, front.enough); within = front.within; is = front.is; not_fallen = omega (arith, fell, front.not_fallen); files = whole stop.files front.files }
 
 -- nothing of a call's quiet points was made yet
-pub stays : {W : Files → Type 0} {durable next : ℕ} {points : List Point} {stop : Stop} (quiets : List Quiet) → LeavesPrefix W durable points next stop → LeavesQuiets W durable points next quiets stop
+pub stays : {W : StopFiles → Type 0} {durable next : ℕ} {points : List Point} {stop : Stop} (quiets : List Quiet) → LeavesPrefix W durable points next stop → LeavesQuiets W durable points next quiets stop
 stays {points = points} quiets front = record { made = []; rest = quiets; all = points; front_of = refl; grew = record { more = []; is = sym (append-nil points); spells = refl }; front = lower (λ files w. w) (omega arith) (omega arith) front }
 
-pub still : {W : Files → Type 0} {old new : Clock Stop} {durable next : ℕ} {points : List Point} {said : Option (List ℕ)} (quiets : List Quiet) → Leaves W old new durable points next said → Runs old new (λ stop. LeavesQuiets W durable points next quiets stop × TextIs said stop)
+pub still : {W : StopFiles → Type 0} {old new : Clock Stop} {durable next : ℕ} {points : List Point} {said : Option (List ℕ)} (quiets : List Quiet) → StoreLeaves W old new durable points next said → Runs old new (λ stop. LeavesQuiets W durable points next quiets stop × StopTextIs said stop)
 still quiets run = runs_weaken run (λ x p. (stays quiets p.0, p.1))
 
 -- a call that makes no point
-pub no_more : (answer : Answer) {durable durable' : ℕ} {points points' : List Point} → answer.sync ≡ None → Stays points durable points' durable' → MakesPoints answer durable points [] durable' points'
+pub no_more : (answer : Answer) {durable durable' : ℕ} {points points' : List Point} → answer.sync ≡ None → PointsStayDurable points durable points' durable' → MakesPoints answer durable points [] durable' points'
 no_more answer {points = points} none stays = record { grew = record { more = []; is = stays.0 ∙ sym (append-nil points); spells = refl }; later = stays.1; synced = λ n is. absurd (let no : ◌≡◌ {A = Option ℕ} None (Some n) = sym none ∙ is in cc) }
 
 -- a call that leaves its store alone
@@ -51,28 +51,28 @@ module _ {db mark : Option Db} {next since : ℕ} {programs new : List Program} 
     };
   }
 
-pub nothing : (W : Files → Type 0) (c : Clock Stop) (durable : ℕ) (points : List Point) (next : ℕ) (said : Option (List ℕ)) (quiets : List Quiet) → Runs c c (λ stop. LeavesQuiets W durable points next quiets stop × TextIs said stop)
+pub nothing : (W : StopFiles → Type 0) (c : Clock Stop) (durable : ℕ) (points : List Point) (next : ℕ) (said : Option (List ℕ)) (quiets : List Quiet) → Runs c c (λ stop. LeavesQuiets W durable points next quiets stop × StopTextIs said stop)
 nothing W c durable points next said quiets = runs_none c _
 
-pub no_time : (W : Files → Type 0) (c : Clock Stop) (durable : ℕ) (points : List Point) (next : ℕ) (said : Option (List ℕ)) → Leaves W c c durable points next said
+pub no_time : (W : StopFiles → Type 0) (c : Clock Stop) (durable : ℕ) (points : List Point) (next : ℕ) (said : Option (List ℕ)) → StoreLeaves W c c durable points next said
 no_time W c durable points next said = runs_none c _
 
 -- one quiet point was made, or was not
-pub one : {W : Files → Type 0} {durable next : ℕ} {points : List Point} {stop : Stop} (p : Point) (q : Quiet) → told p ≡ known q → LeavesPrefix W durable (points ++ p ∷ []) (next + 1) stop → LeavesQuiets W durable points next (q ∷ []) stop
+pub one : {W : StopFiles → Type 0} {durable next : ℕ} {points : List Point} {stop : Stop} (p : Point) (q : Quiet) → told p ≡ known q → LeavesPrefix W durable (points ++ p ∷ []) (next + 1) stop → LeavesQuiets W durable points next (q ∷ []) stop
 one {points = points} p q same front = record { made = q ∷ []; rest = []; all = points ++ p ∷ []; front_of = refl; grew = record { more = p ∷ []; is = refl; spells = ap (λ (x : ℕ × Option Db). x ∷ []) same }; front = front }
 
 pub told_known : (b : Seen) (s : Session) → StoreAgrees b → b.next ≡ s.next → b.db ≡ Some s.db → told b.here ≡ known (s.next, s.db)
 told_known b s agrees n d = λ i. ((agrees.number ∙ n) i, agrees.here s.db d i)
 
-pub made_one : (answer : Answer) {durable durable' : ℕ} {points points' : List Point} (p : Point) (q : Quiet) → told p ≡ known q → answer.sync ≡ None → Stays (points ++ p ∷ []) durable points' durable' → MakesPoints answer durable points (q ∷ []) durable' points'
+pub made_one : (answer : Answer) {durable durable' : ℕ} {points points' : List Point} (p : Point) (q : Quiet) → told p ≡ known q → answer.sync ≡ None → PointsStayDurable (points ++ p ∷ []) durable points' durable' → MakesPoints answer durable points (q ∷ []) durable' points'
 made_one answer p q same none stays = record { grew = record { more = p ∷ []; is = stays.0; spells = ap (λ (x : ℕ × Option Db). x ∷ []) same }; later = stays.1; synced = λ n is. absurd (let no : ◌≡◌ {A = Option ℕ} None (Some n) = sym none ∙ is in cc) }
 
 -- the quiet point of a call, of which a stop may leave nothing yet
-module _ (here : Point) (q : Quiet) (same : told here ≡ known q) (quiets : List Quiet) (is : quiets ≡ q ∷ []) {W : Files → Type 0} {durable next : ℕ} {points : List Point} {said : Option (List ℕ)} where
-  pub quieted : {a b : Clock Stop} → Leaves W a b durable (points ++ here ∷ []) (next + 1) said → Runs a b (λ stop. LeavesQuiets W durable points next quiets stop × TextIs said stop)
+module _ (here : Point) (q : Quiet) (same : told here ≡ known q) (quiets : List Quiet) (is : quiets ≡ q ∷ []) {W : StopFiles → Type 0} {durable next : ℕ} {points : List Point} {said : Option (List ℕ)} where
+  pub quieted : {a b : Clock Stop} → StoreLeaves W a b durable (points ++ here ∷ []) (next + 1) said → Runs a b (λ stop. LeavesQuiets W durable points next quiets stop × StopTextIs said stop)
   quieted run = runs_weaken run (λ x p. (subst (λ (qs : List Quiet). LeavesQuiets W durable points next qs x) (sym is) (one here q same p.0), p.1))
 
-  pub synced : {V : Files → Type 0} {a b c : Clock Stop} {durable' next' : ℕ} {points' : List Point} {said' : Option (List ℕ)} → ((files : Files) → V files → W files) → Leaves W a b durable (points ++ here ∷ []) (next + 1) said → (points' ≡ points ++ here ∷ []) × (durable ≤ durable') → next + 1 ≤ next' → said' ≡ said → Leaves V b c durable' points' next' said' → Runs a c (λ stop. LeavesQuiets W durable points next quiets stop × TextIs said stop)
+  pub synced : {V : StopFiles → Type 0} {a b c : Clock Stop} {durable' next' : ℕ} {points' : List Point} {said' : Option (List ℕ)} → ((files : StopFiles) → V files → W files) → StoreLeaves W a b durable (points ++ here ∷ []) (next + 1) said → (points' ≡ points ++ here ∷ []) × (durable ≤ durable') → next + 1 ≤ next' → said' ≡ said → StoreLeaves V b c durable' points' next' said' → Runs a c (λ stop. LeavesQuiets W durable points next quiets stop × StopTextIs said stop)
   synced {V} {durable' = durable'} {next' = next'} whole first grown more text last = runs_on (quieted first) (runs_weaken last (λ x p. (subst (λ (qs : List Quiet). LeavesQuiets W durable points next qs x) (sym is) (one here q same (lower whole grown.1 more (subst (λ (ps : List Point). LeavesPrefix V durable' ps next' x) grown.0 p.0))), λ t e. p.1 t (text ∙ e)))) (λ x p. p)
 
 if_same : (b : Bool) (x y : Outcome) (qs : List Quiet) → x.quiets ≡ qs → y.quiets ≡ qs → (cond b x y).quiets ≡ qs
@@ -84,14 +84,14 @@ unfolding settle
 settled_quiets s nobody = rw nobody (if_same s.pending _ _ ((s.next, s.db) ∷ []) refl refl)
 
 -- a call that first stores a record, and then may make a quiet point
-pub then_settles : {V W : Files → Type 0} {a b c : Clock Stop} {durable durable' next next' : ℕ} {points points' : List Point} {said said' : Option (List ℕ)} (quiets : List Quiet) → ((files : Files) → V files → W files) → Leaves W a b durable points next said → Stays points durable points' durable' → next' ≡ next → said' ≡ said → Runs b c (λ stop. LeavesQuiets V durable' points' next' quiets stop × TextIs said' stop) → Runs a c (λ stop. LeavesQuiets W durable points next quiets stop × TextIs said stop)
+pub then_settles : {V W : StopFiles → Type 0} {a b c : Clock Stop} {durable durable' next next' : ℕ} {points points' : List Point} {said said' : Option (List ℕ)} (quiets : List Quiet) → ((files : StopFiles) → V files → W files) → StoreLeaves W a b durable points next said → PointsStayDurable points durable points' durable' → next' ≡ next → said' ≡ said → Runs b c (λ stop. LeavesQuiets V durable' points' next' quiets stop × StopTextIs said' stop) → Runs a c (λ stop. LeavesQuiets W durable points next quiets stop × StopTextIs said stop)
 then_settles {durable = durable} {durable' = durable'} {next = next} {next' = next'} {points = points} {points' = points'} quiets whole first stayed number text last =
     runs_on (still quiets first) last (λ x p. (let left = p.0 in record { made = left.made; rest = left.rest; all = left.all; front_of = left.front_of; grew = record { more = left.grew.more; is = left.grew.is ∙ ap (λ (ps : List Point). ps ++ left.grew.more) stayed.0; spells = left.grew.spells }; front = lower whole stayed.1 (omega (arith, number)) left.front }, λ t e. p.1 t (text ∙ e)))
 
-pub then_made : {answer : Answer} {durable durable' durable'' : ℕ} {points points' points'' : List Point} (quiets : List Quiet) → Stays points durable points' durable' → MakesPoints answer durable' points' quiets durable'' points'' → MakesPoints answer durable points quiets durable'' points''
+pub then_made : {answer : Answer} {durable durable' durable'' : ℕ} {points points' points'' : List Point} (quiets : List Quiet) → PointsStayDurable points durable points' durable' → MakesPoints answer durable' points' quiets durable'' points'' → MakesPoints answer durable points quiets durable'' points''
 then_made quiets stayed made = record { grew = record { more = made.grew.more; is = made.grew.is ∙ ap (λ (ps : List Point). ps ++ made.grew.more) stayed.0; spells = made.grew.spells }; later = omega (arith, stayed.1, made.later); synced = made.synced }
 
-pub none_made : {answer : Answer} {durable durable' : ℕ} {points points' : List Point} {qs : List Quiet} → qs ≡ [] → answer.sync ≡ None → Stays points durable points' durable' → MakesPoints answer durable points qs durable' points'
+pub none_made : {answer : Answer} {durable durable' : ℕ} {points points' : List Point} {qs : List Quiet} → qs ≡ [] → answer.sync ≡ None → PointsStayDurable points durable points' durable' → MakesPoints answer durable points qs durable' points'
 none_made {answer} {durable} {durable'} {points} {points'} same none stays = subst (λ (x : List Quiet). MakesPoints answer durable points x durable' points') (sym same) (no_more answer none stays)
 
 -- what is told of an outcome is told of an equal one
@@ -124,7 +124,7 @@ pub apart_did : {o : Outcome} {s : Session} {old : Seen} {answer : Answer} {prog
 apart_did alone stands = unchanged alone.quiets alone.unsynced (apart alone stands)
 
 -- a call that first stores a record, and then does the rest
-pub then_did : {o : Outcome} {old mid new : Seen} {now : View} {result : Result Answer BlockFault} → ((files : Files) → mid.whole files → old.whole files) → IsSilent old mid → StaysDurable old mid → (s : Session) → old.next ≡ s.next → Room s.next → (old.tells → mid.tells) → PerformsCall o mid new now result → PerformsCall o old new now result
+pub then_did : {o : Outcome} {old mid new : Seen} {now : View} {result : Result Answer BlockFault} → ((files : StopFiles) → mid.whole files → old.whole files) → IsSilent old mid → StaysDurable old mid → (s : Session) → old.next ≡ s.next → Room s.next → (old.tells → mid.tells) → PerformsCall o mid new now result → PerformsCall o old new now result
 then_did {o} {old = old} {result = result} whole silent points s next room tells did = record {
   answers = did.answers;
   made = λ t. IfOk-weaker result _ _ (λ answer h. then_made o.quiets (points t (omega (arith, next, room))) h) (did.made (tells t));

@@ -5,11 +5,11 @@ use Rattle.std.specs.declared.result.Result.TheVariants.{Ok}
 use Rattle.dms_block.specs.Counts.{caused_since}
 use Rattle.dms_block.specs.declared.block_fault.BlockFault.{BlockFault}
 use Rattle.dms_model.specs.declared.store.Store.{Ghosts}
-use Rattle.dms_model.specs.Seen.{Seen, HasCauses}
+use Rattle.dms_model.specs.Seen.{Seen, HasStoreCauses}
 use Rattle.dms_storeverbs.specs.declared.engine.Engine.{Engine}
 use Rattle.dms_storeverbs.specs.View.{seen, EngineLasts, Lasted}
 
-pub causes_on : {T U : Type 0} {x : U} (r : Result T BlockFault) (a b c : Seen) → HasCauses (Ok x) a b → HasCauses r b c → HasCauses r a c
+pub causes_on : {T U : Type 0} {x : U} (r : Result T BlockFault) (a b c : Seen) → HasStoreCauses (Ok x) a b → HasStoreCauses r b c → HasStoreCauses r a c
 causes_on r a b c p q = record {
   tells = λ t. q.tells (p.tells t);
   desc = q.desc ∙ p.desc;

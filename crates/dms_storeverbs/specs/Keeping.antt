@@ -1,7 +1,8 @@
 -- What storing a program's area leaves of an engine.
-use Rattle.std.specs.Prelude.{◌≡◌, ℕ, List, [], Bool, Some, None, if◌then◌else◌, slice_set}
+use Rattle.std.specs.Prelude.{◌≡◌, ℕ, List, [], Bool, Some, None, if◌then◌else◌, slice_get, slice_set}
 use Rattle.std.specs.declared.option.Option.{Option}
 use Rattle.dms_desc.specs.Shape.{Described}
+use Rattle.dms_laws.specs.Exclusive.{IsExclusive}
 use Rattle.dms_model.specs.Programs.{Program}
 use Rattle.dms_model.specs.Db.{Db}
 use Rattle.dms_model.specs.declared.reply.Reply.{Reply}
@@ -27,3 +28,7 @@ kept_if audit desc p db = if audit then keep desc p db (restart_of desc) else Ke
 abbrev pub Awaits : Option (List (List ℕ)) → List (List ℕ) → Type 0
 Awaits None who = who ≡ []
 Awaits (Some names) who = (names ≡ who) × (who ≡ [] → ⊥)
+
+-- Program i of a session that nobody else waits in was stored by this rule, as its database and the program then give.
+abbrev pub WasKept : ℕ → (Program → Db → StoreResult) → List Program → View → Option Refusal → View → Type 0
+WasKept i rule programs old answer new = (p : Program) → slice_get programs i ≡ Some p → (s : Session) → StandsFor old s → IsExclusive s → KeptIs (rule p s.db) i s answer new

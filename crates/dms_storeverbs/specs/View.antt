@@ -11,8 +11,8 @@ use Rattle.dms_model.specs.Programs.{Program, Wait}
 use Rattle.dms_model.specs.declared.reply.Answer.{Answer}
 use Rattle.dms_model.specs.declared.store.Store.{Ghosts}
 use Rattle.dms_model.specs.Db.{Db}
-use Rattle.dms_model.specs.Seen.{Seen, HasCauses}
-use Rattle.dms_model.specs.Points.{Files, Point, Quiet, Stop, LeavesPrefix, TextIs, told, known}
+use Rattle.dms_model.specs.Seen.{Seen, HasStoreCauses}
+use Rattle.dms_model.specs.Points.{StopFiles, Point, Quiet, Stop, LeavesPrefix, StopTextIs, told, known}
 use Rattle.dms_model.specs.Session.{Session, Outcome}
 use Rattle.dms_storeverbs.specs.declared.engine.Engine.{Engine}
 
@@ -64,7 +64,7 @@ pub record PointsGrow (old : List Point) (quiets : List Quiet) (new : List Point
 
 -- what stands in a stop: the first so many of the points and the quiet points behind them, at least those that are durable, and
 -- the next number behind those, fallen by no more than the points that are missing. The files are whole
-pub record LeavesQuiets (whole : Files → Type 0) (durable : ℕ) (points : List Point) (next : ℕ) (quiets : List Quiet) (stop : Stop) : Type 0 where
+pub record LeavesQuiets (whole : StopFiles → Type 0) (durable : ℕ) (points : List Point) (next : ℕ) (quiets : List Quiet) (stop : Stop) : Type 0 where
   pub made : List Quiet
   pub rest : List Quiet
   pub all : List Point
@@ -95,7 +95,7 @@ pub record PerformsCall (o : Outcome) (old new : Seen) (now : View) (result : Re
   pub answers : IfOk result (λ answer. MatchesOutcome o answer now)
   pub made : old.tells → IfOk result (λ answer. MakesPoints answer old.durable old.points o.quiets new.durable new.points)
   pub undamaged : Undamaged result
-  pub leaves : old.tells → Runs old.clock new.clock (λ stop. LeavesQuiets old.whole old.durable old.points old.next o.quiets stop × TextIs old.said stop)
+  pub leaves : old.tells → Runs old.clock new.clock (λ stop. LeavesQuiets old.whole old.durable old.points old.next o.quiets stop × StopTextIs old.said stop)
 
 -- a call does what f gives of the session that stands before it, where this holds of the session
 abbrev pub DoesWhere : (Session → Type 0) → {St : Type 0} {g : Ghosts St} → Engine St g → Engine St g → Result Answer BlockFault → (Session → Outcome) → Type 0
@@ -109,7 +109,7 @@ pub record EngineLasts {St : Type 0} {g : Ghosts St} {T : Type 0} (result : Resu
   pub sound : OnOk result (seen new).sound
   pub description : new.desc ≡ old.desc
   pub same : g.same_store old.store new.store
-  pub causes : HasCauses result (seen old) (seen new)
+  pub causes : HasStoreCauses result (seen old) (seen new)
 
 -- the same, after calls that answered
 abbrev pub Lasted : {St : Type 0} {g : Ghosts St} → Engine St g → Engine St g → Type 0

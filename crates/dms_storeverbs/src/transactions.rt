@@ -1,7 +1,6 @@
 ghost use Rattle.std.specs.Prelude.{◌≡◌, ◌≤◌, ◌<◌, ◌+◌, ◌^◌, ℕ, List, Bool, true, false, Some, None, IfOk, OnOk, IsErrOf, IsTrue, slice_get, length, if◌then◌else◌, []};
 ghost use Rattle.dms_desc.specs.Lookups.{structure_of};
 ghost use Rattle.dms_desc.specs.Shape.{described};
-ghost use Rattle.dms_laws.specs.Exclusive.{IsExclusive};
 ghost use Rattle.dms_model.specs.Programs.{Program};
 ghost use Rattle.dms_model.specs.Seen.{IsMute, IsSilent, Spends, StaysDurable};
 ghost use Rattle.dms_model.specs.Session.{Session, keep, restart_of, settle, store_step, begin_step, end_step, abort_step, is_waits};
@@ -9,7 +8,7 @@ ghost use Rattle.dms_model.specs.Spoken.{IsOuter};
 ghost use Rattle.dms_block.specs.Faults.{Undamaged};
 ghost use Rattle.dms_model.specs.Db.{Db};
 ghost use Rattle.dms_storeverbs.specs.Costs.{Costs, limit_if};
-ghost use Rattle.dms_storeverbs.specs.Keeping.{KeptIs, kept_if};
+ghost use Rattle.dms_storeverbs.specs.Keeping.{WasKept, kept_if};
 ghost use Rattle.dms_storeverbs.specs.View.{Does, DoesWhere, EngineLasts, Room, StandsFor, seen, view};
 
 use crate::refusal::{Refusal, done, refused};
@@ -28,7 +27,7 @@ impl<St: Store> Engine<St> {
         requires outer { IsOuter (structure_of (described self.old.desc) set) }
         requires place { i < length self.old.programs.items }
         requires sound { (seen self.old).sound }
-        ensures kept { IfOk result (λ r. (p : Program) → slice_get self.old.programs.items i ≡ Some p → (s : Session) → StandsFor (view self.old) s → IsExclusive s → KeptIs (keep (described self.old.desc) p s.db set) i s r (view self.new)) }
+        ensures kept { IfOk result (λ r. WasKept i (λ p db. keep (described self.old.desc) p db set) self.old.programs.items (view self.old) r (view self.new)) }
         ensures count { OnOk result (length self.new.programs.items ≡ length self.old.programs.items) }
         ensures points { OnOk result (StaysDurable (seen self.old) (seen self.new)) }
         ensures silent { IsSilent (seen self.old) (seen self.new) }
@@ -68,7 +67,7 @@ impl<St: Store> Engine<St> {
         requires restart { IsOuter (structure_of (described self.old.desc) (restart_of (described self.old.desc))) }
         requires place { i < length self.old.programs.items }
         requires sound { (seen self.old).sound }
-        ensures kept { IfOk result (λ r. (p : Program) → slice_get self.old.programs.items i ≡ Some p → (s : Session) → StandsFor (view self.old) s → IsExclusive s → KeptIs (kept_if audit (described self.old.desc) p s.db) i s r (view self.new)) }
+        ensures kept { IfOk result (λ r. WasKept i (kept_if audit (described self.old.desc)) self.old.programs.items (view self.old) r (view self.new)) }
         ensures count { OnOk result (length self.new.programs.items ≡ length self.old.programs.items) }
         ensures points { OnOk result (StaysDurable (seen self.old) (seen self.new)) }
         ensures silent { IsSilent (seen self.old) (seen self.new) }

@@ -6,7 +6,8 @@ ghost use Rattle.dms_model.specs.BackOut.{asks_back_out};
 ghost use Rattle.dms_model.specs.Fitting.{IsStructure, SpotFits};
 ghost use Rattle.dms_model.specs.Seen.{IsMute, IsSilent, StaysDurable};
 ghost use Rattle.dms_desc.specs.Lookups.{parts_of, set_of, structure_of, items_of};
-ghost use Rattle.dms_model.specs.Session.{Session, find_step, found_by, path_of, verb_step, carried_out, step, is_waits, key_values, at_values};
+ghost use Rattle.dms_model.specs.declared.verb.Path.TheVariants.{At};
+ghost use Rattle.dms_model.specs.Session.{Session, find_step, found_by, path_of, verb_step, carried_out, step, is_waits};
 ghost use Rattle.dms_model.specs.Verbs.{IsPathOf, IsVerbOf};
 ghost use Rattle.dms_block.specs.Faults.{Undamaged};
 ghost use Rattle.dms_storeverbs.specs.Costs.{Costs, block_limit, takes_none};
@@ -34,7 +35,7 @@ impl<St: Store> Engine<St> {
         requires owner { owner + 1 < 2 ^ 32 }
         requires path { IsStructure (described self.old.desc) x }
         ensures fits { IfOk result (λ o. IfSome o (SpotFits (described self.old.desc) x)) }
-        ensures found { IfOk result (λ r. (d : Db) → (seen self.old).db ≡ Some d → r ≡ at_values (key_values (parts_of (structure_of (described self.old.desc) x)) (items_of (structure_of (described self.old.desc) (set_of (described self.old.desc) x))) literals.now) (described self.old.desc) d x owner) }
+        ensures found { IfOk result (λ r. (d : Db) → (seen self.old).db ≡ Some d → r ≡ found_by (described self.old.desc) d owner (At x literals.now)) }
         ensures stands { OnOk result (SameSession self.old self.new) }
         ensures programs { self.new.programs.items ≡ self.old.programs.items }
         ensures points { OnOk result (StaysDurable (seen self.old) (seen self.new)) }

@@ -11,7 +11,7 @@ use Rattle.dms_descfile.specs.DescriptionFile.{IsSealed}
 use Rattle.dms_site.specs.Files.{Files, Left, stored_of}
 use Rattle.dms_model.specs.Db.{empty_db}
 use Rattle.dms_store.specs.Spelled.{spelled}
-use Rattle.dms_history.specs.Events.{Content, Stored, Counts, Event, control}
+use Rattle.dms_history.specs.Events.{AllBlocks, Stored, Counts, Event, control}
 use Rattle.dms_history.specs.Entries.{Entry, schema_part, control_point, counts_in}
 use Rattle.dms_history.specs.Lists.{has}
 use Rattle.dms_history.specs.Places.{IsLive}
@@ -146,7 +146,7 @@ unfolding told_events
 no_events = refl
 
 module _ (found : MadeIsFound) (sealed_control : ControlSealed) (first_agrees : FirstAgrees) (each : EachSchema) (of_new : SchemaOfNew)
-    (empty : (desc : Described) (c : Content) → ((f : ℕ) → c f ≡ []) → spelled desc c ≡ Some empty_db) where
+    (empty : (desc : Described) (c : AllBlocks) → ((f : ℕ) → c f ≡ []) → spelled desc c ≡ Some empty_db) where
   module _ (tag : ℕ) (d : Described) (old files : Files) (sealed : IsSealed (old 1) d) (made : IsMade tag d old files) where
     abbrev n : ℕ
     n = length d.structures

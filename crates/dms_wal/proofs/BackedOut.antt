@@ -5,7 +5,7 @@ use Rattle.dms_moments.specs.Moments.{Now, Steps}
 use Rattle.dms_site.specs.declared.site.Site.{Ghosts}
 use Rattle.dms_site.specs.Files.{Left}
 use Rattle.dms_block.specs.Held.{MakesNoPoint, Stays}
-use Rattle.dms_history.specs.Events.{Content}
+use Rattle.dms_history.specs.Events.{AllBlocks}
 use Rattle.dms_history.specs.Entries.{Entry, begin_restore, by_back_out, control_point}
 use Rattle.dms_history.specs.Schemas.{schema_entries}
 use Rattle.dms_history.specs.declared.event.FileCount.{FileCount}
@@ -29,7 +29,7 @@ use Rattle.dms_wal.specs.declared.running.Running.{Running}
 use Rattle.dms_wal.specs.Lifting.{AreCounts, last_blocks}
 use Rattle.dms_wal.specs.BackOuts.{entries_back}
 use Rattle.dms_wal.specs.Marks.{IsMarkOf}
-use Rattle.dms_wal.specs.Database.{held, said_of, faults_of, uses_of, frames_of, IsUsable}
+use Rattle.dms_wal.specs.Database.{held, said_of, faults_of, uses_of, frames_of, IsRunningUsable}
 use Rattle.dms_wal.proofs.Controlling.{count_table}
 use Rattle.dms_wal.proofs.Lifts.{passes_by, stays_by}
 use Rattle.dms_wal.proofs.Pointing.{last_is, mark_is}
@@ -42,14 +42,14 @@ pub content_mark : (a b : LogView) (m : ℕ) (marks : List ℕ) → LogRuns a �
 content_mark a b m marks runs read mark es w = w.content_is ∙ mark_is a runs read m mark.number
 
 module _ {S : Type 0} (g : Ghosts S) (stay : (s : S) → IsTrue g.tells → (x : Left) × Now (g.clock s) x × (x.files ≡ g.files s)) (now_said : (s : S) (x : Left) → IsTrue g.tells_said → Now (g.clock s) x → x.said ≡ g.said s)
-    (r : Running S) (u : IsUsable g r) (l : Log S) where
+    (r : Running S) (u : IsRunningUsable g r) (l : Log S) where
   -- whatever it answers, no point is made
   pub passes_back : (p : Pool) (b c : Bool) (full outs : ℕ) (cs : Vec ℕ) → telling (view_of g l) ≡ telling (view_of g r.log) → length cs.items ≡ length r.counts.items → g.said l.site ≡ g.said r.log.site
       → (IsTrue g.tells → LogLeaves (view_of g r.log) (view_of g l) (points (view_of g r.log)) (logs.next (view_of g r.log))) → (IsTrue g.tells → Steps PrintsNothing (g.clock r.log.site) (g.clock l.site))
       → MakesNoPoint (held g r) (held g (record r { log = l; pool = p; broken = b; changed = c; full = full; counts = cs; outs = outs }))
   passes_back p b c full outs cs kind many said leaves silent =
       let r' : Running S = record r { log = l; pool = p; broken = b; changed = c; full = full; counts = cs; outs = outs } in
-      passes_by g.tells (IsUsable g r) (IsUsable g r') (view_of g r.log) (view_of g l) r.schema.items r.next r.next r.counts.items cs.items (said_of g r.log) (said_of g l) (faults_of g r) (faults_of g r') (uses_of g r) (uses_of g r')
+      passes_by g.tells (IsRunningUsable g r) (IsRunningUsable g r') (view_of g r.log) (view_of g l) r.schema.items r.next r.next r.counts.items cs.items (said_of g r.log) (said_of g l) (faults_of g r) (faults_of g r') (uses_of g r) (uses_of g r')
       kind many refl (ap (λ (s : List ℕ). cond g.tells_said (Some s) None) said) (λ t. (u.goes t).numbered) (text g now_said r.log) leaves silent
 
   module _ (n : ℕ) (p : Pool) (empty : IsEmpty n p) (outs : ℕ) (cs : Vec ℕ) (copied : cs.items ≡ r.marks.items) (went : IsTrue g.tells → WentBackTo r.point (view_of g r.log) (view_of g l) (entries_back r.point r.schema.items r.next r.marks.items)) where
@@ -59,7 +59,7 @@ module _ {S : Type 0} (g : Ghosts S) (stay : (s : S) → IsTrue g.tells → (x :
     pub marked_content : IsTrue g.tells → content (view_of g l) ≡ last_blocks (λ f. []) (points (view_of g r.log))
     marked_content t = content_mark (view_of g r.log) (view_of g l) r.point r.marks.items (u.goes t).runs (stay r.log.site t) (u.pointed t) (entries_back r.point r.schema.items r.next r.marks.items) (went t)
 
-    pub usable_back : IsUsable g back
+    pub usable_back : IsRunningUsable g back
     usable_back = record {
       unbroken = u.unbroken;
       under = λ t. under_back (view_of g r.log) (view_of g l) r.schema.items r.point r.next r.marks.items u.described.0 (went t).entries_are;
@@ -71,7 +71,7 @@ module _ {S : Type 0} (g : Ghosts S) (stay : (s : S) → IsTrue g.tells → (x :
         runs = w.runs;
         holds = holds_like (telling (view_of g l)) (state (view_of g l)) (λ f b. None) (frames_of p) (frames_empty n p empty) (holds_none (telling (view_of g l)) (state (view_of g l)) w.written);
         numbered = (u.goes t).numbered ∙ sym w.next_same;
-        counted = λ f. ap (λ (c : List ℕ). count_of c f) copied ∙ (u.pointed t).counted f ∙ ap (λ (c : Content). length (c f)) (sym (marked_content t));
+        counted = λ f. ap (λ (c : List ℕ). count_of c f) copied ∙ (u.pointed t).counted f ∙ ap (λ (c : AllBlocks). length (c f)) (sym (marked_content t));
       };
       pointed = λ t. subst (λ (ps : List DescribedPoint). IsMarkOf ps r.point r.marks.items) (sym (went t).points_same) (u.pointed t);
       unchanged = λ no t. record { content_is = marked_content t ∙ sym (ap (last_blocks (λ f. [])) (went t).points_same); counts_are = copied };
@@ -79,7 +79,7 @@ module _ {S : Type 0} (g : Ghosts S) (stay : (s : S) → IsTrue g.tells → (x :
 
     pub stays_back : Stays (held g r) (held g back)
     stays_back =
-        stays_by g.tells (IsUsable g r) (IsUsable g back) (view_of g r.log) (view_of g l) r.schema.items r.next r.next r.counts.items cs.items (said_of g r.log) (said_of g l) (faults_of g r) (faults_of g back) (uses_of g r) (uses_of g back)
+        stays_by g.tells (IsRunningUsable g r) (IsRunningUsable g back) (view_of g r.log) (view_of g l) r.schema.items r.next r.next r.counts.items cs.items (said_of g r.log) (said_of g l) (faults_of g r) (faults_of g back) (uses_of g r) (uses_of g back)
         usable_back (λ t. (
           (went t).points_same,
           omega (arith, (went t).all_durable, points_enough (telling (view_of g r.log)) (lemmas.tells (view_of g r.log) (u.goes t).runs (stay r.log.site t)) (state (view_of g r.log)) (u.goes t).runs.runs (stay r.log.site t)),
@@ -90,7 +90,7 @@ pub back_by : (v : LogView) → LogRuns v → Reads v → (point next : ℕ) (ma
 back_by v runs read point next marks bytes numbered mark t is = record {
   last = last_is v runs read point mark.number;
   next_is = numbered;
-  count = λ f. counts_told marks (count_table marks t) bytes is f ∙ mark.counted f ∙ ap (λ (c : Content). length (c f)) (sym (mark_is v runs read point mark.number));
+  count = λ f. counts_told marks (count_table marks t) bytes is f ∙ mark.counted f ∙ ap (λ (c : AllBlocks). length (c f)) (sym (mark_is v runs read point mark.number));
 }
 
 -- the counts of the Control are those of the table

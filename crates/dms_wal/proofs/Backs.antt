@@ -3,7 +3,7 @@ use Rattle.std.proofs.Common.{ℕ, ◌*◌, ◌+◌, ◌<◌, ◌≤◌, ◌≡�
 use Rattle.dms_site.specs.Files.{Files, with_file, overlaid, InFile, Torn, stored_of}
 use Rattle.dms_site.specs.Laws.{torn_overlaid, in_file_with}
 use Rattle.dms_site.specs.StoredLaws.{stored_whole, stored_apart, stored_written}
-use Rattle.dms_history.specs.Events.{Content, Stored, block_in}
+use Rattle.dms_history.specs.Events.{AllBlocks, Stored, block_in}
 use Rattle.dms_history.specs.Sizes.{AllSized}
 use Rattle.dms_running.specs.Telling.{Telling}
 use Rattle.dms_running.specs.Running.{content_now}
@@ -57,11 +57,11 @@ module _ (a b : LogView) (same : telling b ≡ telling a) (frames : Frames) (h :
 
   others : (g c : ℕ) → (f ≡ g → k ≡ c → ⊥) → HoldsOne t (state b) g c (frames g c)
   others g c off = record {
-    held = λ y at. let r = (h g c).held y at in (subst (λ (l : Content). c < length (l g)) (sym contents) r.0, r.1 ∙ ap (λ (l : Content). block_in l g c) (sym contents));
+    held = λ y at. let r = (h g c).held y at in (subst (λ (l : AllBlocks). c < length (l g)) (sym contents) r.0, r.1 ∙ ap (λ (l : AllBlocks). block_in l g c) (sym contents));
     stands = λ low clean.
-        let old : c < length (content_now t (state a) g) = subst (λ (l : Content). c < length (l g)) contents low in
+        let old : c < length (content_now t (state a) g) = subst (λ (l : AllBlocks). c < length (l g)) contents low in
         let at = (h g c).stands old clean in
-        w.others g c off (ap length at ∙ sized g c old) ∙ at ∙ ap (λ (l : Content). block_in l g c) (sym contents);
+        w.others g c off (ap length at ∙ sized g c old) ∙ at ∙ ap (λ (l : AllBlocks). block_in l g c) (sym contents);
     changed = λ y at dirty. changed_same a b same w.entries_same g c ((h g c).changed y at dirty);
   }
 
@@ -69,7 +69,7 @@ module _ (a b : LogView) (same : telling b ≡ telling a) (frames : Frames) (h :
   pub holds_back : FramesHold (telling b) (state b) (with_frame frames f k None)
   holds_back = subst (λ (u : Telling). FramesHold u (state b) (with_frame frames f k None)) (sym same) (holds_with t (state b) frames f k None (record {
     held = λ y at. absurd (none_not_some y at);
-    stands = λ low clean. w.here ∙ ((h f k).held (record { block = bytes; dirty = true }) is).1 ∙ ap (λ (l : Content). block_in l f k) (sym contents);
+    stands = λ low clean. w.here ∙ ((h f k).held (record { block = bytes; dirty = true }) is).1 ∙ ap (λ (l : AllBlocks). block_in l f k) (sym contents);
     changed = λ y at dirty. absurd (none_not_some y at);
   }) others)
 
@@ -78,9 +78,9 @@ module _ (a b : LogView) (same : telling b ≡ telling a) (frames : Frames) (h :
   holds_washed =
       let z : Frame = record { block = bytes; dirty = false } in
       let was = (h f k).held (record { block = bytes; dirty = true }) is in
-      let at : bytes ≡ block_in (content_now t (state b)) f k = was.1 ∙ ap (λ (l : Content). block_in l f k) (sym contents) in
+      let at : bytes ≡ block_in (content_now t (state b)) f k = was.1 ∙ ap (λ (l : AllBlocks). block_in l f k) (sym contents) in
       subst (λ (u : Telling). FramesHold u (state b) (with_frame frames f k (Some z))) (sym same) (holds_with t (state b) frames f k (Some z) (record {
-        held = λ y own. let one : z ≡ y = some_is z y own in (subst (λ (l : Content). k < length (l f)) (sym contents) was.0, ap (λ (w : Frame). w.block) (sym one) ∙ at);
+        held = λ y own. let one : z ≡ y = some_is z y own in (subst (λ (l : AllBlocks). k < length (l f)) (sym contents) was.0, ap (λ (w : Frame). w.block) (sym one) ∙ at);
         stands = λ low clean. w.here ∙ at;
         changed = λ y own dirty. let one : z ≡ y = some_is z y own in absurd (true_not_false (sym dirty ∙ ap (λ (w : Frame). w.dirty) (sym one)));
       }) others)

@@ -6,7 +6,7 @@ use Rattle.dms_site.specs.Files.{stored_of}
 use Rattle.dms_block.specs.declared.block.BlockId.{BlockId}
 use Rattle.dms_block.specs.Held.{BlocksAgree, Held, MadeDurable, MakesNoPoint, SameBlocks, Stays}
 use Rattle.dms_block.specs.HeldLaws.{same_on, told_after}
-use Rattle.dms_history.specs.Events.{Content, Stored, block_in}
+use Rattle.dms_history.specs.Events.{AllBlocks, Stored, block_in}
 use Rattle.dms_history.specs.declared.event.FileCount.{FileCount}
 use Rattle.dms_history.specs.Entries.{control_point}
 use Rattle.dms_history.specs.Schemas.{schema_entries}
@@ -34,7 +34,7 @@ use Rattle.dms_wal.specs.declared.running.Running.{Running}
 use Rattle.dms_wal.specs.Controls.{IsSettled, MakesControl, TellsSame}
 use Rattle.dms_wal.specs.Lifting.{AreCounts, last_blocks, block_point}
 use Rattle.dms_wal.specs.Marks.{IsMarkOf}
-use Rattle.dms_wal.specs.Database.{held, frames_of, GoesWith, IsUsable}
+use Rattle.dms_wal.specs.Database.{held, frames_of, GoesWith, IsRunningUsable}
 use Rattle.dms_wal.proofs.Pooled.{clean_frames}
 use Rattle.dms_wal.proofs.Pointing.{last_is}
 use Rattle.dms_wal.proofs.Marked.{mark_on}
@@ -64,17 +64,17 @@ holds_clean : (a b : LogView) (pool : Pool) → telling b ≡ telling a → cont
     → FramesHold (telling a) (state a) (frames_of pool) → FramesHold (telling b) (state b) (frames_of pool)
 holds_clean a b pool same contents blocks clean h = subst (λ (t : Telling). FramesHold t (state b) (frames_of pool)) (sym same) (λ f k.
     let is : content_now (telling a) (state b) ≡ content a = ap (λ (t : Telling). content_now t (state b)) (sym same) ∙ contents in record {
-      held = λ x at. let r = (h f k).held x at in (subst (λ (c : Content). k < length (c f)) (sym is) r.0, r.1 ∙ ap (λ (c : Content). block_in c f k) (sym is));
-      stands = λ low off. ap (λ (s : Stored). s f k) blocks ∙ (h f k).stands (subst (λ (c : Content). k < length (c f)) is low) off ∙ ap (λ (c : Content). block_in c f k) (sym is);
+      held = λ x at. let r = (h f k).held x at in (subst (λ (c : AllBlocks). k < length (c f)) (sym is) r.0, r.1 ∙ ap (λ (c : AllBlocks). block_in c f k) (sym is));
+      stands = λ low off. ap (λ (s : Stored). s f k) blocks ∙ (h f k).stands (subst (λ (c : AllBlocks). k < length (c f)) is low) off ∙ ap (λ (c : AllBlocks). block_in c f k) (sym is);
       changed = λ x at dirty. absurd (true_not_false (sym dirty ∙ clean f k x at));
     })
 
 -- each block stands as before
 written_on : (a b : LogView) → content b ≡ content a → stored_of b.files ≡ stored_of a.files → AllWritten (telling a) (state a) → AllWritten (telling b) (state b)
 written_on a b contents blocks w f k low =
-    ap (λ (s : Stored). s f k) blocks ∙ w f k (subst (λ (c : Content). k < length (c f)) contents low) ∙ ap (λ (c : Content). block_in c f k) (sym contents)
+    ap (λ (s : Stored). s f k) blocks ∙ w f k (subst (λ (c : AllBlocks). k < length (c f)) contents low) ∙ ap (λ (c : AllBlocks). block_in c f k) (sym contents)
 
-module _ {S : Type 0} (g : Ghosts S) (r : Running S) (u : IsUsable g r) (clean : (id : BlockId) → is_dirty id r.pool ≡ false) (settled : IsTrue g.tells → IsSettled (view_of g r.log)) (l : Log S) (kind : telling (view_of g l) ≡ telling (view_of g r.log))
+module _ {S : Type 0} (g : Ghosts S) (r : Running S) (u : IsRunningUsable g r) (clean : (id : BlockId) → is_dirty id r.pool ≡ false) (settled : IsTrue g.tells → IsSettled (view_of g r.log)) (l : Log S) (kind : telling (view_of g l) ≡ telling (view_of g r.log))
     (bytes : List ℕ) (is : bytes ≡ pair_bytes count_file count_blocks (file_counts 30001 r.counts.items))
     (controlled : IsTrue g.tells → ControlledAt (view_of g r.log) (view_of g l) (schema_control r.schema.items r.point r.next bytes)) where
   pub makes_control : IsTrue g.tells → MakesControl (view_of g r.log) (view_of g l) r.schema.items r.point r.next r.counts.items
@@ -86,7 +86,7 @@ module _ {S : Type 0} (g : Ghosts S) (r : Running S) (u : IsUsable g r) (clean :
     settled = record { nothing = c.nothing; written = written_on (view_of g r.log) (view_of g l) c.content_same c.blocks_same (settled t).written; only = c.only };
   }
 
-  pub usable_controlled : IsUsable g (record r { log = l })
+  pub usable_controlled : IsRunningUsable g (record r { log = l })
   usable_controlled = record {
     unbroken = u.unbroken;
     under = λ t. under_control (view_of g r.log) (view_of g l) r.schema.items r.point r.next (file_counts 30001 r.counts.items) u.described.0 (makes_control t).entries_are;
@@ -100,7 +100,7 @@ module _ {S : Type 0} (g : Ghosts S) (r : Running S) (u : IsUsable g r) (clean :
       runs = c.runs;
       holds = holds_clean (view_of g r.log) (view_of g l) r.pool kind c.content_same c.blocks_same (clean_frames r.pool clean) k.holds;
       numbered = k.numbered ∙ sym c.next_same;
-      counted = λ f. k.counted f ∙ ap (λ (d : Content). length (d f)) (sym c.content_same);
+      counted = λ f. k.counted f ∙ ap (λ (d : AllBlocks). length (d f)) (sym c.content_same);
     };
   }
 

@@ -13,8 +13,8 @@ use Rattle.dms_site.specs.Files.{Files, Left, Same, range, stored_of}
 use Rattle.dms_site.specs.StoredLaws.{stored_at}
 use Rattle.dms_block.specs.declared.block.Block.{Block}
 use Rattle.dms_block.specs.declared.block.BlockId.{BlockId}
-use Rattle.dms_block.specs.Content.{block_in}
-use Rattle.dms_history.specs.Events.{Content}
+use Rattle.dms_block.specs.AllBlocks.{block_in}
+use Rattle.dms_history.specs.Events.{AllBlocks}
 use Rattle.dms_history.proofs.Picks.{some_is}
 use Rattle.dms_pool.specs.declared.pool.Pool.{Pool}
 use Rattle.dms_pool.specs.declared.frame.BufferFrame as pools
@@ -32,7 +32,7 @@ use Rattle.dms_restore.proofs.Writing.{filled_whole}
 use Rattle.dms_wal.specs.declared.running.Running.{Running}
 use Rattle.dms_wal.specs.Lifting.{owns_of}
 use Rattle.dms_wal.specs.Marks.{IsMarkOf}
-use Rattle.dms_wal.specs.Database.{frame_seen, frames_of, IsUsable}
+use Rattle.dms_wal.specs.Database.{frame_seen, frames_of, IsRunningUsable}
 use Rattle.dms_wal.proofs.Pooled.{holds_like, frames_put, counted_put, frames_looked, counted_looked}
 use Rattle.dms_wal.proofs.Stills.{goes_still}
 use Rattle.dms_wal.proofs.Stepped.{in_table}
@@ -70,13 +70,13 @@ no_frame None is = refl
 pub asked_none : (id : BlockId) (old new : Pool) → FrameUsed id old new → None ≡ option_map (λ f. f.block) (frame_of id old) → frame_of id new ≡ None
 asked_none id old new looked is = looked.holds id ∙ no_frame (frame_of id old) is
 
-module _ {S : Type 0} (g : Ghosts S) (r : Running S) (u : IsUsable g r) where
+module _ {S : Type 0} (g : Ghosts S) (r : Running S) (u : IsRunningUsable g r) where
   -- the site was only looked at
   module _ (s : S) (files : IsTrue g.tells → g.files s ≡ g.files r.log.site) (steps : Steps Same (g.clock r.log.site) (g.clock s)) where
     abbrev pub looked : Log S
     looked = record r.log { site = s }
 
-    pub usable_looked : IsUsable g (record r { log = looked })
+    pub usable_looked : IsRunningUsable g (record r { log = looked })
     usable_looked = record {
       unbroken = u.unbroken;
       under = λ t. under_still r.log.end r.log.first (g.files r.log.site) (g.files s) (g.clock r.log.site) (g.clock s) r.schema.items (files t) (u.under t);
@@ -96,7 +96,7 @@ module _ {S : Type 0} (g : Ghosts S) (r : Running S) (u : IsUsable g r) where
     looked_leaves counts = look_leaves (telling (view_of g r.log)) (state (view_of g r.log)) (g.clock s) (points (view_of g r.log)) (logs.next (view_of g r.log)) counts steps
 
   module _ (id : BlockId) (there : id.block < count_of r.counts.items id.file) (absent : frame_of id r.pool ≡ None) (t : IsTrue g.tells) where
-    abbrev c : Content
+    abbrev c : AllBlocks
     c = content (view_of g r.log)
 
     pub low_content : id.block < length (c id.file)
@@ -116,7 +116,7 @@ module _ {S : Type 0} (g : Ghosts S) (r : Running S) (u : IsUsable g r) where
     not_whole n at old new place size off is whole = off (is.0 ∙ (λ i. length (range (place i) (size i) (g.files r.log.site id.file))) ∙ ap length in_file ∙ whole)
 
   module _ (id : BlockId) (block : Block) (there : id.block < count_of r.counts.items id.file) (absent : frame_of id r.pool ≡ None) (is_block : IsTrue g.tells → block.0 ≡ block_in (content (view_of g r.log)) id.file id.block) (p : Pool) where
-    usable_put : PutsFrame id (framed block false) r.pool p → IsUsable g (record r { pool = p })
+    usable_put : PutsFrame id (framed block false) r.pool p → IsRunningUsable g (record r { pool = p })
     usable_put put = record {
       unbroken = u.unbroken;
       under = u.under;
@@ -137,12 +137,12 @@ module _ {S : Type 0} (g : Ghosts S) (r : Running S) (u : IsUsable g r) where
     }
 
     -- it is held, or memory was refused
-    pub usable_held : (result : Result (Unit {0}) Memory) → OnOk result (PutsFrame id (framed block false) r.pool p) → OnErr result (SamePool r.pool p) → IsUsable g (record r { pool = p })
+    pub usable_held : (result : Result (Unit {0}) Memory) → OnOk result (PutsFrame id (framed block false) r.pool p) → OnErr result (SamePool r.pool p) → IsRunningUsable g (record r { pool = p })
     usable_held (Ok x) ok err = usable_put ok
     usable_held (Err e) ok err = usable_same g r u p err
 
   -- a block was asked for
-  pub usable_asked : (id : BlockId) (p : Pool) → FrameUsed id r.pool p → IsUsable g (record r { pool = p })
+  pub usable_asked : (id : BlockId) (p : Pool) → FrameUsed id r.pool p → IsRunningUsable g (record r { pool = p })
   usable_asked id p looked = record {
     unbroken = u.unbroken;
     under = u.under;
@@ -161,7 +161,7 @@ module _ {S : Type 0} (g : Ghosts S) (r : Running S) (u : IsUsable g r) where
   }
 
   -- and a read was counted
-  pub usable_counted : (n : ℕ) → IsUsable g (record r { reads = n })
+  pub usable_counted : (n : ℕ) → IsRunningUsable g (record r { reads = n })
   usable_counted n = record { unbroken = u.unbroken; under = u.under; described = u.described; table = u.table; marked = u.marked; pointed = u.pointed; unchanged = u.unchanged; counted = u.counted; goes = λ t. let k = u.goes t in record { runs = k.runs; holds = k.holds; numbered = k.numbered; counted = k.counted } }
 
   -- the block that is held is that of the content
@@ -171,5 +171,5 @@ module _ {S : Type 0} (g : Ghosts S) (r : Running S) (u : IsUsable g r) where
       ap (λ (b : Block). b.0) (sym x.2) ∙ (((u.goes t).holds id.file id.block).held (frame_seen x.0) (ap (λ (o : Option pools.BufferFrame). option_map frame_seen o) x.1)).1
 
   -- a held block was asked for, and counted
-  pub usable_read : (id : BlockId) (p : Pool) (n : ℕ) → FrameUsed id r.pool p → IsUsable g (record r { pool = p; reads = n })
+  pub usable_read : (id : BlockId) (p : Pool) (n : ℕ) → FrameUsed id r.pool p → IsRunningUsable g (record r { pool = p; reads = n })
   usable_read id p n looked = let k = usable_asked id p looked in record { unbroken = k.unbroken; under = k.under; described = k.described; table = k.table; marked = k.marked; pointed = k.pointed; unchanged = k.unchanged; counted = k.counted; goes = λ t. let j = k.goes t in record { runs = j.runs; holds = j.holds; numbered = j.numbered; counted = j.counted } }

@@ -6,10 +6,10 @@ use Rattle.dms_site.specs.declared.site.Site.{Ghosts}
 use Rattle.dms_block.specs.declared.block.Block.{Block}
 use Rattle.dms_block.specs.declared.block.BlockId.{BlockId}
 use Rattle.dms_block.specs.declared.change.Change.{Change}
-use Rattle.dms_block.specs.Content as blocks
-use Rattle.dms_block.specs.Content.{raised, limit}
+use Rattle.dms_block.specs.AllBlocks as blocks
+use Rattle.dms_block.specs.AllBlocks.{raised, limit}
 use Rattle.dms_block.specs.Changing.{grown_is}
-use Rattle.dms_history.specs.Events.{Content}
+use Rattle.dms_history.specs.Events.{AllBlocks}
 use Rattle.dms_history.specs.Images.{is_at}
 use Rattle.dms_history.specs.Replay.{TellsBefore, with_block}
 use Rattle.dms_history.proofs.Picks.{place_cases, tells_le}
@@ -33,7 +33,7 @@ use Rattle.dms_restore.proofs.Logs.{Reads}
 use Rattle.dms_wal.specs.declared.running.Running.{Running}
 use Rattle.dms_wal.specs.Lifting.{owns_of}
 use Rattle.dms_wal.specs.Marks.{IsMarkOf}
-use Rattle.dms_wal.specs.Database.{frame_seen, frames_of, HoldsCounted, IsUsable}
+use Rattle.dms_wal.specs.Database.{frame_seen, frames_of, HoldsCounted, IsRunningUsable}
 use Rattle.dms_wal.specs.Changing.{IsImaged, KeepsLog}
 use Rattle.dms_wal.specs.Writing.{WritesBack}
 use Rattle.dms_wal.proofs.Pooled.{holds_like, frames_put, frames_looked}
@@ -61,16 +61,16 @@ use Rattle.dms_wal.proofs.Tabled.{raised_table, raised_more}
 use Rattle.dms_wal.proofs.Under.{under_on, under_image}
 
 -- one word for a changed content, above and below
-pub with_same : (c : Content) (f k : ℕ) (bytes : List ℕ) → blocks.with_block c f k bytes ≡ with_block c f k bytes
+pub with_same : (c : AllBlocks) (f k : ℕ) (bytes : List ℕ) → blocks.with_block c f k bytes ≡ with_block c f k bytes
 unfolding with_block blocks.with_block
 with_same c f k bytes = refl
 
 -- the counts of a changed content
-pub count_changed : (l m : List ℕ) (c : Content) (f k : ℕ) (block : Block) → ((g : ℕ) → count_of l g ≡ length (c g)) → IsTrue (owns_of l f) → k < limit → k ≤ count_of l f → count_of m ≡ raised (count_of l) f k
+pub count_changed : (l m : List ℕ) (c : AllBlocks) (f k : ℕ) (block : Block) → ((g : ℕ) → count_of l g ≡ length (c g)) → IsTrue (owns_of l f) → k < limit → k ≤ count_of l f → count_of m ≡ raised (count_of l) f k
     → (g : ℕ) → count_of m g ≡ length (with_block c f k block.0 g)
 count_changed l m c f k block counted owned low le is g =
     let x : Change = record { id = record { file = f; block = k }; block = block } in
-    ap (λ (h : ℕ → ℕ). h g) is ∙ grown_is (x ∷ []) (owns_of l) (count_of l) c counted (owned, low, le, tt) g ∙ ap (λ (d : Content). length (d g)) (with_same c f k block.0)
+    ap (λ (h : ℕ → ℕ). h g) is ∙ grown_is (x ∷ []) (owns_of l) (count_of l) c counted (owned, low, le, tt) g ∙ ap (λ (d : AllBlocks). length (d g)) (with_same c f k block.0)
 
 -- the database runs, and the block is as if held
 pub imaged : (a b : LogView) (pool : Pool) (f k : ℕ) (before : Option (List ℕ)) (after : List ℕ) → telling b ≡ telling a → LogRuns b → FramesHold (telling a) (state a) (frames_of pool) → TellsBefore k before (content a f) → LogsImage a b f k before after → IsImaged b pool f k after
@@ -125,14 +125,14 @@ module _ (id : BlockId) (block : Block) (a : LogView) (first second : Pool) (im 
       ]
 
 -- a change was logged, and its block held or written
-module _ {S : Type 0} (g : Ghosts S) (r : Running S) (u : IsUsable g r) (id : BlockId) (block : Block) (before : Option (List ℕ)) (owned : IsTrue (owns_of r.counts.items id.file)) (low : id.block < limit)
+module _ {S : Type 0} (g : Ghosts S) (r : Running S) (u : IsRunningUsable g r) (id : BlockId) (block : Block) (before : Option (List ℕ)) (owned : IsTrue (owns_of r.counts.items id.file)) (low : id.block < limit)
     (tells : IsTrue g.tells → TellsBefore id.block before (content (view_of g r.log) id.file))
     (one two : Log S) (pool : Pool) (cs : Vec ℕ) (logged : IsTrue g.tells → LogsImage (view_of g r.log) (view_of g one) id.file id.block before block.0) (kept : IsTrue g.tells → KeepsLog (view_of g one) (view_of g two) pool)
     (raises : count_of cs.items ≡ raised (count_of r.counts.items) id.file id.block) (many : length cs.items ≡ length r.counts.items) (counted : HoldsCounted pool cs.items) where
   pub content_changed : IsTrue g.tells → content (view_of g two) ≡ with_block (content (view_of g r.log)) id.file id.block block.0
   content_changed t = (kept t).content_same ∙ (logged t).content_is
 
-  pub usable_changed : IsUsable g (record r { log = two; pool = pool; counts = cs; changed = true })
+  pub usable_changed : IsRunningUsable g (record r { log = two; pool = pool; counts = cs; changed = true })
   usable_changed = record {
     unbroken = u.unbroken;
     under = λ t. under_on (view_of g one) (view_of g two) r.schema.items (kept t).entries_same (under_image (view_of g r.log) (view_of g one) r.schema.items id.file id.block before block.0 (logged t).entries_are (u.under t));
@@ -147,7 +147,7 @@ module _ {S : Type 0} (g : Ghosts S) (r : Running S) (u : IsUsable g r) (id : Bl
       holds = (kept t).holds;
       numbered = k.numbered ∙ sym (logged t).next_same ∙ sym (kept t).next_same;
       counted = λ f. count_changed r.counts.items cs.items (content (view_of g r.log)) id.file id.block block k.counted owned low
-          (omega (arith, tells_le id.block before (content (view_of g r.log) id.file) (tells t), k.counted id.file)) raises f ∙ ap (λ (c : Content). length (c f)) (sym (content_changed t));
+          (omega (arith, tells_le id.block before (content (view_of g r.log) id.file) (tells t), k.counted id.file)) raises f ∙ ap (λ (c : AllBlocks). length (c f)) (sym (content_changed t));
     };
   }
 
@@ -161,17 +161,17 @@ counted_more pool l m f k h raises id x is = omega (arith, h id x is, raised_mor
 -- ---- a change, as blocks see it
 
 module _ {S : Type 0} (g : Ghosts S) (stay : (s : S) → IsTrue g.tells → (x : Left) × Now (g.clock s) x × (x.files ≡ g.files s)) (now_said : (s : S) (x : Left) → IsTrue g.tells_said → Now (g.clock s) x → x.said ≡ g.said s)
-    (counts_now : (s : S) (t : ℕ) (x : Left) → t ≤ (g.clock s).now → Now (g.clock s) x → (g.clock s).left t x) (r : Running S) (u : IsUsable g r) (l : Log S) (kind : telling (view_of g l) ≡ telling (view_of g r.log)) (said : g.said l.site ≡ g.said r.log.site)
+    (counts_now : (s : S) (t : ℕ) (x : Left) → t ≤ (g.clock s).now → Now (g.clock s) x → (g.clock s).left t x) (r : Running S) (u : IsRunningUsable g r) (l : Log S) (kind : telling (view_of g l) ≡ telling (view_of g r.log)) (said : g.said l.site ≡ g.said r.log.site)
     (leaves : IsTrue g.tells → logs.LogLeaves (view_of g r.log) (view_of g l) (points (view_of g r.log)) (logs.next (view_of g r.log))) (silent : IsTrue g.tells → Steps PrintsNothing (g.clock r.log.site) (g.clock l.site)) where
   -- it was made
-  pub alters_made : (p : Pool) (cs : Vec ℕ) → length cs.items ≡ length r.counts.items → IsUsable g (record r { log = l; pool = p; counts = cs; changed = true }) → (IsTrue g.tells → points (view_of g l) ≡ points (view_of g r.log))
+  pub alters_made : (p : Pool) (cs : Vec ℕ) → length cs.items ≡ length r.counts.items → IsRunningUsable g (record r { log = l; pool = p; counts = cs; changed = true }) → (IsTrue g.tells → points (view_of g l) ≡ points (view_of g r.log))
       → Alters 0 0 (Ok (tt {0})) (held g r) (held g (record r { log = l; pool = p; counts = cs; changed = true }))
   alters_made p cs many usable same =
       let r' : Running S = record r { log = l; pool = p; counts = cs; changed = true } in
       record {
-        passes = passes_by g.tells (IsUsable g r) (IsUsable g r') (view_of g r.log) (view_of g l) r.schema.items r.next r.next r.counts.items cs.items (said_of g r.log) (said_of g l) (faults_of g r) (faults_of g r') (uses_of g r) (uses_of g r')
+        passes = passes_by g.tells (IsRunningUsable g r) (IsRunningUsable g r') (view_of g r.log) (view_of g l) r.schema.items r.next r.next r.counts.items cs.items (said_of g r.log) (said_of g l) (faults_of g r) (faults_of g r') (uses_of g r) (uses_of g r')
             kind many refl (ap (λ (s : List ℕ). cond g.tells_said (Some s) None) said) (λ t. (u.goes t).numbered) (text g now_said r.log) leaves silent;
-        stays = stays_by g.tells (IsUsable g r) (IsUsable g r') (view_of g r.log) (view_of g l) r.schema.items r.next r.next r.counts.items cs.items (said_of g r.log) (said_of g l) (faults_of g r) (faults_of g r') (uses_of g r) (uses_of g r')
+        stays = stays_by g.tells (IsRunningUsable g r) (IsRunningUsable g r') (view_of g r.log) (view_of g l) r.schema.items r.next r.next r.counts.items cs.items (said_of g r.log) (said_of g l) (faults_of g r) (faults_of g r') (uses_of g r) (uses_of g r')
             usable (λ t. (same t, surer_step g now_said r u l p r.broken r.full cs kind stay counts_now t (points (view_of g r.log)) (logs.next (view_of g r.log)) (leaves t)));
         memory = λ e. absurd (cc e);
         uses = used_none 0 0 (uses_of g r);
@@ -193,7 +193,7 @@ module _ {S : Type 0} (g : Ghosts S) (stay : (s : S) → IsTrue g.tells → (x :
 
 -- what is left by an Image and then by a write
 pub then_left : {S : Type 0} (g : Ghosts S) (stay : (s : S) → IsTrue g.tells → (x : Left) × Now (g.clock s) x × (x.files ≡ g.files s)) (counts_now : (s : S) (t : ℕ) (x : Left) → t ≤ (g.clock s).now → Now (g.clock s) x → (g.clock s).left t x)
-    → (r : Running S) → IsUsable g r → (one two : Log S) (f k : ℕ) (before : Option (List ℕ)) (after : List ℕ) → telling (view_of g one) ≡ telling (view_of g r.log) → (IsTrue g.tells → LogsImage (view_of g r.log) (view_of g one) f k before after)
+    → (r : Running S) → IsRunningUsable g r → (one two : Log S) (f k : ℕ) (before : Option (List ℕ)) (after : List ℕ) → telling (view_of g one) ≡ telling (view_of g r.log) → (IsTrue g.tells → LogsImage (view_of g r.log) (view_of g one) f k before after)
     → (IsTrue g.tells → logs.LogLeaves (view_of g r.log) (view_of g one) (points (view_of g r.log)) (logs.next (view_of g r.log))) → (IsTrue g.tells → logs.LogLeaves (view_of g one) (view_of g two) (points (view_of g one)) (logs.next (view_of g one)))
     → IsTrue g.tells → logs.LogLeaves (view_of g r.log) (view_of g two) (points (view_of g r.log)) (logs.next (view_of g r.log))
 then_left g stay counts_now r u one two f k before after kind logged first second t =
@@ -201,5 +201,5 @@ then_left g stay counts_now r u one two f k before after kind logged first secon
     (surer (view_of g r.log) (view_of g one) kind (u.goes t).runs (stay r.log.site t) (stay one.site t) (counts_now one.site) (points (view_of g r.log)) (logs.next (view_of g r.log)) (first t)) (logged t).next_same
 
 -- what a database was used for doesn't touch what it needs
-pub usable_spent : {S : Type 0} (g : Ghosts S) (r : Running S) (n : ℕ) → IsUsable g r → IsUsable g (record r { spent = n })
+pub usable_spent : {S : Type 0} (g : Ghosts S) (r : Running S) (n : ℕ) → IsRunningUsable g r → IsRunningUsable g (record r { spent = n })
 usable_spent g r n u = record { unbroken = u.unbroken; under = u.under; described = u.described; table = u.table; marked = u.marked; pointed = u.pointed; unchanged = u.unchanged; counted = u.counted; goes = u.goes }

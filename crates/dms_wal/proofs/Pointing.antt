@@ -3,7 +3,7 @@ use Rattle.std.proofs.Common.{ℕ, ◌≤◌, ◌≡◌, ◌⊎◌, inl, inr, Bo
 use Rattle.std.specs.Prelude.{◌==◌, ◌||◌}
 use Rattle.std.proofs.lemmas.Bool.Decides.{nat_tests}
 use Rattle.dms_site.specs.Files.{stored_of}
-use Rattle.dms_history.specs.Events.{Content, Stored, Event}
+use Rattle.dms_history.specs.Events.{AllBlocks, Stored, Event}
 use Rattle.dms_history.specs.Lists.{has}
 use Rattle.dms_history.specs.Places.{IsLive}
 use Rattle.dms_history.specs.Points.{LivePoint, live_points, HasPoint, numbers_of, AllAbove, Rises, AllLive, ListsPoints}
@@ -40,7 +40,7 @@ eq_is : (a b : ℕ) → (a == b) ≡ true → a ≡ b
 eq_is a b is = grind (arith, nat_tests, is)
 
 -- the last of some points: it is live with its blocks, and no number of them is above its
-pub record IsTop (live : List Event) (counted : Stored) (ps : List LivePoint) (n : ℕ) (blocks : Content) : Type 0 where
+pub record IsTop (live : List Event) (counted : Stored) (ps : List LivePoint) (n : ℕ) (blocks : AllBlocks) : Type 0 where
   pub has_it : HasPoint live counted n blocks
   pub top : (m : ℕ) → has (λ j. j == m) (numbers_of ps) ≡ true → m ≤ n
 
@@ -49,7 +49,7 @@ module _ (live : List Event) (counted_ : Stored) (es : List Entry) where
   first_below n p q ps above le = omega (arith, above.0, le)
 
   -- the first of them is below the top
-  top_of : (none : Content) (p : LivePoint) (ps : List LivePoint) (n : ℕ) → Rises (numbers_of (p ∷ ps)) → AllLive live counted_ (p ∷ ps) → number_from (Some p.number) (map (described_in es) ps) ≡ Some n
+  top_of : (none : AllBlocks) (p : LivePoint) (ps : List LivePoint) (n : ℕ) → Rises (numbers_of (p ∷ ps)) → AllLive live counted_ (p ∷ ps) → number_from (Some p.number) (map (described_in es) ps) ≡ Some n
       → IsTop live counted_ (p ∷ ps) n (last_blocks p.blocks (map (described_in es) ps)) × (p.number ≤ n)
   top_of none p [] n rises lives is =
       let same : p.number ≡ n = some_is p.number n is in (
@@ -69,7 +69,7 @@ module _ (live : List Event) (counted_ : Stored) (es : List Entry) where
         le,
       )
 
-  pub top_is : (none : Content) (ps : List LivePoint) (n : ℕ) → Rises (numbers_of ps) → AllLive live counted_ ps → last_number (map (described_in es) ps) ≡ Some n → IsTop live counted_ ps n (last_blocks none (map (described_in es) ps))
+  pub top_is : (none : AllBlocks) (ps : List LivePoint) (n : ℕ) → Rises (numbers_of ps) → AllLive live counted_ ps → last_number (map (described_in es) ps) ≡ Some n → IsTop live counted_ ps n (last_blocks none (map (described_in es) ps))
   top_is none [] n rises lives is = absurd (none_not_some n is)
   top_is none (p ∷ ps) n rises lives is = (top_of none p ps n rises lives is).0
 
@@ -114,5 +114,5 @@ pub quiet_mark : (a b : LogView) (next : ℕ) (counts marks : List ℕ) → Logs
 quiet_mark a b next counts marks q numbered counted copied = record {
   number = ap (λ (ps : List DescribedPoint). last_number ps) q.points_are ∙ number_push None (points a) (here a) ∙ ap (λ n. Some n) (sym numbered);
   counted = λ f. ap (λ (c : List ℕ). count_of c f) copied ∙ counted f
-      ∙ ap (λ (c : Content). length (c f)) (sym (ap (λ (ps : List DescribedPoint). last_blocks (λ g. []) ps) q.points_are ∙ last_here (λ g. []) (points a) (here a)));
+      ∙ ap (λ (c : AllBlocks). length (c f)) (sym (ap (λ (ps : List DescribedPoint). last_blocks (λ g. []) ps) q.points_are ∙ last_here (λ g. []) (points a) (here a)));
 }

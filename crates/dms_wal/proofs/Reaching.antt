@@ -9,7 +9,7 @@ use Rattle.dms_block.specs.Counts.{Faults}
 use Rattle.dms_block.specs.Held.{BlockStop, Held, Caused, MakesNoPoint}
 use Rattle.dms_audfile.specs.Counting.{CountedAt, not_counted}
 use Rattle.dms_running.specs.Standing.{IsWhole}
-use Rattle.dms_history.specs.Events.{Content, block_in}
+use Rattle.dms_history.specs.Events.{AllBlocks, block_in}
 use Rattle.dms_history.specs.EntryEvents.{history_of}
 use Rattle.dms_history.specs.Entries.{Entry, control_point}
 use Rattle.dms_history.specs.Schemas.{schema_entries}
@@ -37,7 +37,7 @@ use Rattle.dms_pool.specs.declared.pool.Pool.{Pool}
 use Rattle.dms_wal.specs.declared.running.Running.{Running}
 use Rattle.dms_wal.specs.Closing.{entries_control, FilesStand, LeavesUntil}
 use Rattle.dms_wal.specs.Controls.{MakesControl}
-use Rattle.dms_wal.specs.Database.{held, GoesWith, IsUsable, frames_of}
+use Rattle.dms_wal.specs.Database.{held, GoesWith, IsRunningUsable, frames_of}
 use Rattle.dms_wal.specs.Lifting.{block_point, last_blocks, lifted, point_under}
 use Rattle.dms_wal.specs.Marks.{IsMarkOf}
 use Rattle.dms_wal.proofs.Marked.{mark_on}
@@ -112,7 +112,7 @@ module _ {S : Type 0} (g : Ghosts S) (r : Running S) (e : AuditEnd) (alike : End
   abbrev pub reaching : Running S
   reaching = record r { log = record r.log { end = e } }
 
-  pub usable_alike : IsUsable g r → IsUsable g reaching
+  pub usable_alike : IsRunningUsable g r → IsRunningUsable g reaching
   usable_alike u = record {
     unbroken = u.unbroken;
     under = λ t. under_on (view_of g r.log) (view e r.log.first (g.files r.log.site) (g.clock r.log.site)) r.schema.items (entries_alike r.log.end e alike r.log.first (g.files r.log.site) (g.clock r.log.site)) (u.under t);
@@ -128,7 +128,7 @@ module _ {S : Type 0} (g : Ghosts S) (r : Running S) (e : AuditEnd) (alike : End
   }
 
 -- the same, as blocks see it
-pub held_alike : {S : Type 0} (g : Ghosts S) (r : Running S) (e : AuditEnd) (alike : EndsAlike r.log.end e) → record (held g r) { sound = IsUsable g (reaching g r e alike) } ≡ held g (reaching g r e alike)
+pub held_alike : {S : Type 0} (g : Ghosts S) (r : Running S) (e : AuditEnd) (alike : EndsAlike r.log.end e) → record (held g r) { sound = IsRunningUsable g (reaching g r e alike) } ≡ held g (reaching g r e alike)
 held_alike g r e alike =
     let first = r.log.first in
     let files = g.files r.log.site in
@@ -137,7 +137,7 @@ held_alike g r e alike =
     let s = state_same r.log.end e alike first files clock in
     let schema = r.schema.items in
     λ i. record (held g r) {
-      sound = IsUsable g (reaching g r e alike);
+      sound = IsRunningUsable g (reaching g r e alike);
       whole = IsWhole (sym t i);
       content = content_now (sym t i) (sym s i);
       mark = last_blocks (λ f. []) (points_now (sym t i) (sym s i));
@@ -171,7 +171,7 @@ closes a v schema point next counts same ps nexts contents runs read m =
       points_are = ap (λ (t : Telling). points_of t v.files) (sym same) ∙ sym (all_points (telling v) (state v) s.nothing) ∙ ps;
       next_is = ap (λ (t : Telling). next_in t v.files) (sym same) ∙ sym (all_next (telling v) (state v) s.nothing) ∙ nexts;
       none = ap (λ (t : Telling). (history_of (t.entries v.files)).pending) (sym same) ∙ ap (λ (l : List Entry). (history_of l).pending) (sym all) ∙ (now_runs (telling v) (lemmas.tells v runs read) (state v) runs.runs read).none;
-      stands = λ f b low. s.written f b (subst (λ (c : Content). b < length (c f)) (sym contents) low) ∙ ap (λ (c : Content). block_in c f b) contents;
+      stands = λ f b low. s.written f b (subst (λ (c : AllBlocks). b < length (c f)) (sym contents) low) ∙ ap (λ (c : AllBlocks). block_in c f b) contents;
       only = s.only;
     }
 
@@ -184,7 +184,7 @@ closes_alike a b v schema point next counts same es ps nexts contents c = record
   points_are = ap (λ (t : Telling). points_of t v.files) (sym same) ∙ c.points_are ∙ ps;
   next_is = ap (λ (t : Telling). next_in t v.files) (sym same) ∙ c.next_is ∙ nexts;
   none = ap (λ (t : Telling). (history_of (t.entries v.files)).pending) (sym same) ∙ c.none;
-  stands = λ f b low. c.stands f b (subst (λ (d : Content). b < length (d f)) (sym contents) low) ∙ ap (λ (d : Content). block_in d f b) contents;
+  stands = λ f b low. c.stands f b (subst (λ (d : AllBlocks). b < length (d f)) (sym contents) low) ∙ ap (λ (d : AllBlocks). block_in d f b) contents;
   only = c.only;
 }
 
@@ -198,7 +198,7 @@ module _ {S : Type 0} (g : Ghosts S) (stay : (s : S) → IsTrue g.tells → (x :
       subst (λ (k : Clock BlockStop). LeavesUntil (held g r) k) (λ i. lifted (all i) (g.clock (sym site i))) l
 
   -- what the closed site holds
-  pub closes_all : (t : IsTrue g.tells) → IsUsable g last → MakesControl (view_of g (reaching g r e alike).log) (view_of g last.log) r.schema.items r.point r.next r.counts.items
+  pub closes_all : (t : IsTrue g.tells) → IsRunningUsable g last → MakesControl (view_of g (reaching g r e alike).log) (view_of g last.log) r.schema.items r.point r.next r.counts.items
       → FilesStand (view_of g r.log) (entries_control r.point r.schema.items r.next r.counts.items) (content (view_of g r.log)) (g.files s) (g.clock s)
   closes_all t u m = subst (λ (x : S). FilesStand (view_of g r.log) (entries_control r.point r.schema.items r.next r.counts.items) (content (view_of g r.log)) (g.files x) (g.clock x)) (sym site)
       (let first = r.log.first in let files = g.files r.log.site in let clock = g.clock r.log.site in let end = r.log.end in

@@ -9,8 +9,8 @@ use Rattle.dms_site.specs.declared.site.Site.{Ghosts}
 use Rattle.dms_site.specs.Files.{Left}
 use Rattle.dms_block.specs.declared.block.Block.{Block}
 use Rattle.dms_block.specs.declared.block.BlockId.{BlockId}
-use Rattle.dms_block.specs.Content.{limit}
-use Rattle.dms_history.specs.Events.{Content, block_in}
+use Rattle.dms_block.specs.AllBlocks.{limit}
+use Rattle.dms_history.specs.Events.{AllBlocks, block_in}
 use Rattle.dms_history.specs.Lists.{after_last}
 use Rattle.dms_history.specs.Places.{is_control}
 use Rattle.dms_history.specs.Images.{last_after}
@@ -40,7 +40,7 @@ use Rattle.dms_restore.specs.Counts.{count_of}
 use Rattle.dms_restore.proofs.Logs.{Reads}
 use Rattle.dms_wal.specs.declared.running.Running.{Running}
 use Rattle.dms_wal.specs.Marks.{IsMarkOf}
-use Rattle.dms_wal.specs.Database.{frame_seen, frames_of, IsUsable}
+use Rattle.dms_wal.specs.Database.{frame_seen, frames_of, IsRunningUsable}
 use Rattle.dms_wal.specs.Writing.{WritesBack}
 use Rattle.dms_wal.proofs.Pooled.{holds_like, frames_up, counted_up}
 use Rattle.dms_wal.proofs.Backs.{all_sized, holds_back}
@@ -66,11 +66,11 @@ then_ok {U = U} {F = F} x y a m n same c = subst (λ k. HasCause {T = U} {E = F}
 -- once what waits is sealed, the newest Image of a changed block is
 pub newest : (a m : LogView) → LogRuns m → Reads m → waits m.end ≡ [] → LogsNothing a m → (f k : ℕ) (bytes : List ℕ) → logs.IsChangedBlock a f k → block_in (content a) f k ≡ bytes → IsNewestSealed m f k bytes
 newest a m runs read nothing s f k bytes changed is =
-    changed_newest m runs read nothing f k bytes (λ none. changed (ap (λ (l : List Entry). last_after f k (after_last is_control (live_of l))) (sym s.entries_same) ∙ none)) (ap (λ (c : Content). block_in c f k) s.content_same ∙ is)
+    changed_newest m runs read nothing f k bytes (λ none. changed (ap (λ (l : List Entry). last_after f k (after_last is_control (live_of l))) (sym s.entries_same) ∙ none)) (ap (λ (c : AllBlocks). block_in c f k) s.content_same ∙ is)
 
-module _ {S : Type 0} (g : Ghosts S) (r : Running S) (u : IsUsable g r) (p : Pool) where
+module _ {S : Type 0} (g : Ghosts S) (r : Running S) (u : IsRunningUsable g r) (p : Pool) where
   -- the same pool
-  pub usable_same : SamePool r.pool p → IsUsable g (record r { pool = p })
+  pub usable_same : SamePool r.pool p → IsRunningUsable g (record r { pool = p })
   usable_same same = record {
     unbroken = u.unbroken;
     under = u.under;
@@ -102,7 +102,7 @@ module _ {S : Type 0} (g : Ghosts S) (r : Running S) (u : IsUsable g r) (p : Poo
     frame_at : frames_of r.pool id.file id.block ≡ Some (frame_seen x)
     frame_at = ap (λ (o : Option pools.BufferFrame). option_map frame_seen o) up.was
 
-    pub usable_clean : x.dirty ≡ false → IsUsable g (record r { pool = p })
+    pub usable_clean : x.dirty ≡ false → IsRunningUsable g (record r { pool = p })
     usable_clean clean = record {
       unbroken = u.unbroken;
       under = u.under;
@@ -128,7 +128,7 @@ module _ {S : Type 0} (g : Ghosts S) (r : Running S) (u : IsUsable g r) (p : Poo
     held_block t = sym ((((u.goes t).holds id.file id.block).held (frame_seen x) frame_at).1)
 
   pub usable_back : (id : BlockId) (block : Block) → GivesUp id (framed block true) r.pool p → (l : Log S) → telling (view_of g l) ≡ telling (view_of g r.log) → (IsTrue g.tells → LogRuns (view_of g l)) → (IsTrue g.tells → Reads (view_of g r.log))
-      → (IsTrue g.tells → WritesBack (view_of g r.log) (view_of g l) id.file id.block block.0) → IsUsable g (record r { log = l; pool = p })
+      → (IsTrue g.tells → WritesBack (view_of g r.log) (view_of g l) id.file id.block block.0) → IsRunningUsable g (record r { log = l; pool = p })
   usable_back id block up l kind runs read back = record {
     unbroken = u.unbroken;
     under = λ t. under_on (view_of g r.log) (view_of g l) r.schema.items (back t).entries_same (u.under t);
@@ -143,6 +143,6 @@ module _ {S : Type 0} (g : Ghosts S) (r : Running S) (u : IsUsable g r) (p : Poo
       holds = holds_like (telling (view_of g l)) (state (view_of g l)) (with_frame (frames_of r.pool) id.file id.block None) (frames_of p) (frames_up id (framed block true) r.pool p up)
           (holds_back (view_of g r.log) (view_of g l) kind (frames_of r.pool) k.holds id.file id.block block.0 w (ap (λ (o : Option pools.BufferFrame). option_map frame_seen o) up.was) (all_sized (view_of g r.log) k.runs (read t)));
       numbered = k.numbered ∙ sym w.next_same;
-      counted = λ f. k.counted f ∙ ap (λ (c : Content). length (c f)) (sym w.content_same);
+      counted = λ f. k.counted f ∙ ap (λ (c : AllBlocks). length (c f)) (sym w.content_same);
     };
   }

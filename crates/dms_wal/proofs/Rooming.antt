@@ -20,14 +20,14 @@ use Rattle.dms_restore.specs.Logging as logs
 use Rattle.dms_restore.specs.Logging.{telling, points, LogRuns, PrintsNothing}
 use Rattle.dms_restore.specs.Views.{view_of}
 use Rattle.dms_wal.specs.declared.running.Running.{Running}
-use Rattle.dms_wal.specs.Database.{held, uses_of, IsUsable}
+use Rattle.dms_wal.specs.Database.{held, uses_of, IsRunningUsable}
 use Rattle.dms_wal.specs.Writing.{WritesBack}
 use Rattle.dms_wal.proofs.Stepped.{passes_step, stays_step}
 use Rattle.dms_wal.proofs.Roomed.{usable_back}
 use Rattle.dms_wal.proofs.Fetched.{usable_looked, looked_leaves, looked_silent}
 
 module _ {S : Type 0} (g : Ghosts S) (stay : (s : S) → IsTrue g.tells → (x : Left) × Now (g.clock s) x × (x.files ≡ g.files s)) (now_said : (s : S) (x : Left) → IsTrue g.tells_said → Now (g.clock s) x → x.said ≡ g.said s)
-    (counts_now : (s : S) (t : ℕ) (x : Left) → t ≤ (g.clock s).now → Now (g.clock s) x → (g.clock s).left t x) (r : Running S) (u : IsUsable g r) where
+    (counts_now : (s : S) (t : ℕ) (x : Left) → t ≤ (g.clock s).now → Now (g.clock s) x → (g.clock s).left t x) (r : Running S) (u : IsRunningUsable g r) where
   -- the least recently used block was written and given up
   module _ (p : Pool) (id : BlockId) (block : Block) (up : GivesUp id (framed block true) r.pool p) (l : Log S) (kind : telling (view_of g l) ≡ telling (view_of g r.log)) (said : g.said l.site ≡ g.said r.log.site)
       (leaves : IsTrue g.tells → logs.LogLeaves (view_of g r.log) (view_of g l) (points (view_of g r.log)) (logs.next (view_of g r.log))) (silent : IsTrue g.tells → Steps PrintsNothing (g.clock r.log.site) (g.clock l.site)) where

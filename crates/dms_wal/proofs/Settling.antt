@@ -10,7 +10,7 @@ use Rattle.dms_block.specs.declared.block.Block.{Block}
 use Rattle.dms_block.specs.declared.block.BlockId.{BlockId}
 use Rattle.dms_block.specs.Held.{Looks}
 use Rattle.dms_block.specs.HeldLaws.{used_none}
-use Rattle.dms_history.specs.Events.{Content, block_in}
+use Rattle.dms_history.specs.Events.{AllBlocks, block_in}
 use Rattle.dms_running.specs.Points.{DescribedPoint}
 use Rattle.dms_pool.specs.declared.frame.BufferFrame as pools
 use Rattle.dms_pool.specs.declared.pool.Pool.{Pool}
@@ -27,7 +27,7 @@ use Rattle.dms_restore.proofs.Logs.{Reads}
 use Rattle.dms_wal.specs.declared.running.Running.{Running}
 use Rattle.dms_wal.specs.Controls.{IsSettled}
 use Rattle.dms_wal.specs.Marks.{IsMarkOf}
-use Rattle.dms_wal.specs.Database.{held, frame_seen, frames_of, uses_of, IsUsable}
+use Rattle.dms_wal.specs.Database.{held, frame_seen, frames_of, uses_of, IsRunningUsable}
 use Rattle.dms_wal.specs.Writing.{WritesBack}
 use Rattle.dms_wal.proofs.Pooled.{holds_like, frames_cleaned, counted_cleaned, clean_frames}
 use Rattle.dms_wal.proofs.Backs.{all_sized, holds_washed}
@@ -39,9 +39,9 @@ use Rattle.dms_wal.proofs.Under.{under_on}
 
 -- ---- a block was written, and stays in the pool
 
-module _ {S : Type 0} (g : Ghosts S) (r : Running S) (u : IsUsable g r) where
+module _ {S : Type 0} (g : Ghosts S) (r : Running S) (u : IsRunningUsable g r) where
   pub usable_washed : (p : Pool) (id : BlockId) (block : Block) → frame_of id r.pool ≡ Some (framed block true) → Cleans id r.pool p → (l : Log S) → telling (view_of g l) ≡ telling (view_of g r.log) → (IsTrue g.tells → LogRuns (view_of g l)) → (IsTrue g.tells → Reads (view_of g r.log))
-      → (IsTrue g.tells → WritesBack (view_of g r.log) (view_of g l) id.file id.block block.0) → IsUsable g (record r { log = l; pool = p })
+      → (IsTrue g.tells → WritesBack (view_of g r.log) (view_of g l) id.file id.block block.0) → IsRunningUsable g (record r { log = l; pool = p })
   usable_washed p id block was c l kind runs read back = record {
     unbroken = u.unbroken;
     under = λ t. under_on (view_of g r.log) (view_of g l) r.schema.items (back t).entries_same (u.under t);
@@ -56,7 +56,7 @@ module _ {S : Type 0} (g : Ghosts S) (r : Running S) (u : IsUsable g r) where
       holds = holds_like (telling (view_of g l)) (state (view_of g l)) (with_frame (frames_of r.pool) id.file id.block (Some (record { block = block.0; dirty = false }))) (frames_of p) (frames_cleaned id r.pool p c block was)
           (holds_washed (view_of g r.log) (view_of g l) kind (frames_of r.pool) k.holds id.file id.block block.0 w (ap (λ (o : Option pools.BufferFrame). option_map frame_seen o) was) (all_sized (view_of g r.log) k.runs (read t)));
       numbered = k.numbered ∙ sym w.next_same;
-      counted = λ f. k.counted f ∙ ap (λ (c : Content). length (c f)) (sym w.content_same);
+      counted = λ f. k.counted f ∙ ap (λ (c : AllBlocks). length (c f)) (sym w.content_same);
     };
   }
 
@@ -94,7 +94,7 @@ look_silent steps = steps_weaken steps (λ x y now is. ap (λ (l : Left). l.said
 -- ---- all is settled
 
 module _ {S : Type 0} (g : Ghosts S) (stay : (s : S) → IsTrue g.tells → (x : Left) × Now (g.clock s) x × (x.files ≡ g.files s)) (now_said : (s : S) (x : Left) → IsTrue g.tells_said → Now (g.clock s) x → x.said ≡ g.said s)
-    (counts_now : (s : S) (t : ℕ) (x : Left) → t ≤ (g.clock s).now → Now (g.clock s) x → (g.clock s).left t x) (r : Running S) (u : IsUsable g r) (l : Log S) (kind : telling (view_of g l) ≡ telling (view_of g r.log)) (said : g.said l.site ≡ g.said r.log.site)
+    (counts_now : (s : S) (t : ℕ) (x : Left) → t ≤ (g.clock s).now → Now (g.clock s) x → (g.clock s).left t x) (r : Running S) (u : IsRunningUsable g r) (l : Log S) (kind : telling (view_of g l) ≡ telling (view_of g r.log)) (said : g.said l.site ≡ g.said r.log.site)
     (leaves : IsTrue g.tells → logs.LogLeaves (view_of g r.log) (view_of g l) (points (view_of g r.log)) (logs.next (view_of g r.log))) (silent : IsTrue g.tells → Steps PrintsNothing (g.clock r.log.site) (g.clock l.site)) where
   -- a block was written
   pub looks_washed : {T : Type 0} (x : T) (p : Pool) (id : BlockId) (block : Block) → frame_of id r.pool ≡ Some (framed block true) → Cleans id r.pool p → (IsTrue g.tells → LogRuns (view_of g l)) → (IsTrue g.tells → WritesBack (view_of g r.log) (view_of g l) id.file id.block block.0)
@@ -109,7 +109,7 @@ module _ {S : Type 0} (g : Ghosts S) (stay : (s : S) → IsTrue g.tells → (x :
   }
 
   module _ (nothing : IsTrue g.tells → LogsNothing (view_of g r.log) (view_of g l)) (runs : IsTrue g.tells → LogRuns (view_of g l)) where
-    pub usable_stable : IsUsable g (record r { log = l })
+    pub usable_stable : IsRunningUsable g (record r { log = l })
     usable_stable = record {
       unbroken = u.unbroken;
       under = λ t. under_on (view_of g r.log) (view_of g l) r.schema.items (nothing t).entries_same (u.under t);

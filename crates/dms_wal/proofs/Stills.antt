@@ -2,7 +2,7 @@
 use Rattle.std.proofs.Common.{ℕ, ◌+◌, ◌<◌, ◌≡◌, ◌^◌, List, [], ◌∷◌, ◌++◌, length, take, None, refl, sym, ◌∙◌, ap, subst, arith}
 use Rattle.dms_moments.specs.Moments.{Clock, Steps}
 use Rattle.dms_site.specs.Files.{Files, Left, stored_of}
-use Rattle.dms_history.specs.Events.{Content, Event, quiet}
+use Rattle.dms_history.specs.Events.{AllBlocks, Event, quiet}
 use Rattle.dms_history.specs.Lists.{after_last}
 use Rattle.dms_history.specs.Places.{is_control}
 use Rattle.dms_history.specs.Images.{last_after}
@@ -78,7 +78,7 @@ module _ (pool : Pool) (next : ℕ) (counts : List ℕ) where
     runs = runs;
     holds = holds_on a b (frames_of pool) same s.content_same s.blocks_same (changed_same a b same s.entries_same) g.holds;
     numbered = g.numbered ∙ sym s.next_same;
-    counted = λ f. g.counted f ∙ ap (λ (c : Content). length (c f)) (sym s.content_same);
+    counted = λ f. g.counted f ∙ ap (λ (c : AllBlocks). length (c f)) (sym s.content_same);
   }
 
   -- a quiet point was made
@@ -100,7 +100,7 @@ module _ (pool : Pool) (next : ℕ) (counts : List ℕ) where
       runs = runs;
       holds = holds_on a b (frames_of pool) same s.content_same s.blocks_same changed_quiet g.holds;
       numbered = ap (λ n. n + 1) g.numbered ∙ sym s.next_is;
-      counted = λ f. g.counted f ∙ ap (λ (c : Content). length (c f)) (sym s.content_same);
+      counted = λ f. g.counted f ∙ ap (λ (c : AllBlocks). length (c f)) (sym s.content_same);
     }
 
 -- no block is in memory, and all stand

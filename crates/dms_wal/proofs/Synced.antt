@@ -14,7 +14,7 @@ use Rattle.dms_restore.specs.Views.{view_of}
 use Rattle.dms_wal.specs.declared.running.Running.{Running}
 use Rattle.dms_wal.specs.Lifting.{AreCounts}
 use Rattle.dms_wal.specs.Marks.{IsMarkOf}
-use Rattle.dms_wal.specs.Database.{held, said_of, faults_of, uses_of, IsUsable}
+use Rattle.dms_wal.specs.Database.{held, said_of, faults_of, uses_of, IsRunningUsable}
 use Rattle.dms_wal.proofs.Lifts.{passes_by, stays_by, surer}
 use Rattle.dms_wal.proofs.Stills.{goes_still, goes_sealed, goes_quiet}
 use Rattle.dms_wal.proofs.Pointed.{quiet_made, quiet_leaves, sync_made, say_leaves}
@@ -28,9 +28,9 @@ pub kind_is : {n n' f f' : ℕ} → n' ≡ n → f' ≡ f → telling_of n' f' �
 kind_is total first = λ i. telling_of (total i) (first i)
 
 module _ {S : Type 0} (g : Ghosts S) (stay : (s : S) → IsTrue g.tells → (x : Left) × Now (g.clock s) x × (x.files ≡ g.files s)) (now_said : (s : S) (x : Left) → IsTrue g.tells_said → Now (g.clock s) x → x.said ≡ g.said s)
-    (counts_now : (s : S) (t : ℕ) (x : Left) → t ≤ (g.clock s).now → Now (g.clock s) x → (g.clock s).left t x) (r : Running S) (u : IsUsable g r) where
+    (counts_now : (s : S) (t : ℕ) (x : Left) → t ≤ (g.clock s).now → Now (g.clock s) x → (g.clock s).left t x) (r : Running S) (u : IsRunningUsable g r) where
   module _ (l : Log S) (kind : telling (view_of g l) ≡ telling (view_of g r.log)) where
-    pub usable_sealed : (n : ℕ) → (IsTrue g.tells → LogRuns (view_of g l)) → (IsTrue g.tells → LogsNothing (view_of g r.log) (view_of g l)) → IsUsable g (record r { log = l; syncs = n })
+    pub usable_sealed : (n : ℕ) → (IsTrue g.tells → LogRuns (view_of g l)) → (IsTrue g.tells → LogsNothing (view_of g r.log) (view_of g l)) → IsRunningUsable g (record r { log = l; syncs = n })
     usable_sealed n runs nothing = record {
       unbroken = u.unbroken;
       under = λ t. under_on (view_of g r.log) (view_of g l) r.schema.items (nothing t).entries_same (u.under t);
@@ -47,14 +47,14 @@ module _ {S : Type 0} (g : Ghosts S) (stay : (s : S) → IsTrue g.tells → (x :
         → MadeDurable (held g r) (held g (record r { log = l; syncs = n }))
     sync_done n runs nothing all =
         let r' : Running S = record r { log = l; syncs = n } in
-        sync_made g.tells (IsUsable g r) (IsUsable g r') (view_of g r.log) (view_of g l) r.schema.items r.next r.counts.items (said_of g r.log) (said_of g l) (faults_of g r) (faults_of g r') (uses_of g r) (uses_of g r')
+        sync_made g.tells (IsRunningUsable g r) (IsRunningUsable g r') (view_of g r.log) (view_of g l) r.schema.items r.next r.counts.items (said_of g r.log) (said_of g l) (faults_of g r) (faults_of g r') (uses_of g r) (uses_of g r')
         (usable_sealed n runs nothing) nothing all
 
     pub sync_passes : (b : Bool) (n : ℕ) → g.said l.site ≡ g.said r.log.site → (IsTrue g.tells → logs.LogLeaves (view_of g r.log) (view_of g l) (points (view_of g r.log)) (logs.next (view_of g r.log)))
         → (IsTrue g.tells → Steps PrintsNothing (g.clock r.log.site) (g.clock l.site)) → MakesNoPoint (held g r) (held g (record r { log = l; broken = b; syncs = n }))
     sync_passes b n said leaves silent =
         let r' : Running S = record r { log = l; broken = b; syncs = n } in
-        passes_by g.tells (IsUsable g r) (IsUsable g r') (view_of g r.log) (view_of g l) r.schema.items r.next r.next r.counts.items r.counts.items (said_of g r.log) (said_of g l) (faults_of g r) (faults_of g r') (uses_of g r) (uses_of g r')
+        passes_by g.tells (IsRunningUsable g r) (IsRunningUsable g r') (view_of g r.log) (view_of g l) r.schema.items r.next r.next r.counts.items r.counts.items (said_of g r.log) (said_of g l) (faults_of g r) (faults_of g r') (uses_of g r) (uses_of g r')
         kind refl refl (ap (λ (s : List ℕ). cond g.tells_said (Some s) None) said) (λ t. (u.goes t).numbered) (text g now_said r.log) leaves silent
 
     module _ (leaves : IsTrue g.tells → logs.LogLeaves (view_of g r.log) (view_of g l) (points (view_of g r.log) ++ here (view_of g r.log) ∷ []) (logs.next (view_of g r.log) + 1)) where
@@ -62,7 +62,7 @@ module _ {S : Type 0} (g : Ghosts S) (stay : (s : S) → IsTrue g.tells → (x :
           → MadeQuiet (held g r) (held g (record r { log = l; next = next; point = r.next; marks = ms; changed = false }))
       quiet_done next is room ms copied runs quiets = subst (λ n. MadeQuiet (held g r) (held g (record r { log = l; next = n; point = r.next; marks = ms; changed = false }))) (sym is) (
           let r' : Running S = record r { log = l; next = r.next + 1; point = r.next; marks = ms; changed = false } in
-          quiet_made g.tells (IsUsable g r) (IsUsable g r') (view_of g r.log) (view_of g l) r.schema.items r.next r.counts.items (said_of g r.log) (said_of g l) (faults_of g r) (faults_of g r') (uses_of g r) (uses_of g r')
+          quiet_made g.tells (IsRunningUsable g r) (IsRunningUsable g r') (view_of g r.log) (view_of g l) r.schema.items r.next r.counts.items (said_of g r.log) (said_of g l) (faults_of g r) (faults_of g r') (uses_of g r) (uses_of g r')
           (record {
             unbroken = u.unbroken;
             under = λ t. under_quiet (view_of g r.log) (view_of g l) r.schema.items (logs.next (view_of g r.log)) (quiets t).entries_are (u.under t);
@@ -80,14 +80,14 @@ module _ {S : Type 0} (g : Ghosts S) (stay : (s : S) → IsTrue g.tells → (x :
           → (point : ℕ) (ms : Vec ℕ) → IfTold (held g r) (Leaves (held g r) (held g (record r { log = l; broken = b; full = full; next = next; point = point; marks = ms })) ((held g r).points ++ (held g r).here ∷ []) (r.next + 1))
       quiet_left b full next silent point ms =
           let r' : Running S = record r { log = l; broken = b; full = full; next = next; point = point; marks = ms } in
-          quiet_leaves g.tells (IsUsable g r) (IsUsable g r') (view_of g r.log) (view_of g l) r.schema.items r.next r.counts.items (said_of g r.log) (said_of g l) (faults_of g r) (faults_of g r') (uses_of g r) (uses_of g r')
+          quiet_leaves g.tells (IsRunningUsable g r) (IsRunningUsable g r') (view_of g r.log) (view_of g l) r.schema.items r.next r.counts.items (said_of g r.log) (said_of g l) (faults_of g r) (faults_of g r') (uses_of g r) (uses_of g r')
           next r.counts.items kind u.under (λ t. (u.goes t).numbered) (text g now_said r.log) leaves silent
 
   module _ (s : S) (files : IsTrue g.tells → g.files s ≡ g.files r.log.site) (bytes : List ℕ) (steps : Steps (PrintsPartOf bytes) (g.clock r.log.site) (g.clock s)) where
     abbrev printed : Log S
     printed = record r.log { site = s }
 
-    pub usable_said : IsUsable g (record r { log = printed })
+    pub usable_said : IsRunningUsable g (record r { log = printed })
     usable_said = record {
       unbroken = u.unbroken;
       under = λ t. under_still r.log.end r.log.first (g.files r.log.site) (g.files s) (g.clock r.log.site) (g.clock s) r.schema.items (files t) (u.under t);
@@ -103,7 +103,7 @@ module _ {S : Type 0} (g : Ghosts S) (stay : (s : S) → IsTrue g.tells → (x :
     pub say_stays : Stays (held g r) (held g (record r { log = printed }))
     say_stays =
         let r' : Running S = record r { log = printed } in
-        stays_by g.tells (IsUsable g r) (IsUsable g r') (view_of g r.log) (view_of g printed) r.schema.items r.next r.next r.counts.items r.counts.items (said_of g r.log) (said_of g printed) (faults_of g r) (faults_of g r') (uses_of g r) (uses_of g r')
+        stays_by g.tells (IsRunningUsable g r) (IsRunningUsable g r') (view_of g r.log) (view_of g printed) r.schema.items r.next r.next r.counts.items r.counts.items (said_of g r.log) (said_of g printed) (faults_of g r) (faults_of g r') (uses_of g r) (uses_of g r')
         usable_said (λ t. (
           ap (λ (f : Files). points (view r.log.end r.log.first f (g.clock s))) (files t),
           omega (arith, ap (λ (f : Files). durable (view r.log.end r.log.first f (g.clock s))) (files t)),

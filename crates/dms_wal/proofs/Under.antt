@@ -3,7 +3,7 @@ use Rattle.std.proofs.Common.{ℕ, zero, suc, ◌*◌, ◌≤◌, ◌<◌, ◌�
 use Rattle.std.proofs.lemmas.List.{take-append-drop}
 use Rattle.dms_moments.specs.Moments.{Clock}
 use Rattle.dms_site.specs.Files.{Files, Left}
-use Rattle.dms_history.specs.Events.{Block}
+use Rattle.dms_history.specs.Events.{BlockBytes}
 use Rattle.dms_history.specs.declared.event.FileCount.{FileCount}
 use Rattle.dms_history.specs.Entries.{Entry, image, quiet_point, control_point, begin_restore, by_back_out}
 use Rattle.dms_history.specs.Schemas.{schema_entries}
@@ -42,7 +42,7 @@ last_bytes es = schema_bytes (schema_of (live_entries es))
 pub under_on : (a b : LogView) (schema : List ℕ) → entries b ≡ entries a → StandsUnder a schema → StandsUnder b schema
 under_on a b schema same u = ap last_bytes same ∙ u
 
-pub under_image : (a b : LogView) (schema : List ℕ) (f k : ℕ) (before : Option Block) (after : Block) → entries b ≡ entries a ++ image f k before after ∷ [] → StandsUnder a schema → StandsUnder b schema
+pub under_image : (a b : LogView) (schema : List ℕ) (f k : ℕ) (before : Option BlockBytes) (after : BlockBytes) → entries b ≡ entries a ++ image f k before after ∷ [] → StandsUnder a schema → StandsUnder b schema
 under_image a b schema f k before after is u = ap last_bytes is ∙ ap schema_bytes (last_image (entries a) f k before after) ∙ u
 
 pub under_quiet : (a b : LogView) (schema : List ℕ) (n : ℕ) → entries b ≡ entries a ++ quiet_point n ∷ [] → StandsUnder a schema → StandsUnder b schema

@@ -21,7 +21,7 @@ use Rattle.dms_restore.proofs.Logs as lemmas
 use Rattle.dms_restore.proofs.Logs.{Reads}
 use Rattle.dms_wal.specs.declared.running.Running.{Running}
 use Rattle.dms_wal.specs.Lifting.{block_point, stop_of, held_of}
-use Rattle.dms_wal.specs.Database.{held, said_of, faults_of, uses_of, IsUsable}
+use Rattle.dms_wal.specs.Database.{held, said_of, faults_of, uses_of, IsRunningUsable}
 
 map_take : (n : ℕ) (ps : List DescribedPoint) → map block_point (take n ps) ≡ take n (map block_point ps)
 map_take zero ps = refl
@@ -70,8 +70,8 @@ module _ {S : Type 0} (g : Ghosts S) (now_said : (s : S) (x : Left) → IsTrue g
   pub text : (log : Log S) → TellsText (said_of g log) (g.clock log.site)
   text log y now s is = text_at g.tells_said (g.said log.site) y (λ t. now_said log.site y t now) s is
 
-module _ {S : Type 0} {g : Ghosts S} (stay : (s : S) → IsTrue g.tells → (x : Left) × Now (g.clock s) x × (x.files ≡ g.files s)) (now_said : (s : S) (x : Left) → IsTrue g.tells_said → Now (g.clock s) x → x.said ≡ g.said s) (r : Running S) (u : IsUsable g r) where
+module _ {S : Type 0} {g : Ghosts S} (stay : (s : S) → IsTrue g.tells → (x : Left) × Now (g.clock s) x × (x.files ≡ g.files s)) (now_said : (s : S) (x : Left) → IsTrue g.tells_said → Now (g.clock s) x → x.said ≡ g.said s) (r : Running S) (u : IsRunningUsable g r) where
   -- what a usable database tells hangs together
   pub agrees : BlocksAgree (held g r)
-  agrees = agrees_by g.tells (IsUsable g r) (view_of g r.log) r.schema.items r.next r.counts.items (said_of g r.log) (faults_of g r) (uses_of g r) (λ t. (u.goes t).runs) (λ t. stay r.log.site t) (λ t. (u.goes t).numbered) (λ t. (u.goes t).counted)
+  agrees = agrees_by g.tells (IsRunningUsable g r) (view_of g r.log) r.schema.items r.next r.counts.items (said_of g r.log) (faults_of g r) (uses_of g r) (λ t. (u.goes t).runs) (λ t. stay r.log.site t) (λ t. (u.goes t).numbered) (λ t. (u.goes t).counted)
       (text g now_said r.log)

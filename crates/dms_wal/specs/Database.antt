@@ -45,7 +45,7 @@ module _ {S : Type 0} (g : Ghosts S) where
 
   -- No call failed, what is kept in memory is in bounds, and where the site tells its files it goes with the log, and the mark is that of
   -- its last point; the last live Schema is that of the description. While nothing is changed since that point, the content is the one there.
-  pub record IsUsable (r : Running S) : Type 0 where
+  pub record IsRunningUsable (r : Running S) : Type 0 where
     pub unbroken : r.broken ≡ false
     pub described : IsDescription r.schema.items
     pub table : AreCounts r.counts.items
@@ -65,4 +65,4 @@ module _ {S : Type 0} (g : Ghosts S) where
 
   -- all that it tells of itself
   abbrev pub held : Running S → Held
-  held r = held_of g.tells (IsUsable r) (view_of g r.log) r.schema.items r.next r.counts.items (said_of r.log) (faults_of r) (uses_of r)
+  held r = held_of g.tells (IsRunningUsable r) (view_of g r.log) r.schema.items r.next r.counts.items (said_of r.log) (faults_of r) (uses_of r)

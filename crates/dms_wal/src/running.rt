@@ -4,7 +4,7 @@ ghost use Rattle.std.specs.Prelude.{◌≡◌, ◌<◌, IfErr, IfOk, IsTrue};
 ghost use Rattle.dms_block.specs.Held.{BlocksAgree};
 ghost use Rattle.dms_wal.specs.Lifting.{AreCounts};
 ghost use Rattle.dms_restore.specs.Views.{view_of};
-ghost use Rattle.dms_wal.specs.Database.{IsUsable, held};
+ghost use Rattle.dms_wal.specs.Database.{IsRunningUsable, held};
 ghost use Rattle.dms_wal.specs.Starting.{IsInBounds, StartsFrom};
 
 use dms_base::Memory;
@@ -70,7 +70,7 @@ impl<S: Site> Running<S> {
     ) -> Result<Running<S>, (Memory, Log<S>)>
         requires frames { 0 < frames }
         requires table { AreCounts start.counts.items }
-        ensures usable { IfOk result (λ r. IsInBounds start → (IsTrue S.tells → StartsFrom (view_of S.Site log) start) → IsUsable S.Site r) }
+        ensures usable { IfOk result (λ r. IsInBounds start → (IsTrue S.tells → StartsFrom (view_of S.Site log) start) → IsRunningUsable S.Site r) }
         ensures every { IfOk result (λ r. (r.every ≡ start.every) × (r.changed ≡ start.changed) × (r.syncs ≡ 0) × (r.spent ≡ 0) × (r.outs ≡ 0)) }
         ensures kept { IfOk result (λ r. (r.schema ≡ start.schema) × (r.counts ≡ start.counts) × (r.marks ≡ start.marks) × (r.next ≡ start.next) × (r.point ≡ start.point)) }
         ensures log { IfOk result (λ r. r.log ≡ log) }

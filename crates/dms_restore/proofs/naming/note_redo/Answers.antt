@@ -1,6 +1,6 @@
 use Rattle.std.proofs.Common.{List, inl, inr, take, Some, sym, ◌∙◌, ap, arith}
 use Rattle.std.specs.Prelude.{option_map}
-use Rattle.dms_history.specs.Events.{Block, Event}
+use Rattle.dms_history.specs.Events.{BlockBytes, Event}
 use Rattle.dms_history.specs.Images.{last_after}
 use Rattle.dms_restore.specs.LiveEntries.{events_at}
 use Rattle.dms_restore.specs.Named.{bytes_of}
@@ -25,11 +25,11 @@ loop-entry-preserved c =
       ];
       names = λ files f b.
           c.in_ok-redo_one.ensures.names files f b (events_at files (take i redo)) (c.loop-entry.invariant.names files f b)
-          ∙ ap (λ (l : List Event). option_map (λ (x : Block). Some x) (last_after f b l)) (sym (events_more files redo i no_entry c.loop-entry-test.true));
+          ∙ ap (λ (l : List Event). option_map (λ (x : BlockBytes). Some x) (last_after f b l)) (sym (events_more files redo i no_entry c.loop-entry-test.true));
     }
 
 pub returns-clause-from : goal.returns-clause-from
 returns-clause-from c f b s is = spot_all c.args.redo.now c.loop-entry.entry-index f b s (omega (arith, c.loop-entry-test.false)) (c.loop-entry.invariant.from f b s is)
 
 pub returns-clause-names : goal.returns-clause-names
-returns-clause-names c files f b = c.loop-entry.invariant.names files f b ∙ ap (λ (l : List Event). option_map (λ (x : Block). Some x) (last_after f b l)) (events_all files c.args.redo.now c.loop-entry.entry-index (omega (arith, c.loop-entry-test.false)))
+returns-clause-names c files f b = c.loop-entry.invariant.names files f b ∙ ap (λ (l : List Event). option_map (λ (x : BlockBytes). Some x) (last_after f b l)) (events_all files c.args.redo.now c.loop-entry.entry-index (omega (arith, c.loop-entry-test.false)))
