@@ -51,6 +51,7 @@ pub trait Blocks {
         ensures number { HasNextNumber (held self.old) → IfOk result (λ n. n ≡ (held self.old).next) }
         ensures made { OnOk result (MadeQuiet (held self.old) (held self.new)) }
         ensures not_fallen { (held self.old).next ≤ (held self.new).next }
+        ensures one_number { (held self.new).next ≤ (held self.old).next + 1 }
         ensures said { (held self.new).said ≡ (held self.old).said }
         ensures leaves { let a = held self.old in IfTold a (Leaves a (held self.new) (a.points ++ a.here ∷ []) (a.next + 1)) }
         ensures lasts { Lasts (held self.old) (held self.new) }

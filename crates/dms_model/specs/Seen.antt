@@ -92,9 +92,10 @@ pub record IsSilent (old new : Seen) : Type 0 where
   pub said : new.said ≡ old.said
   pub leaves : IfPointsTold old (StoreLeaves old.whole old.clock new.clock old.durable old.points old.next old.said)
 
--- a call says nothing and gives no number back
+-- a call says nothing, gives no number back, and uses one at most
 pub record IsMute (old new : Seen) : Type 0 where
   pub not_fallen : old.next ≤ new.next
+  pub one_number : new.next ≤ old.next + 1
   pub said : new.said ≡ old.said
 
 -- a call makes no quiet point and says a prefix of these bytes
