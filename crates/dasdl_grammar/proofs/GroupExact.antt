@@ -33,10 +33,10 @@ use Rattle.dasdl_grammar.specs.GroupSpelling.IsGroup.{a_group}
 use Rattle.dasdl_grammar.specs.SetSpelling.{IsHead}
 use Rattle.dasdl_grammar.specs.SetSpelling.IsHead.{a_head, a_restart_head}
 use Rattle.dasdl_phrases.proofs.Inverting.{bind_ok, skip_ok, ok_same}
-use Rattle.dasdl_phrases.proofs.SpelledTokens.{Starts, word_spelled, sign_spelled, name_spelled}
+use Rattle.dasdl_phrases.proofs.SpelledTokens.{StartsToken, word_spelled, sign_spelled, name_spelled}
 use Rattle.dasdl_phrases.proofs.CondSound.{pick}
-use Rattle.dasdl_phrases.proofs.CondComplete.{Runs, joins, turns_at-runs, Heads, heads, none_left, word_reads, sign_reads, name_reads}
-use Rattle.dasdl_phrases.proofs.CondComplete.Runs.{here, step}
+use Rattle.dasdl_phrases.proofs.CondComplete.{RunsBranches, joins, turns_at-runs, Heads, heads, none_left, word_reads, sign_reads, name_reads}
+use Rattle.dasdl_phrases.proofs.CondComplete.RunsBranches.{here, step}
 use Rattle.dasdl_parse.proofs.ItemExact.{item_sound, item_complete}
 use Rattle.dasdl_grammar.proofs.SaidExact.{Went, turns_at-went}
 use Rattle.dasdl_grammar.specs.SaidSpelling.{SpellsFirst}
@@ -134,7 +134,7 @@ record ReadsItems (count : ℕ) (items : List ItemDecl) (us rest : List Lexeme) 
   start : GroupItems
   mid : List Lexeme
   first : next_group_item_at (record { items = []; count = count }) (us ++ rest) ≡ Ok (start, mid)
-  others : Runs until_close next_group_item_at start mid (record { items = items; count = count + length items }) rest
+  others : RunsBranches until_close next_group_item_at start mid (record { items = items; count = count + length items }) rest
 
 not_closed : (item : ItemDecl) (us : List Lexeme) → IsNamedItem item us → (s : GroupItems) (rest : List Lexeme) → until_close s (us ++ rest) ≡ false
 not_closed _ _ (a_named_item l name item vs e n i) s rest = rw e refl

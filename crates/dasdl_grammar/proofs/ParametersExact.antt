@@ -24,22 +24,22 @@ use Rattle.dasdl_grammar.specs.ParameterSpelling.IsAuditPair.{says_blocks, says_
 use Rattle.dasdl_grammar.specs.ParameterSpelling.AreParameters.{parameters}
 use Rattle.dasdl_grammar.specs.ParameterSpelling.IsTrail.{trail}
 use Rattle.dasdl_phrases.proofs.Inverting.{bind_ok, ok_same}
-use Rattle.dasdl_phrases.proofs.SpelledTokens.{Starts, word_spelled, sign_spelled, equal_spelled}
-use Rattle.dasdl_phrases.proofs.TurnsSound.{Goes, turns_at-goes}
-use Rattle.dasdl_phrases.proofs.CondComplete.{Runs, joins, turns_at-runs, Splits, splits, Heads, heads, none_left, word_reads, sign_reads}
-use Rattle.dasdl_phrases.proofs.CondComplete.Runs.{here, step}
+use Rattle.dasdl_phrases.proofs.SpelledTokens.{StartsToken, word_spelled, sign_spelled, equal_spelled}
+use Rattle.dasdl_phrases.proofs.TurnsSound.{GoesTurn, turns_at-goes}
+use Rattle.dasdl_phrases.proofs.CondComplete.{RunsBranches, joins, turns_at-runs, Splits, splits, Heads, heads, none_left, word_reads, sign_reads}
+use Rattle.dasdl_phrases.proofs.CondComplete.RunsBranches.{here, step}
 use Rattle.dasdl_phrases.proofs.KindExact.{InRange, number_spelled, number_reads}
 use Rattle.dasdl_parse.proofs.ItemOptionsExact.{both_pick, none_is}
 
 -- a number in its range behind a word
-record Setting (word : List ℕ) (low high n : ℕ) (xs : List Token) (ts rest : List Lexeme) : Type 0 where
+record SettingSpelled (word : List ℕ) (low high n : ℕ) (xs : List Token) (ts rest : List Lexeme) : Type 0 where
   used : List Lexeme
   is : map token_of used ≡ xs
   all : ts ≡ used ++ rest
   least : low ≤ n
   most : n ≤ high
 
-setting_sound : (word : List ℕ) (low high : ℕ) (ts : List Lexeme) (n : ℕ) (rest : List Lexeme) → setting_at word low high ts ≡ Ok (n, rest) → Setting word low high n (setting word n) ts rest
+setting_sound : (word : List ℕ) (low high : ℕ) (ts : List Lexeme) (n : ℕ) (rest : List Lexeme) → setting_at word low high ts ≡ Ok (n, rest) → SettingSpelled word low high n (setting word n) ts rest
 unfolding setting_at
 setting_sound word low high ts n rest h =
     let a = bind_ok (word_at word ts) _ _ h in
@@ -49,14 +49,14 @@ setting_sound word low high ts n rest h =
     let m = number_spelled low high b.0 n rest b.2 in
     record { used = k.first ∷ (e.first ∷ (m.is.first ∷ [])); is = rw (k.token, e.token, m.is.token) refl; all = k.all ∙ ap (λ (xs : List Lexeme). k.first ∷ xs) (e.all ∙ ap (λ (xs : List Lexeme). e.first ∷ xs) m.is.all); least = m.least; most = m.most }
 
-measure_sound : (word unit : List ℕ) (low high : ℕ) (ts : List Lexeme) (n : ℕ) (rest : List Lexeme) → measure_at word low high unit ts ≡ Ok (n, rest) → Setting word low high n (measure word n unit) ts rest
+measure_sound : (word unit : List ℕ) (low high : ℕ) (ts : List Lexeme) (n : ℕ) (rest : List Lexeme) → measure_at word low high unit ts ≡ Ok (n, rest) → SettingSpelled word low high n (measure word n unit) ts rest
 unfolding measure_at
 measure_sound word unit low high ts n rest h =
     let a = bind_ok (setting_at word low high ts) _ _ h in
     let b = bind_ok (word_at unit a.0.1) _ _ a.2 in
     let s = setting_sound word low high ts a.0.0 a.0.1 a.1 in
     let u = word_spelled unit a.0.1 b.0 b.1 in
-    subst (λ (x : ℕ × List Lexeme). Setting word low high x.0 (measure word x.0 unit) ts x.1) (ok_same (a.0.0, b.0) (n, rest) b.2)
+    subst (λ (x : ℕ × List Lexeme). SettingSpelled word low high x.0 (measure word x.0 unit) ts x.1) (ok_same (a.0.0, b.0) (n, rest) b.2)
     (record { used = s.used ++ (u.first ∷ []); is = rw (map-append token_of s.used (u.first ∷ []), s.is, u.token) refl; all = s.all ∙ ap (λ (xs : List Lexeme). s.used ++ xs) u.all ∙ sym (append_assoc s.used (u.first ∷ []) b.0); least = s.least; most = s.most })
 
 setting_step : (word : List ℕ) (low high n : ℕ) (k e l : Lexeme) (rest : List Lexeme) → is_word word (Word word) ≡ true → k.token ≡ Word word → e.token ≡ Compare Equal → l.token ≡ Number n → low ≤ n → n ≤ high → setting_at word low high (k ∷ (e ∷ (l ∷ rest))) ≡ Ok (n, rest)
@@ -185,7 +185,7 @@ audit_pair_complete _ _ _ (says_files o n low high) us rest e =
 
 -- pairs with commas between them
 module _ {S : Type 0} (nothing : S) (pair : S → S → List Token → Type 0) (one next : S → List Lexeme → Read S) (is_next : (s : S) (ts : List Lexeme) → next s ts ≡ (sign_at 44 ts >>= λ ts1. one s ts1)) (is_sound : (s t : S) (ts rest : List Lexeme) → one s ts ≡ Ok (t, rest) → Reads (pair s) ts t rest) (is_complete : (s t : S) (xs : List Token) → pair s t xs → (us rest : List Lexeme) → map token_of us ≡ xs → one s (us ++ rest) ≡ Ok (t, rest)) where
-  keeps : (s t : S) (toks : List Token) (ts rest : List Lexeme) → ArePairs nothing pair s toks → next s ts ≡ Ok (t, rest) → Goes (ArePairs nothing pair) t toks ts rest
+  keeps : (s t : S) (toks : List Token) (ts rest : List Lexeme) → ArePairs nothing pair s toks → next s ts ≡ Ok (t, rest) → GoesTurn (ArePairs nothing pair) t toks ts rest
   keeps s t toks ts rest d h =
       let b = bind_ok (sign_at 44 ts) (λ (ts1 : List Lexeme). one s ts1) (t, rest) (sym (is_next s ts) ∙ h) in
       let k = sign_spelled 44 ts b.0 b.1 in
@@ -202,7 +202,7 @@ module _ {S : Type 0} (nothing : S) (pair : S → S → List Token → Type 0) (
     start : S
     mid : List Lexeme
     first : one nothing (us ++ rest) ≡ Ok (start, mid)
-    others : Runs until_close next start mid t rest
+    others : RunsBranches until_close next start mid t rest
 
   list_runs : (t : S) (xs : List Token) → ArePairs nothing pair t xs → (us rest : List Lexeme) → map token_of us ≡ xs → ReadsList t us rest
   list_runs _ _ (first_pair t xs o) us rest e = record { start = t; mid = rest; first = is_complete nothing t xs o us rest e; others = here t rest }

@@ -17,8 +17,8 @@ use Rattle.dasdl_grammar.specs.SaidSpelling.Said.{nothing_said, said_more, said_
 use Rattle.dasdl_phrases.proofs.Inverting.{bind_ok, ok_same}
 use Rattle.dasdl_phrases.proofs.SpelledTokens.{is_sign_is}
 use Rattle.dasdl_phrases.proofs.CondSound.{pick}
-use Rattle.dasdl_phrases.proofs.CondComplete.{Runs, joins, turns_at-runs}
-use Rattle.dasdl_phrases.proofs.CondComplete.Runs.{here, step}
+use Rattle.dasdl_phrases.proofs.CondComplete.{RunsBranches, joins, turns_at-runs}
+use Rattle.dasdl_phrases.proofs.CondComplete.RunsBranches.{here, step}
 use Rattle.dasdl_parse.proofs.OptionsExact.{comma_cases, comma_none, comma_one}
 
 -- these lexemes more are read, and it holds of all
@@ -58,13 +58,13 @@ module _ {S : Type 0} (holds : S → List Lexeme → Type 0) (done : S → List 
   turns_at-went s t us ts rest h e = turns-went _ s t us ts rest h e
 
 -- what may stand behind a condition or a part of a key: none of the words that go on with it
-pub record Follows (rest : List Lexeme) : Type 0 where
+pub record FollowsSaid (rest : List Lexeme) : Type 0 where
   pub no_and : starts (is_word (codes "AND")) rest ≡ false
   pub no_or : starts (is_word (codes "OR")) rest ≡ false
   pub no_up : starts (is_word (codes "ASCENDING")) rest ≡ false
   pub no_down : starts (is_word (codes "DESCENDING")) rest ≡ false
 
-pub follows_sign : (s : ℕ) (l : Lexeme) (ls : List Lexeme) → l.token ≡ Sign s → Follows (l ∷ ls)
+pub follows_sign : (s : ℕ) (l : Lexeme) (ls : List Lexeme) → l.token ≡ Sign s → FollowsSaid (l ∷ ls)
 follows_sign s l ls e = record { no_and = rw e refl; no_or = rw e refl; no_up = rw e refl; no_down = rw e refl }
 
 -- how an option begins: by a word of its own
@@ -74,9 +74,9 @@ pub record Opens (us : List Lexeme) : Type 0 where
   pub others : List Lexeme
   pub all : us ≡ first ∷ others
   pub token : first.token ≡ Word word
-  pub follows : (rest : List Lexeme) → Follows (us ++ rest)
+  pub follows : (rest : List Lexeme) → FollowsSaid (us ++ rest)
 
-module _ {S : Type 0} (nothing : S) (option : S → S → List Lexeme → Type 0) (one : S → List Lexeme → Read S) (next : S → List Lexeme → Read S) (is_next : (s : S) (ts : List Lexeme) → next s ts ≡ (comma_at ts >>= λ ts1. one s ts1)) (is_sound : (s t : S) (ts rest : List Lexeme) → one s ts ≡ Ok (t, rest) → (used : List Lexeme) × option s t used × (ts ≡ used ++ rest)) (is_complete : (s t : S) (us rest : List Lexeme) → option s t us → Follows rest → one s (us ++ rest) ≡ Ok (t, rest)) (opens : (s t : S) (us : List Lexeme) → option s t us → Opens us) where
+module _ {S : Type 0} (nothing : S) (option : S → S → List Lexeme → Type 0) (one : S → List Lexeme → Read S) (next : S → List Lexeme → Read S) (is_next : (s : S) (ts : List Lexeme) → next s ts ≡ (comma_at ts >>= λ ts1. one s ts1)) (is_sound : (s t : S) (ts rest : List Lexeme) → one s ts ≡ Ok (t, rest) → (used : List Lexeme) × option s t used × (ts ≡ used ++ rest)) (is_complete : (s t : S) (us rest : List Lexeme) → option s t us → FollowsSaid rest → one s (us ++ rest) ≡ Ok (t, rest)) (opens : (s t : S) (us : List Lexeme) → option s t us → Opens us) where
   more : (s t : S) (us ts rest : List Lexeme) → Said nothing option s us → one s ts ≡ Ok (t, rest) → Went (Said nothing option) t us ts rest
   more s t us ts rest h e =
       let r = is_sound s t ts rest e in
@@ -106,7 +106,7 @@ module _ {S : Type 0} (nothing : S) (option : S → S → List Lexeme → Type 0
       let g = turns_at-went (Said nothing option) until_semicolon next keeps nothing t [] ts rest nothing_said h in
       (g.used, g.is, g.all)
 
-  plain_step : (s t : S) (us rest : List Lexeme) → option s t us → Follows rest → Runs until_semicolon next s (us ++ rest) t rest
+  plain_step : (s t : S) (us rest : List Lexeme) → option s t us → FollowsSaid rest → RunsBranches until_semicolon next s (us ++ rest) t rest
   plain_step s t us rest o f =
       let k = opens s t us o in
       let go : until_semicolon s (us ++ rest) ≡ false = rw (k.all, k.token) refl in
@@ -115,13 +115,13 @@ module _ {S : Type 0} (nothing : S) (option : S → S → List Lexeme → Type 0
       let shorter : length rest < length (us ++ rest) = rw k.all (omega (arith, length-append k.others rest)) in
       step s t t (us ++ rest) rest rest go n shorter (here t rest)
 
-  comma_step : (s t : S) (l : Lexeme) (us rest : List Lexeme) → l.token ≡ Sign 44 → option s t us → Follows rest → Runs until_semicolon next s (l ∷ (us ++ rest)) t rest
+  comma_step : (s t : S) (l : Lexeme) (us rest : List Lexeme) → l.token ≡ Sign 44 → option s t us → FollowsSaid rest → RunsBranches until_semicolon next s (l ∷ (us ++ rest)) t rest
   comma_step s t l us rest e o f =
       let go : until_semicolon s (l ∷ (us ++ rest)) ≡ false = rw e refl in
       let n : next s (l ∷ (us ++ rest)) ≡ Ok (t, rest) = is_next s (l ∷ (us ++ rest)) ∙ rw (comma_one l (us ++ rest) e) (is_complete s t us rest o f) in
       step s t t (l ∷ (us ++ rest)) rest rest go n (omega (arith, length-append us rest)) (here t rest)
 
-  reaches : (t : S) (us : List Lexeme) → Said nothing option t us → (rest : List Lexeme) → Follows rest → Runs until_semicolon next nothing (us ++ rest) t rest
+  reaches : (t : S) (us : List Lexeme) → Said nothing option t us → (rest : List Lexeme) → FollowsSaid rest → RunsBranches until_semicolon next nothing (us ++ rest) t rest
   reaches _ _ nothing_said rest f = here nothing rest
   reaches _ _ (said_more s t us vs d o) rest f =
       let before = reaches s us d (vs ++ rest) ((opens s t vs o).follows rest) in

@@ -55,14 +55,14 @@ use Rattle.dasdl_grammar.specs.ParameterSpelling.IsTrail.{trail}
 use Rattle.dasdl_grammar.proofs.ParametersExact.{parameters_complete, audit_complete}
 use Rattle.dasdl_parse.specs.Parameters.{parameters_at, audit_at}
 use Rattle.dasdl_grammar.specs.SchemaSpelling.Members.{a_set, a_data_set, an_item, a_link, a_group, a_first, a_further}
-use Rattle.dasdl_phrases.proofs.CondComplete.{Runs, joins, turns_at-runs, Heads, heads, none_left, name_reads, is_no_keyword}
-use Rattle.dasdl_phrases.proofs.CondComplete.Runs.{here, step}
+use Rattle.dasdl_phrases.proofs.CondComplete.{RunsBranches, joins, turns_at-runs, Heads, heads, none_left, name_reads, is_no_keyword}
+use Rattle.dasdl_phrases.proofs.CondComplete.RunsBranches.{here, step}
 use Rattle.dasdl_parse.proofs.ItemExact.{item_complete, link_complete}
 use Rattle.dasdl_grammar.proofs.GroupExact.{group_complete, head_complete, item_first}
 use Rattle.dasdl_grammar.proofs.SetComplete.{set_complete, end_complete}
 
 abbrev SchemaRuns : Progress → List Lexeme → Progress → List Lexeme → Type 0
-SchemaRuns s ts t rest = Runs schema_done schema_turn_at s ts t rest
+SchemaRuns s ts t rest = RunsBranches schema_done schema_turn_at s ts t rest
 
 -- what members add to a schema so far
 abbrev pub added : Progress → ℕ → List Declaration → Progress
@@ -260,17 +260,17 @@ pub counted_is : (n : ℕ) (b : Bool) → counted_with n b ≡ n + (one_if b + 0
 counted_is n true = omega arith
 counted_is n false = omega arith
 
-record Room (s : Progress) (depth n : ℕ) (ds : List Declaration) : Type 0 where
+record HasSchemaRoom (s : Progress) (depth n : ℕ) (ds : List Declaration) : Type 0 where
   at : depth_of s.within ≡ depth
   structures : s.structures + structures_in ds ≤ 200
   counted : s.counted + counted_in ds ≤ 4000
   items : items_of s.within + n ≤ 60
 
-abbrev Claim : Many → ℕ → ℕ → List Declaration → List Lexeme → Type 0
-Claim Single depth n ds us = (s : Progress) (rest : List Lexeme) → Room s depth n ds → SchemaRuns s (us ++ rest) (added s n ds) rest
-Claim Several depth n ds us = (s : Progress) (rest : List Lexeme) (d : ℕ) → depth ≡ suc d → Room s depth n ds → SchemaRuns s (us ++ rest) (added s n ds) rest
+abbrev ReadsMany : Many → ℕ → ℕ → List Declaration → List Lexeme → Type 0
+ReadsMany Single depth n ds us = (s : Progress) (rest : List Lexeme) → HasSchemaRoom s depth n ds → SchemaRuns s (us ++ rest) (added s n ds) rest
+ReadsMany Several depth n ds us = (s : Progress) (rest : List Lexeme) (d : ℕ) → depth ≡ suc d → HasSchemaRoom s depth n ds → SchemaRuns s (us ++ rest) (added s n ds) rest
 
-data_set_runs : (depth : ℕ) (l : Lexeme) (name : List ℕ) (head : DataSetDecl) (hs : List Lexeme) (n : ℕ) (ds : List Declaration) (us : List Lexeme) (end : DataSetEnd) (es : List Lexeme) → depth < 3 → l.token ≡ Word name → is_name name ≡ true → IsHead l.place name head (map token_of hs) → Claim Several (suc depth) n ds us → n ≤ 60 → IsEnd end es → Claim Single depth 0 (DataSet head ∷ (ds ++ (EndOf end ∷ []))) (l ∷ (hs ++ (us ++ es)))
+data_set_runs : (depth : ℕ) (l : Lexeme) (name : List ℕ) (head : DataSetDecl) (hs : List Lexeme) (n : ℕ) (ds : List Declaration) (us : List Lexeme) (end : DataSetEnd) (es : List Lexeme) → depth < 3 → l.token ≡ Word name → is_name name ≡ true → IsHead l.place name head (map token_of hs) → ReadsMany Several (suc depth) n ds us → n ≤ 60 → IsEnd end es → ReadsMany Single depth 0 (DataSet head ∷ (ds ++ (EndOf end ∷ []))) (l ∷ (hs ++ (us ++ es)))
 data_set_runs depth l name head hs n ds us end es shallow e nm h inner few z s rest room =
     let deep : depth_of s.within < 3 = omega (arith, room.at) in
     let total = structures-append ds (EndOf end ∷ []) in
@@ -278,7 +278,7 @@ data_set_runs depth l name head hs n ds us end es shallow e nm h inner few z s r
     let flags = head_flags l.place name head (map token_of hs) h hs (us ++ (es ++ rest)) refl in
     let s1 : Progress = declared s (opened s.within) (s.structures + 1) s.counted true (DataSet head) in
     let first = one_turn s s1 l name hs (us ++ (es ++ rest)) e nm (behind_head s l.place name head (hs ++ (us ++ (es ++ rest))) (us ++ (es ++ rest)) flags.0 flags.1 (omega (arith, room.structures, total)) (not_deepest s.within deep) (head_complete l.place name hs (us ++ (es ++ rest)) head h)) in
-    let room1 : Room s1 (suc depth) n ds = record {
+    let room1 : HasSchemaRoom s1 (suc depth) n ds = record {
       at = depth_opened s.within deep ∙ ap (λ (k : ℕ). suc k) room.at;
       structures = omega (arith, room.structures, total);
       counted = omega (arith, room.counted, totals);
@@ -297,7 +297,7 @@ data_set_runs depth l name head hs n ds us end es shallow e nm h inner few z s r
     let text : l ∷ ((hs ++ (us ++ es)) ++ rest) ≡ l ∷ (hs ++ (us ++ (es ++ rest))) = ap (λ (vs : List Lexeme). l ∷ vs) (append_assoc hs (us ++ es) rest ∙ ap (λ (vs : List Lexeme). hs ++ vs) (append_assoc us es rest)) in
     rw text (subst (λ (x : Progress). SchemaRuns s (l ∷ (hs ++ (us ++ (es ++ rest)))) x rest) same all)
 
-runs : (m : Many) (depth n : ℕ) (ds : List Declaration) (us : List Lexeme) → Members m depth n ds us → Claim m depth n ds us
+runs : (m : Many) (depth n : ℕ) (ds : List Declaration) (us : List Lexeme) → Members m depth n ds us → ReadsMany m depth n ds us
 runs _ _ _ _ _ (a_set depth l name set vs shallow e nm d) = λ s rest room.
     one_turn s (added s 0 (SetOf set ∷ [])) l name vs rest e nm
     (behind_set s l.place name set (vs ++ rest) rest (set_flags l.place name set vs d rest) (omega (arith, room.structures)) (not_deepest s.within (omega (arith, room.at))) (set_complete l.place name vs rest set d)

@@ -35,7 +35,7 @@ use Rattle.dasdl_grammar.specs.SaidSpelling.IsForm.{a_tree, a_list}
 use Rattle.dasdl_grammar.specs.SaidSpelling.SetOption.{says_where, says_key, says_duplicates, says_form, says_population}
 use Rattle.dasdl_grammar.specs.SaidSpelling.DataSetOption.{says_verify, says_its_population}
 use Rattle.dasdl_phrases.proofs.Inverting.{bind_ok, ok_same}
-use Rattle.dasdl_phrases.proofs.SpelledTokens.{Starts, word_spelled, sign_spelled, equal_spelled}
+use Rattle.dasdl_phrases.proofs.SpelledTokens.{StartsToken, word_spelled, sign_spelled, equal_spelled}
 use Rattle.dasdl_phrases.proofs.CondSound.{cond_sound, pick}
 use Rattle.dasdl_phrases.proofs.CondNodes.{cond_few}
 use Rattle.dasdl_phrases.proofs.CondComplete.{cond_complete, Heads, heads, none_left, word_reads}
@@ -43,7 +43,7 @@ use Rattle.dasdl_phrases.proofs.KeyExact.{key_sound}
 use Rattle.dasdl_phrases.proofs.KeyComplete.{key_complete}
 use Rattle.dasdl_phrases.proofs.KindExact.{InRange, number_spelled, number_reads}
 use Rattle.dasdl_parse.proofs.ItemOptionsExact.{both_pick, none_is}
-use Rattle.dasdl_grammar.proofs.SaidExact.{Follows, Opens, said_sound, said_complete}
+use Rattle.dasdl_grammar.proofs.SaidExact.{FollowsSaid, Opens, said_sound, said_complete}
 use Rattle.dms_base.specs.Name.{is_name}
 use Rattle.dasdl_parse.specs.declared.declarations.SetDecl.{SetDecl}
 use Rattle.dasdl_parse.specs.declared.declarations.DataSetDecl.{DataSetDecl}
@@ -74,22 +74,22 @@ opens_by w us others l e t a b c d = record {
 }
 
 -- the first lexeme of what a word opens
-record First (w : List ℕ) (us : List Lexeme) : Type 0 where
+record FirstWord (w : List ℕ) (us : List Lexeme) : Type 0 where
   l : Lexeme
   others : List Lexeme
   all : us ≡ l ∷ others
   token : l.token ≡ Word w
 
-first_of_cond : (w : List ℕ) (c : Condition) (us : List Lexeme) → IsCondDecl w c us → First w us
+first_of_cond : (w : List ℕ) (c : Condition) (us : List Lexeme) → IsCondDecl w c us → FirstWord w us
 first_of_cond w _ _ (a_cond l tree vs e d few) = record { l = l; others = vs; all = refl; token = e }
 
-first_of_key : (k : KeyDecl) (us : List Lexeme) → IsKeyDecl k us → First (codes "KEY") us
+first_of_key : (k : KeyDecl) (us : List Lexeme) → IsKeyDecl k us → FirstWord (codes "KEY") us
 first_of_key _ _ (a_key l m parts vs e f d few) = record { l = l; others = m ∷ vs; all = refl; token = e }
 
-first_of : (w : List ℕ) (us : List Lexeme) (xs : List Token) → map token_of us ≡ Word w ∷ xs → First w us
+first_of : (w : List ℕ) (us : List Lexeme) (xs : List Token) → map token_of us ≡ Word w ∷ xs → FirstWord w us
 first_of w us xs e = let k = heads us (Word w) xs e in record { l = k.l; others = k.b; all = k.all; token = k.token }
 
-first_of_population : (n : ℕ) (xs : List Token) → IsPopulation n xs → (us : List Lexeme) → map token_of us ≡ xs → First (codes "POPULATION") us
+first_of_population : (n : ℕ) (xs : List Token) → IsPopulation n xs → (us : List Lexeme) → map token_of us ≡ xs → FirstWord (codes "POPULATION") us
 first_of_population _ _ (a_population n a b) us e = first_of (codes "POPULATION") us _ e
 
 duplicates_one : (k : Lexeme) (rest : List Lexeme) → k.token ≡ Word (codes "DUPLICATES") → duplicates_at (k ∷ rest) ≡ Ok (true, rest)
@@ -145,10 +145,10 @@ unfolding set_option_at
 by_key cond duplicates form population k ts rest p q h = rw (p, q, h) refl
 
 -- no other word stands first
-not_first : (v : List ℕ) (us rest : List Lexeme) → First v us → (w : List ℕ) → is_word w (Word v) ≡ false → starts (is_word w) (us ++ rest) ≡ false
+not_first : (v : List ℕ) (us rest : List Lexeme) → FirstWord v us → (w : List ℕ) → is_word w (Word v) ≡ false → starts (is_word w) (us ++ rest) ≡ false
 not_first v us rest f w h = flag w v false us f.others rest f.l f.all f.token h
 
-is_first : (v : List ℕ) (us rest : List Lexeme) → First v us → is_word v (Word v) ≡ true → starts (is_word v) (us ++ rest) ≡ true
+is_first : (v : List ℕ) (us rest : List Lexeme) → FirstWord v us → is_word v (Word v) ≡ true → starts (is_word v) (us ++ rest) ≡ true
 is_first v us rest f h = flag v v true us f.others rest f.l f.all f.token h
 
 either : (a b c d : Bool) → a ≡ c → b ≡ d → a || b ≡ c || d
@@ -157,28 +157,28 @@ either a b c d e f = rw (e, f) refl
 duplicates_reads : (d : Bool) (xs : List Token) → IsDuplicates d xs → (us : List Lexeme) → map token_of us ≡ xs → (rest : List Lexeme) → (duplicates_at (us ++ rest) ≡ Ok (d, rest)) × (starts_duplicates (us ++ rest) ≡ true) × (starts (is_word (codes "WHERE")) (us ++ rest) ≡ false) × (starts (is_word (codes "KEY")) (us ++ rest) ≡ false)
 duplicates_reads _ _ allowed us e rest =
     let k = one_lexeme us (Word (codes "DUPLICATES")) e in
-    let f : First (codes "DUPLICATES") us = record { l = k.0; others = []; all = k.1; token = k.2 } in
+    let f : FirstWord (codes "DUPLICATES") us = record { l = k.0; others = []; all = k.1; token = k.2 } in
     let r : duplicates_at (us ++ rest) ≡ Ok (true, rest) = rw k.1 (duplicates_one k.0 rest k.2) in
     (r, either _ _ true false (is_first (codes "DUPLICATES") us rest f refl) (not_first (codes "DUPLICATES") us rest f (codes "NO") refl), not_first (codes "DUPLICATES") us rest f (codes "WHERE") refl, not_first (codes "DUPLICATES") us rest f (codes "KEY") refl)
 duplicates_reads _ _ not_allowed us e rest =
     let k = two_lexemes us (Word (codes "NO")) (Word (codes "DUPLICATES")) e in
-    let f : First (codes "NO") us = record { l = k.0; others = k.1 ∷ []; all = k.2; token = k.3 } in
+    let f : FirstWord (codes "NO") us = record { l = k.0; others = k.1 ∷ []; all = k.2; token = k.3 } in
     let r : duplicates_at (us ++ rest) ≡ Ok (false, rest) = rw k.2 (duplicates_two k.0 k.1 rest k.3 k.4) in
     (r, either _ _ false true (not_first (codes "NO") us rest f (codes "DUPLICATES") refl) (is_first (codes "NO") us rest f refl), not_first (codes "NO") us rest f (codes "WHERE") refl, not_first (codes "NO") us rest f (codes "KEY") refl)
 
 form_reads : (d : ℕ) (xs : List Token) → IsForm d xs → (us : List Lexeme) → map token_of us ≡ xs → (rest : List Lexeme) → (form_at (us ++ rest) ≡ Ok (d, rest)) × (starts_form (us ++ rest) ≡ true) × (starts_duplicates (us ++ rest) ≡ false) × (starts (is_word (codes "WHERE")) (us ++ rest) ≡ false) × (starts (is_word (codes "KEY")) (us ++ rest) ≡ false)
 form_reads _ _ a_tree us e rest =
     let k = two_lexemes us (Word (codes "INDEX")) (Word (codes "SEQUENTIAL")) e in
-    let f : First (codes "INDEX") us = record { l = k.0; others = k.1 ∷ []; all = k.2; token = k.3 } in
+    let f : FirstWord (codes "INDEX") us = record { l = k.0; others = k.1 ∷ []; all = k.2; token = k.3 } in
     let r : form_at (us ++ rest) ≡ Ok (1, rest) = rw k.2 (form_one k.0 k.1 rest k.3 k.4) in
     (r, either _ _ true false (is_first (codes "INDEX") us rest f refl) (not_first (codes "INDEX") us rest f (codes "ORDERED") refl), either _ _ false false (not_first (codes "INDEX") us rest f (codes "DUPLICATES") refl) (not_first (codes "INDEX") us rest f (codes "NO") refl), not_first (codes "INDEX") us rest f (codes "WHERE") refl, not_first (codes "INDEX") us rest f (codes "KEY") refl)
 form_reads _ _ a_list us e rest =
     let k = two_lexemes us (Word (codes "ORDERED")) (Word (codes "LIST")) e in
-    let f : First (codes "ORDERED") us = record { l = k.0; others = k.1 ∷ []; all = k.2; token = k.3 } in
+    let f : FirstWord (codes "ORDERED") us = record { l = k.0; others = k.1 ∷ []; all = k.2; token = k.3 } in
     let r : form_at (us ++ rest) ≡ Ok (2, rest) = rw k.2 (form_two k.0 k.1 rest k.3 k.4) in
     (r, either _ _ false true (not_first (codes "ORDERED") us rest f (codes "INDEX") refl) (is_first (codes "ORDERED") us rest f refl), either _ _ false false (not_first (codes "ORDERED") us rest f (codes "DUPLICATES") refl) (not_first (codes "ORDERED") us rest f (codes "NO") refl), not_first (codes "ORDERED") us rest f (codes "WHERE") refl, not_first (codes "ORDERED") us rest f (codes "KEY") refl)
 
-set_option_complete : (s t : SetOptions) (us rest : List Lexeme) → SetOption s t us → Follows rest → set_option_at s (us ++ rest) ≡ Ok (t, rest)
+set_option_complete : (s t : SetOptions) (us rest : List Lexeme) → SetOption s t us → FollowsSaid rest → set_option_at s (us ++ rest) ≡ Ok (t, rest)
 set_option_complete _ _ _ rest (says_where key duplicates form population c us d) f =
     let k = first_of_cond (codes "WHERE") c us d in
     by_where key duplicates form population c (us ++ rest) rest (is_first (codes "WHERE") us rest k refl) (cond_decl_reads (codes "WHERE") refl c us d rest f)
@@ -229,7 +229,7 @@ by_population : (verify : Option Condition) (n : ℕ) (ts rest : List Lexeme) �
 unfolding data_set_option_at
 by_population verify n ts rest p q h = rw (p, q, h) refl
 
-data_set_option_complete : (s t : DataSetOptions) (us rest : List Lexeme) → DataSetOption s t us → Follows rest → data_set_option_at s (us ++ rest) ≡ Ok (t, rest)
+data_set_option_complete : (s t : DataSetOptions) (us rest : List Lexeme) → DataSetOption s t us → FollowsSaid rest → data_set_option_at s (us ++ rest) ≡ Ok (t, rest)
 data_set_option_complete _ _ _ rest (says_verify population c us d) f =
     let k = first_of_cond (codes "VERIFY") c us d in
     by_verify population c (us ++ rest) rest (is_first (codes "VERIFY") us rest k refl) (cond_decl_reads (codes "VERIFY") refl c us d rest f)
@@ -252,16 +252,16 @@ pub data_set_options_complete : (us rest : List Lexeme) (t : DataSetOptions) (z 
 data_set_options_complete = said_complete no_data_set_options DataSetOption data_set_option_at next_data_set_option_at next_data_set data_set_option_sound data_set_option_complete data_set_opens
 
 -- SET or SUBSET
-word_sound : (ts : List Lexeme) (subset : Bool) (rest : List Lexeme) → set_word_at ts ≡ Ok (subset, rest) → Starts (Word (set_word subset)) ts rest
+word_sound : (ts : List Lexeme) (subset : Bool) (rest : List Lexeme) → set_word_at ts ≡ Ok (subset, rest) → StartsToken (Word (set_word subset)) ts rest
 unfolding set_word_at
 word_sound ts subset rest h =
     pick {A = Bool × List Lexeme} (starts (is_word (codes "SUBSET")) ts) _ _ (subset, rest)
     (λ e.
     let a = bind_ok (word_at (codes "SUBSET") ts) _ _ e in
-    subst (λ (x : Bool × List Lexeme). Starts (Word (set_word x.0)) ts x.1) (ok_same (true, a.0) (subset, rest) a.2) (word_spelled (codes "SUBSET") ts a.0 a.1))
+    subst (λ (x : Bool × List Lexeme). StartsToken (Word (set_word x.0)) ts x.1) (ok_same (true, a.0) (subset, rest) a.2) (word_spelled (codes "SUBSET") ts a.0 a.1))
     (λ e.
     let a = bind_ok (word_at (codes "SET") ts) _ _ e in
-    subst (λ (x : Bool × List Lexeme). Starts (Word (set_word x.0)) ts x.1) (ok_same (false, a.0) (subset, rest) a.2) (word_spelled (codes "SET") ts a.0 a.1)) h
+    subst (λ (x : Bool × List Lexeme). StartsToken (Word (set_word x.0)) ts x.1) (ok_same (false, a.0) (subset, rest) a.2) (word_spelled (codes "SET") ts a.0 a.1)) h
 
 word_reads_2 : (k : Lexeme) (rest : List Lexeme) (subset : Bool) → k.token ≡ Word (set_word subset) → set_word_at (k ∷ rest) ≡ Ok (subset, rest)
 unfolding set_word_at word_at

@@ -35,7 +35,7 @@ use Rattle.dasdl_grammar.specs.SaidSpelling.IsForm.{a_tree, a_list}
 use Rattle.dasdl_grammar.specs.SaidSpelling.SetOption.{says_where, says_key, says_duplicates, says_form, says_population}
 use Rattle.dasdl_grammar.specs.SaidSpelling.DataSetOption.{says_verify, says_its_population}
 use Rattle.dasdl_phrases.proofs.Inverting.{bind_ok, ok_same}
-use Rattle.dasdl_phrases.proofs.SpelledTokens.{Starts, word_spelled, sign_spelled, equal_spelled}
+use Rattle.dasdl_phrases.proofs.SpelledTokens.{StartsToken, word_spelled, sign_spelled, equal_spelled}
 use Rattle.dasdl_phrases.proofs.CondSound.{cond_sound, pick}
 use Rattle.dasdl_phrases.proofs.CondNodes.{cond_few}
 use Rattle.dasdl_phrases.proofs.CondComplete.{cond_complete, Heads, heads, none_left, word_reads}
@@ -43,7 +43,7 @@ use Rattle.dasdl_phrases.proofs.KeyExact.{key_sound}
 use Rattle.dasdl_phrases.proofs.KeyComplete.{key_complete}
 use Rattle.dasdl_phrases.proofs.KindExact.{InRange, number_spelled, number_reads}
 use Rattle.dasdl_parse.proofs.ItemOptionsExact.{both_pick, none_is}
-use Rattle.dasdl_grammar.proofs.SaidExact.{Follows, Opens, said_sound, said_complete}
+use Rattle.dasdl_grammar.proofs.SaidExact.{FollowsSaid, Opens, said_sound, said_complete}
 
 place_is : (ts ls : List Lexeme) (l : Lexeme) → ts ≡ l ∷ ls → place_at ts ≡ l.place
 place_is ts ls l e = ap place_at e
@@ -64,7 +64,7 @@ cond_decl_step : (w : List ℕ) (l : Lexeme) (vs rest : List Lexeme) (tree : Wri
 unfolding cond_decl_at
 cond_decl_step w l vs rest tree t e f = rw (word_reads w l (vs ++ rest) t e, f) refl
 
-pub cond_decl_reads : (w : List ℕ) → is_word w (Word w) ≡ true → (c : Condition) (us : List Lexeme) → IsCondDecl w c us → (rest : List Lexeme) → Follows rest → cond_decl_at w (us ++ rest) ≡ Ok (c, rest)
+pub cond_decl_reads : (w : List ℕ) → is_word w (Word w) ≡ true → (c : Condition) (us : List Lexeme) → IsCondDecl w c us → (rest : List Lexeme) → FollowsSaid rest → cond_decl_at w (us ++ rest) ≡ Ok (c, rest)
 cond_decl_reads w t _ _ (a_cond l tree vs e d few) rest f = cond_decl_step w l vs rest tree t e (cond_complete vs rest tree d few f.no_and f.no_or)
 
 key_decl_sound : (ts : List Lexeme) (k : KeyDecl) (rest : List Lexeme) → key_at ts ≡ Ok (k, rest) → SpellsFirst IsKeyDecl ts k rest
@@ -84,7 +84,7 @@ key_decl_step : (l m : Lexeme) (vs rest : List Lexeme) (parts : List PartDecl) �
 unfolding key_at
 key_decl_step l m vs rest parts e f g = rw (word_reads (codes "KEY") l (m ∷ (vs ++ rest)) refl e, word_reads (codes "IS") m (vs ++ rest) refl f, g) refl
 
-pub key_decl_reads : (k : KeyDecl) (us : List Lexeme) → IsKeyDecl k us → (rest : List Lexeme) → Follows rest → key_at (us ++ rest) ≡ Ok (k, rest)
+pub key_decl_reads : (k : KeyDecl) (us : List Lexeme) → IsKeyDecl k us → (rest : List Lexeme) → FollowsSaid rest → key_at (us ++ rest) ≡ Ok (k, rest)
 key_decl_reads _ _ (a_key l m parts vs e f d few) rest g = key_decl_step l m vs rest parts e f (key_complete vs rest parts d few g.no_up g.no_down)
 
 population_sound : (ts : List Lexeme) (n : ℕ) (rest : List Lexeme) → population_at ts ≡ Ok (n, rest) → Reads IsPopulation ts n rest

@@ -13,7 +13,7 @@ use Rattle.dasdl_compile.specs.Finding.{drafted}
 use Rattle.dasdl_compile.specs.Outlines.{data_set_kind}
 use Rattle.dasdl_compile.specs.Sets.{set_kind, no_parts}
 use Rattle.dasdl_laws.specs.Alone.{has_local_items, is_data_set_alone, is_set_alone, is_sound_alone}
-use Rattle.dasdl_laws.proofs.Parts.{Ended, groups_sound}
+use Rattle.dasdl_laws.proofs.Parts.{EndedDraft, groups_sound}
 use Rattle.dasdl_laws.proofs.Trees.{DataSetMade, SetMade, Final}
 use Rattle.dasdl_laws.proofs.Trees.Final.{a_data_set_made, a_set_made}
 use Rattle.dasdl_laws.proofs.Turns.{outer}
@@ -22,11 +22,11 @@ pub kind_is : (b : Bool) → is_data_set (data_set_kind b) ≡ true
 kind_is true = refl
 kind_is false = refl
 
-items_alone : (o : List Draft) (d : Draft) → Ended o d → has_local_items (shape_in d) ≡ true
+items_alone : (o : List Draft) (d : Draft) → EndedDraft o d → has_local_items (shape_in d) ≡ true
 unfolding has_local_items
 items_alone o d h = and_from _ _ (and_from _ _ (le-leb _ _ h.few) h.sofar.base.local) (le-leb _ _ h.short)
 
-groups_alone : (o : List Draft) (d : Draft) → Ended o d → has_sound_groups (shape_in d) ≡ true
+groups_alone : (o : List Draft) (d : Draft) → EndedDraft o d → has_sound_groups (shape_in d) ≡ true
 unfolding has_sound_groups
 groups_alone o d h = and_from _ _ (and_from _ _ (le-leb _ _ h.sofar.grouped.few) (groups_sound d.items d.groups h.sofar.grouped.within h.sofar.plain)) h.sofar.grouped.follow
 

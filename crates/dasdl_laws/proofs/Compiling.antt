@@ -33,14 +33,14 @@ finished_made p ds d h =
     record { restart = is_so (has_restart ds) a.0; short = b.0; is = ok_same _ d b.1 }
 
 -- what was noted, and what was declared under that
-pub record Compiled (p : Parameters) (decls : List Declaration) (d : Described) : Type 0 where
+pub record CompiledSchema (p : Parameters) (decls : List Declaration) (d : Described) : Type 0 where
   pub outline : Compilation
   pub work : Compilation
   pub outlined : steps outlined_one Noted nothing_yet decls ≡ Ok outline
   pub declared : steps declared_at outline.made nothing_yet decls ≡ Ok work
   pub made : Made p work.made d
 
-pub compiled_by : (p : Parameters) (decls : List Declaration) (d : Described) → compiled p decls ≡ Ok d → Compiled p decls d
+pub compiled_by : (p : Parameters) (decls : List Declaration) (d : Described) → compiled p decls ≡ Ok d → CompiledSchema p decls d
 unfolding compiled
 compiled_by p decls d h =
     let a = bind_ok {A = Compilation} {B = Described} (steps outlined_one Noted nothing_yet decls) _ d h in

@@ -34,33 +34,33 @@ use Rattle.dasdl_compile.specs.Sets.{set_draft}
 use Rattle.dasdl_laws.proofs.Judging.{bind_ok, skip_ok, ok_same}
 use Rattle.dasdl_laws.proofs.Keys.{total_push}
 use Rattle.dasdl_laws.proofs.Members.{link_found}
-use Rattle.dasdl_laws.proofs.Turns.{Turn, Inside, turn_of}
-use Rattle.dasdl_laws.proofs.Turns.Turn.{inside, data_set, a_set as set_added}
+use Rattle.dasdl_laws.proofs.Turns.{DraftTurn, Inside, turn_of}
+use Rattle.dasdl_laws.proofs.Turns.DraftTurn.{inside, data_set, a_set as set_added}
 use Rattle.dasdl_laws.proofs.Turns.Inside.{untouched, changed}
-use Rattle.dasdl_laws.proofs.Written.{IsWritten, item_written, group_written}
+use Rattle.dasdl_laws.proofs.Written.{IsWrittenItem, item_written, group_written}
 
 -- ---- an item that is declared as one is no link
 
 abbrev IsPlainItem : ItemDecl → Type 0
 IsPlainItem i = is_link i.kind ≡ false
 
-abbrev IsPlain : Declaration → Type 0
-IsPlain (Item i) = IsPlainItem i
-IsPlain (Group g) = AllByRecursion IsPlainItem g.items
-IsPlain (DataSet s) = Unit {0}
-IsPlain (SetOf s) = Unit {0}
-IsPlain (Link l) = Unit {0}
-IsPlain (End e) = Unit {0}
+abbrev IsPlainDeclaration : Declaration → Type 0
+IsPlainDeclaration (Item i) = IsPlainItem i
+IsPlainDeclaration (Group g) = AllByRecursion IsPlainItem g.items
+IsPlainDeclaration (DataSet s) = Unit {0}
+IsPlainDeclaration (SetOf s) = Unit {0}
+IsPlainDeclaration (Link l) = Unit {0}
+IsPlainDeclaration (End e) = Unit {0}
 
-plain_items : (is : List ItemDecl) → AllByRecursion IsWritten is → AllByRecursion IsPlainItem is
+plain_items : (is : List ItemDecl) → AllByRecursion IsWrittenItem is → AllByRecursion IsPlainItem is
 plain_items [] h = tt
 plain_items (i ∷ is) h = (h.0.plain, plain_items is h.1)
 
-both_plain : (ds es : List Declaration) → AllByRecursion IsPlain ds → AllByRecursion IsPlain es → AllByRecursion IsPlain (ds ++ es)
+both_plain : (ds es : List Declaration) → AllByRecursion IsPlainDeclaration ds → AllByRecursion IsPlainDeclaration es → AllByRecursion IsPlainDeclaration (ds ++ es)
 both_plain [] es h k = k
 both_plain (d ∷ ds) es h k = (h.0, both_plain ds es h.1 k)
 
-members_plain : (k : Many) (depth n : ℕ) (ds : List Declaration) (us : List Lexeme) → Members k depth n ds us → AllByRecursion IsPlain ds
+members_plain : (k : Many) (depth n : ℕ) (ds : List Declaration) (us : List Lexeme) → Members k depth n ds us → AllByRecursion IsPlainDeclaration ds
 members_plain _ _ _ _ _ (a_set depth l name s vs deep e named z) = (tt, tt)
 members_plain _ _ _ _ _ (a_data_set depth l name head hs n ds us end es deep e named z members low y) = (tt, both_plain ds (End end ∷ []) (members_plain _ (suc depth) n ds us members) (tt, tt))
 members_plain _ _ _ _ _ (an_item depth l name i vs e named z) = ((item_written l.place name i _ z named).plain, tt)
@@ -69,7 +69,7 @@ members_plain _ _ _ _ _ (a_group depth l name items vs e named z) = (plain_items
 members_plain _ _ _ _ _ (a_first depth n ds us m) = members_plain _ depth n ds us m
 members_plain _ _ _ _ _ (a_further depth n m ds es us vs x y) = both_plain ds es (members_plain _ depth n ds us x) (members_plain _ depth m es vs y)
 
-all_plain : (p : Parameters) (b a : Bool) (ds : List Declaration) (us : List Lexeme) → Declares p b a ds us → AllByRecursion IsPlain ds
+all_plain : (p : Parameters) (b a : Bool) (ds : List Declaration) (us : List Lexeme) → Declares p b a ds us → AllByRecursion IsPlainDeclaration ds
 all_plain _ _ _ _ _ no_declaration = tt
 all_plain _ _ _ _ _ (then_parameters p a ds us said vs d q) = all_plain p false a ds us d
 all_plain _ _ _ _ _ (then_audit p b ds us said vs d q) = all_plain p b false ds us d
@@ -134,7 +134,7 @@ end_counts d t e h =
     let b = skip_ok _ _ _ _ a.2 in
     ap links (sym (ok_same _ t b.1))
 
-member_counts : (o : List Draft) (decl : Declaration) (d t : Draft) → IsPlain decl → member_at o decl d ≡ Ok t → links t ≡ links d + counted_of decl
+member_counts : (o : List Draft) (decl : Declaration) (d t : Draft) → IsPlainDeclaration decl → member_at o decl d ≡ Ok t → links t ≡ links d + counted_of decl
 unfolding member_at
 member_counts o (Item i) d t p h = let e = item_counts o d t i p h in omega (arith, e)
 member_counts o (Group g) d t p h = let e = group_counts o d t g p h in omega (arith, e)
@@ -152,17 +152,17 @@ total_set (x ∷ xs) zero d t n at e =
 total_set (x ∷ xs) (suc k) d t n at e = let r = total_set xs k d t n at e in omega (arith, r)
 
 -- nothing counts outside of all data sets
-abbrev Counts : Compilation → Compilation → ℕ → Type 0
-Counts w v n = total links v.made ≤ total links w.made + n
+abbrev CountsDrafts : Compilation → Compilation → ℕ → Type 0
+CountsDrafts w v n = total links v.made ≤ total links w.made + n
 
-inside_counts : (o : List Draft) (decl : Declaration) (w v : Compilation) → IsPlain decl → Inside o decl w v → Counts w v (counted_of decl)
+inside_counts : (o : List Draft) (decl : Declaration) (w v : Compilation) → IsPlainDeclaration decl → Inside o decl w v → CountsDrafts w v (counted_of decl)
 inside_counts o decl w v p (untouched none e) = let s = ap (λ (x : Compilation). total links x.made) e in omega (arith, s)
 inside_counts o decl w v p (changed d t at h e) =
     let s = ap (λ (x : Compilation). total links x.made) e in
     let r = total_set w.made (w.within - 1) d t (counted_of decl) at (member_counts o decl d t p h) in
     omega (arith, s, r)
 
-turn_counts : (o : List Draft) (w v : Compilation) (decl : Declaration) → IsPlain decl → Turn o w v decl → Counts w v (counted_of decl)
+turn_counts : (o : List Draft) (w v : Compilation) (decl : Declaration) → IsPlainDeclaration decl → DraftTurn o w v decl → CountsDrafts w v (counted_of decl)
 turn_counts o w v _ p (inside decl none i) = inside_counts o decl w v p i
 turn_counts o w v _ p (data_set s new placed once e) =
     let a = ap (λ (x : Compilation). total links x.made) e in
@@ -173,7 +173,7 @@ turn_counts o w v _ p (set_added s d q new of placed read key e) =
     let b = total_push links w.made (set_draft w s d q) in
     omega (arith, a, b)
 
-steps_count : (o : List Draft) (ds : List Declaration) (w v : Compilation) → AllByRecursion IsPlain ds → steps declared_at o w ds ≡ Ok v → Counts w v (counted_in ds)
+steps_count : (o : List Draft) (ds : List Declaration) (w v : Compilation) → AllByRecursion IsPlainDeclaration ds → steps declared_at o w ds ≡ Ok v → CountsDrafts w v (counted_in ds)
 unfolding steps
 steps_count o [] w v p h = let e = ap (λ (x : Compilation). total links x.made) (ok_same w v h) in omega (arith, e)
 steps_count o (d ∷ ds) w v p h =

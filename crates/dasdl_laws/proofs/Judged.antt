@@ -26,7 +26,7 @@ use Rattle.dasdl_laws.proofs.Literals.{is_plain_literal, is_value, judged_fits}
 -- ---- items by their names
 
 -- what was found is the item with its number
-pub record FoundIn (items : List Item) (f : NamedItem) : Type 0 where
+pub record FoundItem (items : List Item) (f : NamedItem) : Type 0 where
   pub item : Item
   pub at : item_at items f.number ≡ Some item
   pub kind : item.kind ≡ f.kind
@@ -43,20 +43,20 @@ place_of pre i is n e =
     let at : n - 1 ≡ length pre = omega (arith, e) in
     ap (λ (b : Bool). cond b None (slice_get (pre ++ i ∷ is) (n - 1))) some ∙ ap (λ (k : ℕ). slice_get (pre ++ i ∷ is) k) at ∙ behind pre i is
 
-pick_found : (b : Bool) (pre : List Item) (i : Item) (is : List Item) (n : ℕ) (r : Option NamedItem) (f : NamedItem) → n ≡ length pre + 1 → cond b (Some (record { number = n; kind = i.kind })) r ≡ Some f → (r ≡ Some f → FoundIn (pre ++ i ∷ is) f) → FoundIn (pre ++ i ∷ is) f
+pick_found : (b : Bool) (pre : List Item) (i : Item) (is : List Item) (n : ℕ) (r : Option NamedItem) (f : NamedItem) → n ≡ length pre + 1 → cond b (Some (record { number = n; kind = i.kind })) r ≡ Some f → (r ≡ Some f → FoundItem (pre ++ i ∷ is) f) → FoundItem (pre ++ i ∷ is) f
 pick_found true pre i is n r f e h g =
     let same : ◌≡◌ {A = NamedItem} (record { number = n; kind = i.kind }) f = cc in
-    subst (FoundIn (pre ++ i ∷ is)) same (record { item = i; at = place_of pre i is n e; kind = refl; from = omega (arith, e); upto = omega (arith, e, length-append pre (i ∷ is)) })
+    subst (FoundItem (pre ++ i ∷ is)) same (record { item = i; at = place_of pre i is n e; kind = refl; from = omega (arith, e); upto = omega (arith, e, length-append pre (i ∷ is)) })
 pick_found false pre i is n r f e h g = g h
 
-found_from : (name : List ℕ) (n : ℕ) (pre is : List Item) (f : NamedItem) → length (pre ++ is) ≤ 254 → n ≡ length pre + 1 → item_named name n is ≡ Some f → FoundIn (pre ++ is) f
+found_from : (name : List ℕ) (n : ℕ) (pre is : List Item) (f : NamedItem) → length (pre ++ is) ≤ 254 → n ≡ length pre + 1 → item_named name n is ≡ Some f → FoundItem (pre ++ is) f
 found_from name n pre [] f few e h = absurd (cc)
 found_from name n pre (i ∷ is) f few e h =
     let more : (pre ++ i ∷ []) ++ is ≡ pre ++ i ∷ is = append_assoc pre (i ∷ []) is in
     pick_found (bytes_eq i.name name) pre i is n (item_named name (after_item n) is) f e h
-    (λ g. subst (λ (l : List Item). FoundIn l f) more (found_from name (after_item n) (pre ++ i ∷ []) is f (rw more few) (omega (arith, e, few, length-append pre (i ∷ is), length-append pre (i ∷ []))) g))
+    (λ g. subst (λ (l : List Item). FoundItem l f) more (found_from name (after_item n) (pre ++ i ∷ []) is f (rw more few) (omega (arith, e, few, length-append pre (i ∷ is), length-append pre (i ∷ []))) g))
 
-pub item_found : (name : List ℕ) (items : List Item) (f : NamedItem) → length items ≤ 254 → item_named name 1 items ≡ Some f → FoundIn items f
+pub item_found : (name : List ℕ) (items : List Item) (f : NamedItem) → length items ≤ 254 → item_named name 1 items ≡ Some f → FoundItem items f
 item_found name items f few h = found_from name 1 [] items f few refl h
 
 -- ---- conditions
@@ -77,7 +77,7 @@ pub literal_in : (name : List ℕ) (o : Option Value) (v : Value) → or_fault n
 literal_in name None v h = absurd (cc)
 literal_in name (Some x) v h = let e = ok_same x v h in cc
 
-comparable : (items : List Item) (f : NamedItem) (v : Value) → FoundIn items f → is_value f.kind v ≡ true → is_comparable (item_at items f.number) v ≡ true
+comparable : (items : List Item) (f : NamedItem) (v : Value) → FoundItem items f → is_value f.kind v ≡ true → is_comparable (item_at items f.number) v ≡ true
 comparable items f v g e = rw (g.at, g.kind) e
 
 test_judged : (items : List Item) (name : List ℕ) (op : Op) (l : Literal) (t : Tree) (o : Option NamedItem) → length items ≤ 254 → is_plain_literal l ≡ true → item_named name 1 items ≡ o → compared_with name op l o ≡ Ok t → Judges items (Compared name op l) t

@@ -23,8 +23,8 @@ use Rattle.dasdl_compile.specs.Widths.{plus}
 use Rattle.dms_desc.specs.Lookups.{after_item, item_named, group_named}
 use Rattle.dasdl_laws.proofs.Judging.{bind_ok, skip_ok, ok_same, steps_keep}
 use Rattle.dasdl_laws.proofs.Judged.{place_of}
-use Rattle.dasdl_laws.proofs.Filled.{Begins, run_begins}
-use Rattle.dasdl_laws.proofs.Parts.{Within}
+use Rattle.dasdl_laws.proofs.Filled.{BeginsRun, run_begins}
+use Rattle.dasdl_laws.proofs.Parts.{GroupWithin}
 use Rattle.dasdl_laws.proofs.Ordered.{all_push, apart_push}
 
 pub total_push : {A : Type 0} (size : A → ℕ) (xs : List A) (y : A) → total size (xs ++ y ∷ []) ≡ total size xs + size y
@@ -81,7 +81,7 @@ items_passed r pre (i ∷ is) post k t few n h e =
     subst (λ (l : List Item). Keyed l t.bytes t.parts) more
     (items_passed r (pre ++ i ∷ []) is post a.0 t (rw more few) next (subst (λ (l : List Item). Keyed l a.0.bytes a.0.parts) (sym more) p.keyed) a.2)
 
-run_passed : (r : Run) (items : List Item) (k t : KeySoFar) → length items ≤ 254 → Begins r (length items) → Keyed items k.bytes k.parts → steps key_item_at r (record { next = r.first; bytes = k.bytes; parts = k.parts }) (run_items r items) ≡ Ok t → Keyed items t.bytes t.parts
+run_passed : (r : Run) (items : List Item) (k t : KeySoFar) → length items ≤ 254 → BeginsRun r (length items) → Keyed items k.bytes k.parts → steps key_item_at r (record { next = r.first; bytes = k.bytes; parts = k.parts }) (run_items r items) ≡ Ok t → Keyed items t.bytes t.parts
 run_passed r items k t few b h e =
     let upto = b.upto in
     let from = b.from in
@@ -91,14 +91,14 @@ run_passed r items k t few b h e =
     subst (λ (l : List Item). Keyed l t.bytes t.parts) all
     (items_passed r (take (r.first - 1) items) (run_items r items) (drop r.count (drop (r.first - 1) items)) (record { next = r.first; bytes = k.bytes; parts = k.parts }) t (rw all few) next (subst (λ (l : List Item). Keyed l k.bytes k.parts) (sym all) h) e)
 
-part_passed : (d : Draft) (k t : KeySoFar) (p : PartDecl) → length d.items ≤ 254 → AllByRecursion (Within (length d.items)) d.groups → Keyed d.items k.bytes k.parts → part_at d k p ≡ Ok t → Keyed d.items t.bytes t.parts
+part_passed : (d : Draft) (k t : KeySoFar) (p : PartDecl) → length d.items ≤ 254 → AllByRecursion (GroupWithin (length d.items)) d.groups → Keyed d.items k.bytes k.parts → part_at d k p ≡ Ok t → Keyed d.items t.bytes t.parts
 unfolding part_at run_of
 part_passed d k t p few w h e =
     let a = bind_ok {A = Run} {B = KeySoFar} (run_in p (item_named p.name 1 d.items) (group_named p.name d.groups)) _ t e in
     let b = run_begins d p (item_named p.name 1 d.items) (group_named p.name d.groups) a.0 few w refl refl a.1 in
     run_passed a.0 d.items k t few b h a.2
 
-pub key_sound : (name : List ℕ) (d : Draft) (ps : List PartDecl) (ks : List KeyPart) → length d.items ≤ 254 → AllByRecursion (Within (length d.items)) d.groups → key_at name d ps ≡ Ok ks → is_key_sound d.items ks ≡ true
+pub key_sound : (name : List ℕ) (d : Draft) (ps : List PartDecl) (ks : List KeyPart) → length d.items ≤ 254 → AllByRecursion (GroupWithin (length d.items)) d.groups → key_at name d ps ≡ Ok ks → is_key_sound d.items ks ≡ true
 unfolding key_at short_key is_key_sound
 key_sound name d ps ks few w h =
     let a = bind_ok {A = KeySoFar} {B = List KeyPart} (steps part_at d (record { next = 1; bytes = 0; parts = [] }) ps) _ ks h in

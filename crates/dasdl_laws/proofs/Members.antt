@@ -33,7 +33,7 @@ use Rattle.dasdl_laws.proofs.Judging.{bind_ok, skip_ok, ok_same}
 use Rattle.dasdl_laws.proofs.Literals.{judged_fits}
 use Rattle.dasdl_laws.proofs.Judged.{literal_in}
 use Rattle.dasdl_laws.proofs.Ordered.{all_push, apart_push}
-use Rattle.dasdl_laws.proofs.Written.{IsWritten, IsPlainInitial}
+use Rattle.dasdl_laws.proofs.Written.{IsWrittenItem, IsPlainInitial}
 
 -- a link points to a data set of these that stands in no other
 pub record PointsTo (o : List Draft) (target : ℕ) (i : Member) : Type 0 where
@@ -53,7 +53,7 @@ Points o OneBit i = Unit {0}
 Points o (Field n) i = Unit {0}
 
 -- one more item or link
-pub record Adds (o : List Draft) (d t : Draft) : Type 0 where
+pub record AddsDraft (o : List Draft) (d t : Draft) : Type 0 where
   pub one : Member
   pub new : is_taken one.name d ≡ false
   pub local : is_local one ≡ true
@@ -84,7 +84,7 @@ initial_fits i (Some l) v plain h =
     let a = and_parts (not (is_link i.kind) && fits i.kind v) (is_plain v) f in
     ((and_parts (not (is_link i.kind)) (fits i.kind v) a.0).1, a.1)
 
-pub item_adds : (o : List Draft) (d t : Draft) (i : ItemDecl) → IsWritten i → item_at o d i ≡ Ok t → Adds o d t
+pub item_adds : (o : List Draft) (d t : Draft) (i : ItemDecl) → IsWrittenItem i → item_at o d i ≡ Ok t → AddsDraft o d t
 unfolding item_at initial_of
 item_adds o d t i w h =
     let a = skip_ok (is_taken i.name d) _ _ _ h in
@@ -92,7 +92,7 @@ item_adds o d t i w h =
     let f = initial_fits i i.initial b.0 w.initial b.1 in
     record { one = record { name = i.name; kind = i.kind; required = i.required; initial = b.0 }; new = a.0; local = and_from _ _ (and_from _ _ (and_from _ _ w.name w.kind) f.0) f.1; points = no_link o i.kind _ w.plain; is = ok_same _ t b.2 }
 
-pub item_plain : (o : List Draft) (d t : Draft) (i : ItemDecl) (w : IsWritten i) (h : item_at o d i ≡ Ok t) → is_link (item_adds o d t i w h).one.kind ≡ false
+pub item_plain : (o : List Draft) (d t : Draft) (i : ItemDecl) (w : IsWrittenItem i) (h : item_at o d i ≡ Ok t) → is_link (item_adds o d t i w h).one.kind ≡ false
 unfolding item_adds
 item_plain o d t i w h = w.plain
 
@@ -104,11 +104,11 @@ pub link_found : (o : List Draft) (l : LinkDecl) (r : Option Draft) (k : ItemKin
 link_found o l None k e h = absurd (cc)
 link_found o l (Some t) k e h = by_owner o l t k (t.owner == 0) refl e h
 
-link_adds_as : (o : List Draft) (d t : Draft) (l : LinkDecl) (k : ItemKind) (to : Draft) → is_name l.name ≡ true → is_taken l.name d ≡ false → data_set_named l.target o ≡ Some to → (to.owner == 0) ≡ true → k ≡ LinkTo to.number l.counted → with_item d (record { name = l.name; kind = k; required = false; initial = Null }) ≡ t → Adds o d t
+link_adds_as : (o : List Draft) (d t : Draft) (l : LinkDecl) (k : ItemKind) (to : Draft) → is_name l.name ≡ true → is_taken l.name d ≡ false → data_set_named l.target o ≡ Some to → (to.owner == 0) ≡ true → k ≡ LinkTo to.number l.counted → with_item d (record { name = l.name; kind = k; required = false; initial = Null }) ≡ t → AddsDraft o d t
 link_adds_as o d t l k to named new e alone kind is =
     record { one = record { name = l.name; kind = LinkTo to.number l.counted; required = false; initial = Null }; new = new; local = and_from _ _ (and_from _ _ (and_from _ _ named refl) refl) refl; points = record { name = l.target; to = to; found = e; number = refl; alone = alone; required = refl; initial = refl }; is = ap (λ (x : ItemKind). with_item d (record { name = l.name; kind = x; required = false; initial = Null })) (sym kind) ∙ is }
 
-pub link_adds : (o : List Draft) (d t : Draft) (l : LinkDecl) → is_name l.name ≡ true → link_at o d l ≡ Ok t → Adds o d t
+pub link_adds : (o : List Draft) (d t : Draft) (l : LinkDecl) → is_name l.name ≡ true → link_at o d l ≡ Ok t → AddsDraft o d t
 unfolding link_at link_kind
 link_adds o d t l named h =
     let a = skip_ok (is_taken l.name d) _ _ _ h in

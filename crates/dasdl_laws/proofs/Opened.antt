@@ -20,13 +20,13 @@ use Rattle.dasdl_compile.specs.Finding.{drafted, next_structure}
 use Rattle.dasdl_compile.specs.Members.{open_after}
 use Rattle.dasdl_compile.specs.Outlines.{data_set_kind}
 use Rattle.dasdl_compile.specs.Sets.{set_draft}
-use Rattle.dasdl_laws.proofs.Levels.{Upto, Low}
+use Rattle.dasdl_laws.proofs.Levels.{DraftsUpto, LowLevel}
 use Rattle.dasdl_laws.proofs.Ordered.{Numbers}
 use Rattle.dasdl_laws.proofs.Owners.{Stand, Standing, got_more, got_last, open_ref, push}
 use Rattle.dasdl_laws.proofs.Sets.{final_at}
 use Rattle.dasdl_laws.proofs.Together.{mapped, ne_zero}
-use Rattle.dasdl_laws.proofs.Turns.{outer, Turn, Inside, inside_kept}
-use Rattle.dasdl_laws.proofs.Turns.Turn.{inside, data_set, a_set}
+use Rattle.dasdl_laws.proofs.Turns.{outer, DraftTurn, Inside, inside_kept}
+use Rattle.dasdl_laws.proofs.Turns.DraftTurn.{inside, data_set, a_set}
 use Rattle.dasdl_laws.proofs.Turns.Inside.{untouched, changed}
 
 -- structure n, or one in which it stands
@@ -56,25 +56,25 @@ further_out os n zero d at numbers h a = subst (Around os n) (sym (first_alone o
 further_out os n (suc m) d at numbers h a = around_out os n (suc m) d at (omega arith) a
 
 -- what a structure stands in is open behind the structure before it
-abbrev pub Opened : List Draft → Draft → Type 0
-Opened os d = Around os (d.number - 1) d.owner
+abbrev pub OpenedDrafts : List Draft → Draft → Type 0
+OpenedDrafts os d = Around os (d.number - 1) d.owner
 
-opened_more : (os more ds : List Draft) → AllByRecursion (Opened os) ds → AllByRecursion (Opened (os ++ more)) ds
+opened_more : (os more ds : List Draft) → AllByRecursion (OpenedDrafts os) ds → AllByRecursion (OpenedDrafts (os ++ more)) ds
 opened_more os more [] h = tt
 opened_more os more (d ∷ ds) h = (around_more os more (d.number - 1) d.owner h.0, opened_more os more ds h.1)
 
-opened_push : (os : List Draft) (d : Draft) → AllByRecursion (Opened os) os → Opened os d → AllByRecursion (Opened (os ++ d ∷ [])) (os ++ d ∷ [])
-opened_push os d h k = push (Opened (os ++ d ∷ [])) os d (opened_more os (d ∷ []) os h) (around_more os (d ∷ []) (d.number - 1) d.owner k)
+opened_push : (os : List Draft) (d : Draft) → AllByRecursion (OpenedDrafts os) os → OpenedDrafts os d → AllByRecursion (OpenedDrafts (os ++ d ∷ [])) (os ++ d ∷ [])
+opened_push os d h k = push (OpenedDrafts (os ++ d ∷ [])) os d (opened_more os (d ∷ []) os h) (around_more os (d ∷ []) (d.number - 1) d.owner k)
 
 pub record Opening (w : Compilation) : Type 0 where
-  pub all : AllByRecursion (Opened (map outer w.made)) (map outer w.made)
+  pub all : AllByRecursion (OpenedDrafts (map outer w.made)) (map outer w.made)
   pub last : Around (map outer w.made) (length w.made) w.within
 
-opens_as : (os : List Draft) (v : Compilation) (n m : ℕ) → map outer v.made ≡ os → length os ≡ n → v.within ≡ m → AllByRecursion (Opened os) os → Around os n m → Opening v
+opens_as : (os : List Draft) (v : Compilation) (n m : ℕ) → map outer v.made ≡ os → length os ≡ n → v.within ≡ m → AllByRecursion (OpenedDrafts os) os → Around os n m → Opening v
 opens_as os v n m made size within h a =
     let count : n ≡ length v.made = sym size ∙ ap length (sym made) ∙ length-map v.made outer in
     record {
-      all = subst (λ (l : List Draft). AllByRecursion (Opened l) l) (sym made) h;
+      all = subst (λ (l : List Draft). AllByRecursion (OpenedDrafts l) l) (sym made) h;
       last = subst (λ (l : List Draft). Around l (length v.made) v.within) (sym made) (subst (λ (k : ℕ). Around os k v.within) count (subst (Around os n) (sym within) a));
     }
 
@@ -92,7 +92,7 @@ one_more w v d m few h number owner made within which =
     let size : length os ≡ length w.made = length-map w.made outer in
     let count : length (os ++ d ∷ []) ≡ length w.made + 1 = omega (arith, size, length-append os (d ∷ [])) in
     let before : d.number - 1 ≡ length w.made = omega (arith, number) in
-    let one : Opened os d = subst (λ (k : ℕ). Around os k d.owner) (sym before) (subst (Around os (length w.made)) (sym owner) h.last) in
+    let one : OpenedDrafts os d = subst (λ (k : ℕ). Around os k d.owner) (sym before) (subst (Around os (length w.made)) (sym owner) h.last) in
     let place : length w.made + 1 - 1 ≡ length os = omega (arith, size) in
     let at : slice_get (os ++ d ∷ []) (length w.made + 1 - 1) ≡ Some d = ap (slice_get (os ++ d ∷ [])) place ∙ got_last os d in
     let out : Around (os ++ d ∷ []) (length w.made + 1) w.within = outward (length w.made + 1) w.within d at (omega arith) (subst (λ (k : ℕ). Around (os ++ d ∷ []) k w.within) (sym owner) (here w.within)) in
@@ -102,7 +102,7 @@ one_more w v d m few h number owner made within which =
     ] in
     opens_as (os ++ d ∷ []) v (length w.made + 1) m made count within (opened_push os d h.all one) last
 
-pub turn_opens : (o : List Draft) (w v : Compilation) (decl : Declaration) → length w.made + structures_of decl ≤ 200 → Turn o w v decl → Standing (map outer w.made) w.within → Numbers 1 (map outer w.made) → Opening w → Opening v
+pub turn_opens : (o : List Draft) (w v : Compilation) (decl : Declaration) → length w.made + structures_of decl ≤ 200 → DraftTurn o w v decl → Standing (map outer w.made) w.within → Numbers 1 (map outer w.made) → Opening w → Opening v
 turn_opens o w v _ few (inside decl none i) s numbers h = inside_opens o decl w v i s numbers h
 turn_opens o w v _ few (data_set t new placed once e) s numbers h =
     let d = drafted (next_structure w.made) (data_set_kind t.restart) t.name w.within in
@@ -129,7 +129,7 @@ abbrev Near : ℕ → List Shape → ℕ → ℕ → Type 0
 Near zero ss n m = m ≡ 0
 Near (suc k) ss n m = (m ≡ n) ⊎ Near k ss (owner_of ss n) m
 
-near : (k : ℕ) (made : List Draft) (n m : ℕ) → Upto k (map outer made) n → Around (map outer made) n m → Near k (map shape_in made) n m
+near : (k : ℕ) (made : List Draft) (n m : ℕ) → DraftsUpto k (map outer made) n → Around (map outer made) n m → Near k (map shape_in made) n m
 near zero made _ _ z (here n) = z
 near zero made _ _ z (outward n m d at low a) = absurd (omega (arith, z, low))
 near (suc k) made _ _ u (here n) = inl refl
@@ -138,7 +138,7 @@ near (suc k) made _ _ (inr u) (outward n m d at low a) =
     let there = u.1 in
     let same : u.0 ≡ d = cc in
     let owner : owner_of (map shape_in made) n ≡ d.owner = owner_is made n d at low in
-    inr (subst (λ (j : ℕ). Near k (map shape_in made) j m) (sym owner) (near k made d.owner m (subst (λ (x : Draft). Upto k (map outer made) x.owner) same u.3) a))
+    inr (subst (λ (j : ℕ). Near k (map shape_in made) j m) (sym owner) (near k made d.owner m (subst (λ (x : Draft). DraftsUpto k (map outer made) x.owner) same u.3) a))
 
 one_of : (a b c d : Bool) → (b ≡ true) ⊎ ((c ≡ true) ⊎ ((d ≡ true) ⊎ (a ≡ true))) → (a || (b || c || d)) ≡ true
 one_of true b c d h = refl
@@ -160,11 +160,11 @@ near_is ss n m h =
     ])
 
 -- what is before a structure stands in at most two others
-before_low : (os : List Draft) (n m : ℕ) → AllByRecursion (Low os) os → Around os n m → (n ≡ m) ⊎ Upto 3 os n
+before_low : (os : List Draft) (n m : ℕ) → AllByRecursion (LowLevel os) os → Around os n m → (n ≡ m) ⊎ DraftsUpto 3 os n
 before_low os _ _ low (here n) = inl refl
-before_low os _ _ low (outward n m d at some a) = inr (inr (d, at, some, final_at (Low os) os (n - 1) d low at))
+before_low os _ _ low (outward n m d at some a) = inr (inr (d, at, some, final_at (LowLevel os) os (n - 1) d low at))
 
-pub opens : (made : List Draft) (n m : ℕ) → AllByRecursion (Low (map outer made)) (map outer made) → Around (map outer made) n m → (m == 0 || is_open_behind (map shape_in made) n m) ≡ true
+pub opens : (made : List Draft) (n m : ℕ) → AllByRecursion (LowLevel (map outer made)) (map outer made) → Around (map outer made) n m → (m == 0 || is_open_behind (map shape_in made) n m) ≡ true
 opens made n m low a = elim (before_low (map outer made) n m low a) [
   | inl e ↦ near_is (map shape_in made) n m (inl (sym e))
   | inr u ↦ near_is (map shape_in made) n m (near 3 made n m u a)

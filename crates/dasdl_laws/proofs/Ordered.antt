@@ -27,8 +27,8 @@ use Rattle.std.proofs.Common.{inl, inr, ◌⊎◌}
 use Rattle.std.proofs.lemmas.Bool.{and_parts, leb-true, and_from}
 use Rattle.dasdl_laws.proofs.Short.{HaveKinds}
 use Rattle.dasdl_laws.proofs.Judging.{bind_ok, ok_same, steps_keep}
-use Rattle.dasdl_laws.proofs.Turns.{outer, Turn, turn_of, inside_kept}
-use Rattle.dasdl_laws.proofs.Turns.Turn.{inside, data_set, a_set}
+use Rattle.dasdl_laws.proofs.Turns.{outer, DraftTurn, turn_of, inside_kept}
+use Rattle.dasdl_laws.proofs.Turns.DraftTurn.{inside, data_set, a_set}
 
 -- ---- lists of which each two differ
 
@@ -151,7 +151,7 @@ by_words false b = refl
 set_is_none : (s : SetDecl) → (set_kind s == 2) ≡ false
 set_is_none s = by_words s.subset (is_some s.cond)
 
-pub turned : (o : List Draft) (w v : Compilation) (decl : Declaration) → Turn o w v decl → Ordered (map outer w.made) → Ordered (map outer v.made)
+pub turned : (o : List Draft) (w v : Compilation) (decl : Declaration) → DraftTurn o w v decl → Ordered (map outer w.made) → Ordered (map outer v.made)
 turned o w v _ (inside decl none i) h = subst Ordered (sym (inside_kept o decl w v i)) h
 turned o w v _ (data_set s new placed once e) h =
     subst (λ (x : Compilation). Ordered (map outer x.made)) (sym e)
@@ -166,7 +166,7 @@ ordered o decls w h =
 
 -- ---- how many there are
 
-pub grown : (o : List Draft) (w v : Compilation) (decl : Declaration) → Turn o w v decl → length v.made ≡ length w.made + structures_of decl
+pub grown : (o : List Draft) (w v : Compilation) (decl : Declaration) → DraftTurn o w v decl → length v.made ≡ length w.made + structures_of decl
 grown o w v _ (inside decl none i) =
     let e = ap length (inside_kept o decl w v i) in
     omega (arith, e, none, length-map v.made outer, length-map w.made outer)
@@ -247,7 +247,7 @@ set_has_kind true true = refl
 set_has_kind true false = refl
 set_has_kind false b = refl
 
-kinds_turned : (o : List Draft) (w v : Compilation) (decl : Declaration) → Turn o w v decl → AllByRecursion HasKind (map outer w.made) → AllByRecursion HasKind (map outer v.made)
+kinds_turned : (o : List Draft) (w v : Compilation) (decl : Declaration) → DraftTurn o w v decl → AllByRecursion HasKind (map outer w.made) → AllByRecursion HasKind (map outer v.made)
 kinds_turned o w v _ (inside decl none i) h = subst (AllByRecursion HasKind) (sym (inside_kept o decl w v i)) h
 kinds_turned o w v _ (data_set s new placed once e) h =
     let d = drafted (next_structure w.made) (data_set_kind s.restart) s.name w.within in

@@ -35,8 +35,8 @@ use Rattle.dasdl_compile.specs.Sets.{set_draft}
 use Rattle.dasdl_laws.proofs.Judging.{bind_ok, skip_ok, ok_same}
 use Rattle.dasdl_laws.proofs.Members.{link_found}
 use Rattle.dasdl_laws.proofs.Trees.{opened_by}
-use Rattle.dasdl_laws.proofs.Turns.{Turn, turn_of}
-use Rattle.dasdl_laws.proofs.Turns.Turn.{inside, data_set, a_set as set_added}
+use Rattle.dasdl_laws.proofs.Turns.{DraftTurn, turn_of}
+use Rattle.dasdl_laws.proofs.Turns.DraftTurn.{inside, data_set, a_set as set_added}
 
 abbrev pub seen_type : ItemKind → ItemKind
 seen_type (LinkTo target counted) = LinkTo 0 false
@@ -113,7 +113,7 @@ member_alike plain o (SetOf s) a b x y e h k = ap seen (sym (ok_same a x h)) ∙
 
 -- ---- works
 
-pub record Alike (x w : Compilation) : Type 0 where
+pub record AlikeCompilations (x w : Compilation) : Type 0 where
   pub within : x.within ≡ w.within
   pub made : map seen x.made ≡ map seen w.made
 
@@ -126,11 +126,11 @@ push_alike xs ys a b e f = map-append seen xs (a ∷ []) ∙ ap (λ (l : List Dr
 set_alike : (xs ys : List Draft) (j k : ℕ) (a b : Draft) → map seen xs ≡ map seen ys → j ≡ k → seen a ≡ seen b → map seen (set xs j a) ≡ map seen (set ys k b)
 set_alike xs ys j k a b e i f = map-set seen xs j a ∙ ap (λ (l : List Draft). set l j (seen a)) e ∙ ap (λ (n : ℕ). set (map seen ys) n (seen a)) i ∙ ap (λ (d : Draft). set (map seen ys) k d) f ∙ sym (map-set seen ys k b)
 
-inside_alike : (plain : Plain) (o : List Draft) (decl : Declaration) (x w y v : Compilation) (r q : Option Draft) → option_map seen r ≡ option_map seen q → Alike x w → outlined_in plain decl x r ≡ Ok y → inside_in o decl w q ≡ Ok v → Alike y v
+inside_alike : (plain : Plain) (o : List Draft) (decl : Declaration) (x w y v : Compilation) (r q : Option Draft) → option_map seen r ≡ option_map seen q → AlikeCompilations x w → outlined_in plain decl x r ≡ Ok y → inside_in o decl w q ≡ Ok v → AlikeCompilations y v
 inside_alike plain o decl x w y v None None e a h k =
     let s : x ≡ y = ok_same x y h in
     let t : w ≡ v = ok_same w v k in
-    subst (λ (u : Compilation). Alike y u) t (subst (λ (u : Compilation). Alike u w) s a)
+    subst (λ (u : Compilation). AlikeCompilations y u) t (subst (λ (u : Compilation). AlikeCompilations u w) s a)
 inside_alike plain o decl x w y v None (Some b) e a h k = absurd (cc)
 inside_alike plain o decl x w y v (Some c) None e a h k = absurd (cc)
 inside_alike plain o decl x w y v (Some c) (Some b) e a h k =
@@ -147,11 +147,11 @@ inside_alike plain o decl x w y v (Some c) (Some b) e a h k =
       made = ap (λ (u : Compilation). map seen u.made) (sym p) ∙ set_alike x.made w.made (x.within - 1) (w.within - 1) s.0 t.0 a.made places m ∙ ap (λ (u : Compilation). map seen u.made) q;
     }
 
-got_alike : (x w : Compilation) → Alike x w → option_map seen (slice_get x.made (x.within - 1)) ≡ option_map seen (slice_get w.made (w.within - 1))
+got_alike : (x w : Compilation) → AlikeCompilations x w → option_map seen (slice_get x.made (x.within - 1)) ≡ option_map seen (slice_get w.made (w.within - 1))
 got_alike x w a =
     sym (slice_get-map seen x.made (x.within - 1)) ∙ ap (λ (l : List Draft). slice_get l (x.within - 1)) a.made ∙ ap (λ (n : ℕ). slice_get (map seen w.made) (n - 1)) a.within ∙ slice_get-map seen w.made (w.within - 1)
 
-members_alike : (plain : Plain) (o : List Draft) (decl : Declaration) (x w y v : Compilation) → Alike x w → outlined_inside plain decl x ≡ Ok y → inside_at o decl w ≡ Ok v → Alike y v
+members_alike : (plain : Plain) (o : List Draft) (decl : Declaration) (x w y v : Compilation) → AlikeCompilations x w → outlined_inside plain decl x ≡ Ok y → inside_at o decl w ≡ Ok v → AlikeCompilations y v
 unfolding outlined_inside inside_at
 members_alike plain o decl x w y v a h k = inside_alike plain o decl x w y v (slice_get x.made (x.within - 1)) (slice_get w.made (w.within - 1)) (got_alike x w a) a h k
 
@@ -169,7 +169,7 @@ by_words false b = refl
 set_seen : (w : Compilation) (s : SetDecl) (d : Draft) (p : WhereAndKey) → seen (drafted (next_structure w.made) 3 s.name w.within) ≡ seen (set_draft w s d p)
 set_seen w s d p = ap (λ (k : ℕ). record { number = next_structure w.made; kind = k; name = s.name; owner = w.within; population = 0; items = []; groups = []; cond = Empty; set = 0; form = 0; duplicates = false; parts = [] }) (by_words s.subset (is_some s.cond))
 
-set_alike_by : (o : List Draft) (w v : Compilation) (decl : Declaration) (s : SetDecl) → decl ≡ SetOf s → Turn o w v decl → (x y : Compilation) → Alike x w → outlined_set s x ≡ Ok y → Alike y v
+set_alike_by : (o : List Draft) (w v : Compilation) (decl : Declaration) (s : SetDecl) → decl ≡ SetOf s → DraftTurn o w v decl → (x y : Compilation) → AlikeCompilations x w → outlined_set s x ≡ Ok y → AlikeCompilations y v
 unfolding outlined_set
 set_alike_by o w v _ s same (inside decl none i) x y a h = let one : structures_of (SetOf s) ≡ 0 = subst (λ (z : Declaration). structures_of z ≡ 0) same none in absurd (omega (arith, one))
 set_alike_by o w v _ s same (data_set t new placed once e) x y a h = absurd (cc)
@@ -184,7 +184,7 @@ set_alike_by o w v _ s same (set_added t d p new of placed read key e) x y a h =
           ∙ ap (λ (u : Compilation). map seen u.made) (sym e);
     }
 
-data_set_alike : (o : List Draft) (s : DataSetDecl) (x w y v : Compilation) → Alike x w → outlined_data_set s x ≡ Ok y → Turn o w v (DataSet s) → Alike y v
+data_set_alike : (o : List Draft) (s : DataSetDecl) (x w y v : Compilation) → AlikeCompilations x w → outlined_data_set s x ≡ Ok y → DraftTurn o w v (DataSet s) → AlikeCompilations y v
 unfolding outlined_data_set
 data_set_alike o s x w y v a h t =
     let e = opened_by o w v (DataSet s) s refl t in
@@ -197,7 +197,7 @@ data_set_alike o s x w y v a h t =
           ∙ ap (λ (u : Compilation). map seen u.made) (sym e);
     }
 
-one_alike : (plain : Plain) (o : List Draft) (decl : Declaration) (x w y v : Compilation) → Alike x w → outlined_one plain x decl ≡ Ok y → declared_at o w decl ≡ Ok v → Alike y v
+one_alike : (plain : Plain) (o : List Draft) (decl : Declaration) (x w y v : Compilation) → AlikeCompilations x w → outlined_one plain x decl ≡ Ok y → declared_at o w decl ≡ Ok v → AlikeCompilations y v
 unfolding outlined_one declared_at
 one_alike plain o (DataSet s) x w y v a h k = data_set_alike o s x w y v a h (turn_of o w v (DataSet s) k)
 one_alike plain o (SetOf s) x w y v a h k = set_alike_by o w v (SetOf s) s refl (turn_of o w v (SetOf s) k) x y a h
@@ -207,12 +207,12 @@ one_alike plain o (Link l) x w y v a h k = members_alike plain o (Link l) x w y 
 one_alike plain o (End e) x w y v a h k = members_alike plain o (End e) x w y v a h k
 
 -- what is noted of declarations is seen as what is made of them
-pub all_alike : (plain : Plain) (o : List Draft) (ds : List Declaration) (x w y v : Compilation) → Alike x w → steps outlined_one plain x ds ≡ Ok y → steps declared_at o w ds ≡ Ok v → Alike y v
+pub all_alike : (plain : Plain) (o : List Draft) (ds : List Declaration) (x w y v : Compilation) → AlikeCompilations x w → steps outlined_one plain x ds ≡ Ok y → steps declared_at o w ds ≡ Ok v → AlikeCompilations y v
 unfolding steps
 all_alike plain o [] x w y v a h k =
     let s : x ≡ y = ok_same x y h in
     let t : w ≡ v = ok_same w v k in
-    subst (λ (u : Compilation). Alike y u) t (subst (λ (u : Compilation). Alike u w) s a)
+    subst (λ (u : Compilation). AlikeCompilations y u) t (subst (λ (u : Compilation). AlikeCompilations u w) s a)
 all_alike plain o (d ∷ ds) x w y v a h k =
     let s = bind_ok {A = Compilation} {B = Compilation} (outlined_one plain x d) _ y h in
     let t = bind_ok {A = Compilation} {B = Compilation} (declared_at o w d) _ v k in

@@ -29,14 +29,14 @@ use Rattle.dasdl_compile.specs.Sets.{set_kind, is_misplaced, set_draft}
 use Rattle.dasdl_laws.proofs.Alone.{by_words}
 use Rattle.dasdl_laws.proofs.Judging.{bind_ok, ok_same}
 use Rattle.dasdl_laws.proofs.Ordered.{Numbers, Ordered, turned, grown}
-use Rattle.dasdl_laws.proofs.Opened.{Opened, Opening, turn_opens, opens}
-use Rattle.dasdl_laws.proofs.Opened.Around.{here}
-use Rattle.dasdl_laws.proofs.Levels.{Low, AllLow}
+use Rattle.dasdl_laws.proofs.OpenedDrafts.{OpenedDrafts, Opening, turn_opens, opens}
+use Rattle.dasdl_laws.proofs.OpenedDrafts.Around.{here}
+use Rattle.dasdl_laws.proofs.Levels.{LowLevel, AllLow}
 use Rattle.dasdl_laws.proofs.Owners.{Ref, Standing, turn_stands, got_more, push}
 use Rattle.dasdl_laws.proofs.Sets.{Whole, final_at}
 use Rattle.dasdl_laws.proofs.Together.{found_as, mapped, ne_zero}
-use Rattle.dasdl_laws.proofs.Turns.{outer, Turn, turn_of, inside_kept}
-use Rattle.dasdl_laws.proofs.Turns.Turn.{inside, data_set, a_set}
+use Rattle.dasdl_laws.proofs.Turns.{outer, DraftTurn, turn_of, inside_kept}
+use Rattle.dasdl_laws.proofs.Turns.DraftTurn.{inside, data_set, a_set}
 
 -- ---- kinds by number
 
@@ -73,7 +73,7 @@ record OneAt (os : List Draft) (n : ℕ) : Type 0 where
   one : to.kind ≡ 1
 
 -- a set or subset that stands where its data set stands
-record Follows (o : List Draft) (d : Draft) : Type 0 where
+record FollowsDraft (o : List Draft) (d : Draft) : Type 0 where
   of : Draft
   name : List ℕ
   found : data_set_named name o ≡ Some of
@@ -83,30 +83,30 @@ record Follows (o : List Draft) (d : Draft) : Type 0 where
 abbrev In : List Draft → ℕ → Type 0
 In os n = (n ≡ 0) ⊎ OneAt os n
 
-abbrev Place : List Draft → List Draft → Draft → Type 0
-Place o os d = In os d.owner ⊎ Follows o d
+abbrev DraftPlace : List Draft → List Draft → Draft → Type 0
+DraftPlace o os d = In os d.owner ⊎ FollowsDraft o d
 
 in_more : (os more : List Draft) (n : ℕ) → In os n → In (os ++ more) n
 in_more os more n (inl e) = inl e
 in_more os more n (inr r) = inr (record { to = r.to; at = got_more os more (n - 1) r.to r.at; from = r.from; one = r.one })
 
-place_more : (o os more : List Draft) (d : Draft) → Place o os d → Place o (os ++ more) d
+place_more : (o os more : List Draft) (d : Draft) → DraftPlace o os d → DraftPlace o (os ++ more) d
 place_more o os more d (inl e) = inl (in_more os more d.owner e)
 place_more o os more d (inr f) = inr f
 
-places_more : (o os more ds : List Draft) → AllByRecursion (Place o os) ds → AllByRecursion (Place o (os ++ more)) ds
+places_more : (o os more ds : List Draft) → AllByRecursion (DraftPlace o os) ds → AllByRecursion (DraftPlace o (os ++ more)) ds
 places_more o os more [] h = tt
 places_more o os more (d ∷ ds) h = (place_more o os more d h.0, places_more o os more ds h.1)
 
-place_push : (o os : List Draft) (d : Draft) → AllByRecursion (Place o os) os → Place o os d → AllByRecursion (Place o (os ++ d ∷ [])) (os ++ d ∷ [])
-place_push o os d h k = push (Place o (os ++ d ∷ [])) os d (places_more o os (d ∷ []) os h) (place_more o os (d ∷ []) d k)
+place_push : (o os : List Draft) (d : Draft) → AllByRecursion (DraftPlace o os) os → DraftPlace o os d → AllByRecursion (DraftPlace o (os ++ d ∷ [])) (os ++ d ∷ [])
+place_push o os d h k = push (DraftPlace o (os ++ d ∷ [])) os d (places_more o os (d ∷ []) os h) (place_more o os (d ∷ []) d k)
 
 -- ---- what declarations add
 
 record Owning (o : List Draft) (w : Compilation) : Type 0 where
   standing : Standing (map outer w.made) w.within
   ordered : Ordered (map outer w.made)
-  places : AllByRecursion (Place o (map outer w.made)) (map outer w.made)
+  places : AllByRecursion (DraftPlace o (map outer w.made)) (map outer w.made)
   opening : Opening w
 
 by_first : (a b : Bool) → (a || b) ≡ true → b ≡ false → a ≡ true
@@ -139,24 +139,24 @@ not_so : (b : Bool) → not b ≡ true → b ≡ false
 not_so true h = absurd (cc)
 not_so false h = refl
 
-set_by : (q : Bool) (o : List Draft) (w : Compilation) (s : SetDecl) (d : Draft) (p : WhereAndKey) → Owning o w → length w.made ≤ 200 → data_set_named s.of o ≡ Some d → (d.owner == w.within) ≡ q → (q || (set_kind s == 5 && d.owner == 0 && not (kind_made w.within w.made == 2))) ≡ true → Place o (map outer w.made) (outer (set_draft w s d p))
+set_by : (q : Bool) (o : List Draft) (w : Compilation) (s : SetDecl) (d : Draft) (p : WhereAndKey) → Owning o w → length w.made ≤ 200 → data_set_named s.of o ≡ Some d → (d.owner == w.within) ≡ q → (q || (set_kind s == 5 && d.owner == 0 && not (kind_made w.within w.made == 2))) ≡ true → DraftPlace o (map outer w.made) (outer (set_draft w s d p))
 set_by true o w s d p h few found e k = inr (record { of = d; name = s.of; found = found; owner = eqb-true d.owner w.within e; kind = by_words s.subset (is_some s.cond) })
 set_by false o w s d p h few found e k = inl (in_open o w h few h.standing.around (not_so _ (and_parts (set_kind s == 5 && d.owner == 0) _ k).1))
 
-set_in : (o : List Draft) (w : Compilation) (s : SetDecl) (d : Draft) (p : WhereAndKey) → Owning o w → length w.made ≤ 200 → data_set_named s.of o ≡ Some d → is_misplaced w s d ≡ false → Place o (map outer w.made) (outer (set_draft w s d p))
+set_in : (o : List Draft) (w : Compilation) (s : SetDecl) (d : Draft) (p : WhereAndKey) → Owning o w → length w.made ≤ 200 → data_set_named s.of o ≡ Some d → is_misplaced w s d ≡ false → DraftPlace o (map outer w.made) (outer (set_draft w s d p))
 unfolding is_misplaced
 set_in o w s d p h few found placed = set_by (d.owner == w.within) o w s d p h few found refl (not-false _ placed)
 
-places_turned : (o : List Draft) (w v : Compilation) (decl : Declaration) → length w.made + structures_of decl ≤ 200 → Turn o w v decl → Owning o w → AllByRecursion (Place o (map outer v.made)) (map outer v.made)
-places_turned o w v _ few (inside decl none i) h = subst (λ (os : List Draft). AllByRecursion (Place o os) os) (sym (inside_kept o decl w v i)) h.places
+places_turned : (o : List Draft) (w v : Compilation) (decl : Declaration) → length w.made + structures_of decl ≤ 200 → DraftTurn o w v decl → Owning o w → AllByRecursion (DraftPlace o (map outer v.made)) (map outer v.made)
+places_turned o w v _ few (inside decl none i) h = subst (λ (os : List Draft). AllByRecursion (DraftPlace o os) os) (sym (inside_kept o decl w v i)) h.places
 places_turned o w v _ few (data_set s new placed once e) h =
     let d = drafted (next_structure w.made) (data_set_kind s.restart) s.name w.within in
     let made : map outer v.made ≡ map outer w.made ++ d ∷ [] = ap (λ (x : Compilation). map outer x.made) e ∙ map-append outer w.made (d ∷ []) in
-    subst (λ (os : List Draft). AllByRecursion (Place o os) os) (sym made) (place_push o (map outer w.made) d h.places (inl (data_set_in o s w h (omega (arith, few)) placed)))
+    subst (λ (os : List Draft). AllByRecursion (DraftPlace o os) os) (sym made) (place_push o (map outer w.made) d h.places (inl (data_set_in o s w h (omega (arith, few)) placed)))
 places_turned o w v _ few (a_set s d p new of placed read key e) h =
     let t = set_draft w s d p in
     let made : map outer v.made ≡ map outer w.made ++ outer t ∷ [] = ap (λ (x : Compilation). map outer x.made) e ∙ map-append outer w.made (t ∷ []) in
-    subst (λ (os : List Draft). AllByRecursion (Place o os) os) (sym made) (place_push o (map outer w.made) (outer t) h.places (set_in o w s d p h (omega (arith, few)) of placed))
+    subst (λ (os : List Draft). AllByRecursion (DraftPlace o os) os) (sym made) (place_push o (map outer w.made) (outer t) h.places (set_in o w s d p h (omega (arith, few)) of placed))
 
 steps_own : (o : List Draft) (ds : List Declaration) (w v : Compilation) → length w.made + structures_in ds ≤ 200 → Owning o w → steps declared_at o w ds ≡ Ok v → Owning o v
 unfolding steps
@@ -183,24 +183,24 @@ in_one made n (inr r) =
     let kind : kind_in (structure_at (map shape_in made) n) ≡ 1 = ap (λ (x : Option Shape). kind_in x) at ∙ ap (λ (x : Draft). x.kind) f.2 ∙ r.one in
     ap (λ (b : Bool). b || kind_in (structure_at (map shape_in made) n) == 1) some ∙ ap (λ (k : ℕ). k == 1) kind
 
-data_set_place : (o os : List Draft) (d : Draft) → is_data_set d.kind ≡ true → Place o os d → In os d.owner
+data_set_place : (o os : List Draft) (d : Draft) → is_data_set d.kind ≡ true → DraftPlace o os d → In os d.owner
 data_set_place o os d kind (inl h) = h
 data_set_place o os d kind (inr f) = absurd (both_ways (is_data_set d.kind) f.kind kind)
 
 -- where it follows a data set, it stands in what that stands in
-place_in : (noted made : List Draft) (d : Draft) → Whole noted made → AllByRecursion (Place noted (map outer made)) (map outer made) → Place noted (map outer made) (outer d) → In (map outer made) d.owner
+place_in : (noted made : List Draft) (d : Draft) → Whole noted made → AllByRecursion (DraftPlace noted (map outer made)) (map outer made) → DraftPlace noted (map outer made) (outer d) → In (map outer made) d.owner
 place_in noted made d w all (inl h) = h
 place_in noted made d w all (inr f) =
     let g = found_as f.name noted made f.of w.same w.numbers w.kinds f.found in
     let there : slice_get (map outer made) g.place ≡ Some (outer g.is) = slice_get-map outer made g.place ∙ ap (option_map outer) g.at in
     let owner : g.is.owner ≡ d.owner = ap (λ (x : Draft). x.owner) (sym g.alike) ∙ f.owner in
-    subst (In (map outer made)) owner (data_set_place noted (map outer made) (outer g.is) g.kind (final_at (Place noted (map outer made)) (map outer made) g.place (outer g.is) all there))
+    subst (In (map outer made)) owner (data_set_place noted (map outer made) (outer g.is) g.kind (final_at (DraftPlace noted (map outer made)) (map outer made) g.place (outer g.is) all there))
 
 both_hold : (a b c : Bool) → (a || b) ≡ true → (a || c) ≡ true → (a || (b && c)) ≡ true
 both_hold true b c h k = refl
 both_hold false b c h k = and_from b c h k
 
-owned_well : (noted made ds : List Draft) → Whole noted made → AllByRecursion (Low (map outer made)) (map outer made) → AllByRecursion (Place noted (map outer made)) (map outer made) → AllByRecursion (Opened (map outer made)) (map outer ds) → AllByRecursion (Place noted (map outer made)) (map outer ds) → list_all (is_owned_well (map shape_in made)) (map shape_in ds) ≡ true
+owned_well : (noted made ds : List Draft) → Whole noted made → AllByRecursion (LowLevel (map outer made)) (map outer made) → AllByRecursion (DraftPlace noted (map outer made)) (map outer made) → AllByRecursion (OpenedDrafts (map outer made)) (map outer ds) → AllByRecursion (DraftPlace noted (map outer made)) (map outer ds) → list_all (is_owned_well (map shape_in made)) (map shape_in ds) ≡ true
 unfolding is_owned_well
 owned_well noted made [] w low all opened h = refl
 owned_well noted made (d ∷ ds) w low all opened h =

@@ -29,8 +29,8 @@ use Rattle.dasdl_laws.proofs.Judging.{bind_ok, ok_same}
 use Rattle.dasdl_laws.proofs.Ordered.{grown}
 use Rattle.dasdl_laws.proofs.Sets.{final_at}
 use Rattle.dasdl_laws.proofs.Together.{mapped, ne_zero}
-use Rattle.dasdl_laws.proofs.Turns.{outer, Turn, Inside, turn_of, inside_kept}
-use Rattle.dasdl_laws.proofs.Turns.Turn.{inside, data_set, a_set}
+use Rattle.dasdl_laws.proofs.Turns.{outer, DraftTurn, Inside, turn_of, inside_kept}
+use Rattle.dasdl_laws.proofs.Turns.DraftTurn.{inside, data_set, a_set}
 use Rattle.dasdl_laws.proofs.Turns.Inside.{untouched, changed}
 
 -- number n is that of a data set
@@ -99,7 +99,7 @@ inside_stands o decl w v (changed d t at g e) h =
     (subst (λ (n : ℕ). Standing (map outer w.made) n) (sym within)
     (record { all = h.all; around = open_ref (Ref (map outer w.made)) decl d.owner w.within owner h.around }))
 
-pub turn_stands : (o : List Draft) (w v : Compilation) (decl : Declaration) → length w.made + structures_of decl ≤ 200 → Turn o w v decl → Standing (map outer w.made) w.within → Standing (map outer v.made) v.within
+pub turn_stands : (o : List Draft) (w v : Compilation) (decl : Declaration) → length w.made + structures_of decl ≤ 200 → DraftTurn o w v decl → Standing (map outer w.made) w.within → Standing (map outer v.made) v.within
 turn_stands o w v _ few (inside decl none i) h = inside_stands o decl w v i h
 turn_stands o w v _ few (data_set s new placed once e) h =
     let d = drafted (next_structure w.made) (data_set_kind s.restart) s.name w.within in

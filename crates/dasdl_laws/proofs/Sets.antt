@@ -32,7 +32,7 @@ use Rattle.std.specs.Prelude.{is_none}
 use Rattle.dms_desc_bytes.specs.Lists.{is_empty}
 use Rattle.dasdl_compile.specs.Sets.{lacks_key}
 use Rattle.dasdl_laws.proofs.Filled.{key_filled}
-use Rattle.dasdl_laws.proofs.Parts.{Within}
+use Rattle.dasdl_laws.proofs.Parts.{GroupWithin}
 use Rattle.dasdl_laws.proofs.Written.{IsSomeKey}
 use Rattle.dasdl_laws.proofs.Judging.{bind_ok, ok_same}
 use Rattle.dasdl_laws.proofs.Judged.{condition_sound}
@@ -68,11 +68,11 @@ no_key : (is : List Member) → is_key_sound is [] ≡ true
 unfolding is_key_sound
 no_key is = refl
 
-key_by : (d : Draft) (s : SetDecl) (r : Option KeyDecl) (ps : List KeyPart) → length d.items ≤ 254 → AllByRecursion (Within (length d.items)) d.groups → key_in d s r ≡ Ok ps → is_key_sound d.items ps ≡ true
+key_by : (d : Draft) (s : SetDecl) (r : Option KeyDecl) (ps : List KeyPart) → length d.items ≤ 254 → AllByRecursion (GroupWithin (length d.items)) d.groups → key_in d s r ≡ Ok ps → is_key_sound d.items ps ≡ true
 key_by d s None ps few w h = subst (λ (x : List KeyPart). is_key_sound d.items x ≡ true) (ok_same [] ps h) (no_key d.items)
 key_by d s (Some k) ps few w h = key_sound s.name d k.parts ps few w h
 
-keys_sound : (d : Draft) (s : SetDecl) (ps : List KeyPart) → length d.items ≤ 254 → AllByRecursion (Within (length d.items)) d.groups → key_of d s ≡ Ok ps → is_key_sound d.items ps ≡ true
+keys_sound : (d : Draft) (s : SetDecl) (ps : List KeyPart) → length d.items ≤ 254 → AllByRecursion (GroupWithin (length d.items)) d.groups → key_of d s ≡ Ok ps → is_key_sound d.items ps ≡ true
 unfolding key_of
 keys_sound d s ps few w h = key_by d s s.key ps few w h
 
@@ -80,12 +80,12 @@ some_part : (ps : List KeyPart) → 1 ≤ length ps → not (is_empty ps) ≡ tr
 some_part [] h = absurd (omega (arith, h))
 some_part (p ∷ ps) h = refl
 
-filled_by : (d : Draft) (s : SetDecl) (q : Bool) (r : Option KeyDecl) (ps : List KeyPart) → length d.items ≤ 254 → AllByRecursion (Within (length d.items)) d.groups → IsSomeKey r → is_none r && not q ≡ false → key_in d s r ≡ Ok ps → (q || not (is_empty ps)) ≡ true
+filled_by : (d : Draft) (s : SetDecl) (q : Bool) (r : Option KeyDecl) (ps : List KeyPart) → length d.items ≤ 254 → AllByRecursion (GroupWithin (length d.items)) d.groups → IsSomeKey r → is_none r && not q ≡ false → key_in d s r ≡ Ok ps → (q || not (is_empty ps)) ≡ true
 filled_by d s true r ps few w some lacks h = refl
 filled_by d s false None ps few w some lacks h = absurd (cc)
 filled_by d s false (Some k) ps few w some lacks h = some_part ps (key_filled s.name d k.parts ps few w some h)
 
-filled : (d : Draft) (s : SetDecl) (ps : List KeyPart) → length d.items ≤ 254 → AllByRecursion (Within (length d.items)) d.groups → IsSomeKey s.key → lacks_key s ≡ false → key_of d s ≡ Ok ps → (set_kind s == 5 || not (is_empty ps)) ≡ true
+filled : (d : Draft) (s : SetDecl) (ps : List KeyPart) → length d.items ≤ 254 → AllByRecursion (GroupWithin (length d.items)) d.groups → IsSomeKey s.key → lacks_key s ≡ false → key_of d s ≡ Ok ps → (set_kind s == 5 || not (is_empty ps)) ≡ true
 unfolding key_of
 filled d s ps few w some lacks h = filled_by d s (set_kind s == 5) s.key ps few w some lacks h
 
@@ -130,18 +130,18 @@ final_at P [] k d h e = absurd (cc)
 final_at P (x ∷ xs) zero d h e = let one : x ≡ d = cc in subst P one h.0
 final_at P (x ∷ xs) (suc k) d h e = final_at P xs k d h.1 e
 
-groups_within : (o : List Draft) (d : Draft) → Final o d → AllByRecursion (Within (length d.items)) d.groups
+groups_within : (o : List Draft) (d : Draft) → Final o d → AllByRecursion (GroupWithin (length d.items)) d.groups
 groups_within o d (a_data_set_made h) = h.ended.sofar.grouped.within
-groups_within o d (a_set_made h) = subst (λ (x : Draft). AllByRecursion (Within (length x.items)) x.groups) h.is tt
+groups_within o d (a_set_made h) = subst (λ (x : Draft). AllByRecursion (GroupWithin (length x.items)) x.groups) h.is tt
 
-set_shape : (made : List Draft) (w : Compilation) (s : SetDecl) (of : Draft) (p : WhereAndKey) (f : FoundAs made of) → length f.is.items ≤ 60 → AllByRecursion (Within (length f.is.items)) f.is.groups → is_misplaced w s of ≡ false → options_at of s ≡ Ok p → lacks_key s ≡ false → IsPlainCondition s.cond → IsSomeKey s.key → is_set_together (map shape_in made) (shape_in (set_draft w s of p)) ≡ true
+set_shape : (made : List Draft) (w : Compilation) (s : SetDecl) (of : Draft) (p : WhereAndKey) (f : FoundAs made of) → length f.is.items ≤ 60 → AllByRecursion (GroupWithin (length f.is.items)) f.is.groups → is_misplaced w s of ≡ false → options_at of s ≡ Ok p → lacks_key s ≡ false → IsPlainCondition s.cond → IsSomeKey s.key → is_set_together (map shape_in made) (shape_in (set_draft w s of p)) ≡ true
 unfolding is_set_together kind_of owner_of items_at is_set_placed
 set_shape made w s of p f few groups placed read lacks plain some =
     let items : map seen_item of.items ≡ map seen_item f.is.items = ap (λ (x : Draft). x.items) f.alike in
     let size : length of.items ≡ length f.is.items = sym (length-map of.items seen_item) ∙ ap length items ∙ length-map f.is.items seen_item in
     let low : length of.items ≤ 254 = omega (arith, size, few) in
     let gs : f.is.groups ≡ of.groups = ap (λ (x : Draft). x.groups) (sym f.alike) in
-    let within : AllByRecursion (Within (length of.items)) of.groups = subst (λ (n : ℕ). AllByRecursion (Within n) of.groups) (sym size) (subst (AllByRecursion (Within (length f.is.items))) gs groups) in
+    let within : AllByRecursion (GroupWithin (length of.items)) of.groups = subst (λ (n : ℕ). AllByRecursion (GroupWithin n) of.groups) (sym size) (subst (AllByRecursion (GroupWithin (length f.is.items))) gs groups) in
     let o = options_read of s p read in
     let owner : f.is.owner ≡ of.owner = ap (λ (x : Draft). x.owner) (sym f.alike) in
     let key : is_key_sound f.is.items p.parts ≡ true = sym (same_keys of.items f.is.items p.parts items) ∙ keys_sound of s p.parts low within o.0 in

@@ -40,11 +40,11 @@ use Rattle.dasdl_laws.proofs.Nested.{owned, HasIn, any_left, any_right, all_in, 
 use Rattle.dasdl_laws.proofs.Judging.{bind_ok, ok_same, steps_split, one_step}
 use Rattle.dasdl_laws.proofs.Members.{item_adds, link_adds}
 use Rattle.dasdl_laws.proofs.Ordered.{counts}
-use Rattle.dasdl_laws.proofs.Parts.{Sofar, sofar_adds, grown, group_adds, Ended, ended, end_items}
-use Rattle.dasdl_laws.proofs.Turns.{outer, Turn, Inside, turn_of, member_kept}
-use Rattle.dasdl_laws.proofs.Turns.Turn.{inside, data_set, a_set as set_added}
+use Rattle.dasdl_laws.proofs.Parts.{Sofar, sofar_adds, grown, group_adds, EndedDraft, ended, end_items}
+use Rattle.dasdl_laws.proofs.Turns.{outer, DraftTurn, Inside, turn_of, member_kept}
+use Rattle.dasdl_laws.proofs.Turns.DraftTurn.{inside, data_set, a_set as set_added}
 use Rattle.dasdl_laws.proofs.Turns.Inside.{untouched, changed}
-use Rattle.dasdl_laws.proofs.Written.{IsWritten, IsWrittenSet, IsPlainCondition, item_written, group_written, link_name, head_name, end_written, set_written}
+use Rattle.dasdl_laws.proofs.Written.{IsWrittenItem, IsWrittenSet, IsPlainCondition, item_written, group_written, link_name, head_name, end_written, set_written}
 
 -- ---- structures that are done
 
@@ -55,7 +55,7 @@ pub record DataSetMade (o : List Draft) (d : Draft) : Type 0 where
   pub called : List ℕ
   pub name : is_name d.name ≡ true
   pub outside : outer d ≡ drafted number (data_set_kind restart) called owner
-  pub ended : Ended o d
+  pub ended : EndedDraft o d
 
 pub record SetMade (o : List Draft) (d : Draft) : Type 0 where
   pub work : Compilation
@@ -83,7 +83,7 @@ pub record Adding (o : List Draft) (w v : Compilation) : Type 0 where
   pub closed : AllByRecursion (HasIn new) new
 
 -- the open data set has more items, and structures were added
-pub record Grows (o : List Draft) (pre : List Draft) (d : Draft) (post : List Draft) (w v : Compilation) (n : ℕ) : Type 0 where
+pub record GrowsDrafts (o : List Draft) (pre : List Draft) (d : Draft) (post : List Draft) (w v : Compilation) (n : ℕ) : Type 0 where
   pub now : Draft
   pub new : List Draft
   pub made : v.made ≡ pre ++ now ∷ (post ++ new)
@@ -103,7 +103,7 @@ no_data_set true true = refl
 no_data_set true false = refl
 no_data_set false b = refl
 
-adding_grows : (o pre : List Draft) (d : Draft) (post : List Draft) (w v : Compilation) → w.made ≡ pre ++ d ∷ post → Sofar o d → Adding o w v → Grows o pre d post w v 0
+adding_grows : (o pre : List Draft) (d : Draft) (post : List Draft) (w v : Compilation) → w.made ≡ pre ++ d ∷ post → Sofar o d → Adding o w v → GrowsDrafts o pre d post w v 0
 adding_grows o pre d post w v e h a =
     record { now = d; new = a.new; made = a.made ∙ ap (λ (x : List Draft). x ++ a.new) e ∙ append_assoc pre (d ∷ post) a.new; within = a.within; outside = refl; sofar = h; items = omega arith; final = a.final; member = inr a.some; closed = a.closed }
 
@@ -119,13 +119,13 @@ at_open pre d post w e at =
     ap (λ (x : List Draft). slice_get x (w.within - 1)) e ∙ ap (λ (n : ℕ). slice_get (pre ++ d ∷ post) n) k ∙ behind pre d post
 
 -- what a member makes of it
-record Makes (o : List Draft) (decl : Declaration) (pre : List Draft) (d : Draft) (post : List Draft) (w v : Compilation) : Type 0 where
+record MakesDraft (o : List Draft) (decl : Declaration) (pre : List Draft) (d : Draft) (post : List Draft) (w v : Compilation) : Type 0 where
   now : Draft
   is : member_at o decl d ≡ Ok now
   made : v.made ≡ pre ++ now ∷ post
   within : v.within ≡ open_after decl d.owner w.within
 
-makes : (o : List Draft) (decl : Declaration) (pre : List Draft) (d : Draft) (post : List Draft) (w v : Compilation) → w.made ≡ pre ++ d ∷ post → w.within ≡ length pre + 1 → Inside o decl w v → Makes o decl pre d post w v
+makes : (o : List Draft) (decl : Declaration) (pre : List Draft) (d : Draft) (post : List Draft) (w v : Compilation) → w.made ≡ pre ++ d ∷ post → w.within ≡ length pre + 1 → Inside o decl w v → MakesDraft o decl pre d post w v
 makes o decl pre d post w v e at (untouched none same) = let is = at_open pre d post w e at in absurd (cc)
 makes o decl pre d post w v e at (changed d0 t found h same) =
     let is = at_open pre d post w e at in
@@ -138,7 +138,7 @@ makes o decl pre d post w v e at (changed d0 t found h same) =
       within = ap (λ (x : Compilation). x.within) same ∙ ap (λ (x : Draft). open_after decl x.owner w.within) one;
     }
 
-inside_of : (o : List Draft) (w v : Compilation) (decl : Declaration) → Turn o w v decl → structures_of decl ≡ 0 → Inside o decl w v
+inside_of : (o : List Draft) (w v : Compilation) (decl : Declaration) → DraftTurn o w v decl → structures_of decl ≡ 0 → Inside o decl w v
 inside_of o w v _ (inside decl none i) h = i
 inside_of o w v _ (data_set s new placed once e) h = absurd (omega (arith, h))
 inside_of o w v _ (set_added s d p new of placed read key e) h = absurd (omega (arith, h))
@@ -146,21 +146,21 @@ inside_of o w v _ (set_added s d p new of placed read key e) h = absurd (omega (
 nothing_after : (pre : List Draft) (t : Draft) (post made : List Draft) → made ≡ pre ++ t ∷ post → made ≡ pre ++ t ∷ (post ++ [])
 nothing_after pre t post made e = e ∙ ap (λ (x : List Draft). pre ++ t ∷ x) (sym (append-nil post))
 
-item_grows : (o pre : List Draft) (d : Draft) (post : List Draft) (w v : Compilation) (i : ItemDecl) → IsWritten i → w.made ≡ pre ++ d ∷ post → w.within ≡ length pre + 1 → Sofar o d → steps declared_at o w (Item i ∷ []) ≡ Ok v → Grows o pre d post w v 1
+item_grows : (o pre : List Draft) (d : Draft) (post : List Draft) (w v : Compilation) (i : ItemDecl) → IsWrittenItem i → w.made ≡ pre ++ d ∷ post → w.within ≡ length pre + 1 → Sofar o d → steps declared_at o w (Item i ∷ []) ≡ Ok v → GrowsDrafts o pre d post w v 1
 unfolding member_at
 item_grows o pre d post w v i z e at h k =
     let m = makes o (Item i) pre d post w v e at (inside_of o w v (Item i) (turn_of o w v (Item i) (one_step declared_at o w (Item i) v k)) refl) in
     let a = item_adds o d m.now i z m.is in
     record { now = m.now; new = []; made = nothing_after pre m.now post v.made m.made; within = m.within; outside = member_kept o (Item i) d m.now m.is; sofar = sofar_adds o d m.now a h; items = (grown o d m.now a).0; final = tt; member = inl (some_items (length d.items) 1 (length m.now.items) (grown o d m.now a).0 (omega arith)); closed = tt }
 
-link_grows : (o pre : List Draft) (d : Draft) (post : List Draft) (w v : Compilation) (l : LinkDecl) → is_name l.name ≡ true → w.made ≡ pre ++ d ∷ post → w.within ≡ length pre + 1 → Sofar o d → steps declared_at o w (Link l ∷ []) ≡ Ok v → Grows o pre d post w v 1
+link_grows : (o pre : List Draft) (d : Draft) (post : List Draft) (w v : Compilation) (l : LinkDecl) → is_name l.name ≡ true → w.made ≡ pre ++ d ∷ post → w.within ≡ length pre + 1 → Sofar o d → steps declared_at o w (Link l ∷ []) ≡ Ok v → GrowsDrafts o pre d post w v 1
 unfolding member_at
 link_grows o pre d post w v l z e at h k =
     let m = makes o (Link l) pre d post w v e at (inside_of o w v (Link l) (turn_of o w v (Link l) (one_step declared_at o w (Link l) v k)) refl) in
     let a = link_adds o d m.now l z m.is in
     record { now = m.now; new = []; made = nothing_after pre m.now post v.made m.made; within = m.within; outside = member_kept o (Link l) d m.now m.is; sofar = sofar_adds o d m.now a h; items = (grown o d m.now a).0; final = tt; member = inl (some_items (length d.items) 1 (length m.now.items) (grown o d m.now a).0 (omega arith)); closed = tt }
 
-group_grows : (o pre : List Draft) (d : Draft) (post : List Draft) (w v : Compilation) (g : GroupDecl) → is_name g.name ≡ true → AllByRecursion IsWritten g.items × (1 ≤ length g.items) → length d.items + length g.items ≤ 60 → w.made ≡ pre ++ d ∷ post → w.within ≡ length pre + 1 → Sofar o d → steps declared_at o w (Group g ∷ []) ≡ Ok v → Grows o pre d post w v (length g.items)
+group_grows : (o pre : List Draft) (d : Draft) (post : List Draft) (w v : Compilation) (g : GroupDecl) → is_name g.name ≡ true → AllByRecursion IsWrittenItem g.items × (1 ≤ length g.items) → length d.items + length g.items ≤ 60 → w.made ≡ pre ++ d ∷ post → w.within ≡ length pre + 1 → Sofar o d → steps declared_at o w (Group g ∷ []) ≡ Ok v → GrowsDrafts o pre d post w v (length g.items)
 unfolding member_at
 group_grows o pre d post w v g named z room e at h k =
     let m = makes o (Group g) pre d post w v e at (inside_of o w v (Group g) (turn_of o w v (Group g) (one_step declared_at o w (Group g) v k)) refl) in
@@ -169,7 +169,7 @@ group_grows o pre d post w v g named z room e at h k =
 
 -- ---- sets
 
-set_adding_by : (o : List Draft) (w v : Compilation) (decl : Declaration) (s : SetDecl) → IsWrittenSet s → decl ≡ SetOf s → Turn o w v decl → Adding o w v
+set_adding_by : (o : List Draft) (w v : Compilation) (decl : Declaration) (s : SetDecl) → IsWrittenSet s → decl ≡ SetOf s → DraftTurn o w v decl → Adding o w v
 set_adding_by o w v _ s z same (inside decl none i) = let one : structures_of (SetOf s) ≡ 0 = subst (λ (x : Declaration). structures_of x ≡ 0) same none in absurd (omega (arith, one))
 set_adding_by o w v _ s z same (data_set h new placed once e) = absurd (cc)
 set_adding_by o w v _ s z same (set_added t d p new of placed read key e) =
@@ -181,7 +181,7 @@ set_adding o w v s z k = set_adding_by o w v (SetOf s) s z refl (turn_of o w v (
 
 -- ---- data sets
 
-pub opened_by : (o : List Draft) (w v : Compilation) (decl : Declaration) (s : DataSetDecl) → decl ≡ DataSet s → Turn o w v decl → v ≡ record { made = w.made ++ drafted (next_structure w.made) (data_set_kind s.restart) s.name w.within ∷ []; within = next_structure w.made }
+pub opened_by : (o : List Draft) (w v : Compilation) (decl : Declaration) (s : DataSetDecl) → decl ≡ DataSet s → DraftTurn o w v decl → v ≡ record { made = w.made ++ drafted (next_structure w.made) (data_set_kind s.restart) s.name w.within ∷ []; within = next_structure w.made }
 opened_by o w v _ s same (inside decl none i) = let one : structures_of (DataSet s) ≡ 0 = subst (λ (x : Declaration). structures_of x ≡ 0) same none in absurd (omega (arith, one))
 opened_by o w v _ s same (data_set h new placed once e) =
     let one : h ≡ s = cc in
@@ -190,7 +190,7 @@ opened_by o w v _ s same (set_added t d p new of placed read key e) = absurd (cc
 
 -- what the members of a data set do, wherever it stands
 abbrev Grow : List Draft → List Declaration → ℕ → Type 0
-Grow o ds n = (pre : List Draft) (d : Draft) (post : List Draft) (w v : Compilation) → w.made ≡ pre ++ d ∷ post → w.within ≡ length pre + 1 → Sofar o d → length d.items + n ≤ 60 → length w.made + structures_in ds ≤ 200 → steps declared_at o w ds ≡ Ok v → Grows o pre d post w v n
+Grow o ds n = (pre : List Draft) (d : Draft) (post : List Draft) (w v : Compilation) → w.made ≡ pre ++ d ∷ post → w.within ≡ length pre + 1 → Sofar o d → length d.items + n ≤ 60 → length w.made + structures_in ds ≤ 200 → steps declared_at o w ds ≡ Ok v → GrowsDrafts o pre d post w v n
 
 no_members : (o : List Draft) (number kind : ℕ) (name : List ℕ) (owner : ℕ) → Sofar o (drafted number kind name owner)
 unfolding members_differ
@@ -201,7 +201,7 @@ first_in d new within n e same (inl h) = inl (omega (arith, e, h))
 first_in d new within n e same (inr h) = inr (any_right (owned d.number) (d ∷ []) new (subst (λ (k : ℕ). list_any (owned k) new ≡ true) same h))
 
 ends : (o : List Draft) (head : DataSetDecl) (end : DataSetEnd) (n : ℕ) (w u v x : Compilation) → is_name head.name ≡ true → n ≤ 60 → IsPlainCondition end.verify × (is_within 1 1000000 end.population ≡ true) → x.within ≡ length w.made + 1 → x.within ≡ next_structure w.made
-    → Grows o w.made (drafted (next_structure w.made) (data_set_kind head.restart) head.name w.within) [] x u n → declared_at o u (End end) ≡ Ok v → Adding o w v
+    → GrowsDrafts o w.made (drafted (next_structure w.made) (data_set_kind head.restart) head.name w.within) [] x u n → declared_at o u (End end) ≡ Ok v → Adding o w v
 unfolding member_at
 ends o head end n w u v x named few z at number g k =
     let m = makes o (End end) w.made g.now ([] ++ g.new) u v g.made (g.within ∙ at) (inside_of o u v (End end) (turn_of o u v (End end) k) refl) in
@@ -245,7 +245,7 @@ further_in : (a m b within : ℕ) (xs ys : List Draft) → b ≡ a + m → (1 �
 further_in a m b within xs ys e (inl h) = inl (omega (arith, e, h))
 further_in a m b within xs ys e (inr h) = inr (any_left (owned within) xs ys h)
 
-further : (o pre : List Draft) (d : Draft) (post : List Draft) (w u v : Compilation) (n m : ℕ) (a : Grows o pre d post w u n) → Grows o pre a.now (post ++ a.new) u v m → Grows o pre d post w v (n + m)
+further : (o pre : List Draft) (d : Draft) (post : List Draft) (w u v : Compilation) (n m : ℕ) (a : GrowsDrafts o pre d post w u n) → GrowsDrafts o pre a.now (post ++ a.new) u v m → GrowsDrafts o pre d post w v (n + m)
 further o pre d post w u v n m a b =
     let x = a.items in
     let y = b.items in

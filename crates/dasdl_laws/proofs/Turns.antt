@@ -76,16 +76,16 @@ inside_by o decl w v (Some d) e h =
     changed d a.0 e a.1 (sym (ok_same _ v a.2))
 
 -- a declaration adds a structure, or says something of the data set that is open
-pub data Turn (o : List Draft) (w v : Compilation) : Declaration → Type 0 where
-  inside : (decl : Declaration) → structures_of decl ≡ 0 → Inside o decl w v → Turn o w v decl
-  data_set : (s : DataSetDecl) → is_structure s.name w.made ≡ false → is_data_set_misplaced s w ≡ false → s.restart && has_restart w.made ≡ false → v ≡ record { made = w.made ++ drafted (next_structure w.made) (data_set_kind s.restart) s.name w.within ∷ []; within = next_structure w.made } → Turn o w v (DataSet s)
-  a_set : (s : SetDecl) (d : Draft) (p : WhereAndKey) → is_structure s.name w.made ≡ false → data_set_named s.of o ≡ Some d → is_misplaced w s d ≡ false → options_at d s ≡ Ok p → lacks_key s ≡ false → v ≡ record { made = w.made ++ set_draft w s d p ∷ []; within = w.within } → Turn o w v (SetOf s)
+pub data DraftTurn (o : List Draft) (w v : Compilation) : Declaration → Type 0 where
+  inside : (decl : Declaration) → structures_of decl ≡ 0 → Inside o decl w v → DraftTurn o w v decl
+  data_set : (s : DataSetDecl) → is_structure s.name w.made ≡ false → is_data_set_misplaced s w ≡ false → s.restart && has_restart w.made ≡ false → v ≡ record { made = w.made ++ drafted (next_structure w.made) (data_set_kind s.restart) s.name w.within ∷ []; within = next_structure w.made } → DraftTurn o w v (DataSet s)
+  a_set : (s : SetDecl) (d : Draft) (p : WhereAndKey) → is_structure s.name w.made ≡ false → data_set_named s.of o ≡ Some d → is_misplaced w s d ≡ false → options_at d s ≡ Ok p → lacks_key s ≡ false → v ≡ record { made = w.made ++ set_draft w s d p ∷ []; within = w.within } → DraftTurn o w v (SetOf s)
 
-inside_turn : (o : List Draft) (decl : Declaration) (w v : Compilation) → structures_of decl ≡ 0 → inside_at o decl w ≡ Ok v → Turn o w v decl
+inside_turn : (o : List Draft) (decl : Declaration) (w v : Compilation) → structures_of decl ≡ 0 → inside_at o decl w ≡ Ok v → DraftTurn o w v decl
 unfolding inside_at
 inside_turn o decl w v none h = inside decl none (inside_by o decl w v _ refl h)
 
-data_set_turn : (o : List Draft) (s : DataSetDecl) (w v : Compilation) → data_set_at s w ≡ Ok v → Turn o w v (DataSet s)
+data_set_turn : (o : List Draft) (s : DataSetDecl) (w v : Compilation) → data_set_at s w ≡ Ok v → DraftTurn o w v (DataSet s)
 unfolding data_set_at
 data_set_turn o s w v h =
     let a = skip_ok (is_structure s.name w.made) _ _ _ h in
@@ -93,7 +93,7 @@ data_set_turn o s w v h =
     let c = skip_ok (s.restart && has_restart w.made) _ _ _ b.1 in
     data_set s a.0 b.0 c.0 (sym (ok_same _ v c.1))
 
-set_over_turn : (o : List Draft) (s : SetDecl) (d : Draft) (w v : Compilation) → is_structure s.name w.made ≡ false → data_set_named s.of o ≡ Some d → set_over s d w ≡ Ok v → Turn o w v (SetOf s)
+set_over_turn : (o : List Draft) (s : SetDecl) (d : Draft) (w v : Compilation) → is_structure s.name w.made ≡ false → data_set_named s.of o ≡ Some d → set_over s d w ≡ Ok v → DraftTurn o w v (SetOf s)
 unfolding set_over
 set_over_turn o s d w v new e h =
     let b = skip_ok (is_misplaced w s d) _ _ _ h in
@@ -101,17 +101,17 @@ set_over_turn o s d w v new e h =
     let k = skip_ok (lacks_key s) _ _ _ c.2 in
     a_set s d c.0 new e b.0 c.1 k.0 (sym (ok_same _ v k.1))
 
-set_in_turn : (o : List Draft) (s : SetDecl) (w v : Compilation) (r : Option Draft) → is_structure s.name w.made ≡ false → data_set_named s.of o ≡ r → set_in s w r ≡ Ok v → Turn o w v (SetOf s)
+set_in_turn : (o : List Draft) (s : SetDecl) (w v : Compilation) (r : Option Draft) → is_structure s.name w.made ≡ false → data_set_named s.of o ≡ r → set_in s w r ≡ Ok v → DraftTurn o w v (SetOf s)
 set_in_turn o s w v None new e h = absurd (cc)
 set_in_turn o s w v (Some d) new e h = set_over_turn o s d w v new e h
 
-set_turn : (o : List Draft) (s : SetDecl) (w v : Compilation) → set_at o s w ≡ Ok v → Turn o w v (SetOf s)
+set_turn : (o : List Draft) (s : SetDecl) (w v : Compilation) → set_at o s w ≡ Ok v → DraftTurn o w v (SetOf s)
 unfolding set_at
 set_turn o s w v h =
     let a = skip_ok (is_structure s.name w.made) _ _ _ h in
     set_in_turn o s w v _ a.0 refl a.1
 
-pub turn_of : (o : List Draft) (w v : Compilation) (decl : Declaration) → declared_at o w decl ≡ Ok v → Turn o w v decl
+pub turn_of : (o : List Draft) (w v : Compilation) (decl : Declaration) → declared_at o w decl ≡ Ok v → DraftTurn o w v decl
 unfolding declared_at
 turn_of o w v (DataSet s) h = data_set_turn o s w v h
 turn_of o w v (SetOf s) h = set_turn o s w v h

@@ -161,34 +161,34 @@ options_plain _ _ (one_more s t xs ys o e) = option_plain s t ys e (options_plai
 options_plain _ _ (behind_comma s t xs ys o e) = option_plain s t ys e (options_plain s xs o)
 
 -- what the grammar says of an item
-pub record IsWritten (i : ItemDecl) : Type 0 where
+pub record IsWrittenItem (i : ItemDecl) : Type 0 where
   pub name : is_name i.name ≡ true
   pub kind : is_kind i.kind ≡ true
   pub plain : is_link i.kind ≡ false
   pub initial : IsPlainInitial i.initial
 
-pub item_written : (place : ℕ) (name : List ℕ) (i : ItemDecl) (xs : List Token) → IsItem place name i xs → is_name name ≡ true → IsWritten i
+pub item_written : (place : ℕ) (name : List ℕ) (i : ItemDecl) (xs : List Token) → IsItem place name i xs → is_name name ≡ true → IsWrittenItem i
 item_written _ _ _ _ (an_item place name kind said xs ys k o) n =
     let a = kind_range kind xs k in
     record { name = n; kind = a.0; plain = a.1; initial = options_plain said ys o }
 
 -- ---- groups, links and structures
 
-named_item : (i : ItemDecl) (us : List Lexeme) → IsNamedItem i us → IsWritten i
+named_item : (i : ItemDecl) (us : List Lexeme) → IsNamedItem i us → IsWrittenItem i
 named_item _ _ (a_named_item l name item vs e n i) = item_written l.place name item _ i n
 
-written_push : (is : List ItemDecl) (i : ItemDecl) → AllByRecursion IsWritten is → IsWritten i → AllByRecursion IsWritten (is ++ i ∷ [])
+written_push : (is : List ItemDecl) (i : ItemDecl) → AllByRecursion IsWrittenItem is → IsWrittenItem i → AllByRecursion IsWrittenItem (is ++ i ∷ [])
 written_push [] i h w = (w, tt)
 written_push (x ∷ xs) i h w = (h.0, written_push xs i h.1 w)
 
-items_written : (is : List ItemDecl) (us : List Lexeme) → AreItems is us → AllByRecursion IsWritten is × (1 ≤ length is)
+items_written : (is : List ItemDecl) (us : List Lexeme) → AreItems is us → AllByRecursion IsWrittenItem is × (1 ≤ length is)
 items_written _ _ (first_item i us n) = ((named_item i us n, tt), omega arith)
 items_written _ _ (next_item is i us vs a n) =
     let h = items_written is us a in
     let some = h.1 in
     (written_push is i h.0 (named_item i vs n), omega (arith, some, length-append is (i ∷ [])))
 
-pub group_written : (is : List ItemDecl) (us : List Lexeme) → IsGroup is us → AllByRecursion IsWritten is × (1 ≤ length is)
+pub group_written : (is : List ItemDecl) (us : List Lexeme) → IsGroup is us → AllByRecursion IsWrittenItem is × (1 ≤ length is)
 group_written _ _ (a_group g o c z is us e f a h i) = items_written is us a
 
 pub link_name : (place : ℕ) (name : List ℕ) (l : LinkDecl) (xs : List Token) → IsLink place name l xs → l.name ≡ name

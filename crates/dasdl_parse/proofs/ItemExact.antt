@@ -23,7 +23,7 @@ use Rattle.dasdl_parse.specs.ItemSpelling.{IsItem, IsLink}
 use Rattle.dasdl_parse.specs.ItemSpelling.IsItem.{an_item}
 use Rattle.dasdl_parse.specs.ItemSpelling.IsLink.{a_link, a_counted_link}
 use Rattle.dasdl_phrases.proofs.Inverting.{bind_ok, skip_ok, ok_same}
-use Rattle.dasdl_phrases.proofs.SpelledTokens.{Starts, word_spelled, sign_spelled, name_spelled}
+use Rattle.dasdl_phrases.proofs.SpelledTokens.{StartsToken, word_spelled, sign_spelled, name_spelled}
 use Rattle.dasdl_phrases.proofs.CondSound.{pick}
 use Rattle.dasdl_phrases.proofs.CondComplete.{splits, heads, none_left, word_reads, sign_reads, name_reads}
 use Rattle.dasdl_phrases.proofs.KindExact.{kind_sound, kind_complete}
@@ -64,7 +64,7 @@ item_complete place name us rest item d = item_reads place name item (map token_
 -- whether COUNTED was said, and then fewer than 4,000 were
 abbrev CountedRead : ℕ → List Lexeme → Bool → List Lexeme → Type 0
 CountedRead n ts false rest = ts ≡ rest
-CountedRead n ts true rest = Starts (Word (codes "COUNTED")) ts rest × (n < 4000)
+CountedRead n ts true rest = StartsToken (Word (codes "COUNTED")) ts rest × (n < 4000)
 
 counted_sound : (n : ℕ) (ts : List Lexeme) (c : Bool) (rest : List Lexeme) → counted_at n ts ≡ Ok (c, rest) → CountedRead n ts c rest
 unfolding counted_at
@@ -82,7 +82,7 @@ record LinkRead (n place : ℕ) (name : List ℕ) (ts : List Lexeme) (link : Lin
   reads : Reads (IsLink place name) ts link rest
   few : link.counted ≡ true → n < 4000
 
-by_counted : (n place : ℕ) (name target : List ℕ) (c : Bool) (ts mid late last : List Lexeme) (k l t : Lexeme) → k.token ≡ Word (codes "LINK") → l.token ≡ Word (codes "TO") → t.token ≡ Word target → IsTrue (is_name target) → ts ≡ k ∷ l ∷ t ∷ mid → CountedRead n mid c late → Starts (Sign 59) late last → LinkRead n place name ts (record { place = place; name = name; target = target; counted = c }) last
+by_counted : (n place : ℕ) (name target : List ℕ) (c : Bool) (ts mid late last : List Lexeme) (k l t : Lexeme) → k.token ≡ Word (codes "LINK") → l.token ≡ Word (codes "TO") → t.token ≡ Word target → IsTrue (is_name target) → ts ≡ k ∷ l ∷ t ∷ mid → CountedRead n mid c late → StartsToken (Sign 59) late last → LinkRead n place name ts (record { place = place; name = name; target = target; counted = c }) last
 by_counted n place name target false ts mid late last k l t a b d named e c z = record {
   reads = record {
     used = k ∷ l ∷ t ∷ z.first ∷ [];

@@ -24,7 +24,7 @@ use Rattle.dasdl_parse.specs.OptionSpelling.ItemOption.{says_required, says_init
 use Rattle.dasdl_phrases.proofs.Inverting.{bind_ok, ok_same}
 use Rattle.dasdl_phrases.proofs.SpelledTokens.{word_spelled, equal_spelled, literal_spelled}
 use Rattle.dasdl_phrases.proofs.CondComplete.{heads, none_left, literal_reads}
-use Rattle.dasdl_parse.proofs.OptionsExact.{Begins, options_sound, options_complete}
+use Rattle.dasdl_parse.proofs.OptionsExact.{BeginsOption, options_sound, options_complete}
 
 is_next : (s : ItemOptions) (ts : List Lexeme) → next_item_option_at s ts ≡ (comma_at ts >>= λ t1. item_option_at s t1)
 unfolding next_item_option_at
@@ -117,7 +117,7 @@ completes _ _ _ (says_null required) us rest e =
 is_complete : (s t : ItemOptions) (us rest : List Lexeme) → ItemOption s t (map token_of us) → item_option_at s (us ++ rest) ≡ Ok (t, rest)
 is_complete s t us rest o = completes s t (map token_of us) o us rest refl
 
-begins : (s t : ItemOptions) (xs : List Token) → ItemOption s t xs → Begins xs
+begins : (s t : ItemOptions) (xs : List Token) → ItemOption s t xs → BeginsOption xs
 begins _ _ _ (says_required initial) = record { word = codes "REQUIRED"; others = []; all = refl }
 begins _ _ _ (says_initial required x t d) = record { word = codes "INITIALVALUE"; others = Compare Equal ∷ (t ∷ []); all = refl }
 begins _ _ _ (says_null required) = record { word = codes "NULL"; others = []; all = refl }

@@ -31,22 +31,22 @@ use Rattle.dasdl_phrases.specs.CondSpelling.IsCond.{a_term, an_or, a_factor, an_
 use Rattle.dasdl_phrases.proofs.Turning.{turns-done, turns-one}
 
 -- turns lead from one state to another, each with a token at least
-pub data Runs {S : Type 0} (done : S → List Lexeme → Bool) (one : S → List Lexeme → Read S) : S → List Lexeme → S → List Lexeme → Type 0 where
-  here : (s : S) (ts : List Lexeme) → Runs done one s ts s ts
-  step : (s t u : S) (ts mid rest : List Lexeme) → done s ts ≡ false → one s ts ≡ Ok (t, mid) → length mid < length ts → Runs done one t mid u rest → Runs done one s ts u rest
+pub data RunsBranches {S : Type 0} (done : S → List Lexeme → Bool) (one : S → List Lexeme → Read S) : S → List Lexeme → S → List Lexeme → Type 0 where
+  here : (s : S) (ts : List Lexeme) → RunsBranches done one s ts s ts
+  step : (s t u : S) (ts mid rest : List Lexeme) → done s ts ≡ false → one s ts ≡ Ok (t, mid) → length mid < length ts → RunsBranches done one t mid u rest → RunsBranches done one s ts u rest
 
 module _ {S : Type 0} (done : S → List Lexeme → Bool) (one : S → List Lexeme → Read S) where
-  pub joins : (s t u : S) (ts mid rest : List Lexeme) → Runs done one s ts t mid → Runs done one t mid u rest → Runs done one s ts u rest
+  pub joins : (s t u : S) (ts mid rest : List Lexeme) → RunsBranches done one s ts t mid → RunsBranches done one t mid u rest → RunsBranches done one s ts u rest
   joins s t u ts mid rest (here _ _) r = r
   joins s t u ts mid rest (step _ v _ _ front _ d o l q) r = step s v u ts front rest d o l (joins v t u front mid rest q r)
 
-  runs : (n : ℕ) (s t : S) (ts rest : List Lexeme) → Runs done one s ts t rest → done t rest ≡ true → length ts ≤ n → turns done one n s ts ≡ Ok (t, rest)
+  runs : (n : ℕ) (s t : S) (ts rest : List Lexeme) → RunsBranches done one s ts t rest → done t rest ≡ true → length ts ≤ n → turns done one n s ts ≡ Ok (t, rest)
   runs n s t ts rest (here _ _) e h = turns-done done one n s ts e
   runs zero s t ts rest (step _ v _ _ front _ d o l q) e h = absurd (omega arith)
   runs (suc n) s t ts rest (step _ v _ _ front _ d o l q) e h =
       turns-one done one n (suc n) s v ts front (omega arith) d o ∙ runs n v t front rest q e (omega arith)
 
-  pub turns_at-runs : (s t : S) (ts rest : List Lexeme) → Runs done one s ts t rest → done t rest ≡ true → turns_at done one s ts ≡ Ok (t, rest)
+  pub turns_at-runs : (s t : S) (ts rest : List Lexeme) → RunsBranches done one s ts t rest → done t rest ≡ true → turns_at done one s ts ≡ Ok (t, rest)
   unfolding turns_at
   turns_at-runs s t ts rest r e = runs (length ts) s t ts rest r e (omega arith)
 
@@ -90,7 +90,7 @@ abbrev holding : List Level → Option WrittenTree → WrittenTree → ℕ → C
 holding outer either t n = record { outer = outer; level = record { either = either; both = None; nots = 0 }; done = Some t; nodes = n }
 
 abbrev CondRuns : CondRead → List Lexeme → CondRead → List Lexeme → Type 0
-CondRuns s ts t rest = Runs cond_done cond_turn_at s ts t rest
+CondRuns s ts t rest = RunsBranches cond_done cond_turn_at s ts t rest
 
 pub word_reads : (w : List ℕ) (l : Lexeme) (ls : List Lexeme) → is_word w (Word w) ≡ true → l.token ≡ Word w → word_at w (l ∷ ls) ≡ Ok ls
 unfolding word_at
@@ -213,10 +213,10 @@ record WholeRuns (outer : List Level) (n : ℕ) (t : WrittenTree) (us rest : Lis
   same : with_or either last ≡ t
   run : CondRuns (wanting outer no_level n) (us ++ rest) (holding outer either last (n + nodes t)) rest
 
-abbrev Claim : CondPart → WrittenTree → List Token → Type 0
-Claim Whole t toks = (us rest : List Lexeme) (outer : List Level) (n : ℕ) → map token_of us ≡ toks → n + nodes t ≤ 100 → WholeRuns outer n t us rest
-Claim Term t toks = (us rest : List Lexeme) (outer : List Level) (either : Option WrittenTree) (n : ℕ) → map token_of us ≡ toks → n + nodes t ≤ 100 → CondRuns (wanting outer (record { either = either; both = None; nots = 0 }) n) (us ++ rest) (holding outer either t (n + nodes t)) rest
-Claim Factor t toks = (us rest : List Lexeme) (outer : List Level) (level : Level) (n : ℕ) → map token_of us ≡ toks → n + nodes t ≤ 100 → level.nots ≤ n → CondRuns (wanting outer level n) (us ++ rest) (completed outer level (n + nodes t) t) rest
+abbrev ReadsNode : CondPart → WrittenTree → List Token → Type 0
+ReadsNode Whole t toks = (us rest : List Lexeme) (outer : List Level) (n : ℕ) → map token_of us ≡ toks → n + nodes t ≤ 100 → WholeRuns outer n t us rest
+ReadsNode Term t toks = (us rest : List Lexeme) (outer : List Level) (either : Option WrittenTree) (n : ℕ) → map token_of us ≡ toks → n + nodes t ≤ 100 → CondRuns (wanting outer (record { either = either; both = None; nots = 0 }) n) (us ++ rest) (holding outer either t (n + nodes t)) rest
+ReadsNode Factor t toks = (us rest : List Lexeme) (outer : List Level) (level : Level) (n : ℕ) → map token_of us ≡ toks → n + nodes t ≤ 100 → level.nots ≤ n → CondRuns (wanting outer level n) (us ++ rest) (completed outer level (n + nodes t) t) rest
 
 -- a joined condition, cut at what joins it
 cut : (us rest a b c : List Lexeme) (l : Lexeme) → us ≡ a ++ b → b ≡ l ∷ c → us ++ rest ≡ a ++ (l ∷ (c ++ rest))
@@ -228,7 +228,7 @@ some_node (Both a b) = omega arith
 some_node (Either a b) = omega arith
 some_node (Turned a) = omega arith
 
-either_runs : (a b : WrittenTree) (xs ys : List Token) → Claim Whole a xs → Claim Term b ys → Claim Whole (Either a b) (xs ++ (Word (codes "OR") ∷ ys))
+either_runs : (a b : WrittenTree) (xs ys : List Token) → ReadsNode Whole a xs → ReadsNode Term b ys → ReadsNode Whole (Either a b) (xs ++ (Word (codes "OR") ∷ ys))
 either_runs a b xs ys f g us rest outer n e h =
     let s = splits us xs (Word (codes "OR") ∷ ys) e in
     let k = heads s.b (Word (codes "OR")) ys s.back in
@@ -245,7 +245,7 @@ either_runs a b xs ys f g us rest outer n e h =
       run = rw (cut us rest s.a s.b k.b k.l s.all k.all, ← count) all;
     }
 
-both_runs : (a b : WrittenTree) (xs ys : List Token) → Claim Term a xs → Claim Factor b ys → Claim Term (Both a b) (xs ++ (Word (codes "AND") ∷ ys))
+both_runs : (a b : WrittenTree) (xs ys : List Token) → ReadsNode Term a xs → ReadsNode Factor b ys → ReadsNode Term (Both a b) (xs ++ (Word (codes "AND") ∷ ys))
 both_runs a b xs ys f g us rest outer either n e h =
     let s = splits us xs (Word (codes "AND") ∷ ys) e in
     let k = heads s.b (Word (codes "AND")) ys s.back in
@@ -257,7 +257,7 @@ both_runs a b xs ys f g us rest outer either n e h =
     rw (cut us rest s.a s.b k.b k.l s.all k.all)
     (joins cond_done cond_turn_at _ _ _ _ _ _ first (step _ _ _ _ (k.b ++ rest) _ (goes_on outer either a (n + nodes a) k.l (k.b ++ rest) k.token) (and_step outer either a (n + nodes a) k.l (k.b ++ rest) k.token few_so_far) (omega arith) third))
 
-not_runs : (t : WrittenTree) (ts : List Token) → Claim Factor t ts → Claim Factor (Turned t) (Word (codes "NOT") ∷ ts)
+not_runs : (t : WrittenTree) (ts : List Token) → ReadsNode Factor t ts → ReadsNode Factor (Turned t) (Word (codes "NOT") ∷ ts)
 not_runs t ts f us rest outer level n e h b =
     let k = heads us (Word (codes "NOT")) ts e in
     let few_so_far : n < 100 = omega (arith, some_node t) in
@@ -266,7 +266,7 @@ not_runs t ts f us rest outer level n e h b =
     let last = subst (λ (x : CondRead). CondRuns (wanting outer (record { either = level.either; both = level.both; nots = level.nots + 1 }) (n + 1)) (k.b ++ rest) x rest) (completed_not outer level _ _ t count) more in
     rw k.all (step _ _ _ _ (k.b ++ rest) _ refl (not_step outer level n k.l (k.b ++ rest) k.token few_so_far (omega arith)) (omega arith) last)
 
-brackets_run : (t : WrittenTree) (ts : List Token) → Claim Whole t ts → Claim Factor t (Sign 40 ∷ (ts ++ (Sign 41 ∷ [])))
+brackets_run : (t : WrittenTree) (ts : List Token) → ReadsNode Whole t ts → ReadsNode Factor t (Sign 40 ∷ (ts ++ (Sign 41 ∷ [])))
 brackets_run t ts f us rest outer level n e h b =
     let k = heads us (Sign 40) (ts ++ (Sign 41 ∷ [])) e in
     let s = splits k.b ts (Sign 41 ∷ []) k.back in
@@ -282,7 +282,7 @@ brackets_run t ts f us rest outer level n e h b =
     let whole_4 = subst (λ (vs : List Lexeme). CondRuns (wanting (level ∷ outer) no_level n) vs (completed outer level (n + nodes t) t) rest) (sym (cut k.b rest s.a s.b m.b m.l s.all m.all)) whole_3 in
     rw k.all (step _ _ _ _ (k.b ++ rest) _ refl (open_step outer level n k.l (k.b ++ rest) k.token) (omega arith) whole_4)
 
-test_runs : (n : List ℕ) (o : Op) (x : Literal) (t : Token) → is_name n ≡ true → SpellsLiteral x t → Claim Factor (Test n o x) (Word n ∷ (Compare o ∷ (t ∷ [])))
+test_runs : (n : List ℕ) (o : Op) (x : Literal) (t : Token) → is_name n ≡ true → SpellsLiteral x t → ReadsNode Factor (Test n o x) (Word n ∷ (Compare o ∷ (t ∷ [])))
 test_runs n o x t named lit us rest outer level c e h b =
     let k = heads us (Word n) (Compare o ∷ (t ∷ [])) e in
     let l = heads k.b (Compare o) (t ∷ []) k.back in
@@ -290,7 +290,7 @@ test_runs n o x t named lit us rest outer level c e h b =
     let same : us ≡ k.l ∷ l.l ∷ m.l ∷ [] = k.all ∙ ap (λ (vs : List Lexeme). k.l ∷ vs) (l.all ∙ ap (λ (vs : List Lexeme). l.l ∷ vs) (m.all ∙ ap (λ (vs : List Lexeme). m.l ∷ vs) (none_left m.b m.back))) in
     rw same (step _ _ _ _ rest _ refl (test_step outer level c k.l l.l m.l rest n o x t (omega arith) k.token named l.token m.token lit) (omega arith) (here _ _))
 
-complete : (p : CondPart) (t : WrittenTree) (toks : List Token) → IsCond p t toks → Claim p t toks
+complete : (p : CondPart) (t : WrittenTree) (toks : List Token) → IsCond p t toks → ReadsNode p t toks
 complete _ _ _ (a_term t ts d) = λ us rest outer n e h. record { either = None; last = t; same = refl; run = complete Term t ts d us rest outer None n e h }
 complete _ _ _ (an_or a b xs ys d f) = either_runs a b xs ys (complete Whole a xs d) (complete Term b ys f)
 complete _ _ _ (a_factor t ts d) = λ us rest outer either n e h. subst (λ (x : CondRead). CondRuns (wanting outer (record { either = either; both = None; nots = 0 }) n) (us ++ rest) x rest) (completed_alone outer either (n + nodes t) t) (complete Factor t ts d us rest outer (record { either = either; both = None; nots = 0 }) n e h (omega arith))

@@ -56,12 +56,12 @@ inner_nodes None level = level_nodes level
 inner_nodes (Some t) level = joined_nodes level.either + nodes t
 
 -- as many nodes as are counted, and at most 100
-record Counts (outer : List Level) (level : Level) (done : Option WrittenTree) (n : ℕ) : Type 0 where
+record CountsNodes (outer : List Level) (level : Level) (done : Option WrittenTree) (n : ℕ) : Type 0 where
   all : n ≡ outer_nodes outer + inner_nodes done level
   few : n ≤ 100
 
 abbrev Counted : CondRead → Type 0
-Counted s = Counts s.outer s.level s.done s.nodes
+Counted s = CountsNodes s.outer s.level s.done s.nodes
 
 nodes_negated : (n : ℕ) (t : WrittenTree) → nodes (negated n t) ≡ n + nodes t
 nodes_negated zero t = omega arith
@@ -82,8 +82,8 @@ completed_counts outer level n t e few = record {
   few = few;
 }
 
-abbrev Keeps : Read CondRead → Type 0
-Keeps read = (t : CondRead) (rest : List Lexeme) → read ≡ Ok (t, rest) → Counted t
+abbrev KeepsNodes : Read CondRead → Type 0
+KeepsNodes read = (t : CondRead) (rest : List Lexeme) → read ≡ Ok (t, rest) → Counted t
 
 test_nodes : (ts : List Lexeme) (t : WrittenTree) (rest : List Lexeme) → compare_at ts ≡ Ok (t, rest) → nodes t ≡ 1
 unfolding compare_at
@@ -96,7 +96,7 @@ test_nodes ts t rest h =
 below : (n : ℕ) → nat_le 100 n ≡ false → n + 1 ≤ 100
 below n h = grind (arith, nat_tests)
 
-compare_counts : (s : CondRead) (ts : List Lexeme) → Counts s.outer s.level None s.nodes → Keeps (compare_turn_at s ts)
+compare_counts : (s : CondRead) (ts : List Lexeme) → CountsNodes s.outer s.level None s.nodes → KeepsNodes (compare_turn_at s ts)
 unfolding compare_turn_at
 compare_counts s ts k t rest h =
     let a = skip_ok (not (starts is_free ts)) _ _ _ h in
@@ -105,7 +105,7 @@ compare_counts s ts k t rest h =
     subst (λ (x : CondRead × List Lexeme). Counted x.0) (ok_same (completed s.outer s.level (s.nodes + 1) c.0.0, c.0.1) (t, rest) c.2)
     (completed_counts s.outer s.level (s.nodes + 1) c.0.0 (omega (arith, k.all, test_nodes ts c.0.0 c.0.1 c.1)) (below s.nodes b.0))
 
-not_counts : (s : CondRead) (ts : List Lexeme) → Counts s.outer s.level None s.nodes → Keeps (not_turn_at s ts)
+not_counts : (s : CondRead) (ts : List Lexeme) → CountsNodes s.outer s.level None s.nodes → KeepsNodes (not_turn_at s ts)
 unfolding not_turn_at
 not_counts s ts k t rest h =
     let a = skip_ok (nat_le 100 s.nodes || nat_le 100 s.level.nots) _ _ _ h in
@@ -113,21 +113,21 @@ not_counts s ts k t rest h =
     subst (λ (x : CondRead × List Lexeme). Counted x.0) (ok_same (record { outer = s.outer; level = record { either = s.level.either; both = s.level.both; nots = s.level.nots + 1 }; done = None; nodes = s.nodes + 1 }, b.0) (t, rest) b.2)
     (record { all = omega (arith, k.all); few = below s.nodes (or_parts (nat_le 100 s.nodes) (nat_le 100 s.level.nots) a.0).0 })
 
-open_counts : (s : CondRead) (ts : List Lexeme) → Counts s.outer s.level None s.nodes → Keeps (open_turn_at s ts)
+open_counts : (s : CondRead) (ts : List Lexeme) → CountsNodes s.outer s.level None s.nodes → KeepsNodes (open_turn_at s ts)
 unfolding open_turn_at
 open_counts s ts k t rest h =
     let b = bind_ok (sign_at 40 ts) _ _ h in
     subst (λ (x : CondRead × List Lexeme). Counted x.0) (ok_same (record { outer = s.level ∷ s.outer; level = no_level; done = None; nodes = s.nodes }, b.0) (t, rest) b.2)
     (record { all = omega (arith, k.all); few = k.few })
 
-factor_counts : (s : CondRead) (ts : List Lexeme) → Counts s.outer s.level None s.nodes → Keeps (factor_turn_at s ts)
+factor_counts : (s : CondRead) (ts : List Lexeme) → CountsNodes s.outer s.level None s.nodes → KeepsNodes (factor_turn_at s ts)
 unfolding factor_turn_at
 factor_counts s ts k t rest h =
     pick (starts (is_word (codes "NOT")) ts) (not_turn_at s ts) (cond (starts (is_the_sign 40) ts) (open_turn_at s ts) (compare_turn_at s ts)) (t, rest)
     (not_counts s ts k t rest)
     (pick (starts (is_the_sign 40) ts) (open_turn_at s ts) (compare_turn_at s ts) (t, rest) (open_counts s ts k t rest) (compare_counts s ts k t rest)) h
 
-and_counts : (outer : List Level) (level : Level) (n : ℕ) (left : WrittenTree) (ts : List Lexeme) → Counts outer level (Some left) n → Keeps (and_turn_at outer level n left ts)
+and_counts : (outer : List Level) (level : Level) (n : ℕ) (left : WrittenTree) (ts : List Lexeme) → CountsNodes outer level (Some left) n → KeepsNodes (and_turn_at outer level n left ts)
 unfolding and_turn_at
 and_counts outer level n left ts k t rest h =
     let a = skip_ok (nat_le 100 n) _ _ _ h in
@@ -135,7 +135,7 @@ and_counts outer level n left ts k t rest h =
     subst (λ (x : CondRead × List Lexeme). Counted x.0) (ok_same (record { outer = outer; level = record { either = level.either; both = Some left; nots = 0 }; done = None; nodes = n + 1 }, b.0) (t, rest) b.2)
     (record { all = omega (arith, k.all); few = below n a.0 })
 
-or_counts : (outer : List Level) (level : Level) (n : ℕ) (left : WrittenTree) (ts : List Lexeme) → Counts outer level (Some left) n → Keeps (or_turn_at outer level n left ts)
+or_counts : (outer : List Level) (level : Level) (n : ℕ) (left : WrittenTree) (ts : List Lexeme) → CountsNodes outer level (Some left) n → KeepsNodes (or_turn_at outer level n left ts)
 unfolding or_turn_at
 or_counts outer level n left ts k t rest h =
     let a = skip_ok (nat_le 100 n) _ _ _ h in
@@ -143,7 +143,7 @@ or_counts outer level n left ts k t rest h =
     subst (λ (x : CondRead × List Lexeme). Counted x.0) (ok_same (record { outer = outer; level = record { either = Some (with_or level.either left); both = None; nots = 0 }; done = None; nodes = n + 1 }, b.0) (t, rest) b.2)
     (record { all = omega (arith, k.all, nodes_or level.either left); few = below n a.0 })
 
-close_counts : (outer : List Level) (level : Level) (n : ℕ) (left : WrittenTree) (ts : List Lexeme) → Counts outer level (Some left) n → Keeps (close_turn_at outer level n left ts)
+close_counts : (outer : List Level) (level : Level) (n : ℕ) (left : WrittenTree) (ts : List Lexeme) → CountsNodes outer level (Some left) n → KeepsNodes (close_turn_at outer level n left ts)
 unfolding close_turn_at
 close_counts [] level n left ts k t rest h = absurd (cc)
 close_counts (up ∷ outer) level n left ts k t rest h =
@@ -151,14 +151,14 @@ close_counts (up ∷ outer) level n left ts k t rest h =
     subst (λ (x : CondRead × List Lexeme). Counted x.0) (ok_same (completed outer up n (with_or level.either left), b.0) (t, rest) b.2)
     (completed_counts outer up n (with_or level.either left) (omega (arith, k.all, nodes_or level.either left)) k.few)
 
-join_counts : (outer : List Level) (level : Level) (n : ℕ) (left : WrittenTree) (ts : List Lexeme) → Counts outer level (Some left) n → Keeps (join_turn_at outer level n left ts)
+join_counts : (outer : List Level) (level : Level) (n : ℕ) (left : WrittenTree) (ts : List Lexeme) → CountsNodes outer level (Some left) n → KeepsNodes (join_turn_at outer level n left ts)
 unfolding join_turn_at
 join_counts outer level n left ts k t rest h =
     pick (starts (is_word (codes "AND")) ts) (and_turn_at outer level n left ts) (cond (starts (is_word (codes "OR")) ts) (or_turn_at outer level n left ts) (close_turn_at outer level n left ts)) (t, rest)
     (and_counts outer level n left ts k t rest)
     (pick (starts (is_word (codes "OR")) ts) (or_turn_at outer level n left ts) (close_turn_at outer level n left ts) (t, rest) (or_counts outer level n left ts k t rest) (close_counts outer level n left ts k t rest)) h
 
-turn_counts_by : (done : Option WrittenTree) (s : CondRead) (ts : List Lexeme) → Counts s.outer s.level done s.nodes → Keeps (cond_turn_by done s ts)
+turn_counts_by : (done : Option WrittenTree) (s : CondRead) (ts : List Lexeme) → CountsNodes s.outer s.level done s.nodes → KeepsNodes (cond_turn_by done s ts)
 turn_counts_by None s ts k = factor_counts s ts k
 turn_counts_by (Some left) s ts k = join_counts s.outer s.level s.nodes left ts k
 
@@ -166,7 +166,7 @@ turn_counts : (s t : CondRead) (ts rest : List Lexeme) → Counted s → cond_tu
 unfolding cond_turn_at
 turn_counts s t ts rest k h = turn_counts_by s.done s ts k t rest h
 
-finished_few : (done : Option WrittenTree) (outer : List Level) (level : Level) (n : ℕ) (t : WrittenTree) (ts rest : List Lexeme) → Counts outer level done n → finished done level.either ts ≡ Ok (t, rest) → nodes t ≤ 100
+finished_few : (done : Option WrittenTree) (outer : List Level) (level : Level) (n : ℕ) (t : WrittenTree) (ts rest : List Lexeme) → CountsNodes outer level done n → finished done level.either ts ≡ Ok (t, rest) → nodes t ≤ 100
 finished_few None outer level n t ts rest k h = absurd (cc)
 finished_few (Some left) outer level n t ts rest k h =
     subst (λ (x : WrittenTree × List Lexeme). nodes x.0 ≤ 100) (ok_same (with_or level.either left, ts) (t, rest) h) (omega (arith, k.all, k.few, nodes_or level.either left))

@@ -24,7 +24,7 @@ use Rattle.dasdl_phrases.specs.CondSpelling.CondPart.{Whole, Term, Factor}
 use Rattle.dasdl_phrases.specs.CondSpelling.IsCond.{a_term, an_or, a_factor, an_and, a_not, brackets, a_test}
 use Rattle.dasdl_phrases.proofs.Inverting.{bind_ok, skip_ok, ok_same}
 use Rattle.dasdl_phrases.proofs.SpelledTokens.{word_spelled, sign_spelled, name_spelled, op_spelled, literal_spelled}
-use Rattle.dasdl_phrases.proofs.TurnsSound.{Goes, turns_at-goes, turns_at-ends}
+use Rattle.dasdl_phrases.proofs.TurnsSound.{GoesTurn, turns_at-goes, turns_at-ends}
 
 -- what stands before OR
 abbrev IsEither : Option WrittenTree → List Token → Type 0
@@ -48,15 +48,15 @@ record IsLevel (level : Level) (ts : List Token) : Type 0 where
   all : ts ≡ either ++ (both ++ nots_of level.nots)
 
 -- what stands outside the innermost brackets
-abbrev IsOuter : List Level → List Token → Type 0
-IsOuter [] ts = ts ≡ []
-IsOuter (l ∷ ls) ts = (front : List Token) × (own : List Token) × IsOuter ls front × IsLevel l own × (ts ≡ front ++ (own ++ (Sign 40 ∷ [])))
+abbrev AreOuterLevels : List Level → List Token → Type 0
+AreOuterLevels [] ts = ts ≡ []
+AreOuterLevels (l ∷ ls) ts = (front : List Token) × (own : List Token) × AreOuterLevels ls front × IsLevel l own × (ts ≡ front ++ (own ++ (Sign 40 ∷ [])))
 
 -- what has been read where a factor is wanted
 record IsWanting (outer : List Level) (level : Level) (ts : List Token) : Type 0 where
   front : List Token
   own : List Token
-  outside : IsOuter outer front
+  outside : AreOuterLevels outer front
   inside : IsLevel level own
   all : ts ≡ front ++ own
 
@@ -65,7 +65,7 @@ record IsDone (outer : List Level) (level : Level) (t : WrittenTree) (ts : List 
   front : List Token
   either : List Token
   term : List Token
-  outside : IsOuter outer front
+  outside : AreOuterLevels outer front
   before_or : IsEither level.either either
   is : IsCond Term t term
   all : ts ≡ front ++ (either ++ term)
@@ -74,8 +74,8 @@ abbrev StandsBy : Option WrittenTree → List Level → Level → List Token →
 StandsBy None outer level ts = IsWanting outer level ts
 StandsBy (Some t) outer level ts = IsDone outer level t ts
 
-abbrev Stands : CondRead → List Token → Type 0
-Stands s ts = StandsBy s.done s.outer s.level ts
+abbrev StandsRead : CondRead → List Token → Type 0
+StandsRead s ts = StandsBy s.done s.outer s.level ts
 
 with_either : (e : Option WrittenTree) (ts zs : List Token) (t : WrittenTree) → IsEither e ts → IsCond Term t zs → IsCond Whole (with_or e t) (ts ++ zs)
 with_either None ts zs t is h = rw is (a_term t zs h)
@@ -93,7 +93,7 @@ nots_more : (n : ℕ) → nots_of (n + 1) ≡ nots_of n ++ (Word (codes "NOT") �
 nots_more zero = refl
 nots_more (suc n) = let k : suc n + 1 ≡ suc (n + 1) = omega arith in rw k (ap (λ (xs : List Token). Word (codes "NOT") ∷ xs) (nots_more n))
 
-completes : (outer : List Level) (level : Level) (nodes : ℕ) (t : WrittenTree) (front own zs : List Token) → IsOuter outer front → IsLevel level own → IsCond Factor t zs → Stands (completed outer level nodes t) ((front ++ own) ++ zs)
+completes : (outer : List Level) (level : Level) (nodes : ℕ) (t : WrittenTree) (front own zs : List Token) → AreOuterLevels outer front → IsLevel level own → IsCond Factor t zs → StandsRead (completed outer level nodes t) ((front ++ own) ++ zs)
 unfolding completed
 completes outer level nodes t front own zs o l f = record {
   front = front;
@@ -121,7 +121,7 @@ compare_spelled ts t rest h =
       all = n.1.all ∙ ap (λ (xs : List Lexeme). n.1.first ∷ xs) (o.all ∙ ap (λ (xs : List Lexeme). o.first ∷ xs) l.all);
     })
 
-compare_goes : (s t : CondRead) (toks : List Token) (ts rest : List Lexeme) → IsWanting s.outer s.level toks → compare_turn_at s ts ≡ Ok (t, rest) → Goes Stands t toks ts rest
+compare_goes : (s t : CondRead) (toks : List Token) (ts rest : List Lexeme) → IsWanting s.outer s.level toks → compare_turn_at s ts ≡ Ok (t, rest) → GoesTurn StandsRead t toks ts rest
 unfolding compare_turn_at
 compare_goes s t toks ts rest w h =
     let a = skip_ok (not (starts is_free ts)) _ _ _ h in
@@ -129,20 +129,20 @@ compare_goes s t toks ts rest w h =
     let c = bind_ok (compare_at ts) _ _ b.1 in
     let r = compare_spelled ts c.0.0 c.0.1 c.1 in
     let g = ok_same (completed s.outer s.level (s.nodes + 1) c.0.0, c.0.1) (t, rest) c.2 in
-    subst (λ (x : CondRead × List Lexeme). Goes Stands x.0 toks ts x.1) g (record {
+    subst (λ (x : CondRead × List Lexeme). GoesTurn StandsRead x.0 toks ts x.1) g (record {
       used = r.used;
       is = rw w.all (completes s.outer s.level (s.nodes + 1) c.0.0 w.front w.own (map token_of r.used) w.outside w.inside r.is);
       all = r.all;
     })
 
-not_goes : (s t : CondRead) (toks : List Token) (ts rest : List Lexeme) → IsWanting s.outer s.level toks → not_turn_at s ts ≡ Ok (t, rest) → Goes Stands t toks ts rest
+not_goes : (s t : CondRead) (toks : List Token) (ts rest : List Lexeme) → IsWanting s.outer s.level toks → not_turn_at s ts ≡ Ok (t, rest) → GoesTurn StandsRead t toks ts rest
 unfolding not_turn_at
 not_goes s t toks ts rest w h =
     let a = skip_ok (nat_le 100 s.nodes || nat_le 100 s.level.nots) _ _ _ h in
     let b = bind_ok (word_at (codes "NOT") ts) _ _ a.1 in
     let k = word_spelled (codes "NOT") ts b.0 b.1 in
     let g = ok_same (record { outer = s.outer; level = record { either = s.level.either; both = s.level.both; nots = s.level.nots + 1 }; done = None; nodes = s.nodes + 1 }, b.0) (t, rest) b.2 in
-    subst (λ (x : CondRead × List Lexeme). Goes Stands x.0 toks ts x.1) g (record {
+    subst (λ (x : CondRead × List Lexeme). GoesTurn StandsRead x.0 toks ts x.1) g (record {
       used = k.first ∷ [];
       is = rw k.token (record {
         front = w.front;
@@ -160,13 +160,13 @@ not_goes s t toks ts rest w h =
       all = k.all;
     })
 
-open_goes : (s t : CondRead) (toks : List Token) (ts rest : List Lexeme) → IsWanting s.outer s.level toks → open_turn_at s ts ≡ Ok (t, rest) → Goes Stands t toks ts rest
+open_goes : (s t : CondRead) (toks : List Token) (ts rest : List Lexeme) → IsWanting s.outer s.level toks → open_turn_at s ts ≡ Ok (t, rest) → GoesTurn StandsRead t toks ts rest
 unfolding open_turn_at
 open_goes s t toks ts rest w h =
     let b = bind_ok (sign_at 40 ts) _ _ h in
     let k = sign_spelled 40 ts b.0 b.1 in
     let g = ok_same (record { outer = s.level ∷ s.outer; level = no_level; done = None; nodes = s.nodes }, b.0) (t, rest) b.2 in
-    subst (λ (x : CondRead × List Lexeme). Goes Stands x.0 toks ts x.1) g (record {
+    subst (λ (x : CondRead × List Lexeme). GoesTurn StandsRead x.0 toks ts x.1) g (record {
       used = k.first ∷ [];
       is = rw k.token (record {
         front = w.front ++ (w.own ++ (Sign 40 ∷ []));
@@ -182,21 +182,21 @@ pub pick : {A : Type 0} {P : Type 0} (b : Bool) (x y : Result A ParseFault) (z :
 pick true x y z f g h = f h
 pick false x y z f g h = g h
 
-factor_goes : (s t : CondRead) (toks : List Token) (ts rest : List Lexeme) → IsWanting s.outer s.level toks → factor_turn_at s ts ≡ Ok (t, rest) → Goes Stands t toks ts rest
+factor_goes : (s t : CondRead) (toks : List Token) (ts rest : List Lexeme) → IsWanting s.outer s.level toks → factor_turn_at s ts ≡ Ok (t, rest) → GoesTurn StandsRead t toks ts rest
 unfolding factor_turn_at
 factor_goes s t toks ts rest w h =
     pick (starts (is_word (codes "NOT")) ts) (not_turn_at s ts) (cond (starts (is_the_sign 40) ts) (open_turn_at s ts) (compare_turn_at s ts)) (t, rest)
     (not_goes s t toks ts rest w)
     (pick (starts (is_the_sign 40) ts) (open_turn_at s ts) (compare_turn_at s ts) (t, rest) (open_goes s t toks ts rest w) (compare_goes s t toks ts rest w)) h
 
-and_goes : (outer : List Level) (level : Level) (nodes : ℕ) (left : WrittenTree) (t : CondRead) (toks : List Token) (ts rest : List Lexeme) → IsDone outer level left toks → and_turn_at outer level nodes left ts ≡ Ok (t, rest) → Goes Stands t toks ts rest
+and_goes : (outer : List Level) (level : Level) (nodes : ℕ) (left : WrittenTree) (t : CondRead) (toks : List Token) (ts rest : List Lexeme) → IsDone outer level left toks → and_turn_at outer level nodes left ts ≡ Ok (t, rest) → GoesTurn StandsRead t toks ts rest
 unfolding and_turn_at
 and_goes outer level nodes left t toks ts rest d h =
     let a = skip_ok (nat_le 100 nodes) _ _ _ h in
     let b = bind_ok (word_at (codes "AND") ts) _ _ a.1 in
     let k = word_spelled (codes "AND") ts b.0 b.1 in
     let g = ok_same (record { outer = outer; level = record { either = level.either; both = Some left; nots = 0 }; done = None; nodes = nodes + 1 }, b.0) (t, rest) b.2 in
-    subst (λ (x : CondRead × List Lexeme). Goes Stands x.0 toks ts x.1) g (record {
+    subst (λ (x : CondRead × List Lexeme). GoesTurn StandsRead x.0 toks ts x.1) g (record {
       used = k.first ∷ [];
       is = rw k.token (record {
         front = d.front;
@@ -214,14 +214,14 @@ and_goes outer level nodes left t toks ts rest d h =
       all = k.all;
     })
 
-or_goes : (outer : List Level) (level : Level) (nodes : ℕ) (left : WrittenTree) (t : CondRead) (toks : List Token) (ts rest : List Lexeme) → IsDone outer level left toks → or_turn_at outer level nodes left ts ≡ Ok (t, rest) → Goes Stands t toks ts rest
+or_goes : (outer : List Level) (level : Level) (nodes : ℕ) (left : WrittenTree) (t : CondRead) (toks : List Token) (ts rest : List Lexeme) → IsDone outer level left toks → or_turn_at outer level nodes left ts ≡ Ok (t, rest) → GoesTurn StandsRead t toks ts rest
 unfolding or_turn_at
 or_goes outer level nodes left t toks ts rest d h =
     let a = skip_ok (nat_le 100 nodes) _ _ _ h in
     let b = bind_ok (word_at (codes "OR") ts) _ _ a.1 in
     let k = word_spelled (codes "OR") ts b.0 b.1 in
     let g = ok_same (record { outer = outer; level = record { either = Some (with_or level.either left); both = None; nots = 0 }; done = None; nodes = nodes + 1 }, b.0) (t, rest) b.2 in
-    subst (λ (x : CondRead × List Lexeme). Goes Stands x.0 toks ts x.1) g (record {
+    subst (λ (x : CondRead × List Lexeme). GoesTurn StandsRead x.0 toks ts x.1) g (record {
       used = k.first ∷ [];
       is = rw k.token (record {
         front = d.front;
@@ -239,7 +239,7 @@ or_goes outer level nodes left t toks ts rest d h =
       all = k.all;
     })
 
-close_goes : (outer : List Level) (level : Level) (nodes : ℕ) (left : WrittenTree) (t : CondRead) (toks : List Token) (ts rest : List Lexeme) → IsDone outer level left toks → close_turn_at outer level nodes left ts ≡ Ok (t, rest) → Goes Stands t toks ts rest
+close_goes : (outer : List Level) (level : Level) (nodes : ℕ) (left : WrittenTree) (t : CondRead) (toks : List Token) (ts rest : List Lexeme) → IsDone outer level left toks → close_turn_at outer level nodes left ts ≡ Ok (t, rest) → GoesTurn StandsRead t toks ts rest
 unfolding close_turn_at
 close_goes [] level nodes left t toks ts rest d h = absurd (cc)
 close_goes (up ∷ outer) level nodes left t toks ts rest d h =
@@ -250,28 +250,28 @@ close_goes (up ∷ outer) level nodes left t toks ts rest d h =
     let g = ok_same (completed outer up nodes (with_or level.either left), b.0) (t, rest) b.2 in
     let k = completes outer up nodes (with_or level.either left) o.0 o.1 (Sign 40 ∷ ((d.either ++ d.term) ++ (Sign 41 ∷ []))) o.2 o.3 f in
     let same : toks ++ (Sign 41 ∷ []) ≡ (o.0 ++ o.1) ++ (Sign 40 ∷ ((d.either ++ d.term) ++ (Sign 41 ∷ []))) = rw (d.all, o.4) (simp append_assoc) in
-    subst (λ (x : CondRead × List Lexeme). Goes Stands x.0 toks ts x.1) g (record {
+    subst (λ (x : CondRead × List Lexeme). GoesTurn StandsRead x.0 toks ts x.1) g (record {
       used = m.first ∷ [];
-      is = rw m.token (subst (λ (xs : List Token). Stands (completed outer up nodes (with_or level.either left)) xs) (sym same) k);
+      is = rw m.token (subst (λ (xs : List Token). StandsRead (completed outer up nodes (with_or level.either left)) xs) (sym same) k);
       all = m.all;
     })
 
-join_goes : (outer : List Level) (level : Level) (nodes : ℕ) (left : WrittenTree) (t : CondRead) (toks : List Token) (ts rest : List Lexeme) → IsDone outer level left toks → join_turn_at outer level nodes left ts ≡ Ok (t, rest) → Goes Stands t toks ts rest
+join_goes : (outer : List Level) (level : Level) (nodes : ℕ) (left : WrittenTree) (t : CondRead) (toks : List Token) (ts rest : List Lexeme) → IsDone outer level left toks → join_turn_at outer level nodes left ts ≡ Ok (t, rest) → GoesTurn StandsRead t toks ts rest
 unfolding join_turn_at
 join_goes outer level nodes left t toks ts rest d h =
     pick (starts (is_word (codes "AND")) ts) (and_turn_at outer level nodes left ts) (cond (starts (is_word (codes "OR")) ts) (or_turn_at outer level nodes left ts) (close_turn_at outer level nodes left ts)) (t, rest)
     (and_goes outer level nodes left t toks ts rest d)
     (pick (starts (is_word (codes "OR")) ts) (or_turn_at outer level nodes left ts) (close_turn_at outer level nodes left ts) (t, rest) (or_goes outer level nodes left t toks ts rest d) (close_goes outer level nodes left t toks ts rest d)) h
 
-goes_by : (done : Option WrittenTree) (s t : CondRead) (toks : List Token) (ts rest : List Lexeme) → StandsBy done s.outer s.level toks → cond_turn_by done s ts ≡ Ok (t, rest) → Goes Stands t toks ts rest
+goes_by : (done : Option WrittenTree) (s t : CondRead) (toks : List Token) (ts rest : List Lexeme) → StandsBy done s.outer s.level toks → cond_turn_by done s ts ≡ Ok (t, rest) → GoesTurn StandsRead t toks ts rest
 goes_by None s t toks ts rest w h = factor_goes s t toks ts rest w h
 goes_by (Some left) s t toks ts rest d h = join_goes s.outer s.level s.nodes left t toks ts rest d h
 
-goes : (s t : CondRead) (toks : List Token) (ts rest : List Lexeme) → Stands s toks → cond_turn_at s ts ≡ Ok (t, rest) → Goes Stands t toks ts rest
+goes : (s t : CondRead) (toks : List Token) (ts rest : List Lexeme) → StandsRead s toks → cond_turn_at s ts ≡ Ok (t, rest) → GoesTurn StandsRead t toks ts rest
 unfolding cond_turn_at
 goes s t toks ts rest w h = goes_by s.done s t toks ts rest w h
 
-outside_none : (outer : List Level) (front : List Token) → is_nil outer ≡ true → IsOuter outer front → front ≡ []
+outside_none : (outer : List Level) (front : List Token) → is_nil outer ≡ true → AreOuterLevels outer front → front ≡ []
 outside_none [] front h o = o
 outside_none (l ∷ ls) front h o = absurd (cc)
 
@@ -286,8 +286,8 @@ pub cond_sound : (ts : List Lexeme) (t : WrittenTree) (rest : List Lexeme) → c
 unfolding cond_at
 cond_sound ts t rest h =
     let b = bind_ok (turns_at cond_done cond_turn_at no_cond ts) _ _ h in
-    let start : Stands no_cond [] = record { front = []; own = []; outside = refl; inside = record { either = []; both = []; before_or = refl; before_and = refl; all = refl }; all = refl } in
-    let g = turns_at-goes Stands cond_done cond_turn_at goes no_cond b.0.0 [] ts b.0.1 start b.1 in
+    let start : StandsRead no_cond [] = record { front = []; own = []; outside = refl; inside = record { either = []; both = []; before_or = refl; before_and = refl; all = refl }; all = refl } in
+    let g = turns_at-goes StandsRead cond_done cond_turn_at goes no_cond b.0.0 [] ts b.0.1 start b.1 in
     let e = turns_at-ends cond_done cond_turn_at no_cond b.0.0 ts b.0.1 b.1 in
     let n = (and_parts (is_some b.0.0.done) (is_nil b.0.0.outer) (and_parts (is_some b.0.0.done && is_nil b.0.0.outer) (not (starts (is_word (codes "AND")) b.0.1 || starts (is_word (codes "OR")) b.0.1)) e).0).1 in
     let f = finishes b.0.0.done b.0.0.outer b.0.0.level (map token_of g.used) t b.0.1 rest n g.is b.2 in

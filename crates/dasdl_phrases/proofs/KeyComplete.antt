@@ -17,8 +17,8 @@ use Rattle.dasdl_phrases.specs.KeySpelling.IsDirection.{not_said, ascending, des
 use Rattle.dasdl_phrases.specs.KeySpelling.IsPart.{a_part}
 use Rattle.dasdl_phrases.specs.KeySpelling.AreParts.{first_part, next_part}
 use Rattle.dasdl_phrases.specs.KeySpelling.IsKey.{lone_part, in_brackets}
-use Rattle.dasdl_phrases.proofs.CondComplete.{Runs, joins, turns_at-runs, splits, heads, none_left, name_reads, is_unreserved, sign_reads}
-use Rattle.dasdl_phrases.proofs.CondComplete.Runs.{here, step}
+use Rattle.dasdl_phrases.proofs.CondComplete.{RunsBranches, joins, turns_at-runs, splits, heads, none_left, name_reads, is_unreserved, sign_reads}
+use Rattle.dasdl_phrases.proofs.CondComplete.RunsBranches.{here, step}
 
 -- no direction follows
 record NoDirection (rest : List Lexeme) : Type 0 where
@@ -74,7 +74,7 @@ record ReadsParts (ps : List PartDecl) (us rest : List Lexeme) : Type 0 where
   start : List PartDecl
   mid : List Lexeme
   first : part_at [] (us ++ rest) ≡ Ok (start, mid)
-  others : Runs until_close next_part_at start mid ps rest
+  others : RunsBranches until_close next_part_at start mid ps rest
 
 are_read : (ps : List PartDecl) (xs : List Token) → AreParts ps xs → (us rest : List Lexeme) → map token_of us ≡ xs → length ps ≤ 16 → NoDirection rest → ReadsParts ps us rest
 are_read _ _ (first_part p xs f) us rest e few no_more = record {

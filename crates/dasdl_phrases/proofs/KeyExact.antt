@@ -19,7 +19,7 @@ use Rattle.dasdl_phrases.specs.KeySpelling.AreParts.{first_part, next_part}
 use Rattle.dasdl_phrases.specs.KeySpelling.IsKey.{lone_part, in_brackets}
 use Rattle.dasdl_phrases.proofs.Inverting.{bind_ok, skip_ok, ok_same}
 use Rattle.dasdl_phrases.proofs.SpelledTokens.{word_spelled, sign_spelled, name_spelled}
-use Rattle.dasdl_phrases.proofs.TurnsSound.{Goes, turns_at-goes}
+use Rattle.dasdl_phrases.proofs.TurnsSound.{GoesTurn, turns_at-goes}
 use Rattle.dasdl_phrases.proofs.CondSound.{pick}
 
 direction_sound : (ts : List Lexeme) (d : Bool) (rest : List Lexeme) → direction_at ts ≡ Ok (d, rest) → Reads IsDirection ts d rest
@@ -38,7 +38,7 @@ direction_sound ts d rest h =
     (λ e. subst (λ (x : Bool × List Lexeme). Reads IsDirection ts x.0 x.1) (ok_same (false, ts) (d, rest) e) (record { used = []; is = not_said; all = refl }))) h
 
 -- one more part was read
-record OneMore (parts all : List PartDecl) (ts rest : List Lexeme) : Type 0 where
+record OneMorePart (parts all : List PartDecl) (ts rest : List Lexeme) : Type 0 where
   part : PartDecl
   used : List Lexeme
   is : IsPart part (map token_of used)
@@ -46,7 +46,7 @@ record OneMore (parts all : List PartDecl) (ts rest : List Lexeme) : Type 0 wher
   together : all ≡ parts ++ part ∷ []
   few : length parts < 16
 
-part_sound : (parts all : List PartDecl) (ts rest : List Lexeme) → part_at parts ts ≡ Ok (all, rest) → OneMore parts all ts rest
+part_sound : (parts all : List PartDecl) (ts rest : List Lexeme) → part_at parts ts ≡ Ok (all, rest) → OneMorePart parts all ts rest
 unfolding part_at
 part_sound parts all ts rest h =
     let a = skip_ok (not (starts is_free ts)) _ _ _ h in
@@ -57,7 +57,7 @@ part_sound parts all ts rest h =
     let d = direction_sound c.0.1 e.0.0 e.0.1 e.1 in
     let g = ok_same (parts ++ record { name = c.0.0; descending = e.0.0 } ∷ [], e.0.1) (all, rest) e.2 in
     let below : nat_le 16 (length parts) ≡ false = b.0 in
-    subst (λ (x : List PartDecl × List Lexeme). OneMore parts x.0 ts x.1) g (record {
+    subst (λ (x : List PartDecl × List Lexeme). OneMorePart parts x.0 ts x.1) g (record {
       part = record { name = c.0.0; descending = e.0.0 };
       used = n.1.first ∷ d.used;
       is = rw n.1.token (a_part c.0.0 e.0.0 (map token_of d.used) n.0 d.is);
@@ -71,7 +71,7 @@ record Some16 (parts : List PartDecl) (ts : List Token) : Type 0 where
   are : AreParts parts ts
   few : length parts ≤ 16
 
-next_sound : (parts all : List PartDecl) (toks : List Token) (ts rest : List Lexeme) → Some16 parts toks → next_part_at parts ts ≡ Ok (all, rest) → Goes Some16 all toks ts rest
+next_sound : (parts all : List PartDecl) (toks : List Token) (ts rest : List Lexeme) → Some16 parts toks → next_part_at parts ts ≡ Ok (all, rest) → GoesTurn Some16 all toks ts rest
 unfolding next_part_at
 next_sound parts all toks ts rest s h =
     let b = bind_ok (sign_at 44 ts) _ _ h in

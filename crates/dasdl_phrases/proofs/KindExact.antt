@@ -24,7 +24,7 @@ use Rattle.dasdl_phrases.specs.KindSpelling.IsWidth.{without_sign, with_sign, jo
 use Rattle.dasdl_phrases.specs.KindSpelling.ArePlaces.{no_places, some_places}
 use Rattle.dasdl_phrases.specs.KindSpelling.SpellsKind.{an_alpha, a_number, a_truth, a_field}
 use Rattle.dasdl_phrases.proofs.Inverting.{bind_ok, guard_ok, ok_same}
-use Rattle.dasdl_phrases.proofs.SpelledTokens.{Starts, word_spelled, sign_spelled}
+use Rattle.dasdl_phrases.proofs.SpelledTokens.{StartsToken, word_spelled, sign_spelled}
 use Rattle.dasdl_phrases.proofs.CondSound.{pick}
 use Rattle.dasdl_phrases.proofs.CondComplete.{splits, heads, none_left, word_reads, sign_reads}
 
@@ -32,7 +32,7 @@ use Rattle.dasdl_phrases.proofs.CondComplete.{splits, heads, none_left, word_rea
 pub record InRange (low high n : ℕ) (ts rest : List Lexeme) : Type 0 where
   pub least : low ≤ n
   pub most : n ≤ high
-  pub is : Starts (Number n) ts rest
+  pub is : StartsToken (Number n) ts rest
 
 ranges : (low high n : ℕ) → nat_le low n && nat_le n high ≡ true → (low ≤ n) × (n ≤ high)
 ranges low high n h = (grind (arith, nat_tests), grind (arith, nat_tests))

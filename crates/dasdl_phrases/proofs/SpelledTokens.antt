@@ -49,23 +49,23 @@ is_sign_is s Bad h = absurd (cc)
 is_sign_is s End h = absurd (cc)
 
 -- this token is the first
-pub record Starts (t : Token) (ts rest : List Lexeme) : Type 0 where
+pub record StartsToken (t : Token) (ts rest : List Lexeme) : Type 0 where
   pub first : Lexeme
   pub token : first.token ≡ t
   pub all : ts ≡ first ∷ rest
 
 -- a token that passed a test was the first
-one_ok : (test : Token → Bool) (ts rest : List Lexeme) (t : Token) → ((u : Token) → test u ≡ true → u ≡ t) → one_at fault_at test ts ≡ Ok rest → Starts t ts rest
+one_ok : (test : Token → Bool) (ts rest : List Lexeme) (t : Token) → ((u : Token) → test u ≡ true → u ≡ t) → one_at fault_at test ts ≡ Ok rest → StartsToken t ts rest
 one_ok test [] rest t is h = absurd (cc)
 one_ok test (l ∷ ls) rest t is h =
     let g = guard_ok (test l.token) ls rest (fault_of l.token l.place) h in
     record { first = l; token = is l.token g.0; all = ap (λ (xs : List Lexeme). l ∷ xs) g.1 }
 
-pub word_spelled : (w : List ℕ) (ts rest : List Lexeme) → word_at w ts ≡ Ok rest → Starts (Word w) ts rest
+pub word_spelled : (w : List ℕ) (ts rest : List Lexeme) → word_at w ts ≡ Ok rest → StartsToken (Word w) ts rest
 unfolding word_at
 word_spelled w ts rest h = one_ok (is_word w) ts rest (Word w) (is_word_is w) h
 
-pub sign_spelled : (s : ℕ) (ts rest : List Lexeme) → sign_at s ts ≡ Ok rest → Starts (Sign s) ts rest
+pub sign_spelled : (s : ℕ) (ts rest : List Lexeme) → sign_at s ts ≡ Ok rest → StartsToken (Sign s) ts rest
 unfolding sign_at
 sign_spelled s ts rest h = one_ok (is_the_sign s) ts rest (Sign s) (is_sign_is s) h
 
@@ -85,7 +85,7 @@ is_equal_is (Sign b) h = absurd (cc)
 is_equal_is Bad h = absurd (cc)
 is_equal_is End h = absurd (cc)
 
-pub equal_spelled : (ts rest : List Lexeme) → equal_at ts ≡ Ok rest → Starts (Compare Equal) ts rest
+pub equal_spelled : (ts rest : List Lexeme) → equal_at ts ≡ Ok rest → StartsToken (Compare Equal) ts rest
 unfolding equal_at
 equal_spelled ts rest h = one_ok is_equal ts rest (Compare Equal) is_equal_is h
 
@@ -110,7 +110,7 @@ named (Compare o) place n ls rest h = absurd (cc)
 named Bad place n ls rest h = absurd (cc)
 named End place n ls rest h = absurd (cc)
 
-pub name_spelled : (ts : List Lexeme) (n : List ℕ) (rest : List Lexeme) → name_at ts ≡ Ok (n, rest) → IsTrue (is_name n) × Starts (Word n) ts rest
+pub name_spelled : (ts : List Lexeme) (n : List ℕ) (rest : List Lexeme) → name_at ts ≡ Ok (n, rest) → IsTrue (is_name n) × StartsToken (Word n) ts rest
 unfolding name_at
 name_spelled [] n rest h = absurd (cc)
 name_spelled (l ∷ ls) n rest h =
@@ -130,7 +130,7 @@ op_of_ok (Sign b) place o ls rest h = absurd (cc)
 op_of_ok Bad place o ls rest h = absurd (cc)
 op_of_ok End place o ls rest h = absurd (cc)
 
-pub op_spelled : (ts : List Lexeme) (o : Op) (rest : List Lexeme) → op_at ts ≡ Ok (o, rest) → Starts (Compare o) ts rest
+pub op_spelled : (ts : List Lexeme) (o : Op) (rest : List Lexeme) → op_at ts ≡ Ok (o, rest) → StartsToken (Compare o) ts rest
 unfolding op_at
 op_spelled [] o rest h = absurd (cc)
 op_spelled (l ∷ ls) o rest h =
@@ -154,7 +154,7 @@ constant_is b l h =
     constant_by (bytes_eq b (codes "TRUE")) (bytes_eq b (codes "FALSE")) (bytes_eq b (codes "NULL")) b l (bytes_eq-Decides b (codes "TRUE")).0 (bytes_eq-Decides b (codes "FALSE")).0 (bytes_eq-Decides b (codes "NULL")).0 h
 
 -- a literal, and the token that spells it
-pub record IsRead (l : Literal) (ts rest : List Lexeme) : Type 0 where
+pub record IsReadLiteral (l : Literal) (ts rest : List Lexeme) : Type 0 where
   pub first : Lexeme
   pub is : SpellsLiteral l first.token
   pub all : ts ≡ first ∷ rest
@@ -186,7 +186,7 @@ literal_of_ok (Compare o) place l ls rest h = absurd (cc)
 literal_of_ok Bad place l ls rest h = absurd (cc)
 literal_of_ok End place l ls rest h = absurd (cc)
 
-pub literal_spelled : (ts : List Lexeme) (l : Literal) (rest : List Lexeme) → literal_at ts ≡ Ok (l, rest) → IsRead l ts rest
+pub literal_spelled : (ts : List Lexeme) (l : Literal) (rest : List Lexeme) → literal_at ts ≡ Ok (l, rest) → IsReadLiteral l ts rest
 unfolding literal_at
 literal_spelled [] l rest h = absurd (cc)
 literal_spelled (t ∷ ls) l rest h =

@@ -57,15 +57,15 @@ entries_read total f i (b ∷ bs) ps e =
     ap (map entry_in) (sym w.are) ∙ map_on w.front w.back ∙ (λ j. block_found f i (block_entries b) w.front w.first j ++ more j)
 
 -- a block is in its grammar
-pub record IsRead (block : List ℕ) : Type 0 where
+pub record IsReadBlock (block : List ℕ) : Type 0 where
   pub entries : List EntryInBlock
   pub is : block_entries block ≡ Some entries
 
 abbrev pub AreRead : List (List ℕ) → Type 0
 AreRead [] = Unit {0}
-AreRead (b ∷ bs) = IsRead b × AreRead bs
+AreRead (b ∷ bs) = IsReadBlock b × AreRead bs
 
-block_is_read : (f i : ℕ) (block : List ℕ) (r : Option (List EntryInBlock)) (qs : List Placed) → block_entries block ≡ r → places_of f i r ≡ whole qs → IsRead block
+block_is_read : (f i : ℕ) (block : List ℕ) (r : Option (List EntryInBlock)) (qs : List Placed) → block_entries block ≡ r → places_of f i r ≡ whole qs → IsReadBlock block
 block_is_read f i block None qs is e = absurd cc
 block_is_read f i block (Some es) qs is e = record { entries = es; is = is }
 
@@ -90,7 +90,7 @@ pub record IsWholeRead (r : TrailRead) : Type 0 where
   pub placed : List Placed
   pub is : r ≡ whole placed
 
-whole_then : (f i : ℕ) (block : List ℕ) (rest : TrailRead) → IsRead block → IsWholeRead rest → IsWholeRead (then_read (places_of f i (block_entries block)) rest)
+whole_then : (f i : ℕ) (block : List ℕ) (rest : TrailRead) → IsReadBlock block → IsWholeRead rest → IsWholeRead (then_read (places_of f i (block_entries block)) rest)
 whole_then f i block rest b r = record {
   placed = map (place_of f i) b.entries ++ r.placed;
   is = (λ j. then_read (places_of f i (b.is j)) (r.is j));

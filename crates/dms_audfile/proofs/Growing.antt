@@ -256,7 +256,7 @@ pub none_grows : (total tag first f n : ℕ) (blocks : List (List ℕ)) (z x : L
 none_grows total tag first f n blocks z x k = kept_grows total tag first f n blocks z x k.files k.said
 
 -- what stands before the gate is written
-pub record Ready (total tag f n : ℕ) (content : List ℕ) (mid : Files) : Type 0 where
+pub record ReadyToGrow (total tag f n : ℕ) (content : List ℕ) (mid : Files) : Type 0 where
   pub long : 4096 * (n + 2) ≤ length (mid f)
   pub block : block_at (n + 1) (mid f) ≡ content
   pub next : n + 1 ≡ total → IsSealedUpTo total 0 (mid (f + 1))
@@ -264,7 +264,7 @@ pub record Ready (total tag f n : ℕ) (content : List ℕ) (mid : Files) : Type
   pub mark : n + 1 ≡ total → tag_said (mid (f + 1)) ≡ tag
 
 pub ready : (total f n k : ℕ) (content head : List ℕ) (old one two : Files) → length content ≡ 4096 → total ≤ 512 → 8 ≤ total → f < 20000 → k ≡ f - 9999 → head ≡ new_header k total (tag_said head)
-    → one ≡ with_file old f (overlaid (4096 * (n + 1)) content (old f)) → (n + 1 ≡ total → two ≡ with_file one (f + 1) head) → (n + 1 ≢ total → two ≡ one) → Ready total (tag_said head) f n content two
+    → one ≡ with_file old f (overlaid (4096 * (n + 1)) content (old f)) → (n + 1 ≡ total → two ≡ with_file one (f + 1) head) → (n + 1 ≢ total → two ≡ one) → ReadyToGrow total (tag_said head) f n content two
 ready total f n k content head old one two size few many low k-is head-is first last not_last =
     let here : one f ≡ overlaid (4096 * (n + 1)) content (old f) = ap (λ (l : Files). l f) first ∙ with_file_here old f (overlaid (4096 * (n + 1)) content (old f)) in
     let same : two f ≡ one f = elim (cases_eq (n + 1) total) [
@@ -284,17 +284,17 @@ ready total f n k content head old one two size few many low k-is head-is first 
       mark = λ at_last. ap tag_said (stands_next at_last);
     }
 
-pub ready_same : (total tag f n : ℕ) (content : List ℕ) (mid y : Files) → y ≡ mid → Ready total tag f n content mid → Ready total tag f n content y
-ready_same total tag f n content mid y is r = subst (λ (l : Files). Ready total tag f n content l) (sym is) r
+pub ready_same : (total tag f n : ℕ) (content : List ℕ) (mid y : Files) → y ≡ mid → ReadyToGrow total tag f n content mid → ReadyToGrow total tag f n content y
+ready_same total tag f n content mid y is r = subst (λ (l : Files). ReadyToGrow total tag f n content l) (sym is) r
 
-pub gate_step : (total tag first f n : ℕ) (content : List ℕ) (z y x : Left) → KeptLeft total tag first f n z y → Ready total tag f n content y.files → OnDisk f (Torn (511 + (n + 1)) 1) y x → GrowsLeft total tag first f (content ∷ []) z x
+pub gate_step : (total tag first f n : ℕ) (content : List ℕ) (z y x : Left) → KeptLeft total tag first f n z y → ReadyToGrow total tag f n content y.files → OnDisk f (Torn (511 + (n + 1)) 1) y x → GrowsLeft total tag first f (content ∷ []) z x
 gate_step total tag first f n content z y x k r step = record {
   files = gate_grows total tag first f n content z.files y.files k.files r.long r.block r.next r.head r.mark x.files step.files;
   said = step.said ∙ k.said;
 }
 
 -- all three are done
-module _ (total tag first f n : ℕ) (content : List ℕ) (old one two three : Files) (w : IsWrittenUpTo total tag first f n old) (size : length content ≡ 4096) (r : Ready total tag f n content two)
+module _ (total tag first f n : ℕ) (content : List ℕ) (old one two three : Files) (w : IsWrittenUpTo total tag first f n old) (size : length content ≡ 4096) (r : ReadyToGrow total tag f n content two)
     (wrote : one ≡ with_file old f (overlaid (4096 * (n + 1)) content (old f))) (others : InFile (f + 1) Anyhow one two) (gated : three ≡ with_file two f (overlaid (511 + (n + 1)) (1 ∷ []) (two f))) where
   kept : TrailKept total tag first f n old two
   kept = next_kept total tag first f n old one two

@@ -15,50 +15,50 @@ use Rattle.dms_audfile.specs.Scanning.{Placed, entry_in, no_schema, all_found, T
 use Rattle.dms_audfile.specs.TrailLaws.{IsWritersTrail, FoundIsWritersTrail}
 use Rattle.dms_audfile.proofs.HeaderLaws.{opened_within}
 
-abbrev pub IsWhole : TrailRead → Type 0
-IsWhole (broken f b) = ⊥
-IsWhole (whole ps) = Unit {0}
+abbrev pub IsUnbrokenRead : TrailRead → Type 0
+IsUnbrokenRead (broken f b) = ⊥
+IsUnbrokenRead (whole ps) = Unit {0}
 
-is_whole : (r : TrailRead) (ps : List Placed) → r ≡ whole ps → IsWhole r
+is_whole : (r : TrailRead) (ps : List Placed) → r ≡ whole ps → IsUnbrokenRead r
 is_whole (broken f b) ps is = absurd cc
 is_whole (whole qs) ps is = tt
 
-first_whole : (a b : TrailRead) → IsWhole (then_read a b) → IsWhole a
+first_whole : (a b : TrailRead) → IsUnbrokenRead (then_read a b) → IsUnbrokenRead a
 first_whole (broken f n) b w = w
 first_whole (whole ps) b w = tt
 
-rest_whole : (a b : TrailRead) → IsWhole (then_read a b) → IsWhole b
+rest_whole : (a b : TrailRead) → IsUnbrokenRead (then_read a b) → IsUnbrokenRead b
 rest_whole (broken f n) b w = absurd w
 rest_whole (whole ps) (broken f n) w = w
 rest_whole (whole ps) (whole qs) w = tt
 
-files_whole : (k total f : ℕ) (files : Files) → IsWhole (files_read k total f files) → (g : ℕ) → f ≤ g → g < f + k → IsWhole (file_read total g (files g))
+files_whole : (k total f : ℕ) (files : Files) → IsUnbrokenRead (files_read k total f files) → (g : ℕ) → f ≤ g → g < f + k → IsUnbrokenRead (file_read total g (files g))
 files_whole zero total f files w g low high = absurd (omega arith)
 files_whole (suc k) total f files w g low high = elim (cases_eq g f) [
-  | inl is ↦ subst (λ j. IsWhole (file_read total j (files j))) (sym is) (first_whole (file_read total f (files f)) (files_read k total (f + 1) files) w)
+  | inl is ↦ subst (λ j. IsUnbrokenRead (file_read total j (files j))) (sym is) (first_whole (file_read total f (files f)) (files_read k total (f + 1) files) w)
   | inr other ↦ files_whole k total (f + 1) files (rest_whole (file_read total f (files f)) (files_read k total (f + 1) files) w) g (omega arith) (omega arith)
 ]
 
-cond_whole : (b : Bool) (r : TrailRead) (f : ℕ) → IsWhole (cond b r (broken f 0)) → (b ≡ true) × IsWhole r
+cond_whole : (b : Bool) (r : TrailRead) (f : ℕ) → IsUnbrokenRead (cond b r (broken f 0)) → (b ≡ true) × IsUnbrokenRead r
 cond_whole true r f w = (refl, w)
 cond_whole false r f w = absurd w
 
-file_whole : (total f : ℕ) (file : List ℕ) → IsWhole (file_read total f file) → (header_fits (f - 10000) total file ≡ true) × IsWhole (blocks_read (opened total file) 1 f file)
+file_whole : (total f : ℕ) (file : List ℕ) → IsUnbrokenRead (file_read total f file) → (header_fits (f - 10000) total file ≡ true) × IsUnbrokenRead (blocks_read (opened total file) 1 f file)
 unfolding file_read
 file_whole total f file w = cond_whole (header_fits (f - 10000) total file) (blocks_read (opened total file) 1 f file) f w
 
-cond_some : (b : Bool) (r : Option (List EntryInBlock)) (f n : ℕ) → IsWhole (places_of f n (cond b r None)) → b ≡ true
+cond_some : (b : Bool) (r : Option (List EntryInBlock)) (f n : ℕ) → IsUnbrokenRead (places_of f n (cond b r None)) → b ≡ true
 cond_some true r f n w = refl
 cond_some false r f n w = absurd w
 
-pub block_whole : (f n : ℕ) (block : List ℕ) → IsWhole (places_of f n (block_entries block)) → length block ≡ 4096
+pub block_whole : (f n : ℕ) (block : List ℕ) → IsUnbrokenRead (places_of f n (block_entries block)) → length block ≡ 4096
 unfolding block_entries
 block_whole f n block w =
     let e : ((length block == 4096) && (nat_le (used_in block) 4094 && all_zero (drop (2 + used_in block) block))) ≡ true =
     cond_some ((length block == 4096) && (nat_le (used_in block) 4094 && all_zero (drop (2 + used_in block) block))) (entries_from (used_in block) 2 (drop 2 (take (2 + used_in block) block))) f n w in
     grind (arith, nat_tests)
 
-blocks_whole : (k i f : ℕ) (file : List ℕ) → IsWhole (blocks_read k i f file) → 0 < k → 4096 * (i + k) ≤ length file
+blocks_whole : (k i f : ℕ) (file : List ℕ) → IsUnbrokenRead (blocks_read k i f file) → 0 < k → 4096 * (i + k) ≤ length file
 blocks_whole zero i f file w some = absurd (omega arith)
 blocks_whole (suc zero) i f file w some =
     let e = block_whole f i (block_at i file) (first_whole (places_of f i (block_entries (block_at i file))) (whole []) w) in
@@ -119,7 +119,7 @@ open_gates : (total i : ℕ) (file : List ℕ) → 1 ≤ i → i ≤ opened tota
 unfolding opened
 open_gates total i file low high = opened_gates total 1 i file low (omega arith)
 
-file_stands : (total f : ℕ) (file : List ℕ) → total ≤ 512 → IsWhole (file_read total f file) → IsSealedUpTo total (opened total file) file
+file_stands : (total f : ℕ) (file : List ℕ) → total ≤ 512 → IsUnbrokenRead (file_read total f file) → IsSealedUpTo total (opened total file) file
 file_stands total f file few w =
     let parts = file_whole total f file w in
     let head = long_head (f - 10000) total file parts.0 in

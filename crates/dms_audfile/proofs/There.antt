@@ -16,7 +16,7 @@ use Rattle.dms_audfile.specs.Scanning.{Placed, TrailRead, broken, whole, then_re
 use Rattle.dms_audfile.specs.AuditTrail.{IsNoDatabase, IsScanned, TrailIs, IsOneTrail, entry_from, entry_there, AreThere, EntriesAreThere}
 use Rattle.dms_audfile.specs.declared.place.EntryPlace.{EntryPlace}
 use Rattle.dms_audfile.proofs.HeaderLaws.{opened_within}
-use Rattle.dms_audfile.proofs.Kept.{was_read, IsWhole, block_whole}
+use Rattle.dms_audfile.proofs.Kept.{was_read, IsUnbrokenRead, block_whole}
 use Rattle.dms_audfile.proofs.Leaving.{left_behind}
 
 -- at the offset of each of these an entry begins, and it is that one
@@ -86,7 +86,7 @@ unfolding entry_there
 there_in files f i [] low some few long at = tt
 there_in files f i (e ∷ es) low some few long at = (record { there = from_is e.offset (block_at i (files f)) long ∙ at.0; file = low; block = (some, few) }, there_in files f i es low some few long at.1)
 
-some_whole : (f i : ℕ) (r : Option (List EntryInBlock)) (es : List EntryInBlock) → r ≡ Some es → IsWhole (places_of f i r)
+some_whole : (f i : ℕ) (r : Option (List EntryInBlock)) (es : List EntryInBlock) → r ≡ Some es → IsUnbrokenRead (places_of f i r)
 some_whole f i None es is = absurd cc
 some_whole f i (Some xs) es is = tt
 

@@ -17,13 +17,13 @@ use Rattle.dms_desc_bytes.specs.Members.{is_plain}
 use Rattle.dms_desc_bytes.specs.Reading.{ReadBytes, op_of, test_at, tree_at}
 use Rattle.dms_desc_bytes.specs.Spelling.{op_number, tree_bytes}
 use Rattle.dms_desc_bytes.proofs.Fields.{Again}
-use Rattle.dms_desc_bytes.proofs.Values.{Spelled, literal_again, value_spelled}
+use Rattle.dms_desc_bytes.proofs.Values.{SpelledValue, literal_again, value_spelled}
 
 -- each of these items is of a kind that a schema can declare
 abbrev pub Kinds : List Item → Type 0
 Kinds items = (n : ℕ) (i : Item) → item_at items n ≡ Some i → is_kind i.kind ≡ true
 
-comparable_spelled : (o : Option Item) (v : Value) → ((i : Item) → o ≡ Some i → is_kind i.kind ≡ true) → is_comparable o v ≡ true → Spelled v
+comparable_spelled : (o : Option Item) (v : Value) → ((i : Item) → o ≡ Some i → is_kind i.kind ≡ true) → is_comparable o v ≡ true → SpelledValue v
 comparable_spelled None v kinds good = absurd cc
 comparable_spelled (Some i) v kinds good =
     let outer = and_parts (not (is_link i.kind) && fits i.kind v) (is_plain v) good in

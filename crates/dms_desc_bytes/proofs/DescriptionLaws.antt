@@ -64,7 +64,7 @@ structures_again ss good rest =
 
 -- ---- parameters
 
-record Low (d : Described) : Type 0 where
+record LowNumbers (d : Described) : Type 0 where
   pub syncpoint : d.syncpoint < 2 ^ 16
   pub controlpoint : d.controlpoint < 2 ^ 16
   pub buffers : d.buffers < 2 ^ 16
@@ -74,7 +74,7 @@ record Low (d : Described) : Type 0 where
 most_of : (least most n : ℕ) → is_within least most n ≡ true → n ≤ most
 most_of least most n good = leb-true n most (and_parts (nat_le least n) (nat_le n most) good).1
 
-low_parameters : (d : Described) → has_parameters d ≡ true → Low d
+low_parameters : (d : Described) → has_parameters d ≡ true → LowNumbers d
 unfolding has_parameters
 low_parameters d good =
     let a = is_within 1 10000 d.syncpoint in

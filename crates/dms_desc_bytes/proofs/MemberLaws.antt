@@ -12,13 +12,13 @@ use Rattle.dms_desc.specs.declared.structure.KeyPart.{KeyPart}
 use Rattle.dms_desc_bytes.specs.Reading.{ReadBytes, byte_at, kind_at, flag_at, literal_at, item_at, group_at, part_at, several, list_at}
 use Rattle.dms_desc_bytes.specs.Spelling.{count_byte, name_bytes, kind_bytes, literal_bytes, flag, item_bytes, group_bytes, part_bytes}
 use Rattle.dms_desc_bytes.proofs.Fields.{Again, flag_again, small_count}
-use Rattle.dms_desc_bytes.proofs.Values.{Spelled, Typed, name_again, kind_again, literal_again}
+use Rattle.dms_desc_bytes.proofs.Values.{SpelledValue, Typed, name_again, kind_again, literal_again}
 
 -- an item that a description can spell
 pub record SpelledItem (i : Item) : Type 0 where
   pub name : is_name i.name ≡ true
   pub kind : Typed i.kind
-  pub initial : Spelled i.initial
+  pub initial : SpelledValue i.initial
 
 -- the readers of an item, from its last field to its first
 abbrev item_of : List ℕ → ItemKind → Bool → ReadBytes Value → ReadBytes Item

@@ -24,7 +24,7 @@ use Rattle.dms_desc_bytes.specs.Spelling.{is_data_set, item_bytes, group_bytes, 
 use Rattle.dms_desc_bytes.specs.WellFormed.{is_open_behind, is_owned_well, is_shallow, has_member, has_sound_items, has_sound_groups, has_sound_verify, lacks_set_fields, is_data_set_sound, is_key_sound, is_set_placed, is_populated, is_where_sound, is_set_sound, is_placed, has_sound_fields, is_sound, parts_differ, is_part_sound, part_width}
 use Rattle.dms_desc_bytes.proofs.Fields.{Again}
 use Rattle.dms_desc_bytes.proofs.Places.{at_place, all_at}
-use Rattle.dms_desc_bytes.proofs.Values.{Typed, Spelled, value_spelled, null_spelled}
+use Rattle.dms_desc_bytes.proofs.Values.{Typed, SpelledValue, value_spelled, null_spelled}
 use Rattle.dms_desc_bytes.proofs.CondLaws.{Kinds, tree_again, nothing_again}
 use Rattle.dms_desc_bytes.proofs.MemberLaws.{each_again, item_again, group_again}
 use Rattle.dms_desc_bytes.proofs.StructureLaws.{SpelledDataSet, SpelledSet, SpelledShape}
@@ -67,7 +67,7 @@ item_parts ss i good =
     (b.0, b.1, c.1, d.1, e.1)
 
 -- what a kind asks of an item's initial value
-initial_case : (ss : List Shape) (i : Item) (k : ItemKind) → length ss ≤ 200 → is_kind k ≡ true → fits k i.initial ≡ true → is_plain i.initial ≡ true → points_well ss k i ≡ true → Typed k × Spelled i.initial
+initial_case : (ss : List Shape) (i : Item) (k : ItemKind) → length ss ≤ 200 → is_kind k ≡ true → fits k i.initial ≡ true → is_plain i.initial ≡ true → points_well ss k i ≡ true → Typed k × SpelledValue i.initial
 initial_case ss i (Alpha n) few kind fit plain points = (tt, value_spelled (Alpha n) i.initial kind fit plain refl)
 initial_case ss i (Decimal n m s) few kind fit plain points = (tt, value_spelled (Decimal n m s) i.initial kind fit plain refl)
 initial_case ss i OneBit few kind fit plain points = (tt, value_spelled OneBit i.initial kind fit plain refl)

@@ -40,13 +40,13 @@ name_again name good rest =
 -- ---- literals
 
 -- a value that a description can spell
-abbrev pub Spelled : Value → Type 0
-Spelled Null = Unit {0}
-Spelled (Text text) = (length text ≤ 200) × (list_all is_printable text ≡ true) × (trimmed text ≡ text)
-Spelled (Number z) = unsigned_abs z < 2 ^ 63
-Spelled (Truth b) = Unit {0}
-Spelled (Bits n) = n < 2 ^ 64
-Spelled (Link n) = ⊥
+abbrev pub SpelledValue : Value → Type 0
+SpelledValue Null = Unit {0}
+SpelledValue (Text text) = (length text ≤ 200) × (list_all is_printable text ≡ true) × (trimmed text ≡ text)
+SpelledValue (Number z) = unsigned_abs z < 2 ^ 63
+SpelledValue (Truth b) = Unit {0}
+SpelledValue (Bits n) = n < 2 ^ 64
+SpelledValue (Link n) = ⊥
 
 shifted_low : (z : ℤ) → unsigned_abs z < 2 ^ 63 → shifted z < 2 ^ 64
 shifted_low (pos n) low = omega (arith, low)
@@ -87,7 +87,7 @@ null_again : Again literal_at (literal_bytes Null) Null
 unfolding literal_at
 null_again rest = refl
 
-pub literal_again : (v : Value) → Spelled v → Again literal_at (literal_bytes v) v
+pub literal_again : (v : Value) → SpelledValue v → Again literal_at (literal_bytes v) v
 literal_again Null good = null_again
 literal_again (Text text) good = text_again text good.0 good.1 good.2
 literal_again (Number z) good = number_again z good
@@ -120,27 +120,27 @@ kind_again (LinkTo target false) good rest = ap (λ (n : ℕ). (LinkTo n false, 
 tens : (n : ℕ) → n ≤ 18 → 10 ^ n ≤ 10 ^ 18
 tens n low = pow-le-pow_right {n = 10} (omega arith) low
 
-text_spelled : (n : ℕ) (text : List ℕ) → is_kind (Alpha n) ≡ true → fits (Alpha n) (Text text) ≡ true → is_plain (Text text) ≡ true → Spelled (Text text)
+text_spelled : (n : ℕ) (text : List ℕ) → is_kind (Alpha n) ≡ true → fits (Alpha n) (Text text) ≡ true → is_plain (Text text) ≡ true → SpelledValue (Text text)
 text_spelled n text kind fit plain =
     let most = leb-true n 200 (and_parts (nat_le 1 n) (nat_le n 200) kind).1 in
     let few = leb-true (length text) n fit in
     let parts = and_parts (list_all is_printable text) (bytes_eq (trimmed text) text) plain in
     (omega (arith, most, few), parts.0, (bytes_eq-Decides (trimmed text) text).0 parts.1)
 
-number_spelled : (n m : ℕ) (s : Bool) (z : ℤ) → is_kind (Decimal n m s) ≡ true → fits (Decimal n m s) (Number z) ≡ true → Spelled (Number z)
+number_spelled : (n m : ℕ) (s : Bool) (z : ℤ) → is_kind (Decimal n m s) ≡ true → fits (Decimal n m s) (Number z) ≡ true → SpelledValue (Number z)
 number_spelled n m s z kind fit =
     let most = leb-true n 18 (and_parts (nat_le 1 n) (nat_le n 18) (and_parts (nat_le 1 n && nat_le n 18) (nat_le m n) kind).0).1 in
     let low = ltb-true (unsigned_abs z) (10 ^ n) (and_parts (nat_lt (unsigned_abs z) (10 ^ n)) (s || not (int_lt z (pos 0))) fit).0 in
     omega (arith, low, tens n most)
 
-bits_spelled : (n b : ℕ) → is_kind (Field n) ≡ true → fits (Field n) (Bits b) ≡ true → Spelled (Bits b)
+bits_spelled : (n b : ℕ) → is_kind (Field n) ≡ true → fits (Field n) (Bits b) ≡ true → SpelledValue (Bits b)
 bits_spelled n b kind fit =
     let most = leb-true n 48 (and_parts (nat_le 1 n) (nat_le n 48) kind).1 in
     let low = ltb-true b (2 ^ n) fit in
     omega (arith, low, pow_mono {i = n} {j = 48} most)
 
 -- a value that fits a kind can be spelled
-pub value_spelled : (k : ItemKind) (v : Value) → is_kind k ≡ true → fits k v ≡ true → is_plain v ≡ true → is_link k ≡ false → Spelled v
+pub value_spelled : (k : ItemKind) (v : Value) → is_kind k ≡ true → fits k v ≡ true → is_plain v ≡ true → is_link k ≡ false → SpelledValue v
 value_spelled k Null kind fit plain other = tt
 value_spelled (Alpha n) (Text text) kind fit plain other = text_spelled n text kind fit plain
 value_spelled (Decimal n m s) (Text text) kind fit plain other = absurd cc
@@ -164,7 +164,7 @@ value_spelled OneBit (Link r) kind fit plain other = absurd cc
 value_spelled (Field n) (Link r) kind fit plain other = absurd cc
 value_spelled (LinkTo t c) (Link r) kind fit plain other = absurd cc
 
-pub null_spelled : (v : Value) → is_null v ≡ true → Spelled v
+pub null_spelled : (v : Value) → is_null v ≡ true → SpelledValue v
 null_spelled Null null = tt
 null_spelled (Text text) null = absurd cc
 null_spelled (Number z) null = absurd cc

@@ -159,10 +159,10 @@ fields_of first live next counted agrees =
 
 -- ---- all that starts with a Control
 
-abbrev pub Starts : List Event → Counts → Type 0
-Starts es k = (n : ℕ) × (later : ℕ) × (rest : List Event) × (described : Bool) × (es ≡ control n later k described ∷ rest)
+abbrev pub StartsCounts : List Event → Counts → Type 0
+StartsCounts es k = (n : ℕ) × (later : ℕ) × (rest : List Event) × (described : Bool) × (es ≡ control n later k described ∷ rest)
 
-pub from_cases : (es : List Event) → (from_control es ≡ []) ⊎ Starts (from_control es) (first_counts es)
+pub from_cases : (es : List Event) → (from_control es ≡ []) ⊎ StartsCounts (from_control es) (first_counts es)
 from_cases [] = inl refl
 from_cases (change f b before after ∷ es) = from_cases es
 from_cases (quiet n ∷ es) = from_cases es
@@ -187,7 +187,7 @@ start_walk n later k described rest counted = record {
     not_some : (x : BlockBytes) → None ≡ Some x → ⊥
     not_some x e = absurd cc
 
-chain_from : (all : List Event) (k : Counts) (counted : Stored) → Fields all → has is_begin all ≡ false → Starts all k → Chain all (content_of k (choice [] all counted))
+chain_from : (all : List Event) (k : Counts) (counted : Stored) → Fields all → has is_begin all ≡ false → StartsCounts all k → Chain all (content_of k (choice [] all counted))
 chain_from all k counted fields off (n, later, rest, described, is) =
     let base = content_of k (choice [] all counted) in
     let same : content_of k (choice [] (control n later k described ∷ rest) counted) ≡ base = ap (λ (l : List Event). content_of k (choice [] l counted)) (sym is) in
@@ -205,7 +205,7 @@ after_behind p (e ∷ os) xs found =
 no_begin_from : (es : List Event) → has is_begin es ≡ false → has is_begin (from_control es) ≡ false
 no_begin_from es off = (or_no (has is_begin (opening es)) (has is_begin (from_control es)) (sym (has_append is_begin (opening es) (from_control es)) ∙ ap (λ (l : List Event). has is_begin l) (parts es) ∙ off)).1
 
-pub starts_has : (es : List Event) (k : Counts) → Starts es k → has is_control es ≡ true
+pub starts_has : (es : List Event) (k : Counts) → StartsCounts es k → has is_control es ≡ true
 starts_has es k (n, later, rest, described, is) = ap (λ (l : List Event). has is_control l) is
 
 pub stored_pick : (es : List Event) (s : Stored) (f b : ℕ) → first_before f b es ≡ None → choice [] es s f b ≡ s f b

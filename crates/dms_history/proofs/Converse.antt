@@ -12,7 +12,7 @@ use Rattle.dms_history.proofs.Picks.{tells_le, place_cases, laid_length, in_file
 use Rattle.dms_history.proofs.AtPoints.{suffix_none, bool_cases}
 use Rattle.dms_history.specs.Pick.{reached_count}
 use Rattle.dms_history.proofs.Counts.{reached_append, reached_any, chain_reached}
-use Rattle.dms_history.proofs.Base.{content_length, content_block, at_self, has_append, parts, opens, from_cases, after_behind, stored_pick, Starts, starts_has}
+use Rattle.dms_history.proofs.Base.{content_length, content_block, at_self, has_append, parts, opens, from_cases, after_behind, stored_pick, StartsCounts, starts_has}
 
 true_not_false : true ≡ false → ⊥
 true_not_false e = absurd cc
@@ -139,7 +139,7 @@ all_after (e ∷ es) off = ap (λ b. cond b (after_last is_control es) (e ∷ es
 
 -- ---- from the agreement
 
-has_starts : (es : List Event) → has is_control es ≡ true → Starts (from_control es) (first_counts es)
+has_starts : (es : List Event) → has is_control es ≡ true → StartsCounts (from_control es) (first_counts es)
 has_starts es found = elim (from_cases es) [
   | inr starts ↦ starts
   | inl none ↦

@@ -53,8 +53,8 @@ schema_is_whole front first rest p =
     whole : (n m : ℕ) → 0 < n → n ≡ m → is_whole (record { read = n; all = m }) ≡ true
     whole n m above same = grind (arith, nat_tests)
 
-abbrev Ends : Parts → List Entry → Type 0
-Ends p done = (p.read ≡ 0) ⊎ ((front : List Entry) × (bodies : List (List ℕ)) × (done ≡ front ++ parts_of_schema 1 p.all bodies) × (length bodies ≡ p.read))
+abbrev EndsSchema : Parts → List Entry → Type 0
+EndsSchema p done = (p.read ≡ 0) ⊎ ((front : List Entry) × (bodies : List (List ℕ)) × (done ≡ front ++ parts_of_schema 1 p.all bodies) × (length bodies ≡ p.read))
 
 schema_push : (bodies : List (List ℕ)) (k all : ℕ) (bytes : List ℕ) → parts_of_schema k all (bodies ++ bytes ∷ []) ≡ parts_of_schema k all bodies ++ schema_part (k + length bodies) all bytes ∷ []
 schema_push [] k all bytes = ap (λ j. schema_part j all bytes ∷ []) (omega arith)
@@ -64,8 +64,8 @@ schema_push (b ∷ bodies) k all bytes =
 two_tests : (a b c d : ℕ) → (a == b) && (c == d) ≡ true → (a ≡ b) × (c ≡ d)
 two_tests a b c d on = (grind (arith, nat_tests), grind (arith, nat_tests))
 
-goes_on : (done : List Entry) (p : Parts) (part parts : ℕ) (bytes : List ℕ) → Ends p done → (part == 1) ≡ false → (part == p.read + 1) && (parts == p.all) ≡ true
-    → Ends (record { read = part; all = parts }) (done ++ schema_part part parts bytes ∷ [])
+goes_on : (done : List Entry) (p : Parts) (part parts : ℕ) (bytes : List ℕ) → EndsSchema p done → (part == 1) ≡ false → (part == p.read + 1) && (parts == p.all) ≡ true
+    → EndsSchema (record { read = part; all = parts }) (done ++ schema_part part parts bytes ∷ [])
 goes_on done p part parts bytes ends off on =
     let both = two_tests part (p.read + 1) parts p.all on in
     elim ends [
@@ -87,14 +87,14 @@ goes_on done p part parts bytes ends off on =
     number : part ≡ p.read + 1 → {n : ℕ} → n ≡ p.read → part ≡ 1 + n
     number is same = omega (arith, is, same)
 
-ends_step : (done : List Entry) (p : Parts) (e : Entry) → Ends p done → Ends (after_entry p e) (done ++ e ∷ [])
+ends_step : (done : List Entry) (p : Parts) (e : Entry) → EndsSchema p done → EndsSchema (after_entry p e) (done ++ e ∷ [])
 ends_step done p (schema_part part parts bytes) ends = elim (bool_cases (part == 1)) [
-  | inl one ↦ subst (λ t. Ends (cond t (record { read = 1; all = parts }) (cond ((part == p.read + 1) && (parts == p.all)) (record { read = part; all = parts }) no_parts)) (done ++ schema_part part parts bytes ∷ [])) (sym one)
+  | inl one ↦ subst (λ t. EndsSchema (cond t (record { read = 1; all = parts }) (cond ((part == p.read + 1) && (parts == p.all)) (record { read = part; all = parts }) no_parts)) (done ++ schema_part part parts bytes ∷ [])) (sym one)
       (inr (done, bytes ∷ [], ap (λ k. done ++ schema_part k parts bytes ∷ []) (eq_of part 1 one), refl))
-  | inr off ↦ subst (λ t. Ends (cond t (record { read = 1; all = parts }) (cond ((part == p.read + 1) && (parts == p.all)) (record { read = part; all = parts }) no_parts)) (done ++ schema_part part parts bytes ∷ [])) (sym off)
+  | inr off ↦ subst (λ t. EndsSchema (cond t (record { read = 1; all = parts }) (cond ((part == p.read + 1) && (parts == p.all)) (record { read = part; all = parts }) no_parts)) (done ++ schema_part part parts bytes ∷ [])) (sym off)
       (elim (bool_cases ((part == p.read + 1) && (parts == p.all))) [
-        | inl on ↦ subst (λ t. Ends (cond t (record { read = part; all = parts }) no_parts) (done ++ schema_part part parts bytes ∷ [])) (sym on) (goes_on done p part parts bytes ends off on)
-        | inr no_more ↦ subst (λ t. Ends (cond t (record { read = part; all = parts }) no_parts) (done ++ schema_part part parts bytes ∷ [])) (sym no_more) (inl refl)
+        | inl on ↦ subst (λ t. EndsSchema (cond t (record { read = part; all = parts }) no_parts) (done ++ schema_part part parts bytes ∷ [])) (sym on) (goes_on done p part parts bytes ends off on)
+        | inr no_more ↦ subst (λ t. EndsSchema (cond t (record { read = part; all = parts }) no_parts) (done ++ schema_part part parts bytes ∷ [])) (sym no_more) (inl refl)
       ])
 ]
 ends_step done p (image f b before after) ends = inl refl
@@ -103,9 +103,9 @@ ends_step done p (quiet_point n) ends = inl refl
 ends_step done p (control_point n next counts) ends = inl refl
 ends_step done p (begin_restore n kind) ends = inl refl
 
-ends_all : (xs done : List Entry) (p : Parts) → Ends p done → Ends (parts_from p xs) (done ++ xs)
-ends_all [] done p ends = subst (λ (l : List Entry). Ends p l) (sym (append_none done)) ends
-ends_all (e ∷ xs) done p ends = subst (λ (l : List Entry). Ends (parts_from (after_entry p e) xs) l) (append_assoc done (e ∷ []) xs) (ends_all xs (done ++ e ∷ []) (after_entry p e) (ends_step done p e ends))
+ends_all : (xs done : List Entry) (p : Parts) → EndsSchema p done → EndsSchema (parts_from p xs) (done ++ xs)
+ends_all [] done p ends = subst (λ (l : List Entry). EndsSchema p l) (sym (append_none done)) ends
+ends_all (e ∷ xs) done p ends = subst (λ (l : List Entry). EndsSchema (parts_from (after_entry p e) xs) l) (append_assoc done (e ∷ []) xs) (ends_all xs (done ++ e ∷ []) (after_entry p e) (ends_step done p e ends))
 
 whole_read : (p : Parts) → is_whole p ≡ true → (0 < p.read) × (p.read ≡ p.all)
 whole_read p on = (grind (arith, nat_tests), grind (arith, nat_tests))

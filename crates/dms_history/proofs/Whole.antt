@@ -49,11 +49,11 @@ unfolding history
 history_clean entries = clean_from entries (record { live = []; pending = None }) refl
 
 -- a restore is pending only right behind its Begin
-record Cut (t : History) (xs : List Event) : Type 0 where
+record CutHistory (t : History) (xs : List Event) : Type 0 where
   live : (p : Pending) → t.pending ≡ Some p → t.live ≡ until_first (is_point p.point) p.entries
   last : (p : Pending) → t.pending ≡ Some p → (ws : List Event) × (m : ℕ) × (how : How) × (xs ≡ ws ++ begin m how ∷ [])
 
-not_pending : (t : History) (xs es : List Event) (e : Event) → BeginsAloneEvents (xs ++ e ∷ es) → Cut t xs → ends_restore e ≡ false → (p : Pending) → t.pending ≡ Some p → ⊥
+not_pending : (t : History) (xs es : List Event) (e : Event) → BeginsAloneEvents (xs ++ e ∷ es) → CutHistory t xs → ends_restore e ≡ false → (p : Pending) → t.pending ≡ Some p → ⊥
 not_pending t xs es e alone cut off p is =
     let r = cut.last p is in
     true_not_false (sym (alone r.0 es r.1 r.2 e (ap (λ (l : List Event). l ++ e ∷ es) r.3 ∙ append_assoc r.0 (begin r.1 r.2 ∷ []) (e ∷ es))) ∙ off)
@@ -61,7 +61,7 @@ not_pending t xs es e alone cut off p is =
 none_not_some : (p : Pending) → None ≡ Some p → ⊥
 none_not_some p e = absurd cc
 
-cut_step : (t : History) (xs es : List Event) (e : Event) → BeginsAloneEvents (xs ++ e ∷ es) → Cut t xs → Cut (after_event t e) (xs ++ e ∷ [])
+cut_step : (t : History) (xs es : List Event) (e : Event) → BeginsAloneEvents (xs ++ e ∷ es) → CutHistory t xs → CutHistory (after_event t e) (xs ++ e ∷ [])
 cut_step t xs es (change f b before after) alone cut = record {
   live = λ p is. absurd (not_pending t xs es (change f b before after) alone cut refl p is);
   last = λ p is. absurd (not_pending t xs es (change f b before after) alone cut refl p is);
@@ -78,11 +78,11 @@ cut_step t xs es (begin m how) alone cut =
       last = λ p is. (xs, m, how, refl);
     }
 
-cut_from : (es xs : List Event) (t : History) → BeginsAloneEvents (xs ++ es) → Cut t xs → Cut (history_from t es) (xs ++ es)
-cut_from [] xs t alone cut = subst (λ (l : List Event). Cut t l) (sym (append_none xs)) cut
+cut_from : (es xs : List Event) (t : History) → BeginsAloneEvents (xs ++ es) → CutHistory t xs → CutHistory (history_from t es) (xs ++ es)
+cut_from [] xs t alone cut = subst (λ (l : List Event). CutHistory t l) (sym (append_none xs)) cut
 cut_from (e ∷ es) xs t alone cut =
     let same : (xs ++ e ∷ []) ++ es ≡ xs ++ e ∷ es = append_assoc xs (e ∷ []) es in
-    subst (λ (l : List Event). Cut (history_from (after_event t e) es) l) same
+    subst (λ (l : List Event). CutHistory (history_from (after_event t e) es) l) same
     (cut_from es (xs ++ e ∷ []) (after_event t e) (subst (λ (l : List Event). BeginsAloneEvents l) (sym same) alone) (cut_step t xs es e alone cut))
 
 -- live entries end at the place of the pending point

@@ -76,19 +76,19 @@ used_by true b x slot h = absurd (cc)
 used_by false true x slot h = (refl, cc)
 used_by false false x slot h = absurd (cc)
 
-record Spelled (s : Shape) (bytes : List ℕ) (slot : Slot) : Type 0 where
+record SpelledSlot (s : Shape) (bytes : List ℕ) (slot : Slot) : Type 0 where
   same : bytes ≡ slot_bytes s.items slot
   disjoint : may_own s slot.rec.owner ≡ true
   values : values_fit s.items slot.rec.values ≡ true
 
-spelled_is : (s : Shape) (bytes : List ℕ) (slot : Slot) → is_spelled s bytes slot ≡ true → Spelled s bytes slot
+spelled_is : (s : Shape) (bytes : List ℕ) (slot : Slot) → is_spelled s bytes slot ≡ true → SpelledSlot s bytes slot
 unfolding is_spelled
 spelled_is s bytes slot h =
     let outer = and_parts (bytes_eq bytes (slot_bytes s.items slot)) (may_own s slot.rec.owner && values_fit s.items slot.rec.values) h in
     let inner = and_parts (may_own s slot.rec.owner) (values_fit s.items slot.rec.values) outer.1 in
     record { same = (bytes_eq-Decides bytes (slot_bytes s.items slot)).0 outer.0; disjoint = inner.0; values = inner.1 }
 
-read_fits : (s : Shape) (bytes : List ℕ) (slot : Slot) → slot_in s.items bytes ≡ slot → Spelled s bytes slot → SlotFits s slot
+read_fits : (s : Shape) (bytes : List ℕ) (slot : Slot) → slot_in s.items bytes ≡ slot → SpelledSlot s bytes slot → SlotFits s slot
 read_fits s bytes slot is spelled =
     let o = to_be_bytes w32 slot.rec.owner in
     let c = to_be_bytes w32 slot.counted in

@@ -18,7 +18,7 @@ use Rattle.dms_memcalls.specs.Events.{seen_after}
 use Rattle.dms_memcalls.specs.Outcomes.{Adds, EventMakes, WorldMayBeLeft, seen_of, past_of, seen_now, world_now, clock_of}
 use Rattle.dms_memcalls.specs.Steady.{seen_push, left_now, stays_now, IsUpToOneMore, steps_more, step_more}
 
-pub record IsFree (i : ℕ) (w : World) : Type 0 where
+pub record IsFreeHandle (i : ℕ) (w : World) : Type 0 where
   pub bytes : w.bytes i ≡ []
   pub names : (m : List ℕ) → w.names m ≢ Some i
 
@@ -47,16 +47,16 @@ pub above : List CallEvent → ℕ
 above [] = 0
 above (e ∷ past) = touches (seen_of past) e + 1 + above past
 
-free_same : (i : ℕ) (v w : World) → w ≡ v → IsFree i v → IsFree i w
-free_same i v w is free = subst (λ (x : World). IsFree i x) (sym is) free
+free_same : (i : ℕ) (v w : World) → w ≡ v → IsFreeHandle i v → IsFreeHandle i w
+free_same i v w is free = subst (λ (x : World). IsFreeHandle i x) (sym is) free
 
-free_file : (i f : ℕ) (step : List ℕ → List ℕ → Type 0) (v w : World) → f < i → OnFile f step v w → IsFree i v → IsFree i w
+free_file : (i f : ℕ) (step : List ℕ → List ℕ → Type 0) (v w : World) → f < i → OnFile f step v w → IsFreeHandle i v → IsFreeHandle i w
 free_file i f step v w low on free = record {
   bytes = on.others i (λ e. omega (arith, e, low)) ∙ free.bytes;
   names = λ m is. free.names m (sym (on.names m) ∙ is);
 }
 
-free_added : (i n : ℕ) (name bytes : List ℕ) (v w : World) → n < i → Adds name bytes n v w → IsFree i v → IsFree i w
+free_added : (i n : ℕ) (name bytes : List ℕ) (v w : World) → n < i → Adds name bytes n v w → IsFreeHandle i v → IsFreeHandle i w
 free_added i n name bytes v w low adds free = record {
   bytes = adds.others i (λ e. omega (arith, e, low)) ∙ free.bytes;
   names = λ m is. ⊎_elim
@@ -68,10 +68,10 @@ free_added i n name bytes v w low adds free = record {
       (same_or_not m name);
 }
 
-free_spoken : (i : ℕ) (text : List ℕ) (v w : World) → Speaks text v w → IsFree i v → IsFree i w
+free_spoken : (i : ℕ) (text : List ℕ) (v w : World) → Speaks text v w → IsFreeHandle i v → IsFreeHandle i w
 free_spoken i text v w speaks free = record { bytes = ap (λ (l : ℕ → List ℕ). l i) speaks.bytes ∙ free.bytes; names = λ m is. free.names m (sym (ap (λ (l : List ℕ → Option ℕ). l m) speaks.names) ∙ is) }
 
-free_step : (i : ℕ) (s : FolderSeen) (e : CallEvent) (v w : World) → touches s e < i → IsFree i v → EventMakes s e v w → IsFree i w
+free_step : (i : ℕ) (s : FolderSeen) (e : CallEvent) (v w : World) → touches s e < i → IsFreeHandle i v → EventMakes s e v w → IsFreeHandle i w
 free_step i s (Looked ok) v w low free step = free_same i v w step free
 free_step i s (Made name ok) v w low free step = free_added i s.count name.items [] v w low step free
 free_step i s (Wrote f at bytes ok) v w low free step = free_file i f _ v w low step free
@@ -83,18 +83,18 @@ free_step i s (Printed bytes ok) v w low free step = free_spoken i bytes.items v
 free_step i s (Found name bytes) v w low free step = free_added i s.count name.items bytes.items v w low step free
 free_step i s (Recalled bytes) v w low free step = free_spoken i bytes.items v w step free
 
-free_of : (past : List CallEvent) (i : ℕ) (w : World) → above past ≤ i → WorldMayBeLeft past w → IsFree i w
+free_of : (past : List CallEvent) (i : ℕ) (w : World) → above past ≤ i → WorldMayBeLeft past w → IsFreeHandle i w
 unfolding above
 free_of [] i w le may = free_same i (world_of nothing) w may (record { bytes = refl; names = λ m is. omega (arith, (leads_is 0 _ m i is).0) })
 free_of (e ∷ past) i w le may =
     let low : above past ≤ i = omega (arith, le) in
     free_step i (seen_of past) e may.1.0 w (omega (arith, le)) (free_of past i may.1.0 low may.1.1) may.1.2
 
-pub free_now : (events : List CallEvent) (w : World) → Now (clock_of events) w → IsFree (above (past_of events)) w
+pub free_now : (events : List CallEvent) (w : World) → Now (clock_of events) w → IsFreeHandle (above (past_of events)) w
 free_now events w now = free_of (past_of events) (above (past_of events)) w (omega arith) (left_now events w now)
 
 -- nothing was made, under a number that is free
-makes_none : (i : ℕ) (name : List ℕ) (w : World) → IsFree i w → MakesFile name i w w
+makes_none : (i : ℕ) (name : List ℕ) (w : World) → IsFreeHandle i w → MakesFile name i w w
 makes_none i name w free = record { empty = free.bytes; others = λ j other. refl; free = free.names; here = inl refl; names = λ m other. refl; said = refl }
 
 -- no event

@@ -11,12 +11,12 @@ use Rattle.dms_site.specs.Laws.{with_file_here, with_file_other, torn_refl}
 use Rattle.dms_calls.specs.World.{World, OnFile, Speaks}
 use Rattle.dms_memcalls.specs.declared.event.CallEvent.{CallEvent}
 use Rattle.dms_memcalls.specs.declared.event.CallEvent.TheVariants.{Looked, Made, Wrote, Shortened, Lengthened, Synced, SyncedNames, Printed, Found, Recalled}
-use Rattle.dms_memcalls.specs.Folders.{FolderSeen, nothing, with_made, with_bytes, Alike, world_of}
+use Rattle.dms_memcalls.specs.Folders.{FolderSeen, nothing, with_made, with_bytes, AlikeFolders, world_of}
 use Rattle.dms_memcalls.specs.Events.{seen_after}
 use Rattle.dms_memcalls.specs.Outcomes.{seen_now, world_now, clock_of}
 use Rattle.dms_memcalls.specs.Steady.{IsUpToOneMore, seen_push, steps_grew, step_grew, on_file_same, speaks_none}
 
-pub alike_same : (a b : FolderSeen) → a ≡ b → Alike a b
+pub alike_same : (a b : FolderSeen) → a ≡ b → AlikeFolders a b
 alike_same a b is = record {
   count = ap (λ (s : FolderSeen). s.count) is;
   names = λ k low. ap (λ (s : FolderSeen). s.names k) is;
@@ -28,7 +28,7 @@ pub nothing_seen : (events : List CallEvent) → events ≡ [] → nothing ≡ s
 unfolding seen_now
 nothing_seen events none = sym (ap seen_now none)
 
-made_alike : (a b : FolderSeen) (name bytes : List ℕ) → Alike a b → Alike (with_made a name bytes) (with_made b name bytes)
+made_alike : (a b : FolderSeen) (name bytes : List ℕ) → AlikeFolders a b → AlikeFolders (with_made a name bytes) (with_made b name bytes)
 made_alike a b name bytes alike = record {
   count = ap (λ (n : ℕ). n + 1) alike.count;
   names = names;
@@ -46,7 +46,7 @@ made_alike a b name bytes alike = record {
           ap (λ (n : ℕ). with_file a.names a.count name n) d ∙ with_file_here a.names a.count name ∙ sym (with_file_here b.names b.count name) ∙ ap (λ (n : ℕ). with_file b.names b.count name n) (sym e)
     ]
 
-bytes_alike : (a b : FolderSeen) (f : ℕ) (g : List ℕ → List ℕ) → Alike a b → Alike (with_bytes a f (g (a.bytes f))) (with_bytes b f (g (b.bytes f)))
+bytes_alike : (a b : FolderSeen) (f : ℕ) (g : List ℕ → List ℕ) → AlikeFolders a b → AlikeFolders (with_bytes a f (g (a.bytes f))) (with_bytes b f (g (b.bytes f)))
 bytes_alike a b f g alike = record {
   count = alike.count;
   names = alike.names;
@@ -54,11 +54,11 @@ bytes_alike a b f g alike = record {
   said = alike.said;
 }
 
-said_alike : (a b : FolderSeen) (text : List ℕ) → Alike a b → Alike (record a { said = a.said ++ text }) (record b { said = b.said ++ text })
+said_alike : (a b : FolderSeen) (text : List ℕ) → AlikeFolders a b → AlikeFolders (record a { said = a.said ++ text }) (record b { said = b.said ++ text })
 said_alike a b text alike = record { count = alike.count; names = alike.names; bytes = alike.bytes; said = ap (λ (l : List ℕ). l ++ text) alike.said }
 
 -- an event does the same to folders that are the same
-pub alike_after : (e : CallEvent) (a b : FolderSeen) → Alike a b → Alike (seen_after e a) (seen_after e b)
+pub alike_after : (e : CallEvent) (a b : FolderSeen) → AlikeFolders a b → AlikeFolders (seen_after e a) (seen_after e b)
 alike_after (Looked ok) a b alike = alike
 alike_after (Made name ok) a b alike = made_alike a b _ _ alike
 alike_after (Wrote f at bytes true) a b alike = bytes_alike a b f (λ l. overlaid at bytes.items l) alike
@@ -74,9 +74,9 @@ alike_after (Printed bytes false) a b alike = alike
 alike_after (Found name bytes) a b alike = made_alike a b _ _ alike
 alike_after (Recalled bytes) a b alike = said_alike a b bytes.items alike
 
-pub alike_kept : (events all : List CallEvent) (e : CallEvent) (old new : FolderSeen) → Alike old (seen_now events) → new ≡ seen_after e old → all ≡ events ++ e ∷ [] → Alike new (seen_now all)
+pub alike_kept : (events all : List CallEvent) (e : CallEvent) (old new : FolderSeen) → AlikeFolders old (seen_now events) → new ≡ seen_after e old → all ≡ events ++ e ∷ [] → AlikeFolders new (seen_now all)
 alike_kept events all e old new was now more =
-    subst (λ (s : FolderSeen). Alike s (seen_now all)) (sym now) (subst (λ (s : FolderSeen). Alike (seen_after e old) s) (sym (ap seen_now more ∙ seen_push events e)) (alike_after e old (seen_now events) was))
+    subst (λ (s : FolderSeen). AlikeFolders s (seen_now all)) (sym now) (subst (λ (s : FolderSeen). AlikeFolders (seen_after e old) s) (sym (ap seen_now more ∙ seen_push events e)) (alike_after e old (seen_now events) was))
 
 -- what was pushed where there was room
 pub surely_pushed : {T E : Type 0} (r : Result T E) (room len : ℕ) (xs ys zs : List CallEvent) → OnErr r (room ≤ len) → len < room → zs ≡ (if is_ok r then xs else ys) → zs ≡ xs

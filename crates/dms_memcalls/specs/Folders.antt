@@ -30,7 +30,7 @@ abbrev pub world_of : FolderSeen → World
 world_of s = record { names = λ m. leads s.count s.names m; bytes = s.bytes; said = s.said }
 
 -- the same folder; numbers that no file has may have other names
-pub record Alike (a b : FolderSeen) : Type 0 where
+pub record AlikeFolders (a b : FolderSeen) : Type 0 where
   pub count : a.count ≡ b.count
   pub names : (k : ℕ) → k < b.count → a.names k ≡ b.names k
   pub bytes : a.bytes ≡ b.bytes

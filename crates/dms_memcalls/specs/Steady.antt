@@ -9,12 +9,12 @@ use Rattle.dms_memcalls.specs.declared.event.CallEvent.{CallEvent}
 use Rattle.dms_memcalls.specs.declared.event.CallEvent.TheVariants.{Looked, Made, Wrote, Shortened, Lengthened, Synced, SyncedNames, Printed, Found, Recalled}
 use Rattle.dms_memcalls.specs.Names.{leads}
 use Rattle.dms_memcalls.specs.NameLaws.{name_is, leads_is, leads_same, adds_seen}
-use Rattle.dms_memcalls.specs.Folders.{FolderSeen, nothing, with_bytes, with_said, world_of, Alike}
+use Rattle.dms_memcalls.specs.Folders.{FolderSeen, nothing, with_bytes, with_said, world_of, AlikeFolders}
 use Rattle.dms_memcalls.specs.Events.{seen_after}
 use Rattle.dms_memcalls.specs.Outcomes.{EventMakes, IsOutcomeOf, seen_of, WorldMayBeLeft, turned, past_of, seen_now, world_now, clock_of}
 
 -- the same folder is seen the same
-pub alike_world : (a b : FolderSeen) → Alike a b → world_of a ≡ world_of b
+pub alike_world : (a b : FolderSeen) → AlikeFolders a b → world_of a ≡ world_of b
 alike_world a b alike = λ i. record { names = λ m. names m i; bytes = alike.bytes i; said = alike.said i }
   where
     names : (m : List ℕ) → leads a.count a.names m ≡ leads b.count b.names m

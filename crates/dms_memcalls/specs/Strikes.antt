@@ -21,7 +21,7 @@ pub record Added (name : List ℕ) (left new : FolderSeen) : Type 0 where
   pub is : new ≡ with_made left given []
 
 -- what was left has the names that are seen
-pub record Named (s left new : FolderSeen) : Type 0 where
+pub record NamedFile (s left new : FolderSeen) : Type 0 where
   pub count : new.count ≡ left.count
   pub names : (k : ℕ) → k < s.count → new.names k ≡ s.names k
   pub bytes : new.bytes ≡ left.bytes
@@ -35,7 +35,7 @@ Strikes (Shortened f len ok) s left new = FileChanged f (Cut len) left new
 Strikes (Lengthened f len ok) s left new = FileChanged f (Torn len 0) left new
 Strikes (Synced f true) s left new = new ≡ with_bytes left f (s.bytes f)
 Strikes (Synced f false) s left new = new ≡ left
-Strikes (SyncedNames true) s left new = Named s left new
+Strikes (SyncedNames true) s left new = NamedFile s left new
 Strikes (SyncedNames false) s left new = new ≡ left
 Strikes (Printed bytes ok) s left new = new ≡ seen_after (Printed bytes ok) left
 Strikes (Found name bytes) s left new = new ≡ seen_after (Found name bytes) left

@@ -13,7 +13,7 @@ use Rattle.dms_memcalls.specs.Events.{seen_after}
 use Rattle.dms_memcalls.specs.Outcomes.{Adds, EventMakes, IsOutcomeOf, seen_of, WorldMayBeLeft}
 use Rattle.dms_memcalls.specs.Steady.{on_file, speaks_all, speaks_none}
 use Rattle.dms_memcalls.specs.Settled.{put, renamed, settled, settled_names}
-use Rattle.dms_memcalls.specs.Strikes.{FileChanged, Named, Strikes, IsLeft}
+use Rattle.dms_memcalls.specs.Strikes.{FileChanged, NamedFile, Strikes, IsLeft}
 
 -- one name here and there, where there is one in both
 abbrev NamesAgree : List ℕ → List ℕ → Type 0
@@ -115,7 +115,7 @@ module _ (past : List CallEvent) (left : FolderSeen) (was : IsLeft past left) wh
       (put f bytes (world_of left)) (settled f past (world_of left) was.may) (refl, λ done. with_file_here left.bytes f bytes))
 
   -- the names are stable
-  named_left : (new : FolderSeen) → Named (seen_of past) left new → IsLeft (SyncedNames true ∷ past) new
+  named_left : (new : FolderSeen) → NamedFile (seen_of past) left new → IsLeft (SyncedNames true ∷ past) new
   named_left new named = next past (SyncedNames true) new (named.count ∙ was.count) (named.said ∙ was.said)
       (λ k low. inr (inr (named.names k (omega (arith, low, named.count, was.count)))))
       (renamed (seen_of past) (world_of left)) (settled_names past (world_of left) was.may)

@@ -5,7 +5,7 @@ ghost use Rattle.dms_memcalls.specs.Folders.{with_bytes, world_of};
 ghost use Rattle.dms_memcalls.specs.Views.{view};
 ghost use Rattle.dms_memcalls.specs.Events.{seen_after};
 ghost use Rattle.dms_memcalls.specs.Outcomes.{past_of, world_now};
-ghost use Rattle.dms_memcalls.specs.Strikes.{Added, FileChanged, Named, Strikes, IsLeft, Shows};
+ghost use Rattle.dms_memcalls.specs.Strikes.{Added, FileChanged, NamedFile, Strikes, IsLeft, Shows};
 
 use crate::disk::MemDisk;
 use crate::event::CallEvent;
@@ -110,7 +110,7 @@ fn settle_file(left: &mut MemDisk, file: u32, shown: &MemDisk) -> Result<(), All
 
 /// The names are as they are seen.
 fn settle_names(left: &mut MemDisk, shown: &MemDisk) -> Result<(), AllocError>
-    ensures { OnOk result (Named (view shown.now) (view left.old) (view left.new)) }
+    ensures { OnOk result (NamedFile (view shown.now) (view left.old) (view left.new)) }
 {
     left.names = names_of(left.names.alloc, shown)?;
     Ok(())

@@ -1,7 +1,7 @@
 ghost use Rattle.std.specs.Prelude.{◌≡◌, OnOk, OnErr};
 ghost use Rattle.dms_sitemem.specs.Slots.{files_of};
 ghost use Rattle.dms_memcalls.specs.Names.{is_name, leads};
-ghost use Rattle.dms_memcalls.specs.Folders.{nothing, with_made, Alike};
+ghost use Rattle.dms_memcalls.specs.Folders.{nothing, with_made, AlikeFolders};
 ghost use Rattle.dms_memcalls.specs.Views.{view};
 ghost use Rattle.dms_memcalls.specs.Events.{seen_after};
 
@@ -54,7 +54,7 @@ impl MemDisk {
     /// Adds a file. A want of memory changes nothing.
     pub fn make(&mut self, name: &[u8], bytes: &[u8]) -> Result<(), AllocError>
         ensures made { OnOk result (view self.new ≡ with_made (view self.old) name.now bytes.now) }
-        ensures same { OnErr result (Alike (view self.new) (view self.old)) }
+        ensures same { OnErr result (AlikeFolders (view self.new) (view self.old)) }
     {
         let Some(count) = self.count.checked_add(1) else {
             return Err(AllocError);
@@ -69,7 +69,7 @@ impl MemDisk {
     /// the names.
     pub fn apply(&mut self, event: &CallEvent) -> Result<(), AllocError>
         ensures done { OnOk result (view self.new ≡ seen_after event.now (view self.old)) }
-        ensures same { OnErr result (Alike (view self.new) (view self.old)) }
+        ensures same { OnErr result (AlikeFolders (view self.new) (view self.old)) }
     {
         match event {
             CallEvent::Made(name, true) => self.make(name, &[]),

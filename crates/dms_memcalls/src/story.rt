@@ -1,5 +1,5 @@
 ghost use Rattle.std.specs.Prelude.{◌≡◌, [], ◌∷◌, ◌++◌, OnOk, OnErr};
-ghost use Rattle.dms_memcalls.specs.Folders.{Alike};
+ghost use Rattle.dms_memcalls.specs.Folders.{AlikeFolders};
 ghost use Rattle.dms_memcalls.specs.Views.{view};
 ghost use Rattle.dms_memcalls.specs.Outcomes.{seen_now, world_now};
 
@@ -12,7 +12,7 @@ use std::alloc::{AllocError, Global};
 pub struct Story {
     pub disk: MemDisk,
     pub events: Vec<CallEvent>,
-    ghost alike: { Alike (view disk) (seen_now events.items) },
+    ghost alike: { AlikeFolders (view disk) (seen_now events.items) },
 }
 
 impl Story {

@@ -18,7 +18,7 @@ use Rattle.dms_model.specs.Session.{is_waits}
 use Rattle.dms_model.specs.Traits.{traits}
 
 -- the next number rises by one at most, and a session in which a line waits is the one before, but for the waits
-pub record IsSmall (s : Session) (o : Outcome) : Type 0 where
+pub record IsSmallStep (s : Session) (o : Outcome) : Type 0 where
   pub not_fallen : s.next ≤ o.session.next
   pub high : o.session.next ≤ s.next + 1
   pub waits : is_waits o.reply ≡ true → o.session ≡ record s { waits = o.session.waits }
@@ -122,10 +122,10 @@ step_at_keeps desc (Some p) i s name v =
     (if_keeps s p.owes_abort _ _ (record { not_fallen = omega arith; high = omega arith; same = λ h. absurd (cc); kept = refl })
     (if_keeps s _ _ _ (refuse_keeps s _ _) (verb_keeps desc i p s v)))
 
-answered_small : (s : Session) (name : List ℕ) (o : Outcome) → KeepsWaits s o → IsSmall s (answered name o)
+answered_small : (s : Session) (name : List ℕ) (o : Outcome) → KeepsWaits s o → IsSmallStep s (answered name o)
 answered_small s name o c = record { not_fallen = c.not_fallen; high = c.high; waits = λ h. ap (λ (t : Session). record t { waits = waits_after name o.reply o.session.waits }) (c.same h) }
 
-pub step_small : (desc : Described) (s : Session) (name : List ℕ) (v : Verb) → IsSmall s (step desc s name v)
+pub step_small : (desc : Described) (s : Session) (name : List ℕ) (v : Verb) → IsSmallStep s (step desc s name v)
 unfolding step carried_out
 step_small desc s name v = answered_small s name _ (step_at_keeps desc _ _ s name v)
 

@@ -44,22 +44,22 @@ set_splits (e ∷ es) zero d v lt = refl
 set_splits (e ∷ es) (suc i) d v lt = ap (λ (xs : List (Place × Record)). e ∷ xs) (set_splits es i d v (omega arith))
 
 -- what is known at a place of the entries
-pub record IsPast (k : Place) (i : ℕ) (es : List (Place × Record)) : Type 0 where
+pub record IsPastPlace (k : Place) (i : ℕ) (es : List (Place × Record)) : Type 0 where
   pub split : (v : Record) → put place_cmp k v es ≡ take i es ++ put place_cmp k v (drop i es)
 
-pub IsPast-start : (k : Place) (es : List (Place × Record)) → IsPast k 0 es
-IsPast-start k es = record { split = λ v. refl }
+pub IsPastPlace-start : (k : Place) (es : List (Place × Record)) → IsPastPlace k 0 es
+IsPastPlace-start k es = record { split = λ v. refl }
 
-pub IsPast-here : (k : Place) (i : ℕ) (rows : List RecordRow) (x : RecordRow) → IsPast k i (entries_of rows) → i < length rows → x ≡ get_or rows i x → place_cmp k (x.set, x.number) ≡ Less
+pub IsPastPlace-here : (k : Place) (i : ℕ) (rows : List RecordRow) (x : RecordRow) → IsPastPlace k i (entries_of rows) → i < length rows → x ≡ get_or rows i x → place_cmp k (x.set, x.number) ≡ Less
     → (v : Record) → put place_cmp k v (entries_of rows) ≡ insert (entries_of rows) i (k, v)
-IsPast-here k i rows x past lt is less v =
+IsPastPlace-here k i rows x past lt is less v =
     let at = at_row rows i x lt is in
     past.split v ∙ ap (λ (es : List (Place × Record)). take i (entries_of rows) ++ es)
     (ap (put place_cmp k v) at ∙ put_less k v (entry_of x) (drop (i + 1) (entries_of rows)) less ∙ ap (λ (es : List (Place × Record)). (k, v) ∷ es) (sym at))
 
-pub IsPast-at : (k : Place) (i : ℕ) (rows : List RecordRow) (x : RecordRow) → IsPast k i (entries_of rows) → i < length rows → x ≡ get_or rows i x → place_cmp k (x.set, x.number) ≡ Equal
+pub IsPastPlace-at : (k : Place) (i : ℕ) (rows : List RecordRow) (x : RecordRow) → IsPastPlace k i (entries_of rows) → i < length rows → x ≡ get_or rows i x → place_cmp k (x.set, x.number) ≡ Equal
     → (v : Record) (d : Place × Record) → put place_cmp k v (entries_of rows) ≡ slice_set (entries_of rows) i ((slice_index_or (entries_of rows) i d).0, v)
-IsPast-at k i rows x past lt is tie v d =
+IsPastPlace-at k i rows x past lt is tie v d =
     let at = at_row rows i x lt is in
     let here : slice_index_or (entries_of rows) i d ≡ entry_of x = get_other (entries_of rows) i d (entry_of x) (omega (arith, length_rows rows)) ∙ get_row rows i x ∙ ap entry_of (sym is) in
     past.split v ∙ ap (λ (es : List (Place × Record)). take i (entries_of rows) ++ es)
@@ -68,8 +68,8 @@ IsPast-at k i rows x past lt is tie v d =
     ∙ ap (λ (n : ℕ). take i (entries_of rows) ++ ((slice_index_or (entries_of rows) i d).0, v) ∷ drop n (entries_of rows)) (add-one i)
     ∙ set_splits (entries_of rows) i d v (omega (arith, length_rows rows))
 
-pub IsPast-more : (k : Place) (i : ℕ) (rows : List RecordRow) (x : RecordRow) → IsPast k i (entries_of rows) → i < length rows → x ≡ get_or rows i x → place_cmp k (x.set, x.number) ≡ Greater → IsPast k (i + 1) (entries_of rows)
-IsPast-more k i rows x past lt is more =
+pub IsPastPlace-more : (k : Place) (i : ℕ) (rows : List RecordRow) (x : RecordRow) → IsPastPlace k i (entries_of rows) → i < length rows → x ≡ get_or rows i x → place_cmp k (x.set, x.number) ≡ Greater → IsPastPlace k (i + 1) (entries_of rows)
+IsPastPlace-more k i rows x past lt is more =
     let at = at_row rows i x lt is in
     let e = take_more (entries_of rows) i (entry_of x) (omega (arith, length_rows rows)) ∙ ap (λ (y : Place × Record). take i (entries_of rows) ++ y ∷ []) (get_row rows i x ∙ ap entry_of (sym is)) in
     record {
@@ -79,8 +79,8 @@ IsPast-more k i rows x past lt is more =
           ∙ ap (λ (es : List (Place × Record)). es ++ put place_cmp k v (drop (i + 1) (entries_of rows))) (sym e);
     }
 
-pub IsPast-end : (k : Place) (i : ℕ) (rows : List RecordRow) → IsPast k i (entries_of rows) → i ≡ length rows → (v : Record) → put place_cmp k v (entries_of rows) ≡ insert (entries_of rows) i (k, v)
-IsPast-end k i rows past is v =
+pub IsPastPlace-end : (k : Place) (i : ℕ) (rows : List RecordRow) → IsPastPlace k i (entries_of rows) → i ≡ length rows → (v : Record) → put place_cmp k v (entries_of rows) ≡ insert (entries_of rows) i (k, v)
+IsPastPlace-end k i rows past is v =
     let none : drop i (entries_of rows) ≡ [] = drop_all i (entries_of rows) (omega (arith, length_rows rows)) in
     past.split v ∙ ap (λ (es : List (Place × Record)). take i (entries_of rows) ++ put place_cmp k v es) none
     ∙ ap (λ (es : List (Place × Record)). take i (entries_of rows) ++ (k, v) ∷ es) (sym none)

@@ -62,12 +62,12 @@ last_split es e is =
     sym (take-length es) ∙ ap (λ k. take k es) (sym all) ∙ take_more es n e low ∙ ap (λ (x : FrameKey × BufferFrame). take n es ++ x ∷ []) (get_or_from_slice_get es n e e is)
 
 -- what is known of the last of some entries, and of the others
-pub record IsLast (es : Entries) (e : FrameKey × BufferFrame) : Type 0 where
+pub record IsLastFrame (es : Entries) (e : FrameKey × BufferFrame) : Type 0 where
   pub was : lookup (is_key (id_of e.0)) es ≡ Some e.1
   pub holds : (x : BlockId) → lookup (is_key x) (take (length es - 1) es) ≡ (if is_key x e.0 then None else lookup (is_key x) es)
   pub uses : reverse (ids_of es) ≡ id_of e.0 ∷ reverse (ids_of (take (length es - 1) es))
 
-split_last : (es xs : Entries) (e : FrameKey × BufferFrame) → es ≡ xs ++ e ∷ [] → xs ≡ take (length es - 1) es → IsDistinct same_key (keys_of es) → IsLast es e
+split_last : (es xs : Entries) (e : FrameKey × BufferFrame) → es ≡ xs ++ e ∷ [] → xs ≡ take (length es - 1) es → IsDistinct same_key (keys_of es) → IsLastFrame es e
 split_last es xs e whole front distinct =
     let apart : IsDistinct same_key (keys_of (xs ++ e ∷ [])) = subst (λ (l : Entries). IsDistinct same_key (keys_of l)) whole distinct in
     record {
@@ -76,7 +76,7 @@ split_last es xs e whole front distinct =
       uses = ap (λ (l : Entries). reverse (ids_of l)) whole ∙ ap reverse (map-append (λ (y : FrameKey × BufferFrame). id_of y.0) xs (e ∷ [])) ∙ reverse-append (ids_of xs) (id_of e.0 ∷ []) ∙ ap (λ (l : Entries). id_of e.0 ∷ reverse (ids_of l)) front;
     }
 
-pub is_last : (es : Entries) (e : FrameKey × BufferFrame) → IsDistinct same_key (keys_of es) → Some e ≡ last_entry es → IsLast es e
+pub is_last : (es : Entries) (e : FrameKey × BufferFrame) → IsDistinct same_key (keys_of es) → Some e ≡ last_entry es → IsLastFrame es e
 is_last es e distinct last = split_last es (take (length es - 1) es) e (last_split es e (sym last)) refl distinct
 
 -- where there is no last, there is none

@@ -11,7 +11,7 @@ use Rattle.dms_pool.specs.declared.pool.Pool.{Pool}
 use Rattle.dms_pool.specs.Entries.{Entries, id_of, ids_of, is_key, key_of, same_key}
 use Rattle.dms_pool.specs.Calls.{IsEmpty, Cleans, GivesUp, HasFrameFor, FrameUsed, PutsFrame}
 use Rattle.dms_pool.specs.Held.{washed}
-use Rattle.dms_pool.proofs.Lasts.{IsLast, is_last}
+use Rattle.dms_pool.proofs.Lasts.{IsLastFrame, is_last}
 use Rattle.dms_pool.proofs.Same.{after, after_lookup, after_order, front, front_lookup, front_order, promoted_same, put_same}
 use Rattle.dms_pool.proofs.Washed.{none_clean, set_clean, set_ids}
 
@@ -51,7 +51,7 @@ pub gives_up : (key : FrameKey) (f : BufferFrame) (old new : Pool) → Some (key
     → GivesUp (id_of key) f old new
 gives_up key f old new last is =
     let es = old.frames.entries in
-    let facts : IsLast es (key, f) = is_last es (key, f) old.sound.0 last in
+    let facts : IsLastFrame es (key, f) = is_last es (key, f) old.sound.0 last in
     let rest : new.frames.entries ≡ take (length es - 1) es = ap (λ c. c.entries) is in
     record {
       was = facts.was;

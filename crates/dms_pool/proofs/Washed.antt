@@ -75,20 +75,20 @@ abbrev pub dirty_in : Entries → BlockId → Bool
 dirty_in es id = option_map_or (λ f. f.dirty) (lookup (is_key id) es) false
 
 -- each entry is what is held of its block
-abbrev Found : Entries → Entries → Type 0
-Found all = AllByRecursion (λ e. lookup (is_key (id_of e.0)) all ≡ Some e.1)
+abbrev FoundFrame : Entries → Entries → Type 0
+FoundFrame all = AllByRecursion (λ e. lookup (is_key (id_of e.0)) all ≡ Some e.1)
 
-found_behind : (e : FrameKey × BufferFrame) (all es : Entries) → AllByRecursion (λ y. same_key e.0 y ≡ false) (keys_of es) → Found all es → Found (e ∷ all) es
+found_behind : (e : FrameKey × BufferFrame) (all es : Entries) → AllByRecursion (λ y. same_key e.0 y ≡ false) (keys_of es) → FoundFrame all es → FoundFrame (e ∷ all) es
 found_behind e all [] apart found = tt
 found_behind e all (x ∷ es) apart found =
     (ap (λ b. cond b (Some e.1) (lookup (is_key (id_of x.0)) all)) (flip (id_of x.0) (id_of e.0) ∙ apart.0) ∙ found.0, found_behind e all es apart.1 found.1)
 
-each_found : (es : Entries) → IsDistinct same_key (keys_of es) → Found es es
+each_found : (es : Entries) → IsDistinct same_key (keys_of es) → FoundFrame es es
 unfolding IsDistinct
 each_found [] distinct = tt
 each_found (e ∷ es) distinct = (ap (λ b. cond b (Some e.1) (lookup (is_key (id_of e.0)) es)) (self (id_of e.0)), found_behind e es es distinct.0 (each_found es distinct.1))
 
-first_found : (all es : Entries) → Found all es → first_dirty es ≡ find (dirty_in all) (ids_of es)
+first_found : (all es : Entries) → FoundFrame all es → first_dirty es ≡ find (dirty_in all) (ids_of es)
 first_found all [] found = refl
 first_found all (e ∷ es) found =
     ap (λ o. if e.1.dirty then Some (id_of e.0) else o) (first_found all es found.1)

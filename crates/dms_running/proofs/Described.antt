@@ -47,13 +47,13 @@ none_front p (e ∷ es) none = elim (bool_cases (p e)) [
     not_nothing x xs e = absurd cc
 
 -- a cut at a place ends with it
-pub record EndsThere (n : ℕ) (es : List Entry) : Type 0 where
+pub record EndsAtPoint (n : ℕ) (es : List Entry) : Type 0 where
   pub before : List Entry
   pub last : Entry
   pub at : is_place n last ≡ true
   pub is : until_first (is_place n) es ≡ before ++ last ∷ []
 
-pub ends_there : (n : ℕ) (es : List Entry) → has (is_place n) es ≡ true → EndsThere n es
+pub ends_there : (n : ℕ) (es : List Entry) → has (is_place n) es ≡ true → EndsAtPoint n es
 ends_there n [] found = absurd (true_not_false (sym found))
 ends_there n (e ∷ es) found = elim (bool_cases (is_place n e)) [
   | inl on ↦ record { before = []; last = e; at = on; is = ap (λ k. cond k (e ∷ []) (cond (has (is_place n) es) (e ∷ until_first (is_place n) es) [])) on }

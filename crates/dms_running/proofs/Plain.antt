@@ -13,12 +13,12 @@ use Rattle.dms_history.proofs.Sealed.{image_sealed, quiet_sealed, one_more_event
 use Rattle.dms_running.specs.Running.{IsPlainEntry, AllPlain}
 
 -- the live events only grow, and no Control is among what is new
-pub record Grows (xs ys : List Entry) : Type 0 where
+pub record EntriesGrow (xs ys : List Entry) : Type 0 where
   pub more : List Event
   pub live : live_of (xs ++ ys) ≡ live_of xs ++ more
   pub no_control : has is_control more ≡ false
 
-one_grows : (xs : List Entry) (e : Entry) → IsPlainEntry e → Grows xs (e ∷ [])
+one_grows : (xs : List Entry) (e : Entry) → IsPlainEntry e → EntriesGrow xs (e ∷ [])
 one_grows xs (schema_part part parts bytes) plain = absurd plain
 one_grows xs (image f b before after) plain = record {
   more = change f b before after ∷ [];
@@ -34,7 +34,7 @@ one_grows xs (quiet_point n) plain = record {
 one_grows xs (control_point n next counts) plain = absurd plain
 one_grows xs (begin_restore n kind) plain = absurd plain
 
-pub plain_grows : (xs ys : List Entry) → AllPlain ys → Grows xs ys
+pub plain_grows : (xs ys : List Entry) → AllPlain ys → EntriesGrow xs ys
 plain_grows xs [] plain = record { more = []; live = ap live_of (append_none xs) ∙ sym (append_none (live_of xs)); no_control = refl }
 plain_grows xs (e ∷ ys) plain =
     let one = one_grows xs e plain.0 in

@@ -14,9 +14,9 @@ use Rattle.dms_tokens.specs.Tokens.{lexeme, tokens_from, fresh_byte, comment_byt
 use Rattle.dms_tokens.specs.Spelling.{behind_point, number_of, SpellsToken, IsLongest, is_past_comment, AreTokens}
 use Rattle.dms_tokens.specs.Spelling.AreTokens.{the_end, a_blank, a_comment, a_token, unreadable}
 use Rattle.dms_tokens.proofs.WordScan.{stopped, never, is_byte}
-use Rattle.dms_tokens.proofs.Shapes.{class_of, letter_above, letter_below, sign_class, blank_class, Shape, shape_of, nothing_spelled, shape_class, word_is, Tail, number_shape_is, Signs, plus_is, minus_is, string_is, sign_is, equal_is, less_is, greater_is}
-use Rattle.dms_tokens.proofs.Shapes.Shape.{word_shape, number_shape, plus_shape, minus_shape, string_shape, sign_shape, equal_shape, less_shape, less_equal_shape, not_equal_shape, greater_shape, greater_equal_shape}
-use Rattle.dms_tokens.proofs.Longest.{First, first_token, closed_pair, nil_closed}
+use Rattle.dms_tokens.proofs.Shapes.{class_of, letter_above, letter_below, sign_class, blank_class, TokenShape, shape_of, nothing_spelled, shape_class, word_is, Tail, number_shape_is, Signs, plus_is, minus_is, string_is, sign_is, equal_is, less_is, greater_is}
+use Rattle.dms_tokens.proofs.Shapes.TokenShape.{word_shape, number_shape, plus_shape, minus_shape, string_shape, sign_shape, equal_shape, less_shape, less_equal_shape, not_equal_shape, greater_shape, greater_equal_shape}
+use Rattle.dms_tokens.proofs.Longest.{FirstToken, first_token, closed_pair, nil_closed}
 
 -- Bytes have the form of one token
 
@@ -47,7 +47,7 @@ signs_same g n b ws fs u h k =
     let o : ws ++ behind_point fs ≡ k.others = cc in
     tail_same g n b ws fs u h (rw (f, o) k.tail)
 
-shape_same : (b : ℕ) (bs : List ℕ) (t u : Token) → Shape b bs t → Shape b bs u → t ≡ u
+shape_same : (b : ℕ) (bs : List ℕ) (t u : Token) → TokenShape b bs t → TokenShape b bs u → t ≡ u
 shape_same _ _ _ u (word_shape b bs l g) s = sym (word_is b bs u s l).1
 shape_same _ _ _ u (number_shape b ws fs i j k) s = tail_same false false b ws fs u j (number_shape_is b (ws ++ behind_point fs) u s i)
 shape_same _ _ _ u (plus_shape b ws fs i j k) s = signs_same true false b ws fs u j (plus_is 43 (b ∷ (ws ++ behind_point fs)) u s refl)
@@ -84,12 +84,12 @@ longer (x ∷ f) r (y ∷ g) s e =
       | inr k ↦ inr (record { more = k.more; front = rw same (ap (λ (xs : List ℕ). y ∷ xs) k.front); rest = k.rest })
     ]
 
-record Same (f r : List ℕ) (t : Token) (g s : List ℕ) (u : Token) : Type 0 where
+record SameToken (f r : List ℕ) (t : Token) (g s : List ℕ) (u : Token) : Type 0 where
   front : f ≡ g
   rest : r ≡ s
   token : t ≡ u
 
-same_by : (f r g s : List ℕ) (t u : Token) → IsLongest f r t → IsLongest g s u → Longer f r g s → Same f r t g s u
+same_by : (f r g s : List ℕ) (t u : Token) → IsLongest f r t → IsLongest g s u → Longer f r g s → SameToken f r t g s u
 same_by f r g s t u l m k =
     let none : k.more ≡ [] = l.longest k.more s u k.rest (subst (λ (xs : List ℕ). SpellsToken xs u) k.front m.spelled) in
     let front : f ≡ g = sym (k.front ∙ ap (λ (xs : List ℕ). f ++ xs) none ∙ append-nil f) in
@@ -99,10 +99,10 @@ same_by f r g s t u l m k =
       token = spelled_same g t u (subst (λ (xs : List ℕ). SpellsToken xs t) front l.spelled) m.spelled;
     }
 
-turned : (f r g s : List ℕ) (t u : Token) → Same g s u f r t → Same f r t g s u
+turned : (f r g s : List ℕ) (t u : Token) → SameToken g s u f r t → SameToken f r t g s u
 turned f r g s t u k = record { front = sym k.front; rest = sym k.rest; token = sym k.token }
 
-same_first : (f r g s : List ℕ) (t u : Token) → f ++ r ≡ g ++ s → IsLongest f r t → IsLongest g s u → Same f r t g s u
+same_first : (f r g s : List ℕ) (t u : Token) → f ++ r ≡ g ++ s → IsLongest f r t → IsLongest g s u → SameToken f r t g s u
 same_first f r g s t u e l m =
     elim (longer f r g s e) [
       | inl k ↦ same_by f r g s t u l m k
@@ -152,7 +152,7 @@ sign_plain b h = elim (or_cases (b == 40 || b == 41 || b == 44) (b == 59) h) [
 ]
 
 -- no token begins with a byte that a comment can't hold
-shape_plain : (b : ℕ) (bs : List ℕ) (t : Token) → Shape b bs t → is_plain b ≡ true
+shape_plain : (b : ℕ) (bs : List ℕ) (t : Token) → TokenShape b bs t → is_plain b ≡ true
 shape_plain _ _ _ (word_shape b bs l g) = letter_plain b l
 shape_plain _ _ _ (number_shape b ws fs i j k) = digit_plain b i
 shape_plain _ _ _ (plus_shape b ws fs i j k) = refl
@@ -176,7 +176,7 @@ not_blank b h = false_from_ne_true (is_blank b) (λ (t : is_blank b ≡ true). n
 not_comment : (b : ℕ) → is_plain b ≡ false → b == 37 ≡ false
 not_comment b h = false_from_ne_true (b == 37) (λ (t : b == 37 ≡ true). never (is_plain b) (plain_at b 37 t refl) h)
 
-unplain_by : (place b : ℕ) (bs : List ℕ) → is_plain b ≡ false → First place (b ∷ bs) → tokens_from Between place (b ∷ bs) ≡ lexeme Bad place ∷ []
+unplain_by : (place b : ℕ) (bs : List ℕ) → is_plain b ≡ false → FirstToken place (b ∷ bs) → tokens_from Between place (b ∷ bs) ≡ lexeme Bad place ∷ []
 unplain_by place b bs h (inl k) = absurd (never (is_plain b) (spelled_plain b bs k.front k.rest k.token k.cut k.longest.spelled) h)
 unplain_by place b bs h (inr k) = k.reads
 
@@ -225,7 +225,7 @@ comment_reads (b ∷ bs) rest place h k p =
     plain_on place b (bs ++ rest) (not-true (b == 10) (and_parts (not (b == 10)) _ k).0) (and_parts (is_plain b) _ h).0 ∙ comment_reads bs rest (place + 1) (and_parts (is_plain b) _ h).1 (and_parts (not (b == 10)) _ k).1 p ∙ (let e : place + 1 + length bs ≡ place + suc (length bs) = omega arith in rw e refl)
 
 -- the bytes of a comment
-record Span (text : List ℕ) : Type 0 where
+record TokenSpan (text : List ℕ) : Type 0 where
   comment : List ℕ
   rest : List ℕ
   cut : text ≡ comment ++ rest
@@ -238,7 +238,7 @@ or_false true b h = absurd (cc)
 or_false false true h = (refl, refl)
 or_false false false h = absurd (cc)
 
-span : (text : List ℕ) → Span text
+span : (text : List ℕ) → TokenSpan text
 span [] = record { comment = []; rest = []; cut = refl; plain = refl; one_line = refl; past = refl }
 span (b ∷ bs) =
     elim (cases_Bool (b == 10 || not (is_plain b))) [
@@ -262,7 +262,7 @@ some_bytes : (front : List ℕ) (t : Token) → SpellsToken front t → 1 ≤ le
 some_bytes [] t d = absurd (nothing_spelled t d)
 some_bytes (b ∷ bs) t d = omega arith
 
-first_are : (n place b : ℕ) (bs : List ℕ) → is_blank b ≡ false → b == 37 ≡ false → length bs ≤ n → ((p : ℕ) (text : List ℕ) → length text ≤ n → AreTokens p text (tokens_from Between p text)) → First place (b ∷ bs) → AreTokens place (b ∷ bs) (tokens_from Between place (b ∷ bs))
+first_are : (n place b : ℕ) (bs : List ℕ) → is_blank b ≡ false → b == 37 ≡ false → length bs ≤ n → ((p : ℕ) (text : List ℕ) → length text ≤ n → AreTokens p text (tokens_from Between p text)) → FirstToken place (b ∷ bs) → AreTokens place (b ∷ bs) (tokens_from Between place (b ∷ bs))
 first_are n place b bs e f l next (inl k) =
     let some = some_bytes k.front k.token k.longest.spelled in
     let all : length (b ∷ bs) ≡ length k.front + length k.rest = ap length k.cut ∙ length-append k.front k.rest in
@@ -270,7 +270,7 @@ first_are n place b bs e f l next (inl k) =
     subst (λ (ls : List Lexeme). AreTokens place (b ∷ bs) ls) (sym k.reads) (a_token place (b ∷ bs) k.front k.rest k.token _ k.cut k.longest (next (place + length k.front) k.rest less))
 first_are n place b bs e f l next (inr k) = subst (λ (ls : List Lexeme). AreTokens place (b ∷ bs) ls) (sym k.reads) (unreadable place b bs e f k.none)
 
-comment_are : (n place : ℕ) (bs : List ℕ) → length bs ≤ n → ((p : ℕ) (text : List ℕ) → length text ≤ n → AreTokens p text (tokens_from Between p text)) → Span bs → AreTokens place (37 ∷ bs) (tokens_from Between place (37 ∷ bs))
+comment_are : (n place : ℕ) (bs : List ℕ) → length bs ≤ n → ((p : ℕ) (text : List ℕ) → length text ≤ n → AreTokens p text (tokens_from Between p text)) → TokenSpan bs → AreTokens place (37 ∷ bs) (tokens_from Between place (37 ∷ bs))
 comment_are n place bs l next s =
     let all : length bs ≡ length s.comment + length s.rest = ap length s.cut ∙ length-append s.comment s.rest in
     let less : length s.rest ≤ n = omega arith in
@@ -297,7 +297,7 @@ tokens_are place text = are_up_to (length text) place text (omega arith)
 
 -- Nothing else are
 
-token_read_by : (place : ℕ) (text front rest : List ℕ) (t : Token) → text ≡ front ++ rest → IsLongest front rest t → First place text → tokens_from Between place text ≡ lexeme t place ∷ tokens_from Between (place + length front) rest
+token_read_by : (place : ℕ) (text front rest : List ℕ) (t : Token) → text ≡ front ++ rest → IsLongest front rest t → FirstToken place text → tokens_from Between place text ≡ lexeme t place ∷ tokens_from Between (place + length front) rest
 token_read_by place text front rest t e l (inl k) =
     let s = same_first front rest k.front k.rest t k.token (sym e ∙ k.cut) l k.longest in
     k.reads ∙ rw (s.front, s.rest, s.token) refl
@@ -312,9 +312,9 @@ token_read : (place : ℕ) (text front rest : List ℕ) (t : Token) → text ≡
 token_read place text [] rest t e l = absurd (nothing_spelled t l.spelled)
 token_read place text (b ∷ bs) rest t e l =
     let k = first_is b bs t l.spelled in
-    token_read_by place text (b ∷ bs) rest t e l (subst (λ (xs : List ℕ). First place xs) (sym e) (first_token place b (bs ++ rest) k.0 k.1))
+    token_read_by place text (b ∷ bs) rest t e l (subst (λ (xs : List ℕ). FirstToken place xs) (sym e) (first_token place b (bs ++ rest) k.0 k.1))
 
-unread_by : (place b : ℕ) (bs : List ℕ) → ((front back : List ℕ) (t : Token) → b ∷ bs ≡ front ++ back → IsLongest front back t → ⊥) → First place (b ∷ bs) → tokens_from Between place (b ∷ bs) ≡ lexeme Bad place ∷ []
+unread_by : (place b : ℕ) (bs : List ℕ) → ((front back : List ℕ) (t : Token) → b ∷ bs ≡ front ++ back → IsLongest front back t → ⊥) → FirstToken place (b ∷ bs) → tokens_from Between place (b ∷ bs) ≡ lexeme Bad place ∷ []
 unread_by place b bs none (inl k) = absurd (none k.front k.rest k.token k.cut k.longest)
 unread_by place b bs none (inr k) = k.reads
 

@@ -15,11 +15,11 @@ use Rattle.dms_tokens.specs.Spelling.IsSigned.{no_sign, with_plus, with_minus}
 use Rattle.dms_tokens.specs.Spelling.SpellsToken.{a_word, a_number, a_string, a_sign, a_comparison}
 use Rattle.dms_tokens.proofs.WordScan.{stopped, never, scans, is_byte}
 use Rattle.dms_tokens.proofs.NumberScan.{NoDigit, NumberScan, number_scan, number_is, nil_digit, no_digit}
-use Rattle.dms_tokens.proofs.StringScan.{Closes, Breaks, StringScan, string_scan, doubled_plain, doubled_quote, no_quote}
-use Rattle.dms_tokens.proofs.Shapes.{class_of, letter_class, digit_class, sign_class, Shape, shape_of, nothing_spelled, shape_class, word_is, Tail, number_shape_is, Signs, plus_is, minus_is, string_is, sign_is, equal_is, less_with, less_is, greater_with, greater_is}
+use Rattle.dms_tokens.proofs.StringScan.{ClosesString, Breaks, StringScan, string_scan, doubled_plain, doubled_quote, no_quote}
+use Rattle.dms_tokens.proofs.Shapes.{class_of, letter_class, digit_class, sign_class, TokenShape, shape_of, nothing_spelled, shape_class, word_is, Tail, number_shape_is, Signs, plus_is, minus_is, string_is, sign_is, equal_is, less_with, less_is, greater_with, greater_is}
 
 -- a text's first token
-pub record Taken (place : ℕ) (text : List ℕ) : Type 0 where
+pub record TakenToken (place : ℕ) (text : List ℕ) : Type 0 where
   pub front : List ℕ
   pub rest : List ℕ
   pub token : Token
@@ -59,7 +59,7 @@ word_longest b more rest l g ends = record {
   closed = λ text back e f. let same : b ≡ 34 = cc in let k = letter_class b l in let n : class_of b ≡ 5 = rw same refl in omega arith;
 }
 
-word_taken : (place b : ℕ) (bs : List ℕ) → is_blank b ≡ false → b == 37 ≡ false → is_letter b ≡ true → Taken place (b ∷ bs)
+word_taken : (place b : ℕ) (bs : List ℕ) → is_blank b ≡ false → b == 37 ≡ false → is_letter b ≡ true → TakenToken place (b ∷ bs)
 word_taken place b bs e f l =
     let s = (scans bs).word in
     record {
@@ -156,7 +156,7 @@ number_reads g n start place b text k i = k.reads start place (first_digit g n b
 number_cut : (text : List ℕ) (k : NumberScan text) → text ≡ (k.whole ++ behind_point k.fraction) ++ k.rest
 number_cut text k = k.cut ∙ sym (append_assoc k.whole (behind_point k.fraction) k.rest)
 
-number_taken : (place b : ℕ) (bs : List ℕ) → is_blank b ≡ false → b == 37 ≡ false → is_letter b ≡ false → is_digit b ≡ true → Taken place (b ∷ bs)
+number_taken : (place b : ℕ) (bs : List ℕ) → is_blank b ≡ false → b == 37 ≡ false → is_letter b ≡ false → is_digit b ≡ true → TakenToken place (b ∷ bs)
 number_taken place b bs e f l i =
     let k = number_scan bs in
     record {
@@ -176,7 +176,7 @@ minus_first : (place b : ℕ) (bs : List ℕ) → is_digit b ≡ true → tokens
 unfolding byte_turn fresh_byte signed_byte
 minus_first place b bs i = rw i refl
 
-plus_taken : (place b : ℕ) (bs : List ℕ) → is_digit b ≡ true → Taken place (43 ∷ b ∷ bs)
+plus_taken : (place b : ℕ) (bs : List ℕ) → is_digit b ≡ true → TakenToken place (43 ∷ b ∷ bs)
 plus_taken place b bs i =
     let k = number_scan bs in
     record {
@@ -188,7 +188,7 @@ plus_taken place b bs i =
       reads = plus_first place b bs i ∙ number_reads true false place (place + 1 + 1) b bs k i ∙ (let c : place + 1 + 1 + length (k.whole ++ behind_point k.fraction) ≡ place + suc (suc (length (k.whole ++ behind_point k.fraction))) = omega arith in rw c refl);
     }
 
-minus_taken : (place b : ℕ) (bs : List ℕ) → is_digit b ≡ true → Taken place (45 ∷ b ∷ bs)
+minus_taken : (place b : ℕ) (bs : List ℕ) → is_digit b ≡ true → TakenToken place (45 ∷ b ∷ bs)
 minus_taken place b bs i =
     let k = number_scan bs in
     record {
@@ -202,12 +202,12 @@ minus_taken place b bs i =
 
 -- Where none begins
 
-none_from : (b c : ℕ) (bs f back : List ℕ) (t : Token) → ((g rest : List ℕ) (u : Token) → bs ≡ g ++ rest → Shape b g u → IsLongest (b ∷ g) rest u → ⊥) → c ≡ b → bs ≡ f ++ back → IsLongest (c ∷ f) back t → ⊥
+none_from : (b c : ℕ) (bs f back : List ℕ) (t : Token) → ((g rest : List ℕ) (u : Token) → bs ≡ g ++ rest → TokenShape b g u → IsLongest (b ∷ g) rest u → ⊥) → c ≡ b → bs ≡ f ++ back → IsLongest (c ∷ f) back t → ⊥
 none_from b c bs f back t empty k e l =
     let m : IsLongest (b ∷ f) back t = subst (λ (x : ℕ). IsLongest (x ∷ f) back t) k l in
     empty f back t e (shape_of b f t m.spelled) m
 
-pub none_by : (b : ℕ) (bs : List ℕ) → ((g rest : List ℕ) (u : Token) → bs ≡ g ++ rest → Shape b g u → IsLongest (b ∷ g) rest u → ⊥) → (front back : List ℕ) (t : Token) → b ∷ bs ≡ front ++ back → IsLongest front back t → ⊥
+pub none_by : (b : ℕ) (bs : List ℕ) → ((g rest : List ℕ) (u : Token) → bs ≡ g ++ rest → TokenShape b g u → IsLongest (b ∷ g) rest u → ⊥) → (front back : List ℕ) (t : Token) → b ∷ bs ≡ front ++ back → IsLongest front back t → ⊥
 none_by b bs empty [] back t e l = nothing_spelled t l.spelled
 none_by b bs empty (c ∷ f) back t e l = none_from b c bs f back t empty (cc) (cc) l
 
@@ -236,10 +236,10 @@ minus_unread place bs empty = record {
   reads = minus_bad place bs empty;
 }
 
-abbrev pub First : ℕ → List ℕ → Type 0
-First place text = Taken place text ⊎ Unread place text
+abbrev pub FirstToken : ℕ → List ℕ → Type 0
+FirstToken place text = TakenToken place text ⊎ Unread place text
 
-plus_case : (place : ℕ) (bs : List ℕ) → First place (43 ∷ bs)
+plus_case : (place : ℕ) (bs : List ℕ) → FirstToken place (43 ∷ bs)
 plus_case place [] = inr (plus_unread place [] nil_digit)
 plus_case place (b ∷ bs) =
     elim (cases_Bool (is_digit b)) [
@@ -247,7 +247,7 @@ plus_case place (b ∷ bs) =
       | inr f ↦ inr (plus_unread place (b ∷ bs) (no_digit b bs f))
     ]
 
-minus_case : (place : ℕ) (bs : List ℕ) → First place (45 ∷ bs)
+minus_case : (place : ℕ) (bs : List ℕ) → FirstToken place (45 ∷ bs)
 minus_case place [] = inr (minus_unread place [] nil_digit)
 minus_case place (b ∷ bs) =
     elim (cases_Bool (is_digit b)) [
@@ -258,20 +258,20 @@ minus_case place (b ∷ bs) =
 -- Strings
 
 -- nothing goes on with a string
-abbrev Closed : List ℕ → Type 0
-Closed rest = (bs : List ℕ) → rest ≡ 34 ∷ bs → ⊥
+abbrev IsClosedString : List ℕ → Type 0
+IsClosedString rest = (bs : List ℕ) → rest ≡ 34 ∷ bs → ⊥
 
-shorter : (y : ℕ) (ys r q : List ℕ) → 34 ∷ r ≡ doubled (y ∷ ys) ++ (34 ∷ q) → Closed r → ⊥
+shorter : (y : ℕ) (ys r q : List ℕ) → 34 ∷ r ≡ doubled (y ∷ ys) ++ (34 ∷ q) → IsClosedString r → ⊥
 shorter y ys r q e c =
     elim (cases_Bool (y == 34)) [
       | inl t ↦ let f : 34 ∷ r ≡ 34 ∷ (34 ∷ (doubled ys ++ (34 ∷ q))) = e ∙ ap (λ (xs : List ℕ). xs ++ (34 ∷ q)) (doubled_quote y ys t) in c (doubled ys ++ (34 ∷ q)) (cc)
       | inr n ↦ no_quote y (doubled ys ++ (34 ∷ q)) r n (sym (e ∙ ap (λ (xs : List ℕ). xs ++ (34 ∷ q)) (doubled_plain y ys n)))
     ]
 
-abbrev Pairs : List ℕ → List ℕ → List ℕ → List ℕ → Type 0
-Pairs xs ys r q = doubled xs ++ (34 ∷ r) ≡ doubled ys ++ (34 ∷ q) → (xs ≡ ys) × (r ≡ q)
+abbrev TokenPairs : List ℕ → List ℕ → List ℕ → List ℕ → Type 0
+TokenPairs xs ys r q = doubled xs ++ (34 ∷ r) ≡ doubled ys ++ (34 ∷ q) → (xs ≡ ys) × (r ≡ q)
 
-both_quotes : (x y : ℕ) (xs ys r q : List ℕ) → x == 34 ≡ true → y == 34 ≡ true → Pairs xs ys r q → Pairs (x ∷ xs) (y ∷ ys) r q
+both_quotes : (x y : ℕ) (xs ys r q : List ℕ) → x == 34 ≡ true → y == 34 ≡ true → TokenPairs xs ys r q → TokenPairs (x ∷ xs) (y ∷ ys) r q
 both_quotes x y xs ys r q s t next e =
     let f : 34 ∷ 34 ∷ (doubled xs ++ (34 ∷ r)) ≡ 34 ∷ 34 ∷ (doubled ys ++ (34 ∷ q)) = sym (ap (λ (zs : List ℕ). zs ++ (34 ∷ r)) (doubled_quote x xs s)) ∙ e ∙ ap (λ (zs : List ℕ). zs ++ (34 ∷ q)) (doubled_quote y ys t) in
     let k = next (cc) in
@@ -279,7 +279,7 @@ both_quotes x y xs ys r q s t next e =
     let a = k.0 in
     (cc, k.1)
 
-both_plain : (x y : ℕ) (xs ys r q : List ℕ) → x == 34 ≡ false → y == 34 ≡ false → Pairs xs ys r q → Pairs (x ∷ xs) (y ∷ ys) r q
+both_plain : (x y : ℕ) (xs ys r q : List ℕ) → x == 34 ≡ false → y == 34 ≡ false → TokenPairs xs ys r q → TokenPairs (x ∷ xs) (y ∷ ys) r q
 both_plain x y xs ys r q s t next e =
     let f : x ∷ (doubled xs ++ (34 ∷ r)) ≡ y ∷ (doubled ys ++ (34 ∷ q)) = sym (ap (λ (zs : List ℕ). zs ++ (34 ∷ r)) (doubled_plain x xs s)) ∙ e ∙ ap (λ (zs : List ℕ). zs ++ (34 ∷ q)) (doubled_plain y ys t) in
     let k = next (cc) in
@@ -291,7 +291,7 @@ one_quote : (x y : ℕ) (xs ys r q : List ℕ) → x == 34 ≡ true → y == 34 
 one_quote x y xs ys r q s t e =
     no_quote y (doubled ys ++ (34 ∷ q)) (34 ∷ (doubled xs ++ (34 ∷ r))) t (sym (ap (λ (zs : List ℕ). zs ++ (34 ∷ q)) (doubled_plain y ys t)) ∙ sym e ∙ ap (λ (zs : List ℕ). zs ++ (34 ∷ r)) (doubled_quote x xs s))
 
-pairs_by : (x y : ℕ) (xs ys r q : List ℕ) → Pairs xs ys r q → Pairs (x ∷ xs) (y ∷ ys) r q
+pairs_by : (x y : ℕ) (xs ys r q : List ℕ) → TokenPairs xs ys r q → TokenPairs (x ∷ xs) (y ∷ ys) r q
 pairs_by x y xs ys r q next e =
     elim (cases_Bool (x == 34)) [
       | inl s ↦ elim (cases_Bool (y == 34)) [
@@ -305,7 +305,7 @@ pairs_by x y xs ys r q next e =
     ]
 
 -- a string is ended at one place
-pub closed_pair : (xs ys r q : List ℕ) → Closed r → Closed q → Pairs xs ys r q
+pub closed_pair : (xs ys r q : List ℕ) → IsClosedString r → IsClosedString q → TokenPairs xs ys r q
 closed_pair [] [] r q c d e = (refl, cc)
 closed_pair [] (y ∷ ys) r q c d e = absurd (shorter y ys r q e c)
 closed_pair (x ∷ xs) [] r q c d e = absurd (shorter x xs q r (sym e) d)
@@ -315,19 +315,19 @@ quote_first : (place : ℕ) (bs : List ℕ) → tokens_from Between place (34 �
 unfolding byte_turn fresh_byte
 quote_first place bs = refl
 
-pub nil_closed : Closed []
+pub nil_closed : IsClosedString []
 nil_closed bs e = cc
 
-front_closed : (rest m back : List ℕ) → Closed rest → rest ≡ m ++ back → Closed m
+front_closed : (rest m back : List ℕ) → IsClosedString rest → rest ≡ m ++ back → IsClosedString m
 front_closed rest m back c e bs f = c (bs ++ back) (e ∙ ap (λ (xs : List ℕ). xs ++ back) f)
 
-string_ends : (text rest m back : List ℕ) (t : Token) → Closed rest → rest ≡ m ++ back → SpellsToken ((34 ∷ (doubled text ++ 34 ∷ [])) ++ m) t → m ≡ []
+string_ends : (text rest m back : List ℕ) (t : Token) → IsClosedString rest → rest ≡ m ++ back → SpellsToken ((34 ∷ (doubled text ++ 34 ∷ [])) ++ m) t → m ≡ []
 string_ends text rest m back t c e d =
     let k = string_is 34 ((doubled text ++ 34 ∷ []) ++ m) t (shape_of 34 ((doubled text ++ 34 ∷ []) ++ m) t d) refl in
     let same : doubled k.text ++ (34 ∷ []) ≡ doubled text ++ (34 ∷ m) = sym k.all ∙ append_assoc (doubled text) (34 ∷ []) m in
     sym (closed_pair k.text text [] m nil_closed (front_closed rest m back c e) same).1
 
-string_taken : (place : ℕ) (bs : List ℕ) → Closes 0 bs → Taken place (34 ∷ bs)
+string_taken : (place : ℕ) (bs : List ℕ) → ClosesString 0 bs → TakenToken place (34 ∷ bs)
 string_taken place bs s = record {
   front = 34 ∷ (doubled s.more ++ 34 ∷ []);
   rest = s.rest;
@@ -341,7 +341,7 @@ string_taken place bs s = record {
   reads = quote_first place bs ∙ s.reads place (place + 1) [] refl ∙ (let c : place + 1 + length (doubled s.more ++ 34 ∷ []) ≡ place + suc (length (doubled s.more ++ 34 ∷ [])) = omega arith in rw c refl);
 }
 
-string_none : (bs : List ℕ) → Breaks 0 bs → (g rest : List ℕ) (u : Token) → bs ≡ g ++ rest → Shape 34 g u → IsLongest (34 ∷ g) rest u → ⊥
+string_none : (bs : List ℕ) → Breaks 0 bs → (g rest : List ℕ) (u : Token) → bs ≡ g ++ rest → TokenShape 34 g u → IsLongest (34 ∷ g) rest u → ⊥
 string_none bs s g rest u e sh l =
     let k = string_is 34 g u sh refl in
     s.none k.text rest (record {
@@ -357,11 +357,11 @@ string_unread place bs s = record {
   reads = quote_first place bs ∙ s.reads place (place + 1) [] refl;
 }
 
-string_by : (place : ℕ) (bs : List ℕ) → StringScan 0 bs → First place (34 ∷ bs)
+string_by : (place : ℕ) (bs : List ℕ) → StringScan 0 bs → FirstToken place (34 ∷ bs)
 string_by place bs (inl s) = inl (string_taken place bs s)
 string_by place bs (inr s) = inr (string_unread place bs s)
 
-string_case : (place : ℕ) (bs : List ℕ) → First place (34 ∷ bs)
+string_case : (place : ℕ) (bs : List ℕ) → FirstToken place (34 ∷ bs)
 string_case place bs = string_by place bs (string_scan bs 0 (omega arith))
 
 -- Signs and comparisons
@@ -370,7 +370,7 @@ sign_first : (place b : ℕ) (bs : List ℕ) → is_blank b ≡ false → b == 3
 unfolding byte_turn fresh_byte
 sign_first place b bs e f l i p m q h = rw (e, f, l, i, p, m, q, h) refl
 
-sign_taken : (place b : ℕ) (bs : List ℕ) → is_sign b ≡ true → tokens_from Between place (b ∷ bs) ≡ lexeme (Sign b) place ∷ tokens_from Between (place + 1) bs → Taken place (b ∷ bs)
+sign_taken : (place b : ℕ) (bs : List ℕ) → is_sign b ≡ true → tokens_from Between place (b ∷ bs) ≡ lexeme (Sign b) place ∷ tokens_from Between (place + 1) bs → TakenToken place (b ∷ bs)
 sign_taken place b bs h reads = record {
   front = b ∷ [];
   rest = bs;
@@ -388,7 +388,7 @@ equal_first : (place : ℕ) (bs : List ℕ) → tokens_from Between place (61 �
 unfolding byte_turn fresh_byte
 equal_first place bs = refl
 
-equal_taken : (place : ℕ) (bs : List ℕ) → Taken place (61 ∷ bs)
+equal_taken : (place : ℕ) (bs : List ℕ) → TakenToken place (61 ∷ bs)
 equal_taken place bs = record {
   front = 61 ∷ [];
   rest = bs;
@@ -459,7 +459,7 @@ less_with_of m t d = less_is 60 m t (shape_of 60 m t d) refl
 greater_with_of : (m : List ℕ) (t : Token) → SpellsToken (62 ∷ m) t → greater_with m t
 greater_with_of m t d = greater_is 62 m t (shape_of 62 m t d) refl
 
-less_taken : (place : ℕ) (bs : List ℕ) → ((m back : List ℕ) (t : Token) → bs ≡ m ++ back → less_with m t → m ≡ []) → tokens_from Between place (60 ∷ bs) ≡ lexeme (Compare Less) place ∷ tokens_from Between (place + 1) bs → Taken place (60 ∷ bs)
+less_taken : (place : ℕ) (bs : List ℕ) → ((m back : List ℕ) (t : Token) → bs ≡ m ++ back → less_with m t → m ≡ []) → tokens_from Between place (60 ∷ bs) ≡ lexeme (Compare Less) place ∷ tokens_from Between (place + 1) bs → TakenToken place (60 ∷ bs)
 less_taken place bs ends reads = record {
   front = 60 ∷ [];
   rest = bs;
@@ -473,7 +473,7 @@ less_taken place bs ends reads = record {
   reads = reads;
 }
 
-greater_taken : (place : ℕ) (bs : List ℕ) → ((m back : List ℕ) (t : Token) → bs ≡ m ++ back → greater_with m t → m ≡ []) → tokens_from Between place (62 ∷ bs) ≡ lexeme (Compare Greater) place ∷ tokens_from Between (place + 1) bs → Taken place (62 ∷ bs)
+greater_taken : (place : ℕ) (bs : List ℕ) → ((m back : List ℕ) (t : Token) → bs ≡ m ++ back → greater_with m t → m ≡ []) → tokens_from Between place (62 ∷ bs) ≡ lexeme (Compare Greater) place ∷ tokens_from Between (place + 1) bs → TakenToken place (62 ∷ bs)
 greater_taken place bs ends reads = record {
   front = 62 ∷ [];
   rest = bs;
@@ -490,7 +490,7 @@ greater_taken place bs ends reads = record {
 two_places : (place : ℕ) → place + 1 + 1 ≡ place + 2
 two_places place = omega arith
 
-less_equal_taken : (place : ℕ) (bs : List ℕ) → Taken place (60 ∷ 61 ∷ bs)
+less_equal_taken : (place : ℕ) (bs : List ℕ) → TakenToken place (60 ∷ 61 ∷ bs)
 less_equal_taken place bs = record {
   front = 60 ∷ 61 ∷ [];
   rest = bs;
@@ -504,7 +504,7 @@ less_equal_taken place bs = record {
   reads = less_equal_first place bs ∙ rw (two_places place) refl;
 }
 
-not_equal_taken : (place : ℕ) (bs : List ℕ) → Taken place (60 ∷ 62 ∷ bs)
+not_equal_taken : (place : ℕ) (bs : List ℕ) → TakenToken place (60 ∷ 62 ∷ bs)
 not_equal_taken place bs = record {
   front = 60 ∷ 62 ∷ [];
   rest = bs;
@@ -518,7 +518,7 @@ not_equal_taken place bs = record {
   reads = not_equal_first place bs ∙ rw (two_places place) refl;
 }
 
-greater_equal_taken : (place : ℕ) (bs : List ℕ) → Taken place (62 ∷ 61 ∷ bs)
+greater_equal_taken : (place : ℕ) (bs : List ℕ) → TakenToken place (62 ∷ 61 ∷ bs)
 greater_equal_taken place bs = record {
   front = 62 ∷ 61 ∷ [];
   rest = bs;
@@ -532,7 +532,7 @@ greater_equal_taken place bs = record {
   reads = greater_equal_first place bs ∙ rw (two_places place) refl;
 }
 
-less_case : (place : ℕ) (bs : List ℕ) → Taken place (60 ∷ bs)
+less_case : (place : ℕ) (bs : List ℕ) → TakenToken place (60 ∷ bs)
 less_case place [] = less_taken place [] (λ m back t e k. nil_front m back e) (less_last place)
 less_case place (b ∷ bs) =
     elim (cases_Bool (b == 61)) [
@@ -543,7 +543,7 @@ less_case place (b ∷ bs) =
       ]
     ]
 
-greater_case : (place : ℕ) (bs : List ℕ) → Taken place (62 ∷ bs)
+greater_case : (place : ℕ) (bs : List ℕ) → TakenToken place (62 ∷ bs)
 greater_case place [] = greater_taken place [] (λ m back t e k. nil_front m back e) (greater_last place)
 greater_case place (b ∷ bs) =
     elim (cases_Bool (b == 61)) [
@@ -566,7 +566,7 @@ bad_unread place b bs c reads = record {
   reads = reads;
 }
 
-by_compare : (place b : ℕ) (bs : List ℕ) → is_blank b ≡ false → b == 37 ≡ false → is_letter b ≡ false → is_digit b ≡ false → b == 43 ≡ false → b == 45 ≡ false → b == 34 ≡ false → is_sign b ≡ false → First place (b ∷ bs)
+by_compare : (place b : ℕ) (bs : List ℕ) → is_blank b ≡ false → b == 37 ≡ false → is_letter b ≡ false → is_digit b ≡ false → b == 43 ≡ false → b == 45 ≡ false → b == 34 ≡ false → is_sign b ≡ false → FirstToken place (b ∷ bs)
 by_compare place b bs e f l i p m q h =
     elim (cases_Bool (b == 61)) [
       | inl k ↦ rw (is_byte b 61 k) (inl (equal_taken place bs))
@@ -579,7 +579,7 @@ by_compare place b bs e f l i p m q h =
       ]
     ]
 
-by_mark : (place b : ℕ) (bs : List ℕ) → is_blank b ≡ false → b == 37 ≡ false → is_letter b ≡ false → is_digit b ≡ false → b == 43 ≡ false → b == 45 ≡ false → First place (b ∷ bs)
+by_mark : (place b : ℕ) (bs : List ℕ) → is_blank b ≡ false → b == 37 ≡ false → is_letter b ≡ false → is_digit b ≡ false → b == 43 ≡ false → b == 45 ≡ false → FirstToken place (b ∷ bs)
 by_mark place b bs e f l i p m =
     elim (cases_Bool (b == 34)) [
       | inl k ↦ rw (is_byte b 34 k) (string_case place bs)
@@ -589,7 +589,7 @@ by_mark place b bs e f l i p m =
       ]
     ]
 
-by_number : (place b : ℕ) (bs : List ℕ) → is_blank b ≡ false → b == 37 ≡ false → is_letter b ≡ false → First place (b ∷ bs)
+by_number : (place b : ℕ) (bs : List ℕ) → is_blank b ≡ false → b == 37 ≡ false → is_letter b ≡ false → FirstToken place (b ∷ bs)
 by_number place b bs e f l =
     elim (cases_Bool (is_digit b)) [
       | inl i ↦ inl (number_taken place b bs e f l i)
@@ -603,7 +603,7 @@ by_number place b bs e f l =
     ]
 
 -- a text that begins with no blank and no comment begins with its longest token, or with none
-pub first_token : (place b : ℕ) (bs : List ℕ) → is_blank b ≡ false → b == 37 ≡ false → First place (b ∷ bs)
+pub first_token : (place b : ℕ) (bs : List ℕ) → is_blank b ≡ false → b == 37 ≡ false → FirstToken place (b ∷ bs)
 first_token place b bs e f =
     elim (cases_Bool (is_letter b)) [
       | inl l ↦ inl (word_taken place b bs e f l)

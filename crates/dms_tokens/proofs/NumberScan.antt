@@ -25,7 +25,7 @@ fractions d (b ∷ bs) = fractions (point_digit d b) bs
 
 -- digits are held as these: with a sign or without, negative or not, so many, so many of them behind the point, and of
 -- this value
-pub record Holds (d : Digits) (s m : Bool) (n p v : ℕ) : Type 0 where
+pub record HoldsDigits (d : Digits) (s m : Bool) (n p v : ℕ) : Type 0 where
   pub signed : d.signed ≡ s
   pub negative : d.minus ≡ m
   pub within : p ≤ n
@@ -55,7 +55,7 @@ count_full c n few many h =
     ]
 
 -- one more digit before the point
-held_whole : (d : Digits) (s m : Bool) (n p v b : ℕ) → is_digit b ≡ true → Holds d s m n p v → Holds (whole_digit d b) s m (n + 1) p (10 * v + (b - 48))
+held_whole : (d : Digits) (s m : Bool) (n p v b : ℕ) → is_digit b ≡ true → HoldsDigits d s m n p v → HoldsDigits (whole_digit d b) s m (n + 1) p (10 * v + (b - 48))
 held_whole d s m n p v b i h = record {
   signed = h.signed;
   negative = h.negative;
@@ -69,7 +69,7 @@ held_whole d s m n p v b i h = record {
 }
 
 -- one more digit behind the point
-held_point : (d : Digits) (s m : Bool) (n p v b : ℕ) → is_digit b ≡ true → Holds d s m n p v → Holds (point_digit d b) s m (n + 1) (p + 1) (10 * v + (b - 48))
+held_point : (d : Digits) (s m : Bool) (n p v b : ℕ) → is_digit b ≡ true → HoldsDigits d s m n p v → HoldsDigits (point_digit d b) s m (n + 1) (p + 1) (10 * v + (b - 48))
 held_point d s m n p v b i h = record {
   signed = h.signed;
   negative = h.negative;
@@ -84,15 +84,15 @@ held_point d s m n p v b i h = record {
   many = λ l. count_full d.count n (λ k. (h.few k).0) h.many l;
 }
 
-held_wholes : (ws : List ℕ) (d : Digits) (s m : Bool) (n p v : ℕ) → list_all is_digit ws ≡ true → Holds d s m n p v → Holds (wholes d ws) s m (n + length ws) p (value_from v ws)
+held_wholes : (ws : List ℕ) (d : Digits) (s m : Bool) (n p v : ℕ) → list_all is_digit ws ≡ true → HoldsDigits d s m n p v → HoldsDigits (wholes d ws) s m (n + length ws) p (value_from v ws)
 held_wholes [] d s m n p v i h = rw (add-zero) h
 held_wholes (b ∷ bs) d s m n p v i h = rw (← one_more n (length bs)) (held_wholes bs (whole_digit d b) s m (n + 1) p (10 * v + (b - 48)) (and_parts (is_digit b) _ i).1 (held_whole d s m n p v b (and_parts (is_digit b) _ i).0 h))
 
-held_fractions : (fs : List ℕ) (d : Digits) (s m : Bool) (n p v : ℕ) → list_all is_digit fs ≡ true → Holds d s m n p v → Holds (fractions d fs) s m (n + length fs) (p + length fs) (value_from v fs)
+held_fractions : (fs : List ℕ) (d : Digits) (s m : Bool) (n p v : ℕ) → list_all is_digit fs ≡ true → HoldsDigits d s m n p v → HoldsDigits (fractions d fs) s m (n + length fs) (p + length fs) (value_from v fs)
 held_fractions [] d s m n p v i h = rw (add-zero, add-zero) h
 held_fractions (b ∷ bs) d s m n p v i h = rw (← one_more n (length bs), ← one_more p (length bs)) (held_fractions bs (point_digit d b) s m (n + 1) (p + 1) (10 * v + (b - 48)) (and_parts (is_digit b) _ i).1 (held_point d s m n p v b (and_parts (is_digit b) _ i).0 h))
 
-held_first : (s m : Bool) (b : ℕ) → is_digit b ≡ true → Holds (first_digit s m b) s m 1 0 (10 * 0 + (b - 48))
+held_first : (s m : Bool) (b : ℕ) → is_digit b ≡ true → HoldsDigits (first_digit s m b) s m 1 0 (10 * 0 + (b - 48))
 held_first s m b i = record {
   signed = refl;
   negative = refl;
@@ -108,7 +108,7 @@ value-append v (x ∷ xs) ys = value-append (10 * v + (x - 48)) xs ys
 abbrev token_by : Bool → Bool → ℕ → ℕ → ℕ → Token
 token_by s m n p v = if nat_lt 18 n then Long else (if s || nat_lt 0 p then Decimal m v p else Number v)
 
-token_is : (d : Digits) (s m : Bool) (n p v : ℕ) → Holds d s m n p v → number_token d ≡ token_by s m n p v
+token_is : (d : Digits) (s m : Bool) (n p v : ℕ) → HoldsDigits d s m n p v → number_token d ≡ token_by s m n p v
 token_is d s m n p v h =
     elim (cases_Bool (nat_lt 18 n)) [
       | inl t ↦ let l : 18 < n = grind (arith, nat_tests) in rw (t, h.many l) refl

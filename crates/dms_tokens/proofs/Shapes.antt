@@ -82,25 +82,25 @@ pub blank_class : (b : ℕ) → is_blank b ≡ true → class_of b ≡ 10
 blank_class b h = rw h refl
 
 -- a token's bytes by their first one
-pub data Shape : ℕ → List ℕ → Token → Type 0 where
-  word_shape : (b : ℕ) (bs : List ℕ) → is_letter b ≡ true → goes_on false bs ≡ true → Shape b bs (Word (map upper (b ∷ bs)))
-  number_shape : (b : ℕ) (ws fs : List ℕ) → is_digit b ≡ true → list_all is_digit ws ≡ true → list_all is_digit fs ≡ true → Shape b (ws ++ behind_point fs) (number_of false false (b ∷ ws) fs)
-  plus_shape : (b : ℕ) (ws fs : List ℕ) → is_digit b ≡ true → list_all is_digit ws ≡ true → list_all is_digit fs ≡ true → Shape 43 (b ∷ (ws ++ behind_point fs)) (number_of true false (b ∷ ws) fs)
-  minus_shape : (b : ℕ) (ws fs : List ℕ) → is_digit b ≡ true → list_all is_digit ws ≡ true → list_all is_digit fs ≡ true → Shape 45 (b ∷ (ws ++ behind_point fs)) (number_of true true (b ∷ ws) fs)
-  string_shape : (text : List ℕ) → list_all is_printable text ≡ true → length text ≤ 200 → Shape 34 (doubled text ++ 34 ∷ []) (Quoted text)
-  sign_shape : (b : ℕ) → is_sign b ≡ true → Shape b [] (Sign b)
-  equal_shape : Shape 61 [] (Compare Equal)
-  less_shape : Shape 60 [] (Compare Less)
-  less_equal_shape : Shape 60 (61 ∷ []) (Compare LessEqual)
-  not_equal_shape : Shape 60 (62 ∷ []) (Compare NotEqual)
-  greater_shape : Shape 62 [] (Compare Greater)
-  greater_equal_shape : Shape 62 (61 ∷ []) (Compare GreaterEqual)
+pub data TokenShape : ℕ → List ℕ → Token → Type 0 where
+  word_shape : (b : ℕ) (bs : List ℕ) → is_letter b ≡ true → goes_on false bs ≡ true → TokenShape b bs (Word (map upper (b ∷ bs)))
+  number_shape : (b : ℕ) (ws fs : List ℕ) → is_digit b ≡ true → list_all is_digit ws ≡ true → list_all is_digit fs ≡ true → TokenShape b (ws ++ behind_point fs) (number_of false false (b ∷ ws) fs)
+  plus_shape : (b : ℕ) (ws fs : List ℕ) → is_digit b ≡ true → list_all is_digit ws ≡ true → list_all is_digit fs ≡ true → TokenShape 43 (b ∷ (ws ++ behind_point fs)) (number_of true false (b ∷ ws) fs)
+  minus_shape : (b : ℕ) (ws fs : List ℕ) → is_digit b ≡ true → list_all is_digit ws ≡ true → list_all is_digit fs ≡ true → TokenShape 45 (b ∷ (ws ++ behind_point fs)) (number_of true true (b ∷ ws) fs)
+  string_shape : (text : List ℕ) → list_all is_printable text ≡ true → length text ≤ 200 → TokenShape 34 (doubled text ++ 34 ∷ []) (Quoted text)
+  sign_shape : (b : ℕ) → is_sign b ≡ true → TokenShape b [] (Sign b)
+  equal_shape : TokenShape 61 [] (Compare Equal)
+  less_shape : TokenShape 60 [] (Compare Less)
+  less_equal_shape : TokenShape 60 (61 ∷ []) (Compare LessEqual)
+  not_equal_shape : TokenShape 60 (62 ∷ []) (Compare NotEqual)
+  greater_shape : TokenShape 62 [] (Compare Greater)
+  greater_equal_shape : TokenShape 62 (61 ∷ []) (Compare GreaterEqual)
 
 pub record Shaped (xs : List ℕ) (t : Token) : Type 0 where
   pub first : ℕ
   pub others : List ℕ
   pub all : xs ≡ first ∷ others
-  pub shape : Shape first others t
+  pub shape : TokenShape first others t
 
 number_shaped : (s : List ℕ) (g m : Bool) (b : ℕ) (ws fs : List ℕ) → IsSigned s g m → is_digit b ≡ true → list_all is_digit ws ≡ true → list_all is_digit fs ≡ true → Shaped (s ++ (b ∷ (ws ++ behind_point fs))) (number_of g m (b ∷ ws) fs)
 number_shaped _ _ _ b ws fs no_sign i j k = record { first = b; others = ws ++ behind_point fs; all = refl; shape = number_shape b ws fs i j k }
@@ -122,18 +122,18 @@ shaped _ _ (a_string text p l) = record { first = 34; others = doubled text ++ 3
 shaped _ _ (a_sign b i) = record { first = b; others = []; all = refl; shape = sign_shape b i }
 shaped _ _ (a_comparison op) = op_shaped op
 
-moved : (c b : ℕ) (cs bs : List ℕ) (t : Token) → c ≡ b → cs ≡ bs → Shape c cs t → Shape b bs t
+moved : (c b : ℕ) (cs bs : List ℕ) (t : Token) → c ≡ b → cs ≡ bs → TokenShape c cs t → TokenShape b bs t
 moved c b cs bs t e f s = rw (← e, ← f) s
 
 -- the shape of bytes whose first one is known
-pub shape_of : (b : ℕ) (bs : List ℕ) (t : Token) → SpellsToken (b ∷ bs) t → Shape b bs t
+pub shape_of : (b : ℕ) (bs : List ℕ) (t : Token) → SpellsToken (b ∷ bs) t → TokenShape b bs t
 shape_of b bs t d = let s = shaped (b ∷ bs) t d in moved s.first b s.others bs t (cc) (cc) s.shape
 
 pub nothing_spelled : (t : Token) → SpellsToken [] t → ⊥
 nothing_spelled t d = let s = shaped [] t d in let e : [] ≡ s.first ∷ s.others = s.all in cc
 
 -- no token begins with a byte of another class
-pub shape_class : (b : ℕ) (bs : List ℕ) (t : Token) → Shape b bs t → (1 ≤ class_of b) × (class_of b ≤ 9)
+pub shape_class : (b : ℕ) (bs : List ℕ) (t : Token) → TokenShape b bs t → (1 ≤ class_of b) × (class_of b ≤ 9)
 shape_class _ _ _ (word_shape b bs l g) = let e = letter_class b l in (omega arith, omega arith)
 shape_class _ _ _ (number_shape b ws fs i j k) = let e = digit_class b i in (omega arith, omega arith)
 shape_class _ _ _ (plus_shape b ws fs i j k) = (omega arith, omega arith)
@@ -148,7 +148,7 @@ shape_class _ _ _ greater_shape = (omega arith, omega arith)
 shape_class _ _ _ greater_equal_shape = (omega arith, omega arith)
 
 -- a letter begins a word alone
-pub word_is : (b : ℕ) (bs : List ℕ) (t : Token) → Shape b bs t → is_letter b ≡ true → (goes_on false bs ≡ true) × (t ≡ Word (map upper (b ∷ bs)))
+pub word_is : (b : ℕ) (bs : List ℕ) (t : Token) → TokenShape b bs t → is_letter b ≡ true → (goes_on false bs ≡ true) × (t ≡ Word (map upper (b ∷ bs)))
 word_is _ _ _ (word_shape b bs l g) h = (g, refl)
 word_is _ _ _ (number_shape b ws fs i j k) h = let e = digit_class b i in let f = letter_class b h in absurd (omega arith)
 word_is _ _ _ (plus_shape b ws fs i j k) h = absurd (cc)
@@ -172,7 +172,7 @@ pub record Tail (g m : Bool) (b : ℕ) (bs : List ℕ) (t : Token) : Type 0 wher
   pub decimals : list_all is_digit fs ≡ true
   pub token : t ≡ number_of g m (b ∷ ws) fs
 
-pub number_shape_is : (b : ℕ) (bs : List ℕ) (t : Token) → Shape b bs t → is_digit b ≡ true → Tail false false b bs t
+pub number_shape_is : (b : ℕ) (bs : List ℕ) (t : Token) → TokenShape b bs t → is_digit b ≡ true → Tail false false b bs t
 number_shape_is _ _ _ (number_shape b ws fs i j k) h = record { ws = ws; fs = fs; all = refl; digit = i; digits = j; decimals = k; token = refl }
 number_shape_is _ _ _ (word_shape b bs l g) h = let e = letter_class b l in let f = digit_class b h in absurd (omega arith)
 number_shape_is _ _ _ (plus_shape b ws fs i j k) h = absurd (cc)
@@ -196,7 +196,7 @@ pub record Signs (g m : Bool) (bs : List ℕ) (t : Token) : Type 0 where
 signs_by : (m : Bool) (b : ℕ) (ws fs : List ℕ) → is_digit b ≡ true → list_all is_digit ws ≡ true → list_all is_digit fs ≡ true → Signs true m (b ∷ (ws ++ behind_point fs)) (number_of true m (b ∷ ws) fs)
 signs_by m b ws fs i j k = record { first = b; others = ws ++ behind_point fs; all = refl; tail = record { ws = ws; fs = fs; all = refl; digit = i; digits = j; decimals = k; token = refl } }
 
-pub plus_is : (b : ℕ) (bs : List ℕ) (t : Token) → Shape b bs t → class_of b ≡ 3 → Signs true false bs t
+pub plus_is : (b : ℕ) (bs : List ℕ) (t : Token) → TokenShape b bs t → class_of b ≡ 3 → Signs true false bs t
 plus_is _ _ _ (plus_shape b ws fs i j k) h = signs_by false b ws fs i j k
 plus_is _ _ _ (number_shape b ws fs i j k) h = let e = digit_class b i in absurd (omega arith)
 plus_is _ _ _ (word_shape b bs l g) h = let e = letter_class b l in absurd (omega arith)
@@ -210,7 +210,7 @@ plus_is _ _ _ not_equal_shape h = absurd (omega arith)
 plus_is _ _ _ greater_shape h = absurd (omega arith)
 plus_is _ _ _ greater_equal_shape h = absurd (omega arith)
 
-pub minus_is : (b : ℕ) (bs : List ℕ) (t : Token) → Shape b bs t → class_of b ≡ 4 → Signs true true bs t
+pub minus_is : (b : ℕ) (bs : List ℕ) (t : Token) → TokenShape b bs t → class_of b ≡ 4 → Signs true true bs t
 minus_is _ _ _ (minus_shape b ws fs i j k) h = signs_by true b ws fs i j k
 minus_is _ _ _ (number_shape b ws fs i j k) h = let e = digit_class b i in absurd (omega arith)
 minus_is _ _ _ (word_shape b bs l g) h = let e = letter_class b l in absurd (omega arith)
@@ -232,7 +232,7 @@ pub record Strings (bs : List ℕ) (t : Token) : Type 0 where
   pub few : length text ≤ 200
   pub token : t ≡ Quoted text
 
-pub string_is : (b : ℕ) (bs : List ℕ) (t : Token) → Shape b bs t → class_of b ≡ 5 → Strings bs t
+pub string_is : (b : ℕ) (bs : List ℕ) (t : Token) → TokenShape b bs t → class_of b ≡ 5 → Strings bs t
 string_is _ _ _ (string_shape text p l) h = record { text = text; all = refl; printable = p; few = l; token = refl }
 string_is _ _ _ (number_shape b ws fs i j k) h = let e = digit_class b i in absurd (omega arith)
 string_is _ _ _ (word_shape b bs l g) h = let e = letter_class b l in absurd (omega arith)
@@ -246,7 +246,7 @@ string_is _ _ _ not_equal_shape h = absurd (omega arith)
 string_is _ _ _ greater_shape h = absurd (omega arith)
 string_is _ _ _ greater_equal_shape h = absurd (omega arith)
 
-pub sign_is : (b : ℕ) (bs : List ℕ) (t : Token) → Shape b bs t → class_of b ≡ 6 → (bs ≡ []) × (t ≡ Sign b)
+pub sign_is : (b : ℕ) (bs : List ℕ) (t : Token) → TokenShape b bs t → class_of b ≡ 6 → (bs ≡ []) × (t ≡ Sign b)
 sign_is _ _ _ (sign_shape b i) h = (refl, refl)
 sign_is _ _ _ (number_shape b ws fs i j k) h = let e = digit_class b i in absurd (omega arith)
 sign_is _ _ _ (word_shape b bs l g) h = let e = letter_class b l in absurd (omega arith)
@@ -260,7 +260,7 @@ sign_is _ _ _ not_equal_shape h = absurd (omega arith)
 sign_is _ _ _ greater_shape h = absurd (omega arith)
 sign_is _ _ _ greater_equal_shape h = absurd (omega arith)
 
-pub equal_is : (b : ℕ) (bs : List ℕ) (t : Token) → Shape b bs t → class_of b ≡ 7 → (bs ≡ []) × (t ≡ Compare Equal)
+pub equal_is : (b : ℕ) (bs : List ℕ) (t : Token) → TokenShape b bs t → class_of b ≡ 7 → (bs ≡ []) × (t ≡ Compare Equal)
 equal_is _ _ _ equal_shape h = (refl, refl)
 equal_is _ _ _ (number_shape b ws fs i j k) h = let e = digit_class b i in absurd (omega arith)
 equal_is _ _ _ (word_shape b bs l g) h = let e = letter_class b l in absurd (omega arith)
@@ -280,7 +280,7 @@ less_with [] t = t ≡ Compare Less
 less_with (b ∷ []) t = ((b ≡ 61) × (t ≡ Compare LessEqual)) ⊎ ((b ≡ 62) × (t ≡ Compare NotEqual))
 less_with (b ∷ c ∷ bs) t = ⊥
 
-pub less_is : (b : ℕ) (bs : List ℕ) (t : Token) → Shape b bs t → class_of b ≡ 8 → less_with bs t
+pub less_is : (b : ℕ) (bs : List ℕ) (t : Token) → TokenShape b bs t → class_of b ≡ 8 → less_with bs t
 less_is _ _ _ less_shape h = refl
 less_is _ _ _ less_equal_shape h = inl (refl, refl)
 less_is _ _ _ not_equal_shape h = inr (refl, refl)
@@ -300,7 +300,7 @@ greater_with [] t = t ≡ Compare Greater
 greater_with (b ∷ []) t = (b ≡ 61) × (t ≡ Compare GreaterEqual)
 greater_with (b ∷ c ∷ bs) t = ⊥
 
-pub greater_is : (b : ℕ) (bs : List ℕ) (t : Token) → Shape b bs t → class_of b ≡ 9 → greater_with bs t
+pub greater_is : (b : ℕ) (bs : List ℕ) (t : Token) → TokenShape b bs t → class_of b ≡ 9 → greater_with bs t
 greater_is _ _ _ greater_shape h = refl
 greater_is _ _ _ greater_equal_shape h = (refl, refl)
 greater_is _ _ _ (number_shape b ws fs i j k) h = let e = digit_class b i in absurd (omega arith)

@@ -25,7 +25,7 @@ pub record Body (n : ℕ) (text more rest : List ℕ) : Type 0 where
   pub few : n + length more ≤ 200
   pub closed : (bs : List ℕ) → rest ≡ 34 ∷ bs → ⊥
 
-pub record Closes (n : ℕ) (text : List ℕ) : Type 0 where
+pub record ClosesString (n : ℕ) (text : List ℕ) : Type 0 where
   pub more : List ℕ
   pub rest : List ℕ
   pub body : Body n text more rest
@@ -73,7 +73,7 @@ one_longer kept b n e = omega (arith, length-append kept (b ∷ []))
 has_room : (kept : List ℕ) (n : ℕ) → length kept ≡ n → nat_lt n 200 ≡ true → nat_lt (length kept) 200 ≡ true
 has_room kept n e l = rw e l
 
-plain_closes : (b : ℕ) (bs : List ℕ) (n : ℕ) → b == 34 ≡ false → is_printable b ≡ true → nat_lt n 200 ≡ true → Closes (n + 1) bs → Closes n (b ∷ bs)
+plain_closes : (b : ℕ) (bs : List ℕ) (n : ℕ) → b == 34 ≡ false → is_printable b ≡ true → nat_lt n 200 ≡ true → ClosesString (n + 1) bs → ClosesString n (b ∷ bs)
 plain_closes b bs n f p l s = record {
   more = b ∷ s.more;
   rest = s.rest;
@@ -136,7 +136,7 @@ double_read : (bs : List ℕ) (start place : ℕ) (kept : List ℕ) → nat_lt (
 unfolding byte_turn quoted_byte quote_byte character
 double_read bs start place kept l = rw l refl
 
-double_closes : (bs : List ℕ) (n : ℕ) → nat_lt n 200 ≡ true → Closes (n + 1) bs → Closes n (34 ∷ 34 ∷ bs)
+double_closes : (bs : List ℕ) (n : ℕ) → nat_lt n 200 ≡ true → ClosesString (n + 1) bs → ClosesString n (34 ∷ 34 ∷ bs)
 double_closes bs n l s = record {
   more = 34 ∷ s.more;
   rest = s.rest;
@@ -173,7 +173,7 @@ ended_read : (b : ℕ) (bs : List ℕ) (start place : ℕ) (kept : List ℕ) →
 unfolding byte_turn quoted_byte quote_byte
 ended_read b bs start place kept f = rw (f, append-nil) refl
 
-last_closes : (n : ℕ) → n ≤ 200 → Closes n (34 ∷ [])
+last_closes : (n : ℕ) → n ≤ 200 → ClosesString n (34 ∷ [])
 last_closes n l = record {
   more = [];
   rest = [];
@@ -181,7 +181,7 @@ last_closes n l = record {
   reads = λ start place kept e. last_read start place kept;
 }
 
-ended_closes : (b : ℕ) (bs : List ℕ) (n : ℕ) → n ≤ 200 → b == 34 ≡ false → Closes n (34 ∷ b ∷ bs)
+ended_closes : (b : ℕ) (bs : List ℕ) (n : ℕ) → n ≤ 200 → b == 34 ≡ false → ClosesString n (34 ∷ b ∷ bs)
 ended_closes b bs n l f = record {
   more = [];
   rest = b ∷ bs;
@@ -206,7 +206,7 @@ nil_breaks : (n : ℕ) → Breaks n []
 nil_breaks n = record { none = nil_none n; reads = λ start place kept e. open_read start place kept }
 
 abbrev pub StringScan : ℕ → List ℕ → Type 0
-StringScan n text = Closes n text ⊎ Breaks n text
+StringScan n text = ClosesString n text ⊎ Breaks n text
 
 plain_scan : (b : ℕ) (bs : List ℕ) (n : ℕ) → b == 34 ≡ false → is_printable b ≡ true → nat_lt n 200 ≡ true → StringScan (n + 1) bs → StringScan n (b ∷ bs)
 plain_scan b bs n f p l (inl s) = inl (plain_closes b bs n f p l s)

@@ -26,8 +26,8 @@ other : (h : Bool) (b : ℕ) (bs : List ℕ) → is_letter b || is_digit b ≡ f
 other h b bs e f = rw (e, f) refl
 
 -- no prefix of a text goes on with a word
-abbrev pub Ends : Bool → List ℕ → Type 0
-Ends h text = (m back : List ℕ) → text ≡ m ++ back → goes_on h m ≡ true → m ≡ []
+abbrev pub EndsWord : Bool → List ℕ → Type 0
+EndsWord h text = (m back : List ℕ) → text ≡ m ++ back → goes_on h m ≡ true → m ≡ []
 
 not_digit : (b : ℕ) (bs : List ℕ) → ((m back : List ℕ) → b ∷ bs ≡ m ++ back → goes_on true m ≡ true → ⊥) → is_digit b ≡ false
 not_digit b bs none =
@@ -48,7 +48,7 @@ pub record WordScan (text : List ℕ) : Type 0 where
   pub rest : List ℕ
   pub cut : text ≡ more ++ rest
   pub on : goes_on false more ≡ true
-  pub ends : Ends false rest
+  pub ends : EndsWord false rest
   pub reads : (start place : ℕ) (word : List ℕ) → tokens_from (InWord start word) place text ≡ lexeme (Word (word ++ map upper more)) start ∷ tokens_from Between (place + length more) rest
 
 -- the same behind hyphens
@@ -57,7 +57,7 @@ pub record DashScan (text : List ℕ) : Type 0 where
   pub rest : List ℕ
   pub cut : text ≡ more ++ rest
   pub on : goes_on true more ≡ true
-  pub ends : Ends false rest
+  pub ends : EndsWord false rest
   pub reads : (start at place : ℕ) (word dashes : List ℕ) → tokens_from (Dashes start word at dashes) place text ≡ lexeme (Word ((word ++ dashes) ++ map upper more)) start ∷ tokens_from Between (place + length more) rest
 
 -- a word ended before the hyphens
@@ -82,7 +82,7 @@ no_more [] back e g = refl
 no_more (c ∷ m) back e g = absurd (cc)
 
 -- nothing is longer where no byte goes on
-pub ends_at : (h : Bool) (b : ℕ) (bs : List ℕ) → ((m back : List ℕ) → bs ≡ m ++ back → goes_on h (b ∷ m) ≡ true → ⊥) → Ends h (b ∷ bs)
+pub ends_at : (h : Bool) (b : ℕ) (bs : List ℕ) → ((m back : List ℕ) → bs ≡ m ++ back → goes_on h (b ∷ m) ≡ true → ⊥) → EndsWord h (b ∷ bs)
 ends_at h b bs none [] back e g = refl
 ends_at h b bs none (c ∷ m) back e g = absurd (none m back (tail_same b c bs m back e) (rw (← head_same b c bs m back e) g))
 
@@ -215,25 +215,25 @@ none_nil = record { none = never_nil; reads = nil_read }
 pub is_byte : (b c : ℕ) → b == c ≡ true → b ≡ c
 is_byte b c h = (Decides-eqb b c).0 h
 
-pub record Scans (text : List ℕ) : Type 0 where
+pub record ScansWord (text : List ℕ) : Type 0 where
   pub word : WordScan text
   pub dashes : DashScan text ⊎ NoScan text
 
-hyphen_scans : (bs : List ℕ) → Scans bs → Scans (45 ∷ bs)
+hyphen_scans : (bs : List ℕ) → ScansWord bs → ScansWord (45 ∷ bs)
 hyphen_scans bs s =
     elim s.dashes [
       | inl d ↦ record { word = word_dash bs d; dashes = inl (dash_dash bs d) }
       | inr n ↦ record { word = word_before bs n; dashes = inr (none_dash bs n) }
     ]
 
-other_scans : (b : ℕ) (bs : List ℕ) → is_letter b || is_digit b ≡ false → Scans bs → Scans (b ∷ bs)
+other_scans : (b : ℕ) (bs : List ℕ) → is_letter b || is_digit b ≡ false → ScansWord bs → ScansWord (b ∷ bs)
 other_scans b bs e s =
     elim (cases_Bool (b == 45)) [
       | inl h ↦ rw (is_byte b 45 h) (hyphen_scans bs s)
       | inr f ↦ record { word = word_stop b bs e f; dashes = inr (none_stop b bs e f) }
     ]
 
-pub scans : (text : List ℕ) → Scans text
+pub scans : (text : List ℕ) → ScansWord text
 scans [] = record { word = word_none; dashes = inr none_nil }
 scans (b ∷ bs) =
     elim (cases_Bool (is_letter b || is_digit b)) [
