@@ -32,10 +32,6 @@ abbrev pub taken_back : ℕ → Option Block → List Block → List Block
 taken_back b None blocks = take b blocks
 taken_back b (Some x) blocks = set blocks b x
 
--- what a change of a block takes away, as the log of a point keeps it
-abbrev pub undo_entry : ℕ → BlockId → BlockLists → BlockUndo
-undo_entry point id lists = record { point = point; id = id; old = old_in id.block (slice_index_or lists (place id.file) []) }
-
 abbrev pub undo : BlockUndo → BlockLists → BlockLists
 undo u files = set files (place u.id.file) (taken_back u.id.block u.old (slice_index_or files (place u.id.file) []))
 
@@ -110,6 +106,10 @@ abbrev pub old_in : ℕ → List Block → Option Block
 old_in b [] = None
 old_in zero (x ∷ blocks) = Some x
 old_in (suc b) (x ∷ blocks) = old_in b blocks
+
+-- what a change of a block takes away, as the log of a point keeps it
+abbrev pub undo_entry : ℕ → BlockId → BlockLists → BlockUndo
+undo_entry point id lists = record { point = point; id = id; old = old_in id.block (slice_index_or lists (place id.file) []) }
 
 -- one block of one file is another one, or a new one
 abbrev pub put_at : ℕ → ℕ → Block → BlockLists → BlockLists
