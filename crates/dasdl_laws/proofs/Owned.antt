@@ -29,8 +29,8 @@ use Rattle.dasdl_compile.specs.Sets.{set_kind, is_misplaced, set_draft}
 use Rattle.dasdl_laws.proofs.Alone.{by_words}
 use Rattle.dasdl_laws.proofs.Judging.{bind_ok, ok_same}
 use Rattle.dasdl_laws.proofs.Ordered.{Numbers, Ordered, turned, grown}
-use Rattle.dasdl_laws.proofs.OpenedDrafts.{OpenedDrafts, Opening, turn_opens, opens}
-use Rattle.dasdl_laws.proofs.OpenedDrafts.Around.{here}
+use Rattle.dasdl_laws.proofs.Opened.{OpenedDrafts, Opening, turn_opens, opens}
+use Rattle.dasdl_laws.proofs.Opened.Around.{here}
 use Rattle.dasdl_laws.proofs.Levels.{LowLevel, AllLow}
 use Rattle.dasdl_laws.proofs.Owners.{Ref, Standing, turn_stands, got_more, push}
 use Rattle.dasdl_laws.proofs.Sets.{Whole, final_at}

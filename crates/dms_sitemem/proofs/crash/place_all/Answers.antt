@@ -1,5 +1,5 @@
 use Rattle.std.proofs.Common.{◌∙◌}
-use Rattle.dms_sitemem.proofs.PlacedFiles.{placed_next, placed_all}
+use Rattle.dms_sitemem.proofs.Placed.{placed_next, placed_all}
 use Rattle.dms_sitemem.proofs.crash.place_all.Goals as goal
 
 pub loop-file-preserved : goal.loop-file-preserved

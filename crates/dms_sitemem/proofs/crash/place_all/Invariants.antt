@@ -1,7 +1,7 @@
 use Rattle.std.proofs.Common.{◌≡◌}
 use Rattle.std.specs.BTreeMap.{btree_map_len}
 use Rattle.dms_sitemem.specs.Slots.{files_of}
-use Rattle.dms_sitemem.proofs.PlacedFiles.{PlacedFiles}
+use Rattle.dms_sitemem.proofs.Placed.{PlacedFiles}
 use Rattle.dms_sitemem.proofs.crash.place_all.Given as goal
 
 abbrev pub invariant-loop-file : goal.invariant-loop-file
