@@ -13,7 +13,7 @@ use Rattle.dms_site.specs.Files.{Files, Left, Same, range, stored_of}
 use Rattle.dms_site.specs.StoredLaws.{stored_at}
 use Rattle.dms_block.specs.declared.block.Block.{Block}
 use Rattle.dms_block.specs.declared.block.BlockId.{BlockId}
-use Rattle.dms_block.specs.AllBlocks.{block_in}
+use Rattle.dms_block.specs.Content.{block_in}
 use Rattle.dms_history.specs.Events.{AllBlocks}
 use Rattle.dms_history.proofs.Picks.{some_is}
 use Rattle.dms_pool.specs.declared.pool.Pool.{Pool}

@@ -6,8 +6,8 @@ use Rattle.dms_site.specs.declared.site.Site.{Ghosts}
 use Rattle.dms_block.specs.declared.block.Block.{Block}
 use Rattle.dms_block.specs.declared.block.BlockId.{BlockId}
 use Rattle.dms_block.specs.declared.change.Change.{Change}
-use Rattle.dms_block.specs.AllBlocks as blocks
-use Rattle.dms_block.specs.AllBlocks.{raised, limit}
+use Rattle.dms_block.specs.Content as blocks
+use Rattle.dms_block.specs.Content.{raised, limit}
 use Rattle.dms_block.specs.Changing.{grown_is}
 use Rattle.dms_history.specs.Events.{AllBlocks}
 use Rattle.dms_history.specs.Images.{is_at}

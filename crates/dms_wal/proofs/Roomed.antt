@@ -9,7 +9,7 @@ use Rattle.dms_site.specs.declared.site.Site.{Ghosts}
 use Rattle.dms_site.specs.Files.{Left}
 use Rattle.dms_block.specs.declared.block.Block.{Block}
 use Rattle.dms_block.specs.declared.block.BlockId.{BlockId}
-use Rattle.dms_block.specs.AllBlocks.{limit}
+use Rattle.dms_block.specs.Content.{limit}
 use Rattle.dms_history.specs.Events.{AllBlocks, block_in}
 use Rattle.dms_history.specs.Lists.{after_last}
 use Rattle.dms_history.specs.Places.{is_control}
