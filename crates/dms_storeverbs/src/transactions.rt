@@ -9,7 +9,7 @@ ghost use Rattle.dms_block.specs.Faults.{Undamaged};
 ghost use Rattle.dms_model.specs.Db.{Db};
 ghost use Rattle.dms_storeverbs.specs.Costs.{Costs, limit_if};
 ghost use Rattle.dms_storeverbs.specs.Keeping.{WasKept, kept_if};
-ghost use Rattle.dms_storeverbs.specs.View.{Does, DoesWhere, EngineLasts, Room, StandsFor, seen, view};
+ghost use Rattle.dms_storeverbs.specs.View.{Does, DoesWhere, EngineLasts, Room, seen, view};
 
 use crate::refusal::{Refusal, done, refused};
 use crate::schema::restart_of;

@@ -5,7 +5,7 @@ ghost use Rattle.dms_model.specs.Db.{Db};
 ghost use Rattle.dms_model.specs.BackOut.{asks_back_out};
 ghost use Rattle.dms_model.specs.Fitting.{IsStructure, SpotFits};
 ghost use Rattle.dms_model.specs.Seen.{IsMute, IsSilent, StaysDurable};
-ghost use Rattle.dms_desc.specs.Lookups.{parts_of, set_of, structure_of, items_of};
+ghost use Rattle.dms_desc.specs.Lookups.{parts_of, set_of, items_of};
 ghost use Rattle.dms_model.specs.declared.verb.Path.TheVariants.{At};
 ghost use Rattle.dms_model.specs.Session.{Session, find_step, found_by, path_of, verb_step, carried_out, step, is_waits};
 ghost use Rattle.dms_model.specs.Verbs.{IsPathOf, IsVerbOf};
@@ -24,6 +24,7 @@ use std::alloc::Global;
 
 impl<St: Store> Engine<St> {
     /// The first member of a path, for an owner, whose first key items these literals spell.
+    #[tactic(auto, unfolding(dms_model::specs::Session::found_by))]
     fn found_at(
         &mut self,
         alloc: Global,

@@ -5,11 +5,12 @@ use Rattle.dms_model.specs.Fitting.{KeyFits, MayStart}
 use Rattle.dms_storeverbs.proofs.Fits.{key_is_fit}
 use Rattle.dms_desc.specs.Shape.{Described, described}
 use Rattle.dms_desc.specs.Lookups.{structure_of, items_of, parts_of, set_of}
-use Rattle.dms_model.specs.Session.{key_values}
+use Rattle.dms_model.specs.Session.{found_by, key_values}
 use Rattle.dms_storeverbs.proofs.FoundAt.{found_at_is}
 use Rattle.dms_storeverbs.proofs.engine.Engine.found_at.Goals as goal
 
 pub returns-clause-found : goal.returns-clause-found
+unfolding found_by
 returns-clause-found g c = λ d told.
     let desc = described c.args.self.now.desc in
     let lits = c.args.literals.now in
