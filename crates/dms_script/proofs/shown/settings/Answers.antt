@@ -2,13 +2,13 @@ use Rattle.std.proofs.Common.{◌≡◌, ◌-◌, ◌+◌, length, true, false, 
 use Rattle.std.proofs.lemmas.Result.{err_from_is_err_and}
 use Rattle.dms_tokens.specs.Cursors.{starts, is_the_sign, place_at}
 use Rattle.dms_script.specs.Verbs.{setting_at}
-use Rattle.dms_script.proofs.Listing.{list-more, list-last, list-none, list-fault, Fails-from, comma-no, comma-yes}
+use Rattle.dms_script.proofs.Listing.{list-more, list-last, list-none, list-fault, LineFails-from, comma-no, comma-yes}
 use Rattle.dms_script.proofs.shown.settings.Goals as goal
 
 pub returns-in_err-settings : goal.returns-in_err-settings
 returns-in_err-settings c =
     let p = err_from_is_err_and c.from_residual.result c.from_residual.ensures.1 in
-    rw (p.1, p.2) (Fails-from _ (setting_at c.args.items.now c.loop-turn.settings c.loop-turn.cursor) _ (λ f h. sym c.loop-turn.invariant ∙ list-fault (setting_at c.args.items.now) (length c.rest-turn-end.result.now - (c.loop-turn._turn + 1)) (length c.rest-turn-end.result.now - c.loop-turn._turn) c.loop-turn.settings c.loop-turn.cursor f (omega arith) h) c.in_err-settings.ensures)
+    rw (p.1, p.2) (LineFails-from _ (setting_at c.args.items.now c.loop-turn.settings c.loop-turn.cursor) _ (λ f h. sym c.loop-turn.invariant ∙ list-fault (setting_at c.args.items.now) (length c.rest-turn-end.result.now - (c.loop-turn._turn + 1)) (length c.rest-turn-end.result.now - c.loop-turn._turn) c.loop-turn.settings c.loop-turn.cursor f (omega arith) h) c.in_err-settings.ensures)
 
 pub returns-then-not-comma : goal.returns-then-not-comma
 returns-then-not-comma c =

@@ -1,7 +1,5 @@
 use Rattle.std.proofs.Common.{sym, subst}
 use Rattle.dms_desc.specs.Shape.{described}
-use Rattle.dms_model.specs.declared.put.Put.{Put}
-use Rattle.dms_model.specs.Db.{Records}
 use Rattle.dms_model.specs.Fitting.{PutFits}
 use Rattle.dms_model.specs.FitLaws.{answer_fits}
 use Rattle.dms_plain.specs.Rows.{db_of, records_in}
