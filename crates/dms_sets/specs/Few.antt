@@ -3,25 +3,24 @@ use Rattle.std.proofs.Common.{◌≡◌, ℕ, ◌+◌, ◌≤◌, ◌<◌, List,
 use Rattle.std.specs.Prelude.{T, ◌&&◌, ◌==◌, not}
 use Rattle.std.specs.List.{AllByRecursion}
 use Rattle.std.specs.declared.option.Option.{Option}
-use Rattle.std.specs.FinMap.{get, get-entries, entries, entries_sorted, insert, is_sorted, keys}
+use Rattle.std.specs.FinMap.{get, get-entries, entries, entries_sorted, is_sorted, keys}
 use Rattle.std.specs.FinMap.Entries.{below_all, by_order}
 use Rattle.std.specs.Ordering.{is_lt, nat_cmp, ordering_then}
 use Rattle.std.specs.declared.cmp.Ordering.{Ordering}
 use Rattle.std.specs.declared.cmp.Ordering.TheVariants.{Less, Equal, Greater}
 use Rattle.std.proofs.lemmas.Bool.Decides.{nat_tests}
-use Rattle.dms_base.specs.declared.kind.ItemKind.{ItemKind}
 use Rattle.dms_desc.specs.declared.record.Record.{Record}
 use Rattle.dms_desc.specs.Shape.{Shape, Described}
 use Rattle.dms_desc.specs.Kinds.{over, takes}
 use Rattle.dms_desc.specs.Keys.{key_of}
 use Rattle.dms_model.specs.Db.{Db, Place, place_cmp}
-use Rattle.dms_ordlist.specs.Lists.{ByteSet, bytes_cmp, empty_keys, keys_with, with_entry, without, without_in, is_same}
+use Rattle.dms_ordlist.specs.Lists.{bytes_cmp, empty_keys, keys_with, with_entry, without, without_in, is_same}
 use Rattle.dms_sets.specs.Changes.{HasRoom}
 use Rattle.dms_sets.specs.Entries.{entry_bytes}
 use Rattle.dms_sets.specs.Listing.{listing, with_opt}
 use Rattle.dms_sets.specs.Sets.{entries_of, entry_of, kinds_over}
 use Rattle.dms_sets.specs.Spots.{StandsAmong, all_found}
-use Rattle.dms_sets.specs.Tests.{both_of, first_true, second_true}
+use Rattle.dms_sets.specs.Tests.{first_true, second_true}
 
 -- a record of the data set has a number behind the first of these and up to the last
 abbrev Within : ℕ → ℕ → ℕ → Place → Type 0

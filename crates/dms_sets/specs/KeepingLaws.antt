@@ -1,17 +1,17 @@
 -- What calls on ordered lists leave, as keepers of lists say it.
-use Rattle.std.proofs.Common.{ℕ, ◌+◌, ◌*◌, ◌≤◌, ◌<◌, ◌≡◌, ◌≢◌, ◌∙◌, Bool, true, false, cond, IsTrue, List, length, max, Some, None, inl, inr, refl, sym, ap, subst, arith, eqb}
+use Rattle.std.proofs.Common.{ℕ, ◌+◌, ◌≤◌, ◌<◌, ◌≡◌, ◌≢◌, ◌∙◌, Bool, true, false, cond, IsTrue, List, length, max, Some, None, inr, refl, sym, ap, arith}
 use Rattle.std.specs.Prelude.{◌==◌, ◌&&◌, IfErr, IfOk, OnOk, nat_le}
 use Rattle.std.specs.declared.option.Option.{Option}
 use Rattle.std.specs.declared.result.Result.{Result}
 use Rattle.std.specs.declared.result.Result.TheVariants.{Ok, Err}
 use Rattle.std.proofs.lemmas.Bool.Decides.{nat_tests}
 use Rattle.dms_block.specs.declared.block_fault.BlockFault.{BlockFault}
-use Rattle.dms_block.specs.declared.block_fault.BlockFault.TheVariants.{Disk, Memory, Full, Damaged, Say}
+use Rattle.dms_block.specs.declared.block_fault.BlockFault.TheVariants.{Memory, Damaged}
 use Rattle.dms_block.specs.declared.blocks.Blocks.{Ghosts}
 use Rattle.dms_block.specs.declared.overlay.Overlay.{Overlay}
-use Rattle.dms_block.specs.Held.{BlocksAgree, HasCausesOr, Looks}
+use Rattle.dms_block.specs.Held.{BlocksAgree, HasCausesOr}
 use Rattle.dms_block.specs.HeldLaws.{causes_or_on, looks_as, looks_err, looks_none, looks_on}
-use Rattle.dms_block.specs.View.{ReadsOverlay, WritesOverlay, seen, seen_counts, under, written}
+use Rattle.dms_block.specs.View.{ReadsOverlay, WritesOverlay, seen, seen_counts, under}
 use Rattle.dms_block.specs.ViewLaws.{counts_seen, seen_still}
 use Rattle.dms_ordlist.specs.ListIn.{list_in}
 use Rattle.dms_ordlist.specs.Seen.{IfList, NoList}

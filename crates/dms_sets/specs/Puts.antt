@@ -2,7 +2,6 @@
 use Rattle.std.proofs.Common.{◌≡◌, ℕ, ◌^◌, ◌<◌, List, [], ◌∷◌, true, Some, sym, subst}
 use Rattle.std.specs.Prelude.{not}
 use Rattle.std.specs.List.{AllByRecursion}
-use Rattle.std.specs.declared.option.Option.{Option}
 use Rattle.std.specs.FinMap.{entries}
 use Rattle.dms_base.specs.declared.kind.ItemKind.{ItemKind}
 use Rattle.dms_desc.specs.declared.record.Record.{Record}
@@ -13,7 +12,7 @@ use Rattle.dms_desc.specs.Kinds.{takes, over}
 use Rattle.dms_desc.specs.Lookups.{structure_of, items_of}
 use Rattle.dms_model.specs.Stores.{put_after, is_closed}
 use Rattle.dms_sets.specs.Listing.{AllPlaces}
-use Rattle.dms_sets.specs.Sets.{entry_of, entries_of, items_over, kinds_over, IsSmall}
+use Rattle.dms_sets.specs.Sets.{entries_of, items_over, kinds_over, IsSmall}
 use Rattle.dms_sets.specs.Owners.{EntriesFit}
 use Rattle.dms_sets.specs.Answers.{AreJudged, closed_is, old_entry}
 use Rattle.dms_sets.specs.Spots.{ValuesFit, NameItems, RecordsHaveSpots, all_fit, key_fits}

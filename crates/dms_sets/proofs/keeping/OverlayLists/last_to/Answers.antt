@@ -1,10 +1,8 @@
-use Rattle.std.proofs.Common.{ℕ, ◌≡◌, ◌+◌, ◌<◌, ◌∙◌, List, Bool, Some, IsTrue, length, ap, sym, subst, arith}
-use Rattle.std.specs.Prelude.{not}
+use Rattle.std.proofs.Common.{ℕ, ◌≡◌, ◌+◌, List, Some, length}
 use Rattle.std.specs.declared.option.Option.{Option}
-use Rattle.dms_block.specs.declared.block_fault.BlockFault.TheVariants.{Damaged}
-use Rattle.dms_block.specs.View.{seen_counts, under}
-use Rattle.dms_ordlist.specs.Lists.{with_entry, without, has_entry, first_from, last_to}
-use Rattle.dms_ordlist.specs.Seen.{IsListWidth, NoList}
+use Rattle.dms_block.specs.View.{seen_counts}
+use Rattle.dms_ordlist.specs.Lists.{last_to}
+use Rattle.dms_ordlist.specs.Seen.{NoList}
 use Rattle.dms_sets.specs.Keeping.{file_of}
 use Rattle.dms_sets.specs.KeepingLaws.{answer_of, below_write, calm_read, fails_write, list_read, usable_write, writes_of}
 use Rattle.dms_sets.proofs.keeping.OverlayLists.last_to.Goals as goal

@@ -1,13 +1,10 @@
-use Rattle.std.proofs.Common.{ℕ, ◌≡◌, ◌+◌, ◌<◌, ◌∙◌, List, Bool, Some, IsTrue, length, ap, sym, subst, arith}
-use Rattle.std.specs.Prelude.{not}
-use Rattle.std.specs.declared.option.Option.{Option}
+use Rattle.std.proofs.Common.{ℕ, ◌≡◌, ◌+◌, ◌<◌, Bool, IsTrue, length, ap, sym, subst, arith}
 use Rattle.std.proofs.lemmas.Result.{on_ok_weaker}
 use Rattle.dms_block.specs.declared.block_fault.BlockFault.TheVariants.{Damaged}
 use Rattle.dms_block.specs.View.{seen_counts, under}
-use Rattle.dms_ordlist.specs.Lists.{with_entry, without, has_entry, first_from, last_to}
-use Rattle.dms_ordlist.specs.Seen.{IsListWidth, NoList}
-use Rattle.dms_sets.specs.Keeping.{file_of}
-use Rattle.dms_sets.specs.KeepingLaws.{answer_of, below_long, below_write, calm_write, fails_long, fails_write, only_after, roomy_after, usable_write}
+use Rattle.dms_ordlist.specs.Lists.{without, has_entry}
+use Rattle.dms_ordlist.specs.Seen.{NoList}
+use Rattle.dms_sets.specs.KeepingLaws.{answer_of, below_long, below_write, calm_write, fails_long, fails_write, only_after, usable_write}
 use Rattle.dms_sets.proofs.keeping.OverlayLists.remove.Goals as goal
 
 pub returns-then-count-gt1048576-clause-fails : goal.returns-then-count-gt1048576-clause-fails
