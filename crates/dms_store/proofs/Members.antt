@@ -1,5 +1,5 @@
 -- The members of a set by one look at its list, and the cause of each fault.
-use Rattle.std.proofs.Common.{◌≡◌, ◌∙◌, ◌<◌, ◌≤◌, ℕ, List, Bool, true, false, IsTrue, Some, None, refl, sym, ap, subst, inl, inr, arith}
+use Rattle.std.proofs.Common.{◌≡◌, ◌∙◌, ◌<◌, ◌≤◌, ℕ, List, Bool, true, false, IfSome, IsTrue, Some, None, refl, sym, ap, subst, inl, inr, arith}
 use Rattle.std.specs.Prelude.{◌&&◌, nat_lt}
 use Rattle.std.specs.declared.option.Option.{Option}
 use Rattle.std.specs.declared.result.Result.{Result}
@@ -10,6 +10,7 @@ use Rattle.dms_block.specs.declared.block_fault.BlockFault.{BlockFault}
 use Rattle.dms_block.specs.declared.blocks.Blocks.{Ghosts}
 use Rattle.dms_block.specs.declared.overlay.Overlay.{Overlay}
 use Rattle.dms_block.specs.Content.{Content}
+use Rattle.dms_block.specs.Held.{HasCausesOr}
 use Rattle.dms_block.specs.View.{ReadsOverlay, seen, seen_counts, under}
 use Rattle.dms_base.specs.declared.kind.ItemKind.{ItemKind}
 use Rattle.dms_desc.specs.declared.bound.Bound.{Bound}
@@ -24,6 +25,7 @@ use Rattle.dms_model.specs.Valid.{is_data_set}
 use Rattle.dms_ordlist.specs.ListIn.{list_in}
 use Rattle.dms_ordlist.specs.Lists.{first_from, has_entry, last_to}
 use Rattle.dms_ordlist.specs.Seen.{IfList, NoList}
+use Rattle.dms_ordlist.specs.SeenLaws.{causes_since}
 use Rattle.dms_sets.specs.Finds.{spot_by}
 use Rattle.dms_sets.specs.Listing.{AllPlaces}
 use Rattle.dms_sets.specs.Padded.{entry_width, from_bytes, to_bytes}
@@ -166,6 +168,16 @@ module _ (desc : Described) (s : Shape) (served : IsServed desc) (at : structure
           → IfList o (file_of s.number) (entry_width ks s.parts) (λ xs. has_entry q xs ≡ true) → (f b : ℕ) → BadEntry desc s q o' f b → BadPath desc s.number o f b
       entry_path o' q reads some listed f b bad =
           bad_later o' q reads some (subst (λ (xs : List ItemKind). IfList o (file_of s.number) (entry_width xs s.parts) (λ ys. has_entry q ys ≡ true)) is listed) f b bad
+
+      -- the cause of a fault at the entry that a look found
+      pub fault_path : {n : ℕ} (x : Option (List ℕ)) (p q : List ℕ) (o' last : Overlay B g) (r : Result (Option Spot) BlockFault) → x ≡ Some p → q ≡ p → IfSome x (λ e. 1 ≤ seen_counts o (file_of s.number))
+          → IfList o (file_of s.number) (entry_width ks s.parts) (λ xs. IfSome x (λ e. has_entry e xs ≡ true)) → ReadsOverlay n (Ok x) o o' → (under o').faults ≡ (under o).faults
+          → HasCausesOr (BadEntry desc s q o') r (under o') (under last) → HasCausesOr (BadPath desc s.number o) r (under o) (under last)
+      fault_path x p q o' last r found same there listed reads still causes =
+          let some : 1 ≤ seen_counts o (file_of s.number) = rw found at there in
+          let entry : IfList o (file_of s.number) (entry_width ks s.parts) (λ xs. has_entry q xs ≡ true) =
+          subst (λ (e : List ℕ). IfList o (file_of s.number) (entry_width ks s.parts) (λ xs. has_entry e xs ≡ true)) (sym same) (rw found at listed) in
+          causes_since (BadEntry desc s q o') (BadPath desc s.number o) r o o' last (entry_path o' q reads some entry) still reads causes
 
       module _ (owner : ℕ) (bound : Bound) (may : MayStart desc s.number owner bound) (q : Option (List ℕ)) (r : Result (Option Spot) BlockFault) where
         pub first_path : (MayLook ks s.parts bound → IfList o (file_of s.number) (entry_width ks s.parts) (λ xs. q ≡ first_from (from_bytes ks s.parts owner bound) xs))

@@ -19,7 +19,7 @@ use Rattle.dms_desc_bytes.specs.Lists.{is_empty, is_within, total}
 use Rattle.dms_desc_bytes.specs.Members.{is_item_sound}
 use Rattle.dms_desc_bytes.specs.Spelling.{is_data_set as is_set_kind}
 use Rattle.dms_desc_bytes.specs.WellFormed as well
-use Rattle.dms_desc_bytes.specs.WellFormed.{IsWellFormed, are_sound, has_sound_items, is_data_set_sound, is_key_item, is_key_sound, is_part_sound, is_populated, is_set_sound, is_sound, lacks_set_fields, numbered}
+use Rattle.dms_desc_bytes.specs.WellFormed.{IsWellFormed, are_sound, has_sound_items, is_data_set_sound, is_key_item, is_key_sound, is_part_sound, is_set_sound, is_sound, lacks_set_fields, numbered}
 use Rattle.dms_key.specs.KeyBytes as bytes
 use Rattle.dms_layout.specs.Slots.{AreKinds, slot_width}
 use Rattle.dms_model.specs.Valid.{is_data_set}

@@ -17,7 +17,7 @@ use Rattle.dms_block.specs.Faults.{Unbroken}
 use Rattle.dms_block.specs.View.{ReadsOverlay, under, written}
 use Rattle.dms_block.specs.Content.{Content}
 use Rattle.dms_block.specs.Counts.{CausedBy}
-use Rattle.dms_block.specs.Held.{Held, BlockPoint, BlockStop, Lasts, MakesNoPoint, Prefix, SameBlocks, HasNextNumber}
+use Rattle.dms_block.specs.Held.{Held, BlockPoint, BlockStop, Lasts, MakesNoPoint, Prefix, SameBlocks}
 use Rattle.dms_block.specs.Held as held
 use Rattle.dms_desc.specs.Shape.{Described}
 use Rattle.dms_desc_bytes.specs.Spelling.{spelling}
@@ -51,10 +51,10 @@ module _ (desc : Described) where
     files = p.whole_files;
   }
 
-  pub leaves_lifted : (a b : Held) (points : List BlockPoint) (next : ℕ) → held.StoreLeaves a b points next → StoreLeaves a.whole (lifted desc a.clock) (lifted desc b.clock) a.durable (map (point_of desc) points) next a.said
+  pub leaves_lifted : (a b : Held) (points : List BlockPoint) (next : ℕ) → held.Leaves a b points next → StoreLeaves a.whole (lifted desc a.clock) (lifted desc b.clock) a.durable (map (point_of desc) points) next a.said
   leaves_lifted a b points next run = runs_seen_as (stop_of desc) (runs_weaken run (λ x p. (front_lifted a points next x p.0, p.1)))
 
-  pub text_lifted : (a b : Held) (bytes : List ℕ) → held.StoreLeavesText a b bytes → StoreLeavesText a.whole (lifted desc a.clock) (lifted desc b.clock) a.durable (map (point_of desc) a.points) a.next a.said bytes
+  pub text_lifted : (a b : Held) (bytes : List ℕ) → held.LeavesText a b bytes → StoreLeavesText a.whole (lifted desc a.clock) (lifted desc b.clock) a.durable (map (point_of desc) a.points) a.next a.said bytes
   text_lifted a b bytes run = runs_seen_as (stop_of desc) (runs_weaken run (λ x p. (front_lifted a a.points a.next x p.0, p.1)))
 
   blocks_here : (t : Bool) (c d : Content) → (IsTrue t → d ≡ c) → cond t c d ≡ d
@@ -97,7 +97,7 @@ module _ (desc : Described) (sound sound' : Type 0) (found found' : ℕ) (a b : 
   pub silent_lifted : MakesNoPoint a b → store.IsSilent old new
   silent_lifted p = record { next = p.next; said = p.said; leaves = λ tells room. leaves_lifted desc a b a.points a.next (p.leaves tells room) }
 
-  pub causes_lifted : {T : Type 0} (r : Result T BlockFault) → Lasts a b → a.uses.reads ≤ b.uses.reads → CausedBy r (faults_with a.faults found) (faults_with b.faults found') → store.HasCauses r old new
+  pub causes_lifted : {T : Type 0} (r : Result T BlockFault) → Lasts a b → a.uses.reads ≤ b.uses.reads → CausedBy r (faults_with a.faults found) (faults_with b.faults found') → store.HasStoreCauses r old new
   causes_lifted r lasts reads cause = record { tells = lasts.tells; desc = refl; whole = lasts.whole; whole_on = lasts.whole_on; cause = cause; reads = reads }
 
   pub points_lifted : held.IfTold a ((b.points ≡ a.points) × (a.durable ≤ b.durable)) → store.StaysDurable old new
@@ -114,7 +114,7 @@ module _ (desc : Described) (sound sound' : Type 0) (found found' : ℕ) (a b : 
   pub keeps_points_lifted : sound' → Lasts a b → held.Stays a b → store.KeepsPoints old new
   keeps_points_lifted sound lasts stays = record { sound = sound; mark = db_same desc a.told b.told a.mark b.mark lasts.told stays.mark; points = points_lifted stays.points }
 
-  pub quiet_lifted : held.BlocksAgree a → sound' → Lasts a b → held.MadeQuiet a b → store.MadeQuiet old new
+  pub quiet_lifted : held.BlocksAgree a → sound' → Lasts a b → held.MadeQuiet a b → store.QuietMade old new
   quiet_lifted agrees sound lasts made = record {
     sound = sound;
     next = made.next;
@@ -123,13 +123,13 @@ module _ (desc : Described) (sound sound' : Type 0) (found found' : ℕ) (a b : 
     points = λ tells room. let s = made.points tells room in (ap (map (point_of desc)) s.0 ∙ quiet_points desc a (agrees.here tells room), s.1);
   }
 
-  pub quiet_leaves : held.BlocksAgree a → held.IfTold a (held.StoreLeaves a b (a.points ++ a.here ∷ []) (a.next + 1))
-      → store.IfTold old (StoreLeaves a.whole (lifted desc a.clock) (lifted desc b.clock) a.durable (map (point_of desc) a.points ++ point_of desc (here_of desc a) ∷ []) (a.next + 1) a.said)
+  pub quiet_leaves : held.BlocksAgree a → held.IfTold a (held.Leaves a b (a.points ++ a.here ∷ []) (a.next + 1))
+      → store.IfPointsTold old (StoreLeaves a.whole (lifted desc a.clock) (lifted desc b.clock) a.durable (map (point_of desc) a.points ++ point_of desc (here_of desc a) ∷ []) (a.next + 1) a.said)
   quiet_leaves agrees leaves tells room =
       subst (λ (ps : List Point). StoreLeaves a.whole (lifted desc a.clock) (lifted desc b.clock) a.durable ps (a.next + 1) a.said) (quiet_points desc a (agrees.here tells room))
       (leaves_lifted desc a b (a.points ++ a.here ∷ []) (a.next + 1) (leaves tells room))
 
-  pub durable_lifted : sound' → Lasts a b → held.MadeDurable a b → store.MadeDurable old new
+  pub durable_lifted : sound' → Lasts a b → held.MadeDurable a b → store.PointsDurable old new
   durable_lifted sound lasts made = record {
     sound = sound;
     db = db_same desc a.told b.told a.content b.content lasts.told made.same.content;

@@ -26,7 +26,7 @@ pub record Looked {T : Type 0} (result : Result T BlockFault) (old new : store.S
   pub undamaged : (d : Db) → old.db ≡ Some d → Undamaged result
   pub mute_fault : IsErrOf result Say → ⊥
   pub room : NotFull result
-  pub causes : store.HasCauses result old new
+  pub causes : store.HasStoreCauses result old new
 
 mute_or : {T : Type 0} (P : ℕ → ℕ → Type 0) (r : Result T BlockFault) (a b : Held) → HasCausesOr P r a b → IsErrOf r Say → ⊥
 mute_or P (Ok x) a b h is = absurd (cc)

@@ -39,7 +39,7 @@ pub record ChangesAtMost {T : Type 0} (blocks : ℕ) (result : Result T BlockFau
   pub effort : store.Spends blocks old.effort new.effort
   pub undamaged : (d : Db) → old.db ≡ Some d → Undamaged result
   pub mute_fault : IsErrOf result Say → ⊥
-  pub causes : store.HasCauses result old new
+  pub causes : store.HasStoreCauses result old new
 
 -- where the record may be stored the answer and the database after it are those of storing it
 abbrev pub Stores : Described → Option Db → Option Db → ℕ → Option ℕ → Record → Put → Type 0
