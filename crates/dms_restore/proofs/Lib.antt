@@ -23,3 +23,4 @@ pub mod Returned
 pub mod Spanned
 pub mod InAudit
 pub mod Sealed
+pub mod Grows

@@ -179,12 +179,6 @@ back_limit r limit old same only = subst (λ n. IfErr r (IsBackFault n)) same on
 pub ends_of : (end : AuditEnd) (first : ℕ) (files : Files) (clock : Clock Left) → EndsAt end first [] files clock → Ends (view end first files clock)
 ends_of end first files clock e = ends_waiting end first [] files clock e
 
--- where nothing waited the trail has grown by the Begin alone
-pub begin_grown : (a : LogView) (end : AuditEnd) (files : Files) (clock : Clock Left) (es : List Entry) → end.total ≡ a.end.total → LogRuns a → waits a.end ≡ []
-    → ((first : ℕ) (waiting : List Entry) → AreNoBegins waiting → EndsAt a.end first waiting a.files a.clock → Appends end first (waiting ++ es) a.files files clock) → Grown a.end.total a.first a.files files
-begin_grown a end files clock es kind runs nothing appends =
-    subst (λ n. Grown n a.first a.files files) kind (appends a.first [] tt (subst (λ (l : List Entry). EndsAt a.end a.first l a.files a.clock) nothing runs.ends)).grown
-
 -- Full that was handed on, of the same limit
 pub full_limit : {T U : Type 0} (r : Result T AudFault) (fault : AudFault) (limit old : ℕ) → limit ≡ old → IsErrAnd r (λ e. e ≡ fault) → IsErrOf r (Full old) → IsErrOf {T = U} (Err fault) (Full limit)
 full_limit (Ok x) fault limit old same handed full = absurd handed

@@ -32,6 +32,10 @@ block_at [] i d blocks low = absurd (omega (arith, low))
 block_at (t ∷ ts) zero d blocks low = blocks.0
 block_at (t ∷ ts) (suc i) d blocks low = block_at ts i d blocks.1 (omega (arith, low))
 
+-- other files stay when it is written
+pub block_others : (x y : Files) (ts : List Told) (i : ℕ) (d : Told) → AreBlocks ts → i < length ts → InFile (get_or ts i d).file (Torn (1024 * (get_or ts i d).block) 1024) x y → (g : ℕ) → g ≤ 30000 → y g ≡ x g
+block_others x y ts i d blocks low step g upto = step.others g (λ is. omega (arith, (block_at ts i d blocks low).0, upto, is))
+
 -- a block that stood still stands after another one was written, or was written itself
 stands_still : (live : List Event) (m f b g c : ℕ) (x y : Files) → InFile f (Torn (1024 * b) 1024) x y → StandsAsTold live m y f b → StandsAsTold live m x g c → StandsAsTold live m y g c
 stands_still live m f b g c x y step one was block told len = elim (cases_eq g f) [

@@ -42,7 +42,7 @@ use Rattle.dms_restore.specs.Finding.{IsFoundFrom}
 use Rattle.dms_restore.specs.Logging.{telling_of, waits}
 
 -- the trail depends on as many files as it may have
-trail_low : (n total f : ℕ) (x y : Files) → ((g : ℕ) → f ≤ g → g < f + n → x g ≡ y g) → trail_from n total f x ≡ trail_from n total f y
+pub trail_low : (n total f : ℕ) (x y : Files) → ((g : ℕ) → f ≤ g → g < f + n → x g ≡ y g) → trail_from n total f x ≡ trail_from n total f y
 trail_low zero total f x y same = refl
 trail_low (suc n) total f x y same =
     let here : x f ≡ y f = same f (omega arith) (omega arith) in

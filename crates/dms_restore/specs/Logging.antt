@@ -13,7 +13,8 @@ use Rattle.dms_audfile.specs.declared.audit_end.AuditEnd.{AuditEnd}
 use Rattle.dms_audfile.specs.Blocks.{block_entries}
 use Rattle.dms_audfile.specs.Unsealed.{block_with}
 use Rattle.dms_audfile.specs.TrailEntries.{entries_of, trail_entries}
-use Rattle.dms_audfile.specs.Ends.{unsealed, EndsAt}
+use Rattle.dms_audfile.specs.BlockLaws.{AreNoBegins}
+use Rattle.dms_audfile.specs.Ends.{unsealed, EndsAt, Grown}
 use Rattle.dms_running.specs.Telling.{Telling}
 use Rattle.dms_running.specs.Points.{DescribedPoint}
 use Rattle.dms_running.specs.Running.{State, entries_now, next_now, points_now, durable_now, here_now, content_now, IsRunning, IsChanged, LeavesPoints}
@@ -59,6 +60,16 @@ Ends v = EndsAt v.end v.first (waits v.end) v.files v.clock
 -- so it is, and no entry waits
 abbrev pub EndsSealed : LogView → Type 0
 EndsSealed v = EndsAt v.end v.first [] v.files v.clock
+
+-- The trail ends where it is said to, and some entries wait, none of which is a Begin: others may be appended.
+pub record TakesEntries (v : LogView) : Type 0 where
+  pub waiting : List Entry
+  pub ends : EndsAt v.end v.first waiting v.files v.clock
+  pub plain : AreNoBegins waiting
+
+-- The trail is the one of before and some blocks behind it, each of which is in its grammar and holds an entry.
+abbrev pub LogGrows : LogView → LogView → Type 0
+LogGrows a b = Grown a.end.total a.first a.files b.files
 
 -- The trail ends where it is said to, and the database runs.
 pub record LogRuns (v : LogView) : Type 0 where

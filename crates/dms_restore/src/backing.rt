@@ -7,10 +7,9 @@ ghost use Rattle.dms_history.specs.Entries.{begin_restore, by_back_out, control_
 ghost use Rattle.dms_audrec.specs.Spelling.{IsEntry};
 ghost use Rattle.dms_audrec.specs.Reading.{counts_at};
 ghost use Rattle.dms_audfile.specs.Counting.{CountedAt};
-ghost use Rattle.dms_audfile.specs.Ends.{Grown};
 ghost use Rattle.dms_restore.specs.Views.{view_of, StaysSilent, IsSameTrail};
 ghost use Rattle.dms_restore.specs.Logging as logs;
-ghost use Rattle.dms_restore.specs.Logging.{Ends, entries, waits, points, LogLeaves, LogRuns, LogsPart};
+ghost use Rattle.dms_restore.specs.Logging.{Ends, TakesEntries, entries, waits, points, LogLeaves, LogGrows, LogRuns, LogsPart};
 ghost use Rattle.dms_restore.specs.Begins.{LastIs, begun_to, BegunAt, BeginsRestore, LeavesEach};
 ghost use Rattle.dms_restore.specs.Laying.{schema_control};
 ghost use Rattle.dms_restore.specs.Endings.{EndsBy, EndedAt};
@@ -36,8 +35,8 @@ impl<S: Site> Log<S> {
         ensures begun { OnOk result (IsTrue S.tells → BegunAt (begun_to (view_of S.Site self.old) point back_out) (view_of S.Site self.new)) }
         ensures keeps { OnOk result (IsTrue S.tells → BeginsRestore (view_of S.Site self.old) (view_of S.Site self.new) point back_out) }
         ensures logs { OnOk result (IsTrue S.tells → entries (view_of S.Site self.new) ≡ entries (view_of S.Site self.old) ++ begin_restore point by_back_out ∷ []) }
-        ensures grown { OnOk result (IsTrue S.tells → waits self.old.end ≡ [] → Grown self.old.end.total self.old.first (S.files self.old.site) (S.files self.new.site)) }
         ensures moments { IsTrue S.tells → let a = view_of S.Site self.old in LogLeaves a (view_of S.Site self.new) (points a) (logs.next a) }
+        ensures grown { IsTrue S.tells → LogGrows (view_of S.Site self.old) (view_of S.Site self.new) }
         ensures silent { IsTrue S.tells → StaysSilent S.Site self.old.site self.new.site }
         ensures kind { IsSameTrail self.old self.new }
         ensures only { IfErr result (λ e. (e ≡ AudFault.Disk) ⊎ (e ≡ AudFault.Full self.old.end.limit)) }
@@ -62,6 +61,7 @@ impl<S: Site> Log<S> {
             → StandsAll p (view_of S.Site self.old) (view_of S.Site self.new)) }
         ensures moments { (p : Pending) → IsTrue S.tells → BegunAt p (view_of S.Site self.old) → IsTable p.entries p.point (S.files self.old.site) table.now
             → LeavesEach (view_of S.Site self.old) (view_of S.Site self.new) }
+        ensures grown { IsTrue S.tells → self.old.first ≤ 20000 → LogGrows (view_of S.Site self.old) (view_of S.Site self.new) }
         ensures silent { (p : Pending) → IsTrue S.tells → BegunAt p (view_of S.Site self.old) → IsTable p.entries p.point (S.files self.old.site) table.now
             → StaysSilent S.Site self.old.site self.new.site }
         ensures kind { (self.new.end ≡ self.old.end) × (self.new.first ≡ self.old.first) }
@@ -99,11 +99,13 @@ impl<S: Site> Log<S> {
         ensures ended { OnOk result ((p : Pending) → IsTrue S.tells → EndsBy p (view_of S.Site self.old) point next counts.now
             → EndedAt p (view_of S.Site self.old) (view_of S.Site self.new) (schema_control description.now point next counts.now)) }
         ensures moments { (p : Pending) → IsTrue S.tells → EndsBy p (view_of S.Site self.old) point next counts.now → LeavesEach (view_of S.Site self.old) (view_of S.Site self.new) }
+        ensures grown { IsTrue S.tells → TakesEntries (view_of S.Site self.old) → LogGrows (view_of S.Site self.old) (view_of S.Site self.new) }
         ensures silent { (p : Pending) → IsTrue S.tells → EndsBy p (view_of S.Site self.old) point next counts.now → StaysSilent S.Site self.old.site self.new.site }
         ensures kind { IsSameTrail self.old self.new }
         ensures only { IfErr result (λ e. (e ≡ AudFault.Disk) ⊎ (e ≡ AudFault.Full self.old.end.limit)) }
         ensures full { IsErrOf result (AudFault.Full self.old.end.limit) → (self.new.end.used ≡ 0) × (10000 + self.old.end.limit < self.new.end.file) }
-        ensures ends { IsErrOf result (AudFault.Full self.old.end.limit) → (p : Pending) → IsTrue S.tells → EndsBy p (view_of S.Site self.old) point next counts.now → Ends (view_of S.Site self.new) }
+        ensures ends { IsErrOf result (AudFault.Full self.old.end.limit) → (p : Pending) → IsTrue S.tells → EndsBy p (view_of S.Site self.old) point next counts.now
+            → Ends (view_of S.Site self.new) }
         ensures part { IsErrOf result (AudFault.Full self.old.end.limit) → (p : Pending) → IsTrue S.tells → EndsBy p (view_of S.Site self.old) point next counts.now
             → LogsPart (view_of S.Site self.old) (view_of S.Site self.new) (schema_control description.now point next counts.now) }
         ensures said { S.said self.new.site ≡ S.said self.old.site }
@@ -131,6 +133,7 @@ impl<S: Site> Log<S> {
         ensures sealed { (IsErrOf result AudFault.Disk → ⊥) → IsTrue S.tells → SealedAlone (view_of S.Site self.old) (view_of S.Site self.new) }
         ensures idle { self.old.end.used ≡ 0 → IsTrue S.tells → FilesStay (view_of S.Site self.old) (view_of S.Site self.new) }
         ensures moments { IsTrue S.tells → let a = view_of S.Site self.old in LogLeaves a (view_of S.Site self.new) (points a) (logs.next a) }
+        ensures grown { IsTrue S.tells → LogGrows (view_of S.Site self.old) (view_of S.Site self.new) }
         ensures silent { IsTrue S.tells → StaysSilent S.Site self.old.site self.new.site }
         ensures kind { IsSameTrail self.old self.new }
         ensures only { IfErr result IsDiskOrMemory }
@@ -167,6 +170,7 @@ impl<S: Site> Log<S> {
         requires serves { IsTrue S.tells → ServesBehind (view_of S.Site self.old) point table.now }
         ensures back { OnOk result (IsTrue S.tells → WentBackTo point (view_of S.Site self.old) (view_of S.Site self.new) (back_entries point description.now next counts.now)) }
         ensures moments { IsTrue S.tells → let a = view_of S.Site self.old in LogLeaves a (view_of S.Site self.new) (points a) (logs.next a) }
+        ensures grown { IsTrue S.tells → LogGrows (view_of S.Site self.old) (view_of S.Site self.new) }
         ensures silent { IsTrue S.tells → StaysSilent S.Site self.old.site self.new.site }
         ensures kind { IsSameTrail self.old self.new }
         ensures only { IfErr result (IsBackFault self.old.end.limit) }
@@ -213,6 +217,7 @@ impl<S: Site> Log<S> {
         requires by { IsTrue S.tells → GoesBackBy (view_of S.Site self.old) point next counts.now }
         ensures back { OnOk result (IsTrue S.tells → WentBackTo point (view_of S.Site self.old) (view_of S.Site self.new) (back_entries point description.now next counts.now)) }
         ensures moments { IsTrue S.tells → let a = view_of S.Site self.old in LogLeaves a (view_of S.Site self.new) (points a) (logs.next a) }
+        ensures grown { IsTrue S.tells → LogGrows (view_of S.Site self.old) (view_of S.Site self.new) }
         ensures silent { IsTrue S.tells → StaysSilent S.Site self.old.site self.new.site }
         ensures kind { IsSameTrail self.old self.new }
         ensures only { IfErr result (IsBackFault self.old.end.limit) }

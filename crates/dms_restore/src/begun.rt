@@ -1,6 +1,6 @@
 //! A restore by the audit, from its Begin to its Control. Each state owns the log and hands it back with each fault.
 
-ghost use Rattle.std.specs.Prelude.{◌≡◌, ◌⊎◌, ◌+◌, ◌<◌, true, false, length, IfOk, IfErr, IsTrue, [], ◌∷◌};
+ghost use Rattle.std.specs.Prelude.{◌≡◌, ◌⊎◌, ◌+◌, ◌<◌, ◌≤◌, true, false, length, IfOk, IfErr, IsTrue, [], ◌∷◌};
 ghost use Rattle.dms_history.specs.History.{Pending};
 ghost use Rattle.dms_history.specs.Entries.{how_of, begin_restore};
 ghost use Rattle.dms_audrec.specs.Spelling.{spelling};
@@ -11,7 +11,7 @@ ghost use Rattle.dms_audfile.specs.TrailEntries.{trail_entries};
 ghost use Rattle.dms_running.specs.Begun.{ByAudit};
 ghost use Rattle.dms_restore.specs.Views.{view_of, StaysSilent, LogStarts, IsSameTrail, SealsBehind};
 ghost use Rattle.dms_restore.specs.Parts.{SealsPart};
-ghost use Rattle.dms_restore.specs.Logging.{LogRuns, points, next, SealsWaiting, LogLeaves, EndsSealed, Ends};
+ghost use Rattle.dms_restore.specs.Logging.{LogRuns, points, next, SealsWaiting, LogLeaves, EndsSealed, Ends, TakesEntries, LogGrows};
 ghost use Rattle.dms_restore.specs.Begins.{LastIs, begun_to, BegunAt, BeginsRestore, RestoredAt, Restores, LeavesEach};
 ghost use Rattle.dms_restore.specs.Table.{AreBlocks, IsTable};
 
@@ -43,9 +43,12 @@ impl<S: Site> Log<S> {
             → LogLeaves a (view_of S.Site b.log) (points a) (next a)) }
         ensures stopped { IfErr result (λ e. IsTrue S.tells → let a = view_of S.Site self in LogRuns a → LastIs a point
             → LogLeaves a (view_of S.Site e.1) (points a) (next a)) }
-        ensures sealed { IfOk result (λ b. IsTrue S.tells → LogStarts (view_of S.Site self) → SealsBehind (view_of S.Site self) (view_of S.Site b.log) (begin_restore point (how_seen how.entry) ∷ [])) }
+        ensures sealed { IfOk result (λ b. IsTrue S.tells → LogStarts (view_of S.Site self)
+            → SealsBehind (view_of S.Site self) (view_of S.Site b.log) (begin_restore point (how_seen how.entry) ∷ [])) }
         ensures begins { IfOk result (λ b. IsTrue S.tells → LogStarts (view_of S.Site self) → EndsSealed (view_of S.Site b.log)) }
         ensures grown { IfOk result (λ b. IsTrue S.tells → LogStarts (view_of S.Site self) → Grown self.end.total self.first (S.files self.site) (S.files b.log.site)) }
+        ensures grows { IfOk result (λ b. IsTrue S.tells → TakesEntries (view_of S.Site self) → LogGrows (view_of S.Site self) (view_of S.Site b.log)) }
+        ensures grows_then { IfErr result (λ e. IsTrue S.tells → TakesEntries (view_of S.Site self) → LogGrows (view_of S.Site self) (view_of S.Site e.1)) }
         ensures silent { IfOk result (λ b. IsTrue S.tells → LogStarts (view_of S.Site self) → StaysSilent S.Site self.site b.log.site) }
         ensures silent_then { IfErr result (λ e. IsTrue S.tells → LogStarts (view_of S.Site self) → StaysSilent S.Site self.site e.1.site) }
         ensures same { IfOk result (λ b. S.same_site self.site b.log.site) }
@@ -59,7 +62,8 @@ impl<S: Site> Log<S> {
         ensures kept { IfErr result (λ e. e.0 ≡ AudFault.Full self.end.limit → IsTrue S.tells → LogRuns (view_of S.Site self) → SealsWaiting (view_of S.Site self) (view_of S.Site e.1)) }
         ensures full { IfErr result (λ e. e.0 ≡ AudFault.Full self.end.limit → (e.1.end.used ≡ 0) × (10000 + self.end.limit < e.1.end.file)) }
         ensures ends { IfErr result (λ e. e.0 ≡ AudFault.Full self.end.limit → IsTrue S.tells → LogStarts (view_of S.Site self) → Ends (view_of S.Site e.1)) }
-        ensures part { IfErr result (λ e. IsTrue S.tells → LogStarts (view_of S.Site self) → SealsPart (view_of S.Site self) (view_of S.Site e.1) (begin_restore point (how_seen how.entry) ∷ [])) }
+        ensures part { IfErr result (λ e. IsTrue S.tells → LogStarts (view_of S.Site self)
+            → SealsPart (view_of S.Site self) (view_of S.Site e.1) (begin_restore point (how_seen how.entry) ∷ [])) }
         ensures disk { IfErr result (λ e. CountedAt (e.0 ≡ AudFault.Disk) (S.disk_faults self.site) (S.disk_faults e.1.site)) }
         ensures say_faults { IfOk result (λ b. S.say_faults b.log.site ≡ S.say_faults self.site) }
         ensures say_faults_then { IfErr result (λ e. S.say_faults e.1.site ≡ S.say_faults self.site) }
@@ -98,6 +102,8 @@ impl<S: Site> Begun<S> {
             → LeavesEach (view_of S.Site self.log) (view_of S.Site e.1)) }
         ensures stays { IfOk result (λ r. (p : Pending) → IsTrue S.tells → IsTable p.entries p.point (S.files self.log.site) table.now
             → EndsSealed (view_of S.Site self.log) → LogStarts (view_of S.Site r.log)) }
+        ensures grown { IfOk result (λ r. IsTrue S.tells → self.log.first ≤ 20000 → LogGrows (view_of S.Site self.log) (view_of S.Site r.log)) }
+        ensures grown_then { IfErr result (λ e. IsTrue S.tells → self.log.first ≤ 20000 → LogGrows (view_of S.Site self.log) (view_of S.Site e.1)) }
         ensures silent { IfOk result (λ r. (p : Pending) → IsTrue S.tells → IsTable p.entries p.point (S.files self.log.site) table.now → StaysSilent S.Site self.log.site r.log.site) }
         ensures silent_then { IfErr result (λ e. (p : Pending) → IsTrue S.tells → IsTable p.entries p.point (S.files self.log.site) table.now → StaysSilent S.Site self.log.site e.1.site) }
         ensures same { IfOk result (λ r. S.same_site self.log.site r.log.site) }

@@ -8,7 +8,7 @@ ghost use Rattle.dms_audrec.specs.Reading.{counts_at};
 ghost use Rattle.dms_audfile.specs.Counting.{CountedAt};
 ghost use Rattle.dms_restore.specs.Views.{view_of, StaysSilent, BlocksStay, LogStarts, IsSameTrail};
 ghost use Rattle.dms_restore.specs.Parts.{SealsPart};
-ghost use Rattle.dms_restore.specs.Logging.{Ends, LogRuns, LogsPart};
+ghost use Rattle.dms_restore.specs.Logging.{Ends, TakesEntries, LogGrows, LogRuns, LogsPart};
 ghost use Rattle.dms_restore.specs.Begins.{LeavesEach};
 ghost use Rattle.dms_restore.specs.Laying.{schema_control};
 ghost use Rattle.dms_restore.specs.Endings.{EndsBy, EndedAt, ControlBy, ControlledAt};
@@ -39,6 +39,8 @@ impl<S: Site> Restored<S> {
             → LeavesEach (view_of S.Site self.log) (view_of S.Site e.1)) }
         ensures blocks { IfOk result (λ l. (p : Pending) → IsTrue S.tells → EndsBy p (view_of S.Site self.log) point next counts.now → BlocksStay S.Site self.log.site l.site) }
         ensures blocks_then { IfErr result (λ e. (p : Pending) → IsTrue S.tells → EndsBy p (view_of S.Site self.log) point next counts.now → BlocksStay S.Site self.log.site e.1.site) }
+        ensures grown { IfOk result (λ l. IsTrue S.tells → TakesEntries (view_of S.Site self.log) → LogGrows (view_of S.Site self.log) (view_of S.Site l)) }
+        ensures grown_then { IfErr result (λ e. IsTrue S.tells → TakesEntries (view_of S.Site self.log) → LogGrows (view_of S.Site self.log) (view_of S.Site e.1)) }
         ensures silent { IfOk result (λ l. (p : Pending) → IsTrue S.tells → EndsBy p (view_of S.Site self.log) point next counts.now → StaysSilent S.Site self.log.site l.site) }
         ensures silent_then { IfErr result (λ e. (p : Pending) → IsTrue S.tells → EndsBy p (view_of S.Site self.log) point next counts.now → StaysSilent S.Site self.log.site e.1.site) }
         ensures same { IfOk result (λ l. S.same_site self.log.site l.site) }
@@ -90,6 +92,7 @@ impl<S: Site> Log<S> {
         ensures controlled { OnOk result (IsTrue S.tells → ControlledAt (view_of S.Site self.old) (view_of S.Site self.new) (schema_control description.now point next counts.now)) }
         ensures moments { IsTrue S.tells → LeavesEach (view_of S.Site self.old) (view_of S.Site self.new) }
         ensures blocks { IsTrue S.tells → BlocksStay S.Site self.old.site self.new.site }
+        ensures grown { IsTrue S.tells → LogGrows (view_of S.Site self.old) (view_of S.Site self.new) }
         ensures silent { IsTrue S.tells → StaysSilent S.Site self.old.site self.new.site }
         ensures kind { IsSameTrail self.old self.new }
         ensures only { IfErr result (λ e. (e ≡ AudFault.Disk) ⊎ (e ≡ AudFault.Full self.old.end.limit)) }

@@ -1,6 +1,6 @@
 //! Writing the blocks that the audit tells.
 
-ghost use Rattle.std.specs.Prelude.{◌≡◌, ◌⊎◌, ◌+◌, ◌*◌, ◌^◌, ◌<◌, ℕ, List, length, Some, OnOk, IfErr, IsErrOf, IsTrue};
+ghost use Rattle.std.specs.Prelude.{◌≡◌, ◌⊎◌, ◌+◌, ◌*◌, ◌^◌, ◌<◌, ◌≤◌, ℕ, List, length, Some, OnOk, IfErr, IsErrOf, IsTrue};
 ghost use Rattle.dms_moments.specs.Moments.{Steps};
 ghost use Rattle.dms_site.specs.Files.{InFile, Torn};
 ghost use Rattle.dms_history.specs.Events.{Event};
@@ -58,6 +58,7 @@ pub(crate) fn write_all<S: Site>(site: &mut S, table: &[Told]) -> Result<(), Aud
         → Rewritten (IsKept live m) (S.files site.old) (S.files site.new) }
     ensures done { OnOk result ((live : List Event) (m : ℕ) → IsTrue S.tells → EachIsTold live m (S.files site.old) table.now
         → AllStandAsTold live m (S.files site.new) table.now) }
+    ensures others { IsTrue S.tells → (g : ℕ) → g ≤ 30000 → S.files site.new g ≡ S.files site.old g }
     ensures only { IfErr result (λ e. (live : List Event) (m : ℕ) → IsTrue S.tells → EachIsTold live m (S.files site.old) table.now → e ≡ AudFault.Disk) }
     ensures said { S.said site.new ≡ S.said site.old }
     ensures same_site { S.same_site site.old site.new }

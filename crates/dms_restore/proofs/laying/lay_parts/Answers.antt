@@ -9,6 +9,8 @@ use Rattle.dms_restore.proofs.Laid.{bodies_many, both_silent, none_silent, lay_n
 use Rattle.dms_restore.proofs.Sizes.{part_size}
 use Rattle.dms_restore.proofs.Sealed.{full_limit}
 use Rattle.dms_restore.proofs.Results.{is_fault}
+use Rattle.dms_restore.specs.GrowLaws.{trail_stays}
+use Rattle.dms_restore.proofs.Grows.{appends_takes, lay_grows}
 use Rattle.dms_restore.proofs.laying.lay_parts.Goals as goal
 
 pub loop-number-init : goal.loop-number-init
@@ -16,6 +18,8 @@ loop-number-init g c = record {
   kind = (refl, refl, refl);
   laid = λ first tells s. lay_none _ first _ _ s;
   silent = λ first tells s. none_silent _;
+  takes = λ first tells t. t;
+  grown = λ first tells t. trail_stays _ first _;
   said = refl;
   same = g.met.S.Site.same_again _;
   disk = refl;
@@ -56,6 +60,11 @@ loop-number-preserved g c =
           (c.in_ok-append.ensures.behind tells) (λ first waiting plain ends. c.in_ok-append.ensures.appends first waiting tells plain ends));
       silent = λ first tells s. both_silent (inv.silent first tells s)
           (lay_silent _ _ c.append.new.self first _ _ _ _ _ (inv.laid first tells s) inv.kind.0 _ _ (λ first waiting plain ends. c.append.ensures.moments first waiting tells plain ends));
+      takes = λ first tells t.
+          let was = inv.takes first tells t in
+          appends_takes c.append.new.self first _ _ _ _ (c.in_ok-append.ensures.appends first was.waiting tells was.plain was.ends);
+      grown = λ first tells t.
+          lay_grows c.args.end.now.total c.loop-number.end first _ _ _ _ _ _ inv.kind.0 (inv.takes first tells t) (inv.grown first tells t) (g.met.S.Site.may_stay c.append.new.site tells) (λ waiting plain ends. c.append.ensures.moments first waiting tells plain ends);
       said = c.append.ensures.said ∙ inv.said;
       same = g.met.S.Site.same_then _ _ _ inv.same c.append.ensures.same_site;
       disk = c.in_ok-append.ensures.disk.clean (λ e. subst (λ r. is_fault r) (sym e) tt) ∙ inv.disk;
@@ -68,3 +77,8 @@ returns-clause-moments g c first tells s = some_parts _ (bodies c.args.descripti
 pub returns-in_err-append-clause-ends : goal.returns-in_err-append-clause-ends
 returns-in_err-append-clause-ends g c full first tells s =
     (c.in_err-append.ensures.kept (full_limit c.from_residual.result _ _ _ c.loop-number.invariant.kind.2 c.from_residual.ensures.1 full) first _ tells (c.loop-number.invariant.laid first tells s).ends).ends
+
+pub returns-in_err-append-clause-grown : goal.returns-in_err-append-clause-grown
+returns-in_err-append-clause-grown g c first tells t =
+    let inv = c.loop-number.invariant in
+    lay_grows c.args.end.now.total c.loop-number.end first _ _ _ _ _ _ inv.kind.0 (inv.takes first tells t) (inv.grown first tells t) (g.met.S.Site.may_stay c.append.new.site tells) (λ waiting plain ends. c.append.ensures.moments first waiting tells plain ends)

@@ -3,6 +3,7 @@ use Rattle.dms_restore.proofs.Sealed.{full_limit}
 use Rattle.dms_restore.proofs.Results.{four_ok}
 use Rattle.dms_restore.proofs.Laid.{both_silent, lay_since, lay_silent, lay_one, lay_more, lay_sealing, lay_sealing_silent, lay_sealed}
 use Rattle.dms_restore.proofs.Sizes.{control_size}
+use Rattle.dms_restore.proofs.Grows.{appends_takes, lay_grows, lay_sealing_grows}
 use Rattle.dms_restore.proofs.laying.seal_control.Goals as goal
 
 pub returns-in_err-lay_parts-clause-moments : goal.returns-in_err-lay_parts-clause-moments
@@ -47,3 +48,17 @@ returns-in_err-append-clause-ends g c full first tells s =
 
 pub returns-in_err-lay_parts-clause-ends : goal.returns-in_err-lay_parts-clause-ends
 returns-in_err-lay_parts-clause-ends g c full first tells s = c.in_err-lay_parts.ensures.ends (full_limit c.from_residual.result _ _ _ refl c.from_residual.ensures.1 full) first tells s
+
+pub returns-in_err-append-clause-grown : goal.returns-in_err-append-clause-grown
+returns-in_err-append-clause-grown g c first tells t =
+    lay_grows c.args.end.now.total c.lay_parts.new.end first _ _ _ _ _ _ c.lay_parts.ensures.kind.0 (c.in_ok-lay_parts.ensures.takes first tells t) (c.lay_parts.ensures.grown first tells t) (g.met.S.Site.may_stay c.append.new.site tells)
+    (λ waiting plain ends. c.append.ensures.moments first waiting tells plain ends)
+
+pub returns-clause-grown : goal.returns-clause-grown
+returns-clause-grown g c first tells t =
+    let was = c.in_ok-lay_parts.ensures.takes first tells t in
+    let grown = lay_grows c.args.end.now.total c.lay_parts.new.end first _ _ _ _ _ _ c.lay_parts.ensures.kind.0 (c.in_ok-lay_parts.ensures.takes first tells t) (c.lay_parts.ensures.grown first tells t) (g.met.S.Site.may_stay c.append.new.site tells)
+    (λ waiting plain ends. c.append.ensures.moments first waiting tells plain ends) in
+    lay_sealing_grows c.args.end.now.total c.append.new.self first _ _ _ _ _ (c.append.ensures.kind.0 ∙ c.lay_parts.ensures.kind.0)
+    (appends_takes c.append.new.self first _ _ _ _ (c.in_ok-append.ensures.appends first was.waiting tells was.plain was.ends)) grown (g.met.S.Site.may_stay c.seal.new.site tells)
+    (λ waiting ends. c.seal.ensures.moments first waiting tells ends)

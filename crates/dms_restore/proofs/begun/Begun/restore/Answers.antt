@@ -1,4 +1,4 @@
-use Rattle.std.proofs.Common.{[], refl, sym, subst}
+use Rattle.std.proofs.Common.{[], ◌∙◌, refl, sym, ap, subst}
 use Rattle.dms_restore.proofs.Results.{is_fault, counted_fault, counted_call}
 use Rattle.dms_site.specs.Files.{Files, Only}
 use Rattle.dms_running.specs.Restoring.{IsKept, Rewritten}
@@ -6,6 +6,7 @@ use Rattle.dms_restore.specs.Table.{AllStandAsTold}
 use Rattle.dms_restore.specs.Views.{view_of}
 use Rattle.dms_restore.proofs.Backed.{rewrites_silent}
 use Rattle.dms_restore.proofs.Beginnings.{ends_kept, then_looks, table_leave, table_begun, table_restored, table_keeps, table_entries}
+use Rattle.dms_restore.proofs.Grows.{blocks_grow}
 use Rattle.dms_restore.proofs.begun.Begun.restore.Goals as goal
 
 pub returns-in-Ok-clause-begun : goal.returns-in-Ok-clause-begun
@@ -74,3 +75,12 @@ returns-in-Ok-clause-stays g c p tells is ends = record {
       (subst (λ (l : Files). Rewritten (IsKept p.entries p.point) (g.S.Site.files c.args.self.log.site) l) (sym (c.sync.ensures.files tells)) (c.write_all.ensures.written p.entries p.point tells is.each));
   only = subst (λ (l : Files). Only l (g.S.Site.clock c.sync.new.self)) (sym (c.sync.ensures.files tells)) (c.in-Ok.ensures.durable tells);
 }
+
+pub returns-in-Ok-clause-grown : goal.returns-in-Ok-clause-grown
+returns-in-Ok-clause-grown g c tells low = blocks_grow c.args.self.log.end.total c.args.self.log.first low _ (g.S.Site.files c.sync.new.self) (λ h upto. ap (λ (f : Files). f h) (c.sync.ensures.files tells) ∙ c.write_all.ensures.others tells h upto)
+
+pub returns-in-Err-clause-grown_then : goal.returns-in-Err-clause-grown_then
+returns-in-Err-clause-grown_then g c tells low = blocks_grow c.args.self.log.end.total c.args.self.log.first low _ (g.S.Site.files c.write_all.new.site) (λ h upto. c.write_all.ensures.others tells h upto)
+
+pub returns-in-Err-sync-clause-grown_then : goal.returns-in-Err-sync-clause-grown_then
+returns-in-Err-sync-clause-grown_then g c tells low = blocks_grow c.args.self.log.end.total c.args.self.log.first low _ (g.S.Site.files c.sync.new.self) (λ h upto. ap (λ (f : Files). f h) (c.sync.ensures.files tells) ∙ c.write_all.ensures.others tells h upto)

@@ -47,3 +47,9 @@ pub returns-in-Err-clause-part : goal.returns-in-Err-clause-part
 returns-in-Err-clause-part g c tells start =
     let m = g.met.S.Site in
     planned_part _ _ _ _ _ _ start.only (m.counts_now c.seal_control.new.site) (m.may_stay c.seal_control.new.site tells) (c.seal_control.ensures.moments c.args.self.log.first tells start)
+
+pub returns-in-Ok-clause-grown : goal.returns-in-Ok-clause-grown
+returns-in-Ok-clause-grown g c tells takes = c.seal_control.ensures.grown c.args.self.log.first tells takes
+
+pub returns-in-Err-clause-grown_then : goal.returns-in-Err-clause-grown_then
+returns-in-Err-clause-grown_then g c tells takes = c.seal_control.ensures.grown c.args.self.log.first tells takes

@@ -6,6 +6,7 @@ use Rattle.dms_restore.proofs.Results.{one_ok, is_fault}
 use Rattle.dms_restore.proofs.Endings.{part_from}
 use Rattle.dms_restore.proofs.Backed.{silent_on, counted_on, back_full, never_full}
 use Rattle.dms_restore.proofs.Sealed.{goes_back_then, went_back_then, leaves_then, not_disk, ok_not_disk, full_of, back_limit}
+use Rattle.dms_restore.specs.GrowLaws.{log_grows_on}
 use Rattle.dms_restore.proofs.log.Log.back_out.Goals as goal
 
 pub returns-in-Err-clause-only : goal.returns-in-Err-clause-only
@@ -69,3 +70,7 @@ pub returns-clause-part : goal.returns-clause-part
 returns-clause-part g c full tells =
     part_from (view_of g.S.Site c.args.self.now) (view_of g.S.Site c.table_back.new.self) (view_of g.S.Site c.go_back_by.new.self) _ (c.in-Ok.ensures.sealed (ok_not_disk _) tells).same.entries_same
     (c.go_back_by.ensures.part (full_of c.go_back_by.result _ _ c.table_back.ensures.kind.2 full) tells)
+
+pub returns-clause-grown : goal.returns-clause-grown
+returns-clause-grown g c tells =
+    log_grows_on (view_of g.S.Site c.args.self.now) (view_of g.S.Site c.table_back.new.self) (view_of g.S.Site c.go_back_by.new.self) c.table_back.ensures.kind.0 c.table_back.ensures.kind.3 (c.table_back.ensures.grown tells) (c.go_back_by.ensures.grown tells)

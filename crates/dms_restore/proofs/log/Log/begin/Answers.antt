@@ -9,6 +9,8 @@ use Rattle.dms_restore.proofs.Results.{counted_fault}
 use Rattle.dms_restore.proofs.Logs.{full_seals}
 use Rattle.dms_restore.proofs.Sealed.{ends_of}
 use Rattle.dms_restore.proofs.Beginnings.{kind_is, begin_leave, begin_begun, begin_keeps, begin_sealed, begin_ends, sealed_part}
+use Rattle.dms_restore.specs.Views.{view_of}
+use Rattle.dms_restore.proofs.Grows.{append_grows}
 use Rattle.dms_restore.proofs.log.Log.begin.Goals as goal
 
 pub returns-in-Ok-clause-begun : goal.returns-in-Ok-clause-begun
@@ -79,3 +81,13 @@ returns-in-Err-clause-part g c tells start =
     let a : LogView = view log.end log.first (g.S.Site.files log.site) (g.S.Site.clock log.site) in
     let b : LogView = view c.append.new.self log.first (g.S.Site.files c.append.new.site) (g.S.Site.clock c.append.new.site) in
     sealed_part a b _ (begin_restore c.args.point (how_seen c.args.how) ∷ []) start.only (g.met.S.Site.may_stay c.append.new.site tells) (c.append.ensures.moments log.first [] tells tt start.ends)
+
+pub returns-in-Ok-clause-grows : goal.returns-in-Ok-clause-grows
+returns-in-Ok-clause-grows g c tells takes =
+    append_grows (view_of g.S.Site c.args.self) (view c.append.new.self c.args.self.first (g.S.Site.files c.append.new.site) (g.S.Site.clock c.append.new.site)) _ takes (g.met.S.Site.may_stay c.append.new.site tells)
+    (λ first waiting plain ends. c.append.ensures.moments first waiting tells plain ends)
+
+pub returns-in-Err-clause-grows_then : goal.returns-in-Err-clause-grows_then
+returns-in-Err-clause-grows_then g c tells takes =
+    append_grows (view_of g.S.Site c.args.self) (view c.append.new.self c.args.self.first (g.S.Site.files c.append.new.site) (g.S.Site.clock c.append.new.site)) _ takes (g.met.S.Site.may_stay c.append.new.site tells)
+    (λ first waiting plain ends. c.append.ensures.moments first waiting tells plain ends)

@@ -32,3 +32,6 @@ returns-clause-part g c full p tells by =
     let starts = end_starts p _ (m.may_stay c.args.self.now.site tells) c.args.description.now c.requires.some c.args.point c.args.next c.args.counts.now by in
     part_logged _ _ c.seal_control.ensures.kind.0 refl _ by.restored.only (m.counts_now c.seal_control.new.site) (m.may_stay c.seal_control.new.site tells) by.begun.begun.nothing
     (waits_is c.seal_control.new.end c.args.self.now.first [] _ _ (c.seal_control.ensures.ends full c.args.self.now.first tells starts)) (c.seal_control.ensures.moments c.args.self.now.first tells starts)
+
+pub returns-clause-grown : goal.returns-clause-grown
+returns-clause-grown g c tells takes = c.seal_control.ensures.grown c.args.self.now.first tells takes

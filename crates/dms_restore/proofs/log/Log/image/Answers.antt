@@ -8,6 +8,9 @@ use Rattle.dms_restore.proofs.Results.{one_ok, both_ok}
 use Rattle.dms_restore.proofs.Trails.{image_seen}
 use Rattle.dms_restore.proofs.Sizes.{image_entry, image_size}
 use Rattle.dms_restore.proofs.Logs.{full_seals, image_leave, image_goes, image_logs, entry_silent}
+use Rattle.dms_restore.specs.Logging.{view}
+use Rattle.dms_restore.specs.Views.{view_of}
+use Rattle.dms_restore.proofs.Grows.{runs_takes, append_grows}
 use Rattle.dms_restore.proofs.log.Log.image.Goals as goal
 
 pub returns-clause-moments : goal.returns-clause-moments
@@ -46,3 +49,8 @@ returns-clause-past g c full = subst (λ (e : Entry). is_past c.args.self.now.en
 
 pub returns-clause-within : goal.returns-clause-within
 returns-clause-within g c = one_ok c.append.result c.append.ensures.within (λ within. subst (λ (e : Entry). is_past c.args.self.now.end (length (spelling e)) (is_begin e) ≡ false) (image_seen c.args.file c.args.block c.args.before c.args.after) within)
+
+pub returns-clause-grown : goal.returns-clause-grown
+returns-clause-grown g c tells =
+    append_grows (view_of g.S.Site c.args.self.now) (view c.append.new.self c.args.self.now.first (g.S.Site.files c.append.new.site) (g.S.Site.clock c.append.new.site)) _ (runs_takes _ (c.requires.runs tells)) (g.met.S.Site.may_stay c.append.new.site tells)
+    (λ first waiting plain ends. c.append.ensures.moments first waiting tells plain ends)

@@ -2,6 +2,9 @@ use Rattle.std.proofs.Common.{refl}
 use Rattle.dms_restore.proofs.Results.{both_ok}
 use Rattle.dms_restore.proofs.Sizes.{quiet_size}
 use Rattle.dms_restore.proofs.Logs.{full_seals, quiet_leave, quiet_goes, quiet_logs, entry_silent}
+use Rattle.dms_restore.specs.Logging.{view}
+use Rattle.dms_restore.specs.Views.{view_of}
+use Rattle.dms_restore.proofs.Grows.{runs_takes, append_grows}
 use Rattle.dms_restore.proofs.log.Log.quiet.Goals as goal
 
 pub returns-clause-moments : goal.returns-clause-moments
@@ -28,3 +31,8 @@ pub returns-clause-kept : goal.returns-clause-kept
 returns-clause-kept g c full tells =
     full_seals _ (c.requires.runs tells) (g.met.S.Site.may_stay c.args.self.now.site tells) _ c.append.ensures.kind.0 refl _
     (λ first waiting plain ends. c.append.ensures.moments first waiting tells plain ends) (λ first waiting ends. c.append.ensures.kept full first waiting tells ends) (g.met.S.Site.may_stay c.append.new.site tells)
+
+pub returns-clause-grown : goal.returns-clause-grown
+returns-clause-grown g c tells =
+    append_grows (view_of g.S.Site c.args.self.now) (view c.append.new.self c.args.self.now.first (g.S.Site.files c.append.new.site) (g.S.Site.clock c.append.new.site)) _ (runs_takes _ (c.requires.runs tells)) (g.met.S.Site.may_stay c.append.new.site tells)
+    (λ first waiting plain ends. c.append.ensures.moments first waiting tells plain ends)

@@ -1,10 +1,11 @@
-use Rattle.std.proofs.Common.{sym, subst}
+use Rattle.std.proofs.Common.{◌∙◌, sym, ap, subst}
 use Rattle.dms_site.specs.Files.{Files, Only}
 use Rattle.dms_running.specs.Restoring.{IsKept, Rewritten}
 use Rattle.dms_restore.specs.Table.{AllStandAsTold}
 use Rattle.dms_restore.proofs.Sealed.{disk_not_memory}
 use Rattle.dms_restore.proofs.Backed.{rewrites_silent, counted_as, told_entries}
 use Rattle.dms_restore.proofs.Beginnings.{then_looks, table_leave, table_begun, table_restored, table_keeps}
+use Rattle.dms_restore.proofs.Grows.{blocks_grow}
 use Rattle.dms_restore.proofs.log.Log.restore_told.Goals as goal
 
 pub returns-in-Err-clause-moments : goal.returns-in-Err-clause-moments
@@ -51,3 +52,12 @@ returns-in-Err-sync-clause-silent g c p tells begun is =
 
 pub returns-in-Err-clause-memory : goal.returns-in-Err-clause-memory
 returns-in-Err-clause-memory g c memory p tells is = disk_not_memory _ (c.disk_or_memory.ensures.same (c.in-Err.ensures.only p.entries p.point tells is.each)) memory
+
+pub returns-in-Err-clause-grown : goal.returns-in-Err-clause-grown
+returns-in-Err-clause-grown g c tells low = blocks_grow c.args.self.now.end.total c.args.self.now.first low _ (g.S.Site.files c.write_all.new.site) (λ h upto. c.write_all.ensures.others tells h upto)
+
+pub returns-in-Ok-sync-clause-grown : goal.returns-in-Ok-sync-clause-grown
+returns-in-Ok-sync-clause-grown g c tells low = blocks_grow c.args.self.now.end.total c.args.self.now.first low _ (g.S.Site.files c.sync.new.self) (λ h upto. ap (λ (f : Files). f h) (c.sync.ensures.files tells) ∙ c.write_all.ensures.others tells h upto)
+
+pub returns-in-Err-sync-clause-grown : goal.returns-in-Err-sync-clause-grown
+returns-in-Err-sync-clause-grown g c tells low = blocks_grow c.args.self.now.end.total c.args.self.now.first low _ (g.S.Site.files c.sync.new.self) (λ h upto. ap (λ (f : Files). f h) (c.sync.ensures.files tells) ∙ c.write_all.ensures.others tells h upto)

@@ -5,6 +5,7 @@ use Rattle.dms_restore.specs.Views.{view_of}
 use Rattle.dms_restore.proofs.Results.{one_if_ok}
 use Rattle.dms_restore.proofs.Backed.{counted_on}
 use Rattle.dms_restore.proofs.Sealed.{serves_on, sealed_looked, looked_leaves, stay_looked, stay_none, is_disk}
+use Rattle.dms_restore.proofs.Grows.{trail_looked}
 use Rattle.dms_restore.proofs.log.Log.table_back.Goals as goal
 
 pub returns-in-Err-clause-sealed : goal.returns-in-Err-clause-sealed
@@ -41,3 +42,6 @@ returns-clause-silent g c tells =
 
 pub returns-clause-disk : goal.returns-clause-disk
 returns-clause-disk g c = counted_on _ _ _ _ c.in-Ok.ensures.faults.clean c.point_told.ensures.disk
+
+pub returns-clause-grown : goal.returns-clause-grown
+returns-clause-grown g c tells = trail_looked c.args.self.now.end.total c.args.self.now.first _ _ (g.S.Site.files c.point_told.new.site) (c.sync.ensures.grown tells) (c.point_told.ensures.reads.files_stay tells)
