@@ -14,8 +14,7 @@ use Rattle.dms_history.specs.Pick.{blocks_at}
 use Rattle.dms_history.specs.Entries.{Entry}
 use Rattle.dms_history.specs.EntryEvents.{history_of, live_of}
 use Rattle.dms_history.proofs.Order.{append_none}
-use Rattle.dms_audfile.specs.BlockLaws.{AreNoBegins}
-use Rattle.dms_audfile.specs.Ends.{Appends, EndsAt, Grown, Seals}
+use Rattle.dms_audfile.specs.Ends.{EndsAt, Grown, Seals}
 use Rattle.dms_audfile.specs.declared.audit_end.AuditEnd.{AuditEnd}
 use Rattle.dms_audfile.specs.TrailEntries.{trail_entries}
 use Rattle.dms_audfile.specs.declared.fault.AudFault.{AudFault}
