@@ -1,5 +1,5 @@
 -- What a run over a store did, in the words of the database.
-use Rattle.std.proofs.Common.{ℕ, ◌≡◌, List, length, subst}
+use Rattle.std.proofs.Common.{ℕ, ◌≡◌, List, arith, length, subst}
 use Rattle.std.specs.Prelude.{OnOk}
 use Rattle.std.specs.declared.result.Result.{Result}
 use Rattle.std.specs.declared.result.Result.TheVariants.{Ok, Err}
@@ -14,7 +14,7 @@ use Rattle.dms_model.specs.declared.store.Store.{Ghosts}
 use Rattle.dms_storeverbs.specs.declared.engine.Engine.{Engine}
 use Rattle.dms_storeverbs.specs.View.{seen}
 use Rattle.dms_runner.specs.Running.{AnswersWhole}
-use Rattle.dms_runner.specs.Starting.{AtStart, EffortWithin, events_at}
+use Rattle.dms_runner.specs.Starting.{AtStart, EffortWithin, UsesNumbers, events_at}
 use Rattle.dms_run.specs.Starting.{OfScript, ReachesEnd, SaysAll}
 use Rattle.dms_runner.specs.Answers.{last_quiet, script_events}
 use Rattle.dms_runner.specs.Events.{RunEvent, quiets_of, CrashesWithin, Performs, PerformsPrefix}
@@ -45,3 +45,7 @@ module _ {St : Type 0} {g : Ghosts St} {T E : Type 0} (old new : Engine St g) (f
   pub takes_all : (r : Result T E) → OnOk r (AtStart old feed left (λ db first all. Performs (seen old) (seen new) (events_at old db first all))) → OnOk r (AtStart old feed left (EffortWithin old new))
   takes_all (Ok x) ran = λ db first all stands room remains. (ran db first all stands room remains).effort
   takes_all (Err e) ran = tt
+
+  pub uses_numbers : (r : Result T E) → OnOk r (AtStart old feed left (λ db first all. Performs (seen old) (seen new) (events_at old db first all))) → OnOk r (AtStart old feed left (UsesNumbers old new))
+  uses_numbers (Ok x) ran = λ db first all stands room remains. let did = ran db first all stands room remains in omega (arith, did.next, did.next_high)
+  uses_numbers (Err e) ran = tt

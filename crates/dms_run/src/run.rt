@@ -4,7 +4,8 @@ ghost use Rattle.dms_desc.specs.Shape.{described};
 ghost use Rattle.dms_feed.specs.Feeds.{Remains};
 ghost use Rattle.dms_feed.specs.Lines.{raw_lines};
 ghost use Rattle.dms_runner.specs.Blaming.{CutRun, LastsRun};
-ghost use Rattle.dms_runner.specs.Starting.{AtStart, EffortOfPart, EffortWithin, StandsAtEnd, StopsAtBytes, StopsAtInput, StopsAtLines, StopsAtWaiting};
+ghost use Rattle.dms_runner.specs.Starting.{AtStart, EffortOfPart, EffortWithin, OnInput, StandsAtEnd, StopsAtBytes, StopsAtInput, StopsAtLines, StopsAtWaiting, UsesNumbers};
+ghost use Rattle.dms_runner.specs.Running.{HasTooManyBytes, HasTooManyLines, InputBreaks};
 ghost use Rattle.dms_storeverbs.specs.View.{seen};
 ghost use Rattle.dms_run.specs.Ending.{EndsLeave, KeepsLimits, StaysUndamaged};
 ghost use Rattle.dms_run.specs.Starting.{OfScript, ReachesEnd, SaysAll, SaysPrefix, SaysWholeAnswers, StopsLeave};
@@ -29,7 +30,8 @@ pub fn run_script<St: Store, I: Source>(
     ensures at_ok { OnOk result (OfScript engine.old feed.old (I.left source.old) (ReachesEnd engine.new)) }
     ensures closes { OnOk result (OfScript engine.old feed.old (I.left source.old) (EndsLeave engine.old engine.new)) }
     ensures effort { OnOk result (AtStart engine.old feed.old (I.left source.old) (EffortWithin engine.old engine.new)) }
-    ensures took { (CutRun result → ⊥) → AtStart engine.old feed.old (I.left source.old) (EffortOfPart engine.old engine.new) }
+    ensures numbers { OnOk result (AtStart engine.old feed.old (I.left source.old) (UsesNumbers engine.old engine.new)) }
+    ensures took { AtStart engine.old feed.old (I.left source.old) (EffortOfPart result engine.old engine.new) }
     ensures within { OnOk result (AtStart engine.old feed.old (I.left source.old) (λ db first all. KeepsLimits (described engine.old.desc) db first (raw_lines all))) }
     ensures undamaged { AtStart engine.old feed.old (I.left source.old) (λ db first all. StaysUndamaged engine.old engine.new) }
     ensures prints { OnOk result (AtStart engine.old feed.old (I.left source.old) (SaysAll engine.old engine.new)) }
@@ -40,6 +42,9 @@ pub fn run_script<St: Store, I: Source>(
     ensures bytes { IsErrOf result RunFault.Bytes → AtStart engine.old feed.old (I.left source.old) (StopsAtBytes engine.old engine.new) }
     ensures full_list { IsErrOf result RunFault.Held → AtStart engine.old feed.old (I.left source.old) (StopsAtWaiting engine.old engine.new) }
     ensures failed { IsErrOf result RunFault.Input → AtStart engine.old feed.old (I.left source.old) (StopsAtInput (I.left source.new) engine.old engine.new) }
+    ensures too_many_lines { IsErrOf result RunFault.Lines → OnInput feed.old (I.left source.old) HasTooManyLines }
+    ensures too_many_bytes { IsErrOf result RunFault.Bytes → OnInput feed.old (I.left source.old) HasTooManyBytes }
+    ensures breaks { IsErrOf result RunFault.Input → OnInput feed.old (I.left source.old) (InputBreaks (I.left source.new)) }
     ensures end { OnOk result ((all : List ℕ) → Remains feed.old (I.left source.old) all → Remains feed.new (I.left source.new) []) }
     ensures lasts { LastsRun result engine.old engine.new }
     ensures same_source { I.same_source source.old source.new }

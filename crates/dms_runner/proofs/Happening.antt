@@ -28,7 +28,7 @@ use Rattle.dms_storeverbs.specs.Laws.{MakesWhereQuiet}
 use Rattle.dms_storeverbs.proofs.Quiet.{quiet_rule}
 use Rattle.dms_storeverbs.specs.View.{View, PerformsCall, PointsGrow, LeavesQuiets, StandsFor, view_of}
 use Rattle.dms_storeverbs.proofs.Calls.{lower, stays}
-use Rattle.dms_runner.specs.Events.{IsTold, RunEvent, calls, says, goes_back, text_of, quiets_of, durable_by, durable_after, CrashesFrom, IsCutShort, SaidWhole, Performs, PerformsPrefix, TakesEvents, TookPart, blocks_of, syncs_of, backs_of, may_store, one_if}
+use Rattle.dms_runner.specs.Events.{IsTold, RunEvent, calls, says, goes_back, text_of, quiets_of, durable_by, durable_after, CrashesFrom, IsCutShort, SaidWhole, Performs, PerformsPrefix, SaidAtLeast, TakesEvents, TookPart, blocks_of, syncs_of, backs_of, may_store, one_if}
 use Rattle.dms_runner.proofs.Texts.{prints_none, prints_on, front_none, front_all, front_of_first, front_on}
 
 pub text_on : (x y : List RunEvent) → text_of (x ++ y) ≡ text_of x ++ text_of y
@@ -38,6 +38,9 @@ text_on (e ∷ x) y = ap (λ (t : List ℕ). e.text ++ t) (text_on x y) ∙ sym 
 pub quiets_on : (x y : List RunEvent) → quiets_of (x ++ y) ≡ quiets_of x ++ quiets_of y
 quiets_on [] y = refl
 quiets_on (e ∷ x) y = ap (λ (q : List Quiet). e.quiets ++ q) (quiets_on x y) ∙ sym (append_assoc e.quiets (quiets_of x) (quiets_of y))
+
+count_of_both : (x y : List RunEvent) → length (quiets_of (x ++ y)) ≡ length (quiets_of x) + length (quiets_of y)
+count_of_both x y = omega (arith, ap length (quiets_on x y), length-append (quiets_of x) (quiets_of y))
 
 pub blocks_on : (desc : Described) (x y : List RunEvent) → blocks_of desc (x ++ y) ≡ blocks_of desc x + blocks_of desc y
 blocks_on desc [] y = omega arith
@@ -118,7 +121,7 @@ pub undamaged_by : {T : Type 0} (a b : Seen) (r : Result T BlockFault) → ((d :
 undamaged_by a b r u p t = damaged_same r a.faults b.faults (u t.db t.db_is) p
 
 pub ran_none : (a : Seen) → Performs a a []
-ran_none a = record { text = prints_none a.said a.said refl; tells = λ t. t; whole = λ files w. w; told = λ t. t; undamaged = λ t. refl; next = omega arith; grew = λ t. grew_none a.points; durable = λ t. omega arith; moments = λ t. runs_none a.clock (CrashesFrom a []); desc = refl; effort = takes_still a.desc [] refl }
+ran_none a = record { text = prints_none a.said a.said refl; tells = λ t. t; whole = λ files w. w; told = λ t. t; undamaged = λ t. refl; next = omega arith; next_high = omega arith; grew = λ t. grew_none a.points; durable = λ t. omega arith; moments = λ t. runs_none a.clock (CrashesFrom a []); desc = refl; effort = takes_still a.desc [] refl }
 
 -- a stop within the first events
 pub stopped_first : (a : Seen) (x y : List RunEvent) (stop : Stop) → CrashesFrom a x stop → CrashesFrom a (x ++ y) stop
@@ -149,7 +152,8 @@ ran_on a b c x y first next = record {
   whole = λ files w. first.whole files (next.whole files w);
   told = λ t. next.told (first.told t);
   undamaged = λ t. next.undamaged (first.told t) ∙ first.undamaged t;
-  next = omega (arith, first.next, next.next, ap length (quiets_on x y), length-append (quiets_of x) (quiets_of y));
+  next = omega (arith, first.next, next.next, count_of_both x y);
+  next_high = omega (arith, first.next_high, next.next_high, count_of_both x y);
   grew = λ t. subst (λ (q : List Quiet). PointsGrow a.points q c.points) (sym (quiets_on x y)) (grew_on (first.grew t) (next.grew (told_on first t)));
   durable = λ t. omega (arith, durable_on (length a.points) a.durable x y, ap (λ (n : ℕ). durable_after n (durable_after (length a.points) a.durable x) y) (length_grew (first.grew t)), durable_low_at (length b.points) (durable_after (length a.points) a.durable x) b.durable y (first.durable t), next.durable (told_on first t));
   moments = λ t. runs_on (runs_weaken (first.moments t) (stopped_first a x y)) (next.moments (told_on first t)) (λ stop s. stopped_on a b x y stop t first s);
@@ -182,51 +186,96 @@ whole_on a b c x y first next =
 
 -- what a part of the events takes
 
-took_by : (a b : Seen) (x : List RunEvent) (k : ℕ) → k ≤ length x → Prints a.said b.said (text_of (take k x)) → TakesEvents a.desc (take k x) a.effort b.effort → TookPart a b x
-took_by a b x k within text t = record { k = k; within = within; text = text; spent = omega (arith, t.spent); syncs = omega (arith, t.syncs); outs = omega (arith, t.outs) }
+-- what was said at least, and no less
+
+least_all : (a b : Option (List ℕ)) (x : List ℕ) → Prints a b x → SaidAtLeast a b x
+least_all a b x all = λ t is. ([], all t is ∙ ap (λ (z : List ℕ). Some z) (sym (append-nil (t ++ x))))
+
+least_none : (a b : Option (List ℕ)) (x : List ℕ) → PrintsPrefix a b x → SaidAtLeast a b []
+least_none a b x part = λ t is.
+    let p = part t is in
+    (take p.0 x, p.1 ∙ ap (λ (z : List ℕ). Some (z ++ take p.0 x)) (sym (append-nil t)))
+
+least_on : (a b c : Option (List ℕ)) (x y : List ℕ) → Prints a b x → SaidAtLeast b c y → SaidAtLeast a c (x ++ y)
+least_on a b c x y first next = λ t is.
+    let p = next (t ++ x) (first t is) in
+    (p.0, p.1 ∙ ap (λ (z : List ℕ). Some (z ++ p.0)) (append_assoc t x y))
+
+-- all that was done, and its text
+took_by : {cut : Type 0} (a b : Seen) (x : List RunEvent) (k : ℕ) → k ≤ length x → Prints a.said b.said (text_of (take k x)) → TakesEvents a.desc (take k x) a.effort b.effort → b.next ≤ a.next + length (quiets_of (take k x)) → TookPart cut a b x
+took_by a b x k within text t high = record {
+  k = k;
+  within = within;
+  text = λ uncut. text;
+  whole = k;
+  near = (omega arith, omega arith);
+  least = least_all a.said b.said (text_of (take k x)) text;
+  most = front_all a.said b.said (text_of (take k x)) text;
+  spent = omega (arith, t.spent);
+  next = omega (arith, high);
+  syncs = omega (arith, t.syncs);
+  outs = omega (arith, t.outs);
+}
 
 -- nothing was done, and nothing said
-took_none : (a b : Seen) (x : List RunEvent) → b.said ≡ a.said → b.effort ≡ a.effort → TookPart a b x
-took_none a b x said same = took_by a b x 0 (omega arith) (prints_none a.said b.said said) (takes_still a.desc [] same)
+took_none : {cut : Type 0} (a b : Seen) (x : List RunEvent) → b.said ≡ a.said → b.effort ≡ a.effort → b.next ≡ a.next → TookPart cut a b x
+took_none a b x said same next = took_by a b x 0 (omega arith) (prints_none a.said b.said said) (takes_still a.desc [] same) (omega (arith, next))
 
-took_all : (a b : Seen) (x : List RunEvent) → Prints a.said b.said (text_of x) → TakesEvents a.desc x a.effort b.effort → TookPart a b x
-took_all a b x text t =
+took_all : {cut : Type 0} (a b : Seen) (x : List RunEvent) → Performs a b x → TookPart cut a b x
+took_all a b x ran =
     let all : x ≡ take (length x) x = sym (take_all (length x) x (omega arith)) in
-    took_by a b x (length x) (omega arith) (subst (λ (e : List RunEvent). Prints a.said b.said (text_of e)) all text) (subst (λ (e : List RunEvent). TakesEvents a.desc e a.effort b.effort) all t)
+    took_by a b x (length x) (omega arith) (subst (λ (e : List RunEvent). Prints a.said b.said (text_of e)) all ran.text) (subst (λ (e : List RunEvent). TakesEvents a.desc e a.effort b.effort) all ran.effort)
+    (subst (λ (e : List RunEvent). b.next ≤ a.next + length (quiets_of e)) all ran.next_high)
 
-took_of_first : (a b : Seen) (x y : List RunEvent) → TookPart a b x → TookPart a b (x ++ y)
+took_of_first : {cut : Type 0} (a b : Seen) (x y : List RunEvent) → TookPart cut a b x → TookPart cut a b (x ++ y)
 took_of_first a b x y p =
     let front : take p.k (x ++ y) ≡ take p.k x = take-append-le p.k x y p.within in
+    let whole : take p.whole (x ++ y) ≡ take p.whole x = take-append-le p.whole x y (omega (arith, p.within, p.near.0)) in
     record {
       k = p.k;
       within = omega (arith, p.within, length-append x y);
-      text = subst (λ (e : List RunEvent). Prints a.said b.said (text_of e)) (sym front) p.text;
+      text = λ uncut. subst (λ (e : List RunEvent). Prints a.said b.said (text_of e)) (sym front) (p.text uncut);
+      whole = p.whole;
+      near = p.near;
+      least = subst (λ (e : List RunEvent). SaidAtLeast a.said b.said (text_of e)) (sym whole) p.least;
+      most = subst (λ (e : List RunEvent). PrintsPrefix a.said b.said (text_of e)) (sym front) p.most;
       spent = omega (arith, p.spent, ap (λ (e : List RunEvent). blocks_of a.desc e) front);
+      next = omega (arith, p.next, ap (λ (e : List RunEvent). length (quiets_of e)) front);
       syncs = omega (arith, p.syncs, ap (λ (e : List RunEvent). syncs_of e) front);
       outs = omega (arith, p.outs, ap (λ (e : List RunEvent). backs_of e) front);
     }
 
-took_on : (a b c : Seen) (x y : List RunEvent) → Performs a b x → TookPart b c y → TookPart a c (x ++ y)
+took_on : {cut : Type 0} (a b c : Seen) (x y : List RunEvent) → Performs a b x → TookPart cut b c y → TookPart cut a c (x ++ y)
 took_on a b c x y first next =
     let front : take (length x + next.k) (x ++ y) ≡ x ++ take next.k y = take-append-add x y next.k in
+    let whole : take (length x + next.whole) (x ++ y) ≡ x ++ take next.whole y = take-append-add x y next.whole in
+    let text : text_of (take (length x + next.k) (x ++ y)) ≡ text_of x ++ text_of (take next.k y) = ap text_of front ∙ text_on x (take next.k y) in
     let spent : c.effort.spent ≤ b.effort.spent + blocks_of a.desc (take next.k y) + limit_if true a.desc =
     subst (λ (d : Described). c.effort.spent ≤ b.effort.spent + blocks_of d (take next.k y) + limit_if true d) first.desc next.spent in
     record {
       k = length x + next.k;
       within = omega (arith, next.within, length-append x y);
-      text = subst (λ (t : List ℕ). Prints a.said c.said t) (sym (ap text_of front ∙ text_on x (take next.k y))) (prints_on a.said b.said c.said (text_of x) (text_of (take next.k y)) first.text next.text);
+      text = λ uncut. subst (λ (t : List ℕ). Prints a.said c.said t) (sym text) (prints_on a.said b.said c.said (text_of x) (text_of (take next.k y)) first.text (next.text uncut));
+      whole = length x + next.whole;
+      near = (omega (arith, next.near.0), omega (arith, next.near.1));
+      least = subst (λ (t : List ℕ). SaidAtLeast a.said c.said t) (sym (ap text_of whole ∙ text_on x (take next.whole y))) (least_on a.said b.said c.said (text_of x) (text_of (take next.whole y)) first.text next.least);
+      most = subst (λ (t : List ℕ). PrintsPrefix a.said c.said t) (sym text) (front_on a.said b.said c.said (text_of x) (text_of (take next.k y)) first.text next.most);
       spent = omega (arith, first.effort.spent, spent, ap (λ (e : List RunEvent). blocks_of a.desc e) front, blocks_on a.desc x (take next.k y));
+      next = omega (arith, first.next_high, next.next, ap (λ (e : List RunEvent). length (quiets_of e)) front, count_of_both x (take next.k y));
       syncs = omega (arith, first.effort.syncs, next.syncs, ap (λ (e : List RunEvent). syncs_of e) front, syncs_on x (take next.k y));
       outs = omega (arith, first.effort.outs, next.outs, ap (λ (e : List RunEvent). backs_of e) front, backs_on x (take next.k y));
     }
 
+took_cut : {cut cut' : Type 0} (a b : Seen) (x : List RunEvent) → (cut → cut') → TookPart cut a b x → TookPart cut' a b x
+took_cut a b x f p = record { k = p.k; within = p.within; text = λ uncut. p.text (λ is. uncut (f is)); whole = p.whole; near = p.near; least = p.least; most = p.most; spent = p.spent; next = p.next; syncs = p.syncs; outs = p.outs }
+
 -- no event of them happened
 pub part_none : {cut : Type 0} (a : Seen) (x : List RunEvent) → PerformsPrefix cut a a x
-part_none a x = record { text = front_none a.said a.said (text_of x) refl; said_whole = λ uncut. whole_none a.said a.said x refl; undamaged = λ t. refl; moments = λ t. runs_none a.clock (CrashesFrom a x); took = λ uncut. took_none a a x refl refl }
+part_none a x = record { text = front_none a.said a.said (text_of x) refl; said_whole = λ uncut. whole_none a.said a.said x refl; undamaged = λ t. refl; moments = λ t. runs_none a.clock (CrashesFrom a x); took = took_none a a x refl refl refl }
 
 -- all of them happened
 pub part_all : {cut : Type 0} (a b : Seen) (x : List RunEvent) → Performs a b x → PerformsPrefix cut a b x
-part_all a b x ran = record { text = front_all a.said b.said (text_of x) ran.text; said_whole = λ uncut. whole_all a.said b.said x ran.text; undamaged = ran.undamaged; moments = ran.moments; took = λ uncut. took_all a b x ran.text ran.effort }
+part_all a b x ran = record { text = front_all a.said b.said (text_of x) ran.text; said_whole = λ uncut. whole_all a.said b.said x ran.text; undamaged = ran.undamaged; moments = ran.moments; took = took_all a b x ran }
 
 -- a prefix of the first events is a prefix of all
 pub part_of_first : {cut : Type 0} (a b : Seen) (x y : List RunEvent) → PerformsPrefix cut a b x → PerformsPrefix cut a b (x ++ y)
@@ -235,7 +284,7 @@ part_of_first a b x y part = record {
   said_whole = λ uncut. whole_of_first a.said b.said x y (part.said_whole uncut);
   undamaged = part.undamaged;
   moments = λ t. runs_weaken (part.moments t) (stopped_first a x y);
-  took = λ uncut. took_of_first a b x y (part.took uncut);
+  took = took_of_first a b x y part.took;
 }
 
 -- events, and a prefix of those behind them
@@ -245,7 +294,7 @@ part_on a b c x y first next = record {
   said_whole = λ uncut. whole_on a.said b.said c.said x y first.text (next.said_whole uncut);
   undamaged = λ t. next.undamaged (first.told t) ∙ first.undamaged t;
   moments = λ t. runs_on (runs_weaken (first.moments t) (stopped_first a x y)) (next.moments (told_on first t)) (λ stop s. stopped_on a b x y stop t first s);
-  took = λ uncut. took_on a b c x y first (next.took uncut);
+  took = took_on a b c x y first next.took;
 }
 
 -- the same events, told otherwise
@@ -257,7 +306,7 @@ part_as {cut} a b x y is part = subst (λ (l : List RunEvent). PerformsPrefix cu
 
 -- where one is cut off the other is, too
 pub part_cut : {cut cut' : Type 0} (a b : Seen) (x : List RunEvent) → (cut → cut') → PerformsPrefix cut a b x → PerformsPrefix cut' a b x
-part_cut a b x f part = record { text = part.text; said_whole = λ uncut. part.said_whole (λ is. uncut (f is)); undamaged = part.undamaged; moments = part.moments; took = λ uncut. part.took (λ is. uncut (f is)) }
+part_cut a b x f part = record { text = part.text; said_whole = λ uncut. part.said_whole (λ is. uncut (f is)); undamaged = part.undamaged; moments = part.moments; took = took_cut a b x f part.took }
 
 -- the same fault, of whatever else would be answered
 pub cut_as : {T : Type 0} (r : Result T BlockFault) (f : BlockFault) → IsErrAnd r (λ x. x ≡ f) → f ≡ Say → IsCutShort r
@@ -289,6 +338,7 @@ ran_says a b x y is tells whole desc same undamaged text part keeps room = recor
   told = λ t. record { db = t.db; mark = t.mark; db_is = keeps.db ∙ t.db_is; mark_is = keeps.mark ∙ t.mark_is };
   undamaged = undamaged;
   next = omega (arith, part.next);
+  next_high = omega (arith, part.next);
   grew = λ t. record { more = []; is = (keeps.points t room).0 ∙ sym (append-nil a.points); spells = refl };
   durable = λ t. (keeps.points t room).1;
   moments = λ t. runs_weaken (part.leaves t room) (λ stop p. subst (λ (z : List ℕ). CrashesFrom a (says z ∷ []) stop) is (stopped_says a x stop p));
@@ -296,9 +346,27 @@ ran_says a b x y is tells whole desc same undamaged text part keeps room = recor
   effort = takes_still a.desc (says y ∷ []) same;
 }
 
+-- a text that may have been cut off
+took_says : {cut : Type 0} (a b : Seen) (x y : List ℕ) → x ≡ y → b.effort ≡ a.effort → SaysPart a b x → ((cut → ⊥) → Prints a.said b.said x) → TookPart cut a b (says y ∷ [])
+took_says a b x y is same part whole =
+    let t = takes_still a.desc (says y ∷ []) same in
+    record {
+      k = 1;
+      within = omega arith;
+      text = λ uncut. subst (λ (z : List ℕ). Prints a.said b.said z) (is ∙ sym (append-nil y)) (whole uncut);
+      whole = 0;
+      near = (omega arith, omega arith);
+      least = least_none a.said b.said x part.part;
+      most = subst (λ (z : List ℕ). PrintsPrefix a.said b.said z) (is ∙ sym (append-nil y)) part.part;
+      spent = omega (arith, t.spent);
+      next = omega (arith, part.next);
+      syncs = omega (arith, t.syncs);
+      outs = omega (arith, t.outs);
+    }
+
 pub part_says : {cut : Type 0} (a b : Seen) (x y : List ℕ) → x ≡ y → b.effort ≡ a.effort → Sound a b → SaysPart a b x → ((cut → ⊥) → Prints a.said b.said x) → a.next + 1 < 2 ^ 64 → PerformsPrefix cut a b (says y ∷ [])
 part_says a b x y is same undamaged part whole room = record {
-  took = λ uncut. took_all a b (says y ∷ []) (subst (λ (t : List ℕ). Prints a.said b.said t) (is ∙ sym (append-nil y)) (whole uncut)) (takes_still a.desc (says y ∷ []) same);
+  took = took_says a b x y is same part whole;
   said_whole = λ uncut. whole_all a.said b.said (says y ∷ []) (subst (λ (t : List ℕ). Prints a.said b.said t) (is ∙ sym (append-nil y)) (whole uncut));
   undamaged = undamaged;
   text = subst (λ (t : List ℕ). PrintsPrefix a.said b.said t) (is ∙ sym (append-nil y)) part.part;
@@ -307,7 +375,7 @@ part_says a b x y is same undamaged part whole room = record {
 
 -- nothing to say
 pub ran_silent : (a : Seen) (x : List ℕ) → x ≡ [] → Performs a a (says x ∷ [])
-ran_silent a x is = subst (λ (t : List ℕ). Performs a a (says t ∷ [])) (sym is) (record { text = prints_none a.said a.said refl; tells = λ t. t; whole = λ files w. w; told = λ t. t; undamaged = λ t. refl; next = omega arith; grew = λ t. grew_none a.points; durable = λ t. omega arith; moments = λ t. runs_none a.clock (CrashesFrom a (says [] ∷ [])); desc = refl; effort = takes_still a.desc (says [] ∷ []) refl })
+ran_silent a x is = subst (λ (t : List ℕ). Performs a a (says t ∷ [])) (sym is) (record { text = prints_none a.said a.said refl; tells = λ t. t; whole = λ files w. w; told = λ t. t; undamaged = λ t. refl; next = omega arith; next_high = omega arith; grew = λ t. grew_none a.points; durable = λ t. omega arith; moments = λ t. runs_none a.clock (CrashesFrom a (says [] ∷ [])); desc = refl; effort = takes_still a.desc (says [] ∷ []) refl })
 
 -- calls
 
@@ -357,18 +425,23 @@ limit_low true desc = omega arith
 limit_low false desc = omega arith
 
 -- or of one that was under way
-took_call : (a b : Seen) (verb : Verb) (x : List RunEvent) (result : Result Answer BlockFault) → b.said ≡ a.said → Costs (block_limit a.desc verb) (asks_back_out verb) result a.effort b.effort → TookPart a b x
-took_call a b verb x result said costs = record {
+took_call : {cut : Type 0} (a b : Seen) (verb : Verb) (x : List RunEvent) (result : Result Answer BlockFault) → IsMute a b → Costs (block_limit a.desc verb) (asks_back_out verb) result a.effort b.effort → TookPart cut a b x
+took_call a b verb x result mute costs = record {
   k = 0;
   within = omega arith;
-  text = prints_none a.said b.said said;
+  text = λ uncut. prints_none a.said b.said mute.said;
+  whole = 0;
+  near = (omega arith, omega arith);
+  least = least_all a.said b.said [] (prints_none a.said b.said mute.said);
+  most = front_none a.said b.said [] mute.said;
   spent = omega (arith, costs.spent, limit_low (stores verb) a.desc);
+  next = omega (arith, mute.one_number);
   syncs = omega (arith, costs.few_syncs.1);
   outs = omega (arith, costs.few_outs.1);
 }
 
 pub ran_calls : (a b : Seen) {programs : List Program} {pending : Bool} {since : ℕ} {waits : List Wait} (verb : Verb) (o : Outcome) (answer : Answer) → (a.tells → b.tells) → ((files : StopFiles) → b.whole files → a.whole files) → b.desc ≡ a.desc → Costs (block_limit a.desc verb) (asks_back_out verb) (Ok answer) a.effort b.effort → (is_waits answer.reply ≡ true → b.effort.spent ≤ a.effort.spent)
-    → b.faults ≡ a.faults → IsMute a b → a.next + length o.quiets ≤ b.next → PerformsCall o a b (view_of b.db b.mark b.next programs pending since waits) (Ok answer) → Performs a b (calls verb o ∷ [])
+    → b.faults ≡ a.faults → IsMute a b → b.next ≡ a.next + length o.quiets → PerformsCall o a b (view_of b.db b.mark b.next programs pending since waits) (Ok answer) → Performs a b (calls verb o ∷ [])
 ran_calls a b verb o answer tells whole desc costs idle same mute next did = record {
   text = prints_none a.said b.said mute.said;
   tells = tells;
@@ -376,6 +449,7 @@ ran_calls a b verb o answer tells whole desc costs idle same mute next did = rec
   told = λ t. record { db = o.session.db; mark = o.session.mark; db_is = did.answers.session.db; mark_is = did.answers.session.mark };
   undamaged = λ t. ap (λ (f : Faults). f.damaged) same;
   next = omega (arith, next, ap length (append-nil o.quiets));
+  next_high = omega (arith, next, ap length (append-nil o.quiets));
   grew = λ t. subst (λ (q : List Quiet). PointsGrow a.points q b.points) (sym (append-nil o.quiets)) (did.made t).grew;
   durable = λ t. covered_made o.sync a.durable (length a.points + length o.quiets) b.durable (did.made t).later (λ n is. (did.made t).synced n (did.answers.sync ∙ is) ∙ length_grew (did.made t).grew);
   moments = λ t. runs_weaken (did.leaves t) (stopped_calls a verb o);
@@ -386,7 +460,7 @@ ran_calls a b verb o answer tells whole desc costs idle same mute next did = rec
 pub part_calls : {cut : Type 0} (a b : Seen) (v : View) (verb : Verb) (o : Outcome) {result : Result Answer BlockFault} → Costs (block_limit a.desc verb) (asks_back_out verb) result a.effort b.effort → CausedBy result a.faults b.faults → IsMute a b → PerformsCall o a b v result → PerformsPrefix cut a b (calls verb o ∷ [])
 part_calls a b v verb o {result} costs cause mute did = record {
   said_whole = λ uncut. whole_none a.said b.said (calls verb o ∷ []) mute.said;
-  took = λ uncut. took_call a b verb (calls verb o ∷ []) result mute.said costs;
+  took = took_call a b verb (calls verb o ∷ []) result mute costs;
   undamaged = λ t. damaged_same result a.faults b.faults did.undamaged cause;
   text = front_none a.said b.said [] mute.said;
   moments = λ t. runs_weaken (did.leaves t) (stopped_calls a verb o);
@@ -417,6 +491,7 @@ ran_back a b tells whole desc takes told undamaged silent points room = record {
   told = told;
   undamaged = undamaged;
   next = omega (arith, silent.next);
+  next_high = omega (arith, silent.next);
   grew = λ t. record { more = []; is = (points t room).0 ∙ sym (append-nil a.points); spells = refl };
   durable = λ t. (points t room).1;
   moments = λ t. runs_weaken (silent.leaves t room) (stopped_back a);
@@ -424,9 +499,25 @@ ran_back a b tells whole desc takes told undamaged silent points room = record {
   effort = takes;
 }
 
+-- it may be done in part
+took_back : {cut : Type 0} (a b : Seen) → TakesEvents a.desc (goes_back ∷ []) a.effort b.effort → IsSilent a b → TookPart cut a b (goes_back ∷ [])
+took_back a b takes silent = record {
+  k = 0;
+  within = omega arith;
+  text = λ uncut. prints_none a.said b.said silent.said;
+  whole = 0;
+  near = (omega arith, omega arith);
+  least = least_all a.said b.said [] (prints_none a.said b.said silent.said);
+  most = front_none a.said b.said [] silent.said;
+  spent = omega (arith, takes.spent);
+  next = omega (arith, silent.next);
+  syncs = omega (arith, takes.syncs);
+  outs = omega (arith, takes.outs);
+}
+
 pub part_back : {cut : Type 0} (a b : Seen) → TakesEvents a.desc (goes_back ∷ []) a.effort b.effort → Sound a b → IsSilent a b → a.next + 1 < 2 ^ 64 → PerformsPrefix cut a b (goes_back ∷ [])
 part_back a b takes undamaged silent room = record {
-  took = λ uncut. record { k = 0; within = omega arith; text = prints_none a.said b.said silent.said; spent = omega (arith, takes.spent); syncs = omega (arith, takes.syncs); outs = omega (arith, takes.outs) };
+  took = took_back a b takes silent;
   said_whole = λ uncut. whole_none a.said b.said (goes_back ∷ []) silent.said;
   undamaged = undamaged;
   text = front_none a.said b.said [] silent.said;

@@ -111,7 +111,7 @@ pub record IsTold (s : Seen) : Type 0 where
 
 -- these events happened: their text was said, their quiet points were made and have used up their numbers, at least those are
 -- durable that a syncpoint among them covers, and a stop on the way lies within them. Where the database is told it still is, and no
--- block was found damaged. No more was done than they may take
+-- block was found damaged. No more was done than they may take, and no number but those of the quiet points was used
 pub record Performs (b a : Seen) (events : List RunEvent) : Type 0 where
   pub text : Prints b.said a.said (text_of events)
   pub tells : b.tells → a.tells
@@ -119,6 +119,7 @@ pub record Performs (b a : Seen) (events : List RunEvent) : Type 0 where
   pub told : IsTold b → IsTold a
   pub undamaged : IsTold b → a.faults.damaged ≡ b.faults.damaged
   pub next : b.next + length (quiets_of events) ≤ a.next
+  pub next_high : a.next ≤ b.next + length (quiets_of events)
   pub grew : b.tells → PointsGrow b.points (quiets_of events) a.points
   pub durable : b.tells → durable_after (length b.points) b.durable events ≤ a.durable
   pub moments : b.tells → Runs b.clock a.clock (CrashesFrom b events)
@@ -134,13 +135,22 @@ IsCutShort (Err f) = f ≡ Say
 abbrev pub SaidWhole : Option (List ℕ) → Option (List ℕ) → List RunEvent → Type 0
 SaidWhole old new events = (k : ℕ) × Prints old new (text_of (take k events))
 
--- The text of the first so many events was said, and no more was done than these may take and one call that was under way: the blocks of one
--- record, one sync and one way back.
-pub record TookPart (b a : Seen) (events : List RunEvent) : Type 0 where
+-- told text grew by these bytes, and maybe by more
+abbrev pub SaidAtLeast : Option (List ℕ) → Option (List ℕ) → List ℕ → Type 0
+SaidAtLeast old new bytes = (t : List ℕ) → old ≡ Some t → (more : List ℕ) × (new ≡ Some ((t ++ bytes) ++ more))
+
+-- The text of the first k events was said. Where it was cut off, that of all these or of all but the last was said whole, and of the last one's a
+-- prefix. No more was done than these may take and one call that was under way: the blocks of one record, one quiet point, one sync and one way back.
+pub record TookPart (cut : Type 0) (b a : Seen) (events : List RunEvent) : Type 0 where
   pub k : ℕ
   pub within : k ≤ length events
-  pub text : Prints b.said a.said (text_of (take k events))
+  pub text : (cut → ⊥) → Prints b.said a.said (text_of (take k events))
+  pub whole : ℕ
+  pub near : (whole ≤ k) × (k ≤ whole + 1)
+  pub least : SaidAtLeast b.said a.said (text_of (take whole events))
+  pub most : PrintsPrefix b.said a.said (text_of (take k events))
   pub spent : a.effort.spent ≤ b.effort.spent + blocks_of b.desc (take k events) + limit_if true b.desc
+  pub next : a.next ≤ b.next + length (quiets_of (take k events)) + 1
   pub syncs : a.effort.syncs ≤ b.effort.syncs + syncs_of (take k events) + 1
   pub outs : a.effort.outs ≤ b.effort.outs + backs_of (take k events) + 1
 
@@ -151,4 +161,4 @@ pub record PerformsPrefix (cut : Type 0) (b a : Seen) (events : List RunEvent) :
   pub said_whole : (cut → ⊥) → SaidWhole b.said a.said events
   pub undamaged : IsTold b → a.faults.damaged ≡ b.faults.damaged
   pub moments : b.tells → Runs b.clock a.clock (CrashesFrom b events)
-  pub took : (cut → ⊥) → TookPart b a events
+  pub took : TookPart cut b a events

@@ -5,14 +5,10 @@ use Rattle.dms_desc.specs.Shape.{Described}
 use Rattle.dms_feed.specs.Feeds.{Remains}
 use Rattle.dms_feed.specs.Lines.{first_line, after_line, raw_lines}
 use Rattle.dms_feed.specs.Raws.{IsUnended}
-use Rattle.dms_model.specs.Seen.{Seen}
 use Rattle.dms_model.specs.Db.{Db}
 use Rattle.dms_block.specs.Texts.{Prints}
-use Rattle.dms_storeverbs.specs.View.{View}
-use Rattle.dms_runner.specs.declared.waiting.WaitingLine.{WaitingLine}
-use Rattle.dms_runner.specs.Answers.{RunState, line_step, script_run, answers_text}
+use Rattle.dms_runner.specs.Answers.{script_run, answers_text}
 use Rattle.dms_runner.specs.Events.{text_of}
-use Rattle.dms_runner.specs.Trying.{MatchesLine}
 
 -- how many bytes these lines have
 abbrev pub bytes_of : List (List ℕ) → ℕ
@@ -25,11 +21,34 @@ text_of_lines [] = []
 text_of_lines (l ∷ ls) = l ++ text_of_lines ls
 
 -- the first line of the input was taken, and there was room for its bytes
-pub record TakesScriptLine (desc : Described) (g : RunState) (all : List ℕ) (room room' : ℕ) (now : View) (waiting : List WaitingLine) (feed : List ℕ) (left : Option (List ℕ)) (before after : Seen) : Type 0 where
+pub record TakesRawLine (room room' : ℕ) (feed : List ℕ) (left : Option (List ℕ)) (all : List ℕ) : Type 0 where
   pub some : all ≢ []
   pub remains : Remains feed left (after_line all)
   pub bytes : room' + length (first_line all) ≡ room
-  pub goes : MatchesLine (line_step desc g (first_line all)) true now waiting before after
+
+-- an input has more lines than a script may have
+abbrev pub HasTooManyLines : List ℕ → Type 0
+HasTooManyLines all = 1000000 < length (raw_lines all)
+
+-- up to the end of a line, one that isn't a line too many, it has more bytes than a script may have
+pub record HasTooManyBytes (all : List ℕ) : Type 0 where
+  pub n : ℕ
+  pub few : n < 1000000
+  pub over : 2147483648 < bytes_of (take (n + 1) (raw_lines all))
+
+-- Taking from an input failed: so many whole lines of it were taken, and a part of the next line, without its line feed, within the limits. The
+-- rest of the input is left.
+pub record InputBreaks (left : Option (List ℕ)) (all : List ℕ) : Type 0 where
+  pub n : ℕ
+  pub within : n ≤ length (raw_lines all)
+  pub few : n ≤ 1000000
+  pub part : List ℕ
+  pub rest : List ℕ
+  pub whole : all ≡ text_of_lines (take n (raw_lines all)) ++ (part ++ rest)
+  pub left_is : left ≡ Some rest
+  pub unended : IsUnended part
+  pub fits : bytes_of (take n (raw_lines all)) + length part ≤ 2147483648
+  pub last : n ≡ 1000000 → length part ≡ 0
 
 -- the whole script was taken: it keeps the limits, no line was one too many to hold, and its answers were said
 pub record AnswersWhole (desc : Described) (db : Db) (first : ℕ) (lines : List (List ℕ)) (before after : Option (List ℕ)) : Type 0 where

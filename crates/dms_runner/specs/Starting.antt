@@ -16,10 +16,10 @@ use Rattle.dms_storeverbs.specs.View.{StandsFor, MayStep, seen, view}
 use Rattle.dms_script.specs.declared.line.Line.{Line}
 use Rattle.dms_runner.specs.declared.waiting.WaitingLine.{WaitingLine}
 use Rattle.dms_runner.specs.Answers.{RunState, LineEffect, MayTakeLine, line_effect, line_step, lines_run, script_events, script_run}
-use Rattle.dms_runner.specs.Events.{RunEvent, IsCutShort, PerformsPrefix, TakesEvents, TookPart}
+use Rattle.dms_runner.specs.Events.{RunEvent, IsCutShort, PerformsPrefix, TakesEvents, TookPart, quiets_of}
 use Rattle.dms_runner.specs.Blaming.{CutRun}
 use Rattle.dms_runner.specs.declared.run.RunFault.{RunFault}
-use Rattle.dms_runner.specs.Running.{AnswersWhole, CutInput, PassesBytes, PassesLines, PassesWaiting, TakesScriptLine}
+use Rattle.dms_runner.specs.Running.{AnswersWhole, CutInput, PassesBytes, PassesLines, PassesWaiting}
 use Rattle.dms_runner.specs.Trying.{MatchesLine, PerformsRetries, PerformsRetry, PerformsTry}
 use Rattle.dms_runner.specs.Waiting.{RetryEffect, retries}
 
@@ -84,10 +84,6 @@ module _ {St : Type 0} {g : Ghosts St} where
   abbrev pub LineTaken : Engine St g → Engine St g → List WaitingLine → Bool → LineEffect → Type 0
   LineTaken old new waiting on effect = MatchesLine effect on (view new) waiting (seen old) (seen new)
 
-  -- the first line of the input was taken
-  abbrev pub InputTaken : Engine St g → Engine St g → RunState → List ℕ → ℕ → ℕ → List WaitingLine → List ℕ → Option (List ℕ) → Type 0
-  InputTaken old new now all room room' waiting feed left = TakesScriptLine (described old.desc) now all room room' (view new) waiting feed left (seen old) (seen new)
-
   -- what a line leaves and does, by what it says or by its bytes, and what the lines of an input do
   abbrev pub effect_at : Engine St g → RunState → Line → LineEffect
   effect_at e now line = line_effect (described e.desc) now line
@@ -97,6 +93,10 @@ module _ {St : Type 0} {g : Ghosts St} where
 
   abbrev pub lines_at : Engine St g → RunState → List ℕ → LineEffect
   lines_at e now all = lines_run (described e.desc) now (raw_lines all)
+
+  -- the first line of the input was taken, and there was room to hold it where it waits
+  abbrev pub LineOfInputTaken : Engine St g → Engine St g → List WaitingLine → RunState → List ℕ → Type 0
+  LineOfInputTaken old new waiting now all = LineTaken old new waiting true (step_at old now (first_line all))
 
   -- a prefix of these events happened
   abbrev pub PartHappened : {T : Type 0} → Result T BlockFault → Engine St g → Engine St g → List RunEvent → Type 0
@@ -139,5 +139,9 @@ module _ {St : Type 0} {g : Ghosts St} where
   abbrev pub EffortWithin : Engine St g → Engine St g → Db → ℕ → List ℕ → Type 0
   EffortWithin old new db first all = TakesEvents (seen old).desc (events_at old db first all) (seen old).effort (seen new).effort
 
-  abbrev pub EffortOfPart : Engine St g → Engine St g → Db → ℕ → List ℕ → Type 0
-  EffortOfPart old new db first all = TookPart (seen old) (seen new) (events_at old db first all)
+  abbrev pub EffortOfPart : {T : Type 0} → Result T RunFault → Engine St g → Engine St g → Db → ℕ → List ℕ → Type 0
+  EffortOfPart result old new db first all = TookPart (CutRun result) (seen old) (seen new) (events_at old db first all)
+
+  -- each quiet point of the script has used one number, and nothing else has
+  abbrev pub UsesNumbers : Engine St g → Engine St g → Db → ℕ → List ℕ → Type 0
+  UsesNumbers old new db first all = (seen new).next ≡ (seen old).next + length (quiets_of (events_at old db first all))

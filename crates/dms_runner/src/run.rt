@@ -11,8 +11,9 @@ ghost use Rattle.dms_storeverbs.specs.View.{EngineLasts, SameSession, StandsFor,
 ghost use Rattle.dms_runner.specs.Events.{text_of, IsCutShort, Performs, PerformsPrefix};
 ghost use Rattle.dms_runner.specs.Answers.{unanswered_events, end_events};
 ghost use Rattle.dms_runner.specs.Waiting.{AreVerbs};
-ghost use Rattle.dms_runner.specs.Starting.{AnswersAll, AtInput, AtStart, HeldTooMany, InputEnds, InputTaken, OnInput, RunPart, StandsAtEnd, StopsAtBytes, StopsAtInput, StopsAtLines, StopsAtWaiting, events_at, lines_at};
+ghost use Rattle.dms_runner.specs.Starting.{AnswersAll, AtInput, AtStart, HeldTooMany, InputEnds, LineOfInputTaken, OnInput, RunPart, StandsAtEnd, StopsAtBytes, StopsAtInput, StopsAtLines, StopsAtWaiting, events_at, lines_at};
 ghost use Rattle.dms_runner.specs.Blaming.{CutRun, LastsRun};
+ghost use Rattle.dms_runner.specs.Running.{HasTooManyBytes, HasTooManyLines, InputBreaks, TakesRawLine};
 
 use crate::WaitingLine;
 use crate::lines::take_line;
@@ -112,8 +113,8 @@ fn one_line<St: Store, I: Source>(
     requires verbs { AreVerbs (described engine.old.desc) waiting.old.items }
     requires room { room.old ≤ 2147483648 }
     requires line { line < 4294967295 }
-    ensures took { IfOk result (λ more. more ≡ true → AtInput engine.old waiting.old.items line feed.old (I.left source.old)
-        (λ g all. InputTaken engine.old engine.new g all room.old room.new waiting.new.items feed.new (I.left source.new))) }
+    ensures read { IfOk result (λ more. more ≡ true → OnInput feed.old (I.left source.old) (TakesRawLine room.old room.new feed.new (I.left source.new))) }
+    ensures took { IfOk result (λ more. more ≡ true → AtInput engine.old waiting.old.items line feed.old (I.left source.old) (LineOfInputTaken engine.old engine.new waiting.new.items)) }
     ensures none { IfOk result (λ more. more ≡ false → (engine.new ≡ engine.old) × (waiting.new ≡ waiting.old) × InputEnds feed.old (I.left source.old) feed.new (I.left source.new)) }
     ensures part { AtInput engine.old waiting.old.items line feed.old (I.left source.old) (λ g all. RunPart result engine.old engine.new (lines_at engine.old g all).events) }
     ensures bytes { IsErrOf result RunFault.Bytes → ((seen engine.new).said ≡ (seen engine.old).said) × OnInput feed.old (I.left source.old) (λ all. room.old < length (first_line all)) }
@@ -187,6 +188,9 @@ pub fn run_lines<St: Store, I: Source>(
     ensures bytes { IsErrOf result RunFault.Bytes → AtStart engine.old feed.old (I.left source.old) (StopsAtBytes engine.old engine.new) }
     ensures full_list { IsErrOf result RunFault.Held → AtStart engine.old feed.old (I.left source.old) (StopsAtWaiting engine.old engine.new) }
     ensures failed { IsErrOf result RunFault.Input → AtStart engine.old feed.old (I.left source.old) (StopsAtInput (I.left source.new) engine.old engine.new) }
+    ensures too_many_lines { IsErrOf result RunFault.Lines → OnInput feed.old (I.left source.old) HasTooManyLines }
+    ensures too_many_bytes { IsErrOf result RunFault.Bytes → OnInput feed.old (I.left source.old) HasTooManyBytes }
+    ensures breaks { IsErrOf result RunFault.Input → OnInput feed.old (I.left source.old) (InputBreaks (I.left source.new)) }
     ensures lasts { LastsRun result engine.old engine.new }
     ensures end { OnOk result ((all : List ℕ) → Remains feed.old (I.left source.old) all → Remains feed.new (I.left source.new) []) }
     ensures same_source { I.same_source source.old source.new }

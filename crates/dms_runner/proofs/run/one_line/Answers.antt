@@ -34,15 +34,15 @@ returns-in-Ok-None-clause-none g c = λ _. (
 pub returns-in-Ok-None-clause-part : goal.returns-in-Ok-None-clause-part
 returns-in-Ok-None-clause-part g c = λ now all stands same line room remains. part_none _ _
 
+pub returns-in-Ok-true-clause-read : goal.returns-in-Ok-true-clause-read
+returns-in-Ok-true-clause-read g c = λ _ all remains.
+    let e = (rw c.in-Ok-Some.field-0-is at c.in-Ok-Some.ensures.line) all remains in
+    record { some = e.0.0; remains = e.1; bytes = omega (arith, c.saturating_sub.ensures, e.0.2, e.0.3) }
+
 pub returns-in-Ok-true-clause-took : goal.returns-in-Ok-true-clause-took
 returns-in-Ok-true-clause-took g c = λ _ now all stands same line room remains.
     let e = (rw c.in-Ok-Some.field-0-is at c.in-Ok-Some.ensures.line) all remains in
-    record {
-      some = e.0.0;
-      remains = e.1;
-      bytes = omega (arith, c.saturating_sub.ensures, e.0.2, e.0.3);
-      goes = (rw c.in-Ok-true.field-0-test at c.in-Ok-true.ensures.lined) now (first_line all) (c.as_slice.ensures ∙ e.0.1) stands same (ap (λ (n : ℕ). n + 1) line) room;
-    }
+    (rw c.in-Ok-true.field-0-test at c.in-Ok-true.ensures.lined) now (first_line all) (c.as_slice.ensures ∙ e.0.1) stands same (ap (λ (n : ℕ). n + 1) line) room
 
 pub returns-in-Ok-true-clause-part : goal.returns-in-Ok-true-clause-part
 returns-in-Ok-true-clause-part g c = λ now all stands same line room remains.
