@@ -1,5 +1,5 @@
 -- How much the audit grew by a call.
-use Rattle.std.proofs.Common.{ℕ, zero, suc, min, ◌+◌, ◌-◌, ◌/◌, ◌^◌, ◌<◌, ◌≤◌, ◌≡◌, ◌⊎◌, inl, inr, Bool, true, false, IsTrue, List, [], ◌∷◌, ◌++◌, length, length-append, length-take, take, refl, sym, ◌∙◌, ap, subst, arith}
+use Rattle.std.proofs.Common.{ℕ, zero, suc, min, ◌+◌, ◌-◌, ◌/◌, ◌^◌, ◌<◌, ◌≤◌, ◌≡◌, ◌⊎◌, inl, inr, Bool, true, false, IsTrue, List, [], ◌∷◌, ◌++◌, length, append-nil, length-append, length-take, take, refl, sym, ◌∙◌, ap, subst, arith}
 use Rattle.std.specs.Prelude.{if◌then◌else◌, IfErr, IsErrOf, OnOk}
 use Rattle.std.specs.declared.result.Result.{Result}
 use Rattle.std.specs.declared.result.Result.TheVariants.{Ok, Err}
@@ -12,7 +12,7 @@ use Rattle.dms_block.specs.declared.block_fault.BlockFault.{BlockFault}
 use Rattle.dms_block.specs.declared.block_fault.BlockFault.TheVariants.{Disk, Memory, Full, Damaged, Say}
 use Rattle.dms_block.specs.declared.change.Change.{Change}
 use Rattle.dms_block.specs.Held.{Caused, HasCauses, Held, one_more}
-use Rattle.dms_history.specs.Entries.{Entry, schema_part, image, byte_range, quiet_point, control_point, begin_restore, by_back_out}
+use Rattle.dms_history.specs.Entries.{Entry, quiet_point, control_point}
 use Rattle.dms_history.specs.Schemas.{schema_entries}
 use Rattle.dms_audrec.specs.Bodies.{bodies, part_count}
 use Rattle.dms_restore.specs.Logging.{LogView, LogsPart, LogsQuiet, entries, telling, waits}
@@ -25,43 +25,21 @@ use Rattle.dms_wal.specs.Controls.{is_due_at}
 use Rattle.dms_restore.specs.Views.{view_of}
 use Rattle.dms_wal.specs.Database.{held}
 use Rattle.dms_wal.specs.Faults.{IsSeenAs, IsSeenInBack}
-use Rattle.dms_wal.specs.Growing.{others, controls_among, paid, FilesGrew, GivesGrown, GrowsBy, HasStayed, IsCounted, LogsAtMost}
+use Rattle.dms_wal.specs.Growing.{controls_among, FilesGrew, GivesGrown, GrowsBy, HasStayed, IsCounted, LogsAtMost}
 use Rattle.dms_wal.proofs.Logged.{logs_many}
 
--- ---- entries that are no quiet points
+-- ---- entries that were logged
 
-pub others_on : (xs ys : List Entry) → others (xs ++ ys) ≡ others xs + others ys
-others_on [] ys = omega arith
-others_on (schema_part part parts bytes ∷ xs) ys = omega (arith, others_on xs ys)
-others_on (image f b before after ∷ xs) ys = omega (arith, others_on xs ys)
-others_on (byte_range f b place bytes ∷ xs) ys = omega (arith, others_on xs ys)
-others_on (quiet_point n ∷ xs) ys = others_on xs ys
-others_on (control_point n next counts ∷ xs) ys = omega (arith, others_on xs ys)
-others_on (begin_restore n kind ∷ xs) ys = omega (arith, others_on xs ys)
+-- so many entries at most, behind those that there were
+pub logged_more : (n : ℕ) (a b : LogView) → LogsAtMost n a b → length (entries b) ≤ length (entries a) + n
+logged_more n a b l = omega (arith, ap (λ (es : List Entry). length es) l.entries_are, length-append (entries a) l.more, l.few)
 
-pub others_few : (xs : List Entry) → others xs ≤ length xs
-others_few [] = omega arith
-others_few (schema_part part parts bytes ∷ xs) = omega (arith, others_few xs)
-others_few (image f b before after ∷ xs) = omega (arith, others_few xs)
-others_few (byte_range f b place bytes ∷ xs) = omega (arith, others_few xs)
-others_few (quiet_point n ∷ xs) = omega (arith, others_few xs)
-others_few (control_point n next counts ∷ xs) = omega (arith, others_few xs)
-others_few (begin_restore n kind ∷ xs) = omega (arith, others_few xs)
-
--- behind so many entries at most
-pub others_more : (n : ℕ) (a b : LogView) → LogsAtMost n a b → others (entries b) ≤ others (entries a) + n
-others_more n a b l = omega (arith, ap (λ (es : List Entry). others es) l.entries_are, others_on (entries a) l.more, others_few l.more, l.few)
-
--- a quiet point isn't counted
-pub others_quiet : (a b : LogView) → LogsQuiet a b → others (entries b) ≡ others (entries a)
-others_quiet a b l = ap (λ (es : List Entry). others es) l.entries_are ∙ others_on (entries a) (quiet_point _ ∷ []) ∙ omega arith
+-- one for a quiet point
+pub logged_quiet : (a b : LogView) → LogsQuiet a b → length (entries b) ≡ length (entries a) + 1
+logged_quiet a b l = ap (λ (es : List Entry). length es) l.entries_are ∙ length-append (entries a) (quiet_point _ ∷ [])
 
 pub some_none : (n : ℕ) (a b : LogView) → entries b ≡ entries a → LogsAtMost n a b
-some_none n a b same = record { more = []; few = omega arith; entries_are = same ∙ sym (none (entries a)) }
-  where
-    none : (xs : List Entry) → xs ++ [] ≡ xs
-    none [] = refl
-    none (x ∷ xs) = ap (λ (l : List Entry). x ∷ l) (none xs)
+some_none n a b same = record { more = []; few = omega arith; entries_are = same ∙ sym (append-nil (entries a)) }
 
 -- the first so many of so many
 pub some_part : (n : ℕ) (a b : LogView) (es : List Entry) → length es ≤ n → LogsPart a b es → LogsAtMost n a b
@@ -147,30 +125,31 @@ stays_or_rises false n = omega arith
 
 -- ---- calls
 
-module _ {S : Type 0} (g : Ghosts S) (a b : Running S) (every : b.every ≡ a.every) (spent : a.spent ≤ b.spent) (disk : g.disk_faults a.log.site ≤ g.disk_faults b.log.site) where
+module _ {S : Type 0} (g : Ghosts S) (a b : Running S) (every : b.every ≡ a.every) (spent : a.spent ≤ b.spent) (next : a.next ≤ b.next) (disk : g.disk_faults a.log.site ≤ g.disk_faults b.log.site) where
   -- a call of the disk failed
   pub grows_void : a.syncs ≤ b.syncs → a.outs ≤ b.outs → (HasStayed (g.disk_faults a.log.site) (g.disk_faults b.log.site) → ⊥) → GrowsBy g a b
-  grows_void syncs outs failed = record { every = every; spent = spent; syncs = syncs; outs = outs; disk = disk; grows = λ tells stayed counted. absurd (failed stayed) }
+  grows_void syncs outs failed = record { every = every; spent = spent; syncs = syncs; outs = outs; next = next; disk = disk; grows = λ tells stayed counted. absurd (failed stayed) }
 
   -- no point was synced, and nothing gone back from
   module _ (syncs : b.syncs ≡ a.syncs) (outs : b.outs ≡ a.outs) where
     controls_same : controls_among b.every b.syncs ≡ controls_among a.every a.syncs
     controls_same = λ i. controls_among (every i) (syncs i)
 
-    -- so many entries, and as many blocks
-    pub grows_others : (IsTrue g.tells → HasStayed (g.disk_faults a.log.site) (g.disk_faults b.log.site) → IsCounted b → others (entries (view_of g b.log)) + a.spent ≤ others (entries (view_of g a.log)) + b.spent) → GrowsBy g a b
-    grows_others more = record {
+    -- so many entries, and as many blocks and numbers
+    pub grows_logged : (IsTrue g.tells → HasStayed (g.disk_faults a.log.site) (g.disk_faults b.log.site) → IsCounted b → length (entries (view_of g b.log)) + (a.spent + a.next) ≤ length (entries (view_of g a.log)) + (b.spent + b.next)) → GrowsBy g a b
+    grows_logged more = record {
       every = every;
       spent = spent;
       syncs = omega (arith, syncs);
       outs = omega (arith, outs);
+      next = next;
       disk = disk;
       grows = λ tells stayed counted. omega (arith, more tells stayed counted, controls_same, outs);
     }
 
     -- nothing was logged
     pub grows_still : (IsTrue g.tells → HasStayed (g.disk_faults a.log.site) (g.disk_faults b.log.site) → entries (view_of g b.log) ≡ entries (view_of g a.log)) → GrowsBy g a b
-    grows_still still = grows_others (λ tells stayed counted. omega (arith, ap (λ (es : List Entry). others es) (still tells stayed), spent))
+    grows_still still = grows_logged (λ tells stayed counted. omega (arith, ap (λ (es : List Entry). length es) (still tells stayed), spent, next))
 
   -- points were synced
   module _ (risen : a.syncs ≤ b.syncs) (syncs : b.syncs ≡ one_more a.syncs) (outs : b.outs ≡ a.outs) where
@@ -184,8 +163,9 @@ module _ {S : Type 0} (g : Ghosts S) (a b : Running S) (every : b.every ≡ a.ev
       spent = spent;
       syncs = risen;
       outs = omega (arith, outs);
+      next = next;
       disk = disk;
-      grows = λ tells stayed counted. omega (arith, ap (λ (es : List Entry). others es) (still tells), spent, outs, controls_next counted, stays_or_rises (is_due_at a.every (suc a.syncs)) (controls_among a.every a.syncs));
+      grows = λ tells stayed counted. omega (arith, ap (λ (es : List Entry). length es) (still tells), spent, next, outs, controls_next counted, stays_or_rises (is_due_at a.every (suc a.syncs)) (controls_among a.every a.syncs));
     }
 
     -- and a control point followed
@@ -195,11 +175,12 @@ module _ {S : Type 0} (g : Ghosts S) (a b : Running S) (every : b.every ≡ a.ev
       spent = spent;
       syncs = risen;
       outs = omega (arith, outs);
+      next = next;
       disk = disk;
       grows = λ tells stayed counted.
           let at : is_due_at a.every (suc a.syncs) ≡ true = subst (λ n. is_due_at a.every n ≡ true) (sym syncs ∙ next_sync a.syncs b.syncs syncs counted.syncs) due in
           let one : controls_among a.every (suc a.syncs) ≡ suc (controls_among a.every a.syncs) = ap (λ (d : Bool). if d then suc (controls_among a.every a.syncs) else controls_among a.every a.syncs) at in
-          omega (arith, others_more 18 (view_of g a.log) (view_of g b.log) (few tells stayed), spent, outs, controls_next counted, one);
+          omega (arith, logged_more 18 (view_of g a.log) (view_of g b.log) (few tells stayed), spent, next, outs, controls_next counted, one);
     }
 
   -- it went back, or tried to
@@ -209,27 +190,28 @@ module _ {S : Type 0} (g : Ghosts S) (a b : Running S) (every : b.every ≡ a.ev
     spent = spent;
     syncs = omega (arith, syncs);
     outs = risen;
+    next = next;
     disk = disk;
     grows = λ tells stayed counted.
         let same : controls_among b.every b.syncs ≡ controls_among a.every a.syncs = λ i. controls_among (every i) (syncs i) in
         let once : b.outs ≡ a.outs + 1 = omega (arith, outs, counted.outs) in
-        omega (arith, others_more 19 (view_of g a.log) (view_of g b.log) (few tells stayed), spent, same, once);
+        omega (arith, logged_more 19 (view_of g a.log) (view_of g b.log) (few tells stayed), spent, next, same, once);
   }
 
 -- one change was made, and is counted
-pub change_more : {S : Type 0} (g : Ghosts S) (a b : Running S) (x : Change) → (IsTrue g.tells → LogsChanges (view_of g a.log) (view_of g b.log) (x ∷ [])) → IsTrue g.tells → others (entries (view_of g b.log)) ≤ others (entries (view_of g a.log)) + 1
+pub change_more : {S : Type 0} (g : Ghosts S) (a b : Running S) (x : Change) → (IsTrue g.tells → LogsChanges (view_of g a.log) (view_of g b.log) (x ∷ [])) → IsTrue g.tells → length (entries (view_of g b.log)) ≤ length (entries (view_of g a.log)) + 1
 change_more g a b x logs tells =
     let l = logs tells in
-    omega (arith, ap (λ (es : List Entry). others es) l.entries_are, others_on (entries (view_of g a.log)) l.images, others_few l.images, logs_many (view_of g a.log) (view_of g b.log) (x ∷ []) l)
+    omega (arith, ap (λ (es : List Entry). length es) l.entries_are, length-append (entries (view_of g a.log)) l.images, logs_many (view_of g a.log) (view_of g b.log) (x ∷ []) l)
 
 -- ---- files that are given back
 
 -- what files hold is all or a part of it
 pub files_few : (n : ℕ) (v a w : LogView) → entries a ≡ entries v → telling w ≡ telling v → LogsAtMost n a w → (files : Files) → files ≡ w.files → FilesGrew n v files
 files_few n v a w same kind l files is =
-    let part : others ((telling w).entries w.files) ≤ others (entries w) = omega (arith, others_on ((telling w).entries w.files) (waits w.end)) in
-    let here : others ((telling v).entries files) ≡ others ((telling w).entries w.files) = λ i. others ((sym kind i).entries (is i)) in
-    omega (arith, part, here, others_more n a w l, ap (λ (es : List Entry). others es) same)
+    let part : length ((telling w).entries w.files) ≤ length (entries w) = omega (arith, length-append ((telling w).entries w.files) (waits w.end)) in
+    let here : length ((telling v).entries files) ≡ length ((telling w).entries w.files) = λ i. length ((sym kind i).entries (is i)) in
+    omega (arith, part, here, logged_more n a w l, ap (λ (es : List Entry). length es) same)
 
 pub files_more : (m n : ℕ) (v : LogView) (files : Files) → m ≤ n → FilesGrew m v files → FilesGrew n v files
 files_more m n v files le few = omega (arith, le, few)
@@ -241,8 +223,8 @@ gives_more g m n v (Err e) le few = λ off tells. files_more m n v (g.files e.1)
 -- behind so many entries
 files_on : (m n : ℕ) (v w : LogView) (files : Files) → telling w ≡ telling v → LogsAtMost m v w → FilesGrew n w files → FilesGrew (m + n) v files
 files_on m n v w files kind l few =
-    let here : others ((telling v).entries files) ≡ others ((telling w).entries files) = λ i. others ((sym kind i).entries files) in
-    omega (arith, here, few, others_more m v w l)
+    let here : length ((telling v).entries files) ≡ length ((telling w).entries files) = λ i. length ((sym kind i).entries files) in
+    omega (arith, here, few, logged_more m v w l)
 
 pub gives_on : {S : Type 0} (g : Ghosts S) (m n : ℕ) (v w : LogView) (r : Result S (BlockFault × S)) → telling w ≡ telling v → (IsTrue g.tells → LogsAtMost m v w) → GivesGrown g n w r → GivesGrown g (m + n) v r
 gives_on g m n v w (Ok s) kind l few = λ tells. files_on m n v w (g.files s) kind (l tells) (few tells)

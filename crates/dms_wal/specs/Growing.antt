@@ -6,25 +6,11 @@ use Rattle.dms_site.specs.declared.site.Site.{Ghosts}
 use Rattle.dms_site.specs.Files.{Files}
 use Rattle.dms_block.specs.declared.block_fault.BlockFault.{BlockFault}
 use Rattle.dms_block.specs.declared.block_fault.BlockFault.TheVariants.{Disk}
-use Rattle.dms_history.specs.Entries.{Entry, schema_part, image, byte_range, quiet_point, control_point, begin_restore}
+use Rattle.dms_history.specs.Entries.{Entry}
 use Rattle.dms_restore.specs.Logging.{LogView, entries, telling}
 use Rattle.dms_wal.specs.declared.running.Running.{Running}
 use Rattle.dms_wal.specs.Controls.{is_due_at}
 use Rattle.dms_restore.specs.Views.{view_of}
-
--- every entry but a quiet point
-abbrev pub is_other : Entry → Bool
-is_other (schema_part part parts bytes) = true
-is_other (image f b before after) = true
-is_other (byte_range f b place bytes) = true
-is_other (quiet_point n) = false
-is_other (control_point n next counts) = true
-is_other (begin_restore n kind) = true
-
--- how many of these entries are no quiet points
-abbrev pub others : List Entry → ℕ
-others [] = 0
-others (e ∷ es) = if is_other e then suc (others es) else others es
 
 -- At most so many entries were logged.
 pub record LogsAtMost (n : ℕ) (a b : LogView) : Type 0 where
@@ -37,10 +23,10 @@ abbrev pub controls_among : ℕ → ℕ → ℕ
 controls_among every zero = 0
 controls_among every (suc n) = if is_due_at every (suc n) then suc (controls_among every n) else controls_among every n
 
--- How many entries its uses account for, quiet points apart: one for each block that was changed, 18 for each control point, and 19 for each
--- back-out.
-abbrev pub paid : {S : Type 0} → Running S → ℕ
-paid r = r.spent + 18 * controls_among r.every r.syncs + 19 * r.outs
+-- How many entries it accounts for: one for each block that was changed, 18 for each control point, 19 for each back-out, and one for each number
+-- that a quiet point had.
+abbrev pub accounts : {S : Type 0} → Running S → ℕ
+accounts r = r.spent + 18 * controls_among r.every r.syncs + 19 * r.outs + r.next
 
 -- none of its uses stands at its type's end, where a count stands still
 pub record IsCounted {S : Type 0} (r : Running S) : Type 0 where
@@ -52,20 +38,21 @@ pub record IsCounted {S : Type 0} (r : Running S) : Type 0 where
 abbrev pub HasStayed : ℕ → ℕ → Type 0
 HasStayed old new = (new ≤ old) × (new < 2 ^ 64 - 1)
 
--- The uses of a running database only rise. Where no call of its site failed meanwhile, its audit grew by no more entries than its uses account
--- for, quiet points apart.
+-- The uses of a running database only rise, and so does its next number. Where no call of its site failed meanwhile, its audit grew by no more
+-- entries than it accounts for.
 pub record GrowsBy {S : Type 0} (g : Ghosts S) (a b : Running S) : Type 0 where
   pub every : b.every ≡ a.every
   pub spent : a.spent ≤ b.spent
   pub syncs : a.syncs ≤ b.syncs
   pub outs : a.outs ≤ b.outs
+  pub next : a.next ≤ b.next
   pub disk : g.disk_faults a.log.site ≤ g.disk_faults b.log.site
   pub grows : IsTrue g.tells → HasStayed (g.disk_faults a.log.site) (g.disk_faults b.log.site) → IsCounted b
-      → others (entries (view_of g b.log)) + paid a ≤ others (entries (view_of g a.log)) + paid b
+      → length (entries (view_of g b.log)) + accounts a ≤ length (entries (view_of g a.log)) + accounts b
 
--- Files hold at most so many entries more than a log has, quiet points apart.
+-- Files hold at most so many entries more than a log has.
 abbrev pub FilesGrew : ℕ → LogView → Files → Type 0
-FilesGrew n v files = others ((telling v).entries files) ≤ others (entries v) + n
+FilesGrew n v files = length ((telling v).entries files) ≤ length (entries v) + n
 
 -- So it is of the site that a call gives back, unless a call of the disk failed.
 abbrev pub GivesGrown : {S : Type 0} → Ghosts S → ℕ → LogView → Result S (BlockFault × S) → Type 0

@@ -19,7 +19,7 @@ pace_kind p = λ i. telling_of (p.total i) (p.first i)
 
 module _ {S : Type 0} {g : Ghosts S} where
   pub grows_none : (a : Running S) → GrowsBy g a a
-  grows_none a = record { every = refl; spent = omega arith; syncs = omega arith; outs = omega arith; disk = omega arith; grows = λ tells stayed counted. omega arith }
+  grows_none a = record { every = refl; spent = omega arith; syncs = omega arith; outs = omega arith; next = omega arith; disk = omega arith; grows = λ tells stayed counted. omega arith }
 
   pub grows_on : {a b c : Running S} → GrowsBy g a b → GrowsBy g b c → GrowsBy g a c
   grows_on {a} {b} {c} p q = record {
@@ -27,6 +27,7 @@ module _ {S : Type 0} {g : Ghosts S} where
     spent = omega (arith, p.spent, q.spent);
     syncs = omega (arith, p.syncs, q.syncs);
     outs = omega (arith, p.outs, q.outs);
+    next = omega (arith, p.next, q.next);
     disk = omega (arith, p.disk, q.disk);
     grows = λ tells stayed counted.
         let then : IsCounted b = record { spent = omega (arith, q.spent, counted.spent); syncs = omega (arith, q.syncs, counted.syncs); outs = omega (arith, q.outs, counted.outs) } in

@@ -8,7 +8,7 @@ ghost use Rattle.dms_restore.specs.BackOuts.{FilesStay, IsBackFault, SealedAlone
 ghost use Rattle.dms_restore.specs.Logging as logs;
 ghost use Rattle.dms_restore.specs.Logging.{Ends, points, LogLeaves, LogRuns, PrintsNothing, trail_of};
 ghost use Rattle.dms_restore.specs.Views.{view_of};
-ghost use Rattle.dms_wal.specs.BackOuts.{entries_back};
+ghost use Rattle.dms_wal.specs.BackOuts.{entries_back, WentBackFrom};
 ghost use Rattle.dms_wal.specs.Controls.{KeepsPace};
 ghost use Rattle.dms_wal.specs.Lifting.{AreCounts};
 ghost use Rattle.dms_wal.specs.Marks.{IsDescription, IsMarkOf};
@@ -88,7 +88,7 @@ impl<S: Site> Running<S> {
         ensures stays { OnOk result (Stays (held S.Site self.old) (held S.Site self.new)) }
         ensures passes { MakesNoPoint (held S.Site self.old) (held S.Site self.new) }
         ensures uses { WentBack result (held S.Site self.old).uses (held S.Site self.new).uses }
-        ensures back { OnOk result (IsTrue S.tells → WentBackTo self.old.point (view_of S.Site self.old.log) (view_of S.Site self.new.log) (entries_back self.old.point self.old.schema.items self.old.next self.old.marks.items)) }
+        ensures back { OnOk result (IsTrue S.tells → WentBackFrom S.Site self.old self.new) }
         ensures counts { OnOk result (self.new.counts.items ≡ self.old.marks.items) }
         ensures kept { (self.new.schema ≡ self.old.schema) × (self.new.next ≡ self.old.next) × (self.new.point ≡ self.old.point) × (self.new.marks ≡ self.old.marks) }
         ensures pace { KeepsPace self.old self.new }

@@ -8,7 +8,7 @@ use Rattle.dms_restore.specs.Views.{view_of}
 use Rattle.dms_wal.specs.Database.{held}
 use Rattle.dms_wal.proofs.Imaged.{usable_spent}
 use Rattle.dms_wal.specs.PaceLaws.{grows_none, grows_on, pace_none, pace_on}
-use Rattle.dms_wal.proofs.Grown.{change_more, disk_kept, grows_others, grows_still, not_disk}
+use Rattle.dms_wal.proofs.Grown.{change_more, disk_kept, grows_logged, grows_still, not_disk}
 use Rattle.dms_wal.proofs.Logged.{logs_first, logs_none, logs_more, logs_whole}
 use Rattle.dms_wal.proofs.Made.{longer_take, made_all, made_causes, made_failed, made_more, made_none, made_whole, next_apart, next_fits, whole_take}
 use Rattle.dms_wal.proofs.running.Running.apply.Goals as goal
@@ -46,8 +46,8 @@ loop-change-preserved g c =
       logs = λ t. logs_more all c.as_slice-items.result.now c.loop-change.change-index no_change_of c.as_slice-items.ensures c.loop-change-test.true (view_of g.S.Site c.args.self.now.log) (view_of g.S.Site a.log) (view_of g.S.Site b.log)
           (was.logs t) (was.made.content t) (c.in-Ok.ensures.logs t);
       pace = pace_on was.pace (let p = c.change.ensures.pace in record { every = p.every; limit = p.limit; total = p.total; first = p.first; schema = p.schema });
-      grows = grows_on was.grows (grows_others g.S.Site a _ c.change.ensures.pace.every (omega (arith, was.counted, rose)) (disk_kept {T = Unit {0}} (Ok tt) (held g.S.Site a) (held g.S.Site b) c.in-Ok.ensures.causes) made.uses.syncs made.uses.outs
-          (λ tells stayed counted. omega (arith, change_more g.S.Site a b _ c.in-Ok.ensures.logs tells, rose, was.counted, counted.spent)));
+      grows = grows_on was.grows (grows_logged g.S.Site a _ c.change.ensures.pace.every (omega (arith, was.counted, rose)) (omega (arith, made.passes.next)) (disk_kept {T = Unit {0}} (Ok tt) (held g.S.Site a) (held g.S.Site b) c.in-Ok.ensures.causes) made.uses.syncs made.uses.outs
+          (λ tells stayed counted. omega (arith, change_more g.S.Site a b _ c.in-Ok.ensures.logs tells, rose, was.counted, counted.spent, made.passes.next)));
       counted = refl;
       spent = omega (arith, was.spent, rose, longer_take all c.as_slice-items.result.now c.loop-change.change-index no_change_of c.as_slice-items.ensures c.loop-change-test.true);
       same = g.met.S.Site.same_then c.args.self.now.log.site a.log.site b.log.site was.same c.change.ensures.same;
@@ -61,8 +61,9 @@ pub returns-in-Err-clause-grows : goal.returns-in-Err-clause-grows
 returns-in-Err-clause-grows g c =
     let a = c.loop-change.self in
     let b = c.change.new.self in
-    let uses = c.in-Err.ensures.alters.uses in
-    grows_on c.loop-change.invariant.grows (grows_still g.S.Site a b c.change.ensures.pace.every uses.not_less (disk_kept {T = Unit {0}} (Err c.in-Err.fault) (held g.S.Site a) (held g.S.Site b) c.in-Err.ensures.causes) uses.syncs uses.outs
+    let alters = c.in-Err.ensures.alters in
+    let uses = alters.uses in
+    grows_on c.loop-change.invariant.grows (grows_still g.S.Site a b c.change.ensures.pace.every uses.not_less (omega (arith, alters.passes.next)) (disk_kept {T = Unit {0}} (Err c.in-Err.fault) (held g.S.Site a) (held g.S.Site b) c.in-Err.ensures.causes) uses.syncs uses.outs
     (λ tells stayed. c.in-Err.ensures.kept (λ is. not_disk {T = Unit {0}} (Err c.in-Err.fault) (held g.S.Site a) (held g.S.Site b) c.in-Err.ensures.causes stayed (λ i. Err (is i))) tells))
 
 pub returns-in-Err-clause-part : goal.returns-in-Err-clause-part

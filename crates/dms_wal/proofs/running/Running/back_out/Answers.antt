@@ -66,11 +66,11 @@ returns-in-Err-clause-ends g c is = c.in-Err.ensures.ends (back_full c.in-Err.fa
 
 pub returns-in-Err-clause-grows : goal.returns-in-Err-clause-grows
 returns-in-Err-clause-grows g c =
-    grows_back g.S.Site c.args.self.now _ refl (omega arith) c.go_back.ensures.disk.later refl (omega (arith, c.saturating_add-self.ensures)) (omega (arith, c.saturating_add-self.ensures)) (λ tells stayed. c.go_back.ensures.few (λ is. rose_not _ _ (c.go_back.ensures.disk.failed is) stayed) tells)
+    grows_back g.S.Site c.args.self.now _ refl (omega arith) (omega arith) c.go_back.ensures.disk.later refl (omega (arith, c.saturating_add-self.ensures)) (omega (arith, c.saturating_add-self.ensures)) (λ tells stayed. c.go_back.ensures.few (λ is. rose_not _ _ (c.go_back.ensures.disk.failed is) stayed) tells)
 
 pub returns-clause-grows : goal.returns-clause-grows
 returns-clause-grows g c =
-    grows_back g.S.Site c.args.self.now _ refl (omega arith) c.go_back.ensures.disk.later refl (omega (arith, c.saturating_add-self.ensures)) (omega (arith, c.saturating_add-self.ensures)) (λ tells stayed. c.go_back.ensures.few (λ is. rose_not _ _ (c.go_back.ensures.disk.failed is) stayed) tells)
+    grows_back g.S.Site c.args.self.now _ refl (omega arith) (omega arith) c.go_back.ensures.disk.later refl (omega (arith, c.saturating_add-self.ensures)) (omega (arith, c.saturating_add-self.ensures)) (λ tells stayed. c.go_back.ensures.few (λ is. rose_not _ _ (c.go_back.ensures.disk.failed is) stayed) tells)
 
 pub returns-in-Err-clause-few : goal.returns-in-Err-clause-few
 returns-in-Err-clause-few g c off t = c.in-Err.ensures.few (λ is. off (back_disk c.in-Err.fault c.back_fault.result _ _ c.back_fault.ensures is)) t

@@ -27,10 +27,11 @@ returns-in-None-clause-looks g c =
     (record { not_fewer = omega (arith, c.saturating_add-self.ensures); reads = omega (arith, c.saturating_add-self.ensures); not_less = omega arith; spent = omega arith; syncs = refl; outs = refl })) c.load.ensures.looks
 
 pub returns-in-Some-clause-grows : goal.returns-in-Some-clause-grows
-returns-in-Some-clause-grows g c = grows_still g.S.Site c.args.self.now _ refl (omega arith) (omega arith) refl refl (λ tells stayed. refl)
+returns-in-Some-clause-grows g c = grows_still g.S.Site c.args.self.now _ refl (omega arith) (omega arith) (omega arith) refl refl (λ tells stayed. refl)
 
 pub returns-in-None-clause-grows : goal.returns-in-None-clause-grows
 returns-in-None-clause-grows g c =
-    let uses = c.load.ensures.looks.uses in
-    grows_still g.S.Site c.args.self.now c.load.new.self c.load.ensures.pace.every uses.not_less (disk_kept c.load.result _ _ c.load.ensures.causes) uses.syncs uses.outs
+    let looks = c.load.ensures.looks in
+    let uses = looks.uses in
+    grows_still g.S.Site c.args.self.now c.load.new.self c.load.ensures.pace.every uses.not_less (omega (arith, looks.passes.next)) (disk_kept c.load.result _ _ c.load.ensures.causes) uses.syncs uses.outs
     (λ tells stayed. c.load.ensures.logs (λ is. not_disk c.load.result _ _ c.load.ensures.causes stayed is) tells)

@@ -17,13 +17,13 @@ returns-clause-passes g c =
 pub returns-in-Err-clause-grows : goal.returns-in-Err-clause-grows
 returns-in-Err-clause-grows g c =
     let uses = c.in-Err.ensures.uses in
-    grows_void g.S.Site c.args.self.now c.seal.new.self c.seal.ensures.kept.pace.every (omega (arith, uses.spent)) (disk_kept {T = Unit {0}} (Err c.in-Err.fault) (held g.S.Site c.args.self.now) (held g.S.Site c.seal.new.self) c.in-Err.ensures.causes) uses.few.0 (omega (arith, uses.outs))
+    grows_void g.S.Site c.args.self.now c.seal.new.self c.seal.ensures.kept.pace.every (omega (arith, uses.spent)) (omega (arith, c.seal.ensures.kept.next)) (disk_kept {T = Unit {0}} (Err c.in-Err.fault) (held g.S.Site c.args.self.now) (held g.S.Site c.seal.new.self) c.in-Err.ensures.causes) uses.few.0 (omega (arith, uses.outs))
     (λ stayed. not_disk {T = Unit {0}} (Err c.in-Err.fault) (held g.S.Site c.args.self.now) (held g.S.Site c.seal.new.self) c.in-Err.ensures.causes stayed (λ i. Err (c.in-Err.ensures.only i)))
 
 pub returns-then-not-follows-clause-grows : goal.returns-then-not-follows-clause-grows
 returns-then-not-follows-clause-grows g c =
     let uses = c.in-Ok.ensures.uses in
-    grows_synced g.S.Site c.args.self.now c.seal.new.self c.seal.ensures.kept.pace.every (omega (arith, uses.spent)) (disk_kept {T = Unit {0}} (Ok tt) (held g.S.Site c.args.self.now) (held g.S.Site c.seal.new.self) c.in-Ok.ensures.causes) uses.few.0 uses.done uses.outs (λ tells. (c.in-Ok.ensures.seals tells).entries_same)
+    grows_synced g.S.Site c.args.self.now c.seal.new.self c.seal.ensures.kept.pace.every (omega (arith, uses.spent)) (omega (arith, c.seal.ensures.kept.next)) (disk_kept {T = Unit {0}} (Ok tt) (held g.S.Site c.args.self.now) (held g.S.Site c.seal.new.self) c.in-Ok.ensures.causes) uses.few.0 uses.done uses.outs (λ tells. (c.in-Ok.ensures.seals tells).entries_same)
 
 pub returns-clause-grows : goal.returns-clause-grows
 returns-clause-grows g c =
@@ -34,7 +34,7 @@ returns-clause-grows g c =
     let more = c.control.ensures.uses in
     let one = disk_kept {T = Unit {0}} (Ok tt) (held g.S.Site a) (held g.S.Site b) c.in-Ok.ensures.causes in
     let two = disk_kept c.control.result (held g.S.Site b) (held g.S.Site d) c.control.ensures.causes in
-    grows_controlled g.S.Site a d (c.control.ensures.kept.pace.every ∙ c.seal.ensures.kept.pace.every) (omega (arith, uses.spent, more.not_less)) (omega (arith, one, two)) (omega (arith, uses.few.0, more.syncs)) (more.syncs ∙ uses.done) (more.outs ∙ uses.outs)
+    grows_controlled g.S.Site a d (c.control.ensures.kept.pace.every ∙ c.seal.ensures.kept.pace.every) (omega (arith, uses.spent, more.not_less)) (omega (arith, c.control.ensures.kept.next, c.seal.ensures.kept.next)) (omega (arith, one, two)) (omega (arith, uses.few.0, more.syncs)) (more.syncs ∙ uses.done) (more.outs ∙ uses.outs)
     ((λ i. is_due_at (sym c.seal.ensures.kept.pace.every i) (sym uses.done i)) ∙ sym c.follows.ensures ∙ c.if-not-follows.false)
     (λ tells stayed. some_from 18 (view_of g.S.Site a.log) (view_of g.S.Site b.log) (view_of g.S.Site d.log) (c.in-Ok.ensures.seals tells).entries_same
     (c.control.ensures.few (λ is. not_disk c.control.result (held g.S.Site b) (held g.S.Site d) c.control.ensures.causes (omega (arith, one, stayed.0), stayed.1) is) tells))
