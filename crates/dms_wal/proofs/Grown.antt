@@ -1,5 +1,5 @@
 -- How much the audit grew by a call.
-use Rattle.std.proofs.Common.{ℕ, zero, suc, min, ◌+◌, ◌-◌, ◌/◌, ◌^◌, ◌<◌, ◌≤◌, ◌≡◌, ◌⊎◌, inl, inr, Bool, true, false, IsTrue, List, [], ◌∷◌, ◌++◌, length, append-nil, length-append, length-take, take, refl, sym, ◌∙◌, ap, subst, arith}
+use Rattle.std.proofs.Common.{ℕ, suc, min, ◌+◌, ◌-◌, ◌/◌, ◌^◌, ◌<◌, ◌≤◌, ◌≡◌, ◌⊎◌, inl, inr, Bool, true, false, IsTrue, List, [], ◌∷◌, ◌++◌, length, append-nil, length-append, length-take, take, sym, ◌∙◌, ap, subst, arith}
 use Rattle.std.specs.Prelude.{if◌then◌else◌, IfErr, IsErrOf, OnOk}
 use Rattle.std.specs.declared.result.Result.{Result}
 use Rattle.std.specs.declared.result.Result.TheVariants.{Ok, Err}
@@ -14,18 +14,18 @@ use Rattle.dms_block.specs.declared.change.Change.{Change}
 use Rattle.dms_block.specs.Held.{Caused, HasCauses, Held, one_more}
 use Rattle.dms_history.specs.Entries.{Entry, quiet_point, control_point}
 use Rattle.dms_history.specs.Schemas.{schema_entries}
-use Rattle.dms_audrec.specs.Bodies.{bodies, part_count}
+use Rattle.dms_audrec.specs.Bodies.{bodies}
+use Rattle.dms_restore.specs.GrowLaws.{log_grows_on}
 use Rattle.dms_restore.specs.Logging.{LogView, LogsPart, LogsQuiet, entries, telling, waits}
 use Rattle.dms_audrec.specs.Reading.{counts_at}
 use Rattle.dms_restore.specs.BackOuts.{back_entries, IsBackFault, SealedAlone, WentBackTo}
 use Rattle.dms_restore.proofs.Laid.{bodies_many, parts_length}
 use Rattle.dms_wal.specs.declared.running.Running.{Running}
 use Rattle.dms_wal.specs.Changing.{LogsChanges}
-use Rattle.dms_wal.specs.Controls.{is_due_at}
+use Rattle.dms_wal.specs.Controls.{is_due_at, KeepsPace}
 use Rattle.dms_restore.specs.Views.{view_of}
-use Rattle.dms_wal.specs.Database.{held}
 use Rattle.dms_wal.specs.Faults.{IsSeenAs, IsSeenInBack}
-use Rattle.dms_wal.specs.Growing.{controls_among, FilesGrew, GivesGrown, GrowsBy, HasStayed, IsCounted, LogsAtMost}
+use Rattle.dms_wal.specs.Growing.{controls_among, FilesGrew, GivesGrown, GivesTrail, GrowsBy, HasStayed, IsCounted, LogsAtMost, TrailGrows}
 use Rattle.dms_wal.proofs.Logged.{logs_many}
 
 -- ---- entries that were logged
@@ -125,10 +125,10 @@ stays_or_rises false n = omega arith
 
 -- ---- calls
 
-module _ {S : Type 0} (g : Ghosts S) (a b : Running S) (every : b.every ≡ a.every) (spent : a.spent ≤ b.spent) (next : a.next ≤ b.next) (disk : g.disk_faults a.log.site ≤ g.disk_faults b.log.site) where
+module _ {S : Type 0} (g : Ghosts S) (a b : Running S) (every : b.every ≡ a.every) (spent : a.spent ≤ b.spent) (next : a.next ≤ b.next) (disk : g.disk_faults a.log.site ≤ g.disk_faults b.log.site) (grown : TrailGrows g a b) where
   -- a call of the disk failed
   pub grows_void : a.syncs ≤ b.syncs → a.outs ≤ b.outs → (HasStayed (g.disk_faults a.log.site) (g.disk_faults b.log.site) → ⊥) → GrowsBy g a b
-  grows_void syncs outs failed = record { every = every; spent = spent; syncs = syncs; outs = outs; next = next; disk = disk; grows = λ tells stayed counted. absurd (failed stayed) }
+  grows_void syncs outs failed = record { every = every; spent = spent; syncs = syncs; outs = outs; next = next; disk = disk; grown = grown; grows = λ tells stayed counted. absurd (failed stayed) }
 
   -- no point was synced, and nothing gone back from
   module _ (syncs : b.syncs ≡ a.syncs) (outs : b.outs ≡ a.outs) where
@@ -144,6 +144,7 @@ module _ {S : Type 0} (g : Ghosts S) (a b : Running S) (every : b.every ≡ a.ev
       outs = omega (arith, outs);
       next = next;
       disk = disk;
+      grown = grown;
       grows = λ tells stayed counted. omega (arith, more tells stayed counted, controls_same, outs);
     }
 
@@ -165,6 +166,7 @@ module _ {S : Type 0} (g : Ghosts S) (a b : Running S) (every : b.every ≡ a.ev
       outs = omega (arith, outs);
       next = next;
       disk = disk;
+      grown = grown;
       grows = λ tells stayed counted. omega (arith, ap (λ (es : List Entry). length es) (still tells), spent, next, outs, controls_next counted, stays_or_rises (is_due_at a.every (suc a.syncs)) (controls_among a.every a.syncs));
     }
 
@@ -177,6 +179,7 @@ module _ {S : Type 0} (g : Ghosts S) (a b : Running S) (every : b.every ≡ a.ev
       outs = omega (arith, outs);
       next = next;
       disk = disk;
+      grown = grown;
       grows = λ tells stayed counted.
           let at : is_due_at a.every (suc a.syncs) ≡ true = subst (λ n. is_due_at a.every n ≡ true) (sym syncs ∙ next_sync a.syncs b.syncs syncs counted.syncs) due in
           let one : controls_among a.every (suc a.syncs) ≡ suc (controls_among a.every a.syncs) = ap (λ (d : Bool). if d then suc (controls_among a.every a.syncs) else controls_among a.every a.syncs) at in
@@ -192,6 +195,7 @@ module _ {S : Type 0} (g : Ghosts S) (a b : Running S) (every : b.every ≡ a.ev
     outs = risen;
     next = next;
     disk = disk;
+    grown = grown;
     grows = λ tells stayed counted.
         let same : controls_among b.every b.syncs ≡ controls_among a.every a.syncs = λ i. controls_among (every i) (syncs i) in
         let once : b.outs ≡ a.outs + 1 = omega (arith, outs, counted.outs) in
@@ -233,3 +237,8 @@ gives_on g m n v w (Err e) kind l few = λ off tells. files_on m n v w (g.files 
 -- a back-out that wasn't refused by the disk
 pub back_disk : {T U : Type 0} (f : AudFault) (e : BlockFault) (old new : ℕ) → IsSeenInBack f e old new → IsErrOf {T = T} (Err f) audit.Disk → IsErrOf {T = U} (Err e) Disk
 back_disk f e old new seen is = λ i. Err ((subst (λ (x : AudFault). IsSeenInBack x e old new) (which_error f audit.Disk is) seen).0 i)
+
+-- the trail of the site that is given back, behind a call before
+pub gives_trail : {S : Type 0} (g : Ghosts S) (a b : Running S) (r : Result S (BlockFault × S)) → KeepsPace a b → TrailGrows g a b → GivesTrail g (view_of g b.log) r → GivesTrail g (view_of g a.log) r
+gives_trail g a b (Ok s) pace one two = λ tells. log_grows_on (view_of g a.log) (view_of g b.log) (view_of g (record b.log { site = s })) pace.total pace.first (one tells) (two tells)
+gives_trail g a b (Err e) pace one two = λ tells. log_grows_on (view_of g a.log) (view_of g b.log) (view_of g (record b.log { site = e.1 })) pace.total pace.first (one tells) (two tells)

@@ -25,3 +25,4 @@ pub mod Limits
 pub mod BackFaults
 pub mod BackedOut
 pub mod Grown
+pub mod Passes

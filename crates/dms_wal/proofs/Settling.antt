@@ -18,7 +18,6 @@ use Rattle.dms_pool.specs.Calls.{Cleans}
 use Rattle.dms_pool.specs.Held.{frame_of, framed, is_dirty}
 use Rattle.dms_running.specs.Frames.{with_frame}
 use Rattle.dms_running.proofs.Framed.{all_written}
-use Rattle.dms_running.proofs.Looking.{look_leaves}
 use Rattle.dms_restore.specs.declared.log.Log.{Log}
 use Rattle.dms_restore.specs.Logging as logs
 use Rattle.dms_restore.specs.Logging.{LogView, view, telling, state, waits, points, content, LogRuns, LogsNothing, PrintsNothing}
@@ -32,7 +31,6 @@ use Rattle.dms_wal.specs.Writing.{WritesBack}
 use Rattle.dms_wal.proofs.Pooled.{holds_like, frames_cleaned, counted_cleaned, clean_frames}
 use Rattle.dms_wal.proofs.Backs.{all_sized, holds_washed}
 use Rattle.dms_wal.proofs.Stills.{runs_still, goes_sealed}
-use Rattle.dms_wal.proofs.Roomed.{then_leave}
 use Rattle.dms_wal.proofs.Stepped.{passes_step, stays_step}
 use Rattle.dms_wal.proofs.Marked.{mark_on}
 use Rattle.dms_wal.proofs.Under.{under_on}
@@ -68,7 +66,7 @@ module _ {S : Type 0} (g : Ghosts S) (r : Running S) (u : IsRunningUsable g r) w
 
 -- ---- what waits is sealed, and then the site is synced
 
-module _ (a m : LogView) (same : telling m ≡ telling a) (nothing : LogsNothing a m) (files : Files) (later : Clock Left) (still : files ≡ m.files) where
+module _ (a m : LogView) (nothing : LogsNothing a m) (files : Files) (later : Clock Left) (still : files ≡ m.files) where
   abbrev pub last : LogView
   last = view m.end m.first files later
 
@@ -84,9 +82,6 @@ module _ (a m : LogView) (same : telling m ≡ telling a) (nothing : LogsNothing
 
   pub then_runs : LogRuns m → Steps Same m.clock later → LogRuns last
   then_runs r steps = runs_still m files later still r (steps_weaken steps (λ x y now is. ap (λ (l : Left). l.files) is))
-
-  pub then_leaves : ((t : ℕ) (x : Left) → t ≤ m.clock.now → Now m.clock x → m.clock.left t x) → Steps Same m.clock later → logs.LogLeaves a m (points a) (logs.next a) → logs.LogLeaves a last (points a) (logs.next a)
-  then_leaves counts steps leaves = then_leave a m last same leaves (look_leaves (telling m) (state m) later (points m) (logs.next m) counts steps) nothing.points_same nothing.durable_kept nothing.next_same
 
 pub look_silent : {a b : Clock Left} → Steps Same a b → Steps PrintsNothing a b
 look_silent steps = steps_weaken steps (λ x y now is. ap (λ (l : Left). l.said) is)

@@ -1,5 +1,5 @@
 -- How the audit of a running database grows with what the database is used for.
-use Rattle.std.specs.Prelude.{ℕ, zero, suc, ◌+◌, ◌-◌, ◌*◌, ◌^◌, ◌<◌, ◌≤◌, ◌≡◌, Bool, true, false, IsTrue, if◌then◌else◌, List, [], ◌∷◌, ◌++◌, length}
+use Rattle.std.specs.Prelude.{ℕ, zero, suc, ◌+◌, ◌-◌, ◌*◌, ◌^◌, ◌<◌, ◌≤◌, ◌≡◌, IsTrue, if◌then◌else◌, List, ◌++◌, length}
 use Rattle.std.specs.declared.result.Result.{Result}
 use Rattle.std.specs.declared.result.Result.TheVariants.{Ok, Err}
 use Rattle.dms_site.specs.declared.site.Site.{Ghosts}
@@ -7,7 +7,8 @@ use Rattle.dms_site.specs.Files.{Files}
 use Rattle.dms_block.specs.declared.block_fault.BlockFault.{BlockFault}
 use Rattle.dms_block.specs.declared.block_fault.BlockFault.TheVariants.{Disk}
 use Rattle.dms_history.specs.Entries.{Entry}
-use Rattle.dms_restore.specs.Logging.{LogView, entries, telling}
+use Rattle.dms_audfile.specs.Ends.{Grown}
+use Rattle.dms_restore.specs.Logging.{LogGrows, LogView, entries, telling}
 use Rattle.dms_wal.specs.declared.running.Running.{Running}
 use Rattle.dms_wal.specs.Controls.{is_due_at}
 use Rattle.dms_restore.specs.Views.{view_of}
@@ -38,8 +39,12 @@ pub record IsCounted {S : Type 0} (r : Running S) : Type 0 where
 abbrev pub HasStayed : ℕ → ℕ → Type 0
 HasStayed old new = (new ≤ old) × (new < 2 ^ 64 - 1)
 
--- The uses of a running database only rise, and so does its next number. Where no call of its site failed meanwhile, its audit grew by no more
--- entries than it accounts for.
+-- Its trail is the one of before and some blocks behind it, each of which is in its grammar and holds an entry.
+abbrev pub TrailGrows : {S : Type 0} → Ghosts S → Running S → Running S → Type 0
+TrailGrows g a b = IsTrue g.tells → LogGrows (view_of g a.log) (view_of g b.log)
+
+-- The uses of a running database only rise, and so does its next number. Its trail grows by blocks that hold an entry alone. Where no call of its
+-- site failed meanwhile, its audit grew by no more entries than it accounts for.
 pub record GrowsBy {S : Type 0} (g : Ghosts S) (a b : Running S) : Type 0 where
   pub every : b.every ≡ a.every
   pub spent : a.spent ≤ b.spent
@@ -47,6 +52,7 @@ pub record GrowsBy {S : Type 0} (g : Ghosts S) (a b : Running S) : Type 0 where
   pub outs : a.outs ≤ b.outs
   pub next : a.next ≤ b.next
   pub disk : g.disk_faults a.log.site ≤ g.disk_faults b.log.site
+  pub grown : TrailGrows g a b
   pub grows : IsTrue g.tells → HasStayed (g.disk_faults a.log.site) (g.disk_faults b.log.site) → IsCounted b
       → length (entries (view_of g b.log)) + accounts a ≤ length (entries (view_of g a.log)) + accounts b
 
@@ -58,3 +64,9 @@ FilesGrew n v files = length ((telling v).entries files) ≤ length (entries v) 
 abbrev pub GivesGrown : {S : Type 0} → Ghosts S → ℕ → LogView → Result S (BlockFault × S) → Type 0
 GivesGrown g n v (Ok s) = IsTrue g.tells → FilesGrew n v (g.files s)
 GivesGrown g n v (Err e) = (e.0 ≡ Disk → ⊥) → IsTrue g.tells → FilesGrew n v (g.files e.1)
+
+-- The trail of the site that a call gives back, whatever it answers, is the one that a log has, and some blocks behind it, each of which is in its
+-- grammar and holds an entry.
+abbrev pub GivesTrail : {S : Type 0} → Ghosts S → LogView → Result S (BlockFault × S) → Type 0
+GivesTrail g v (Ok s) = IsTrue g.tells → Grown v.end.total v.first v.files (g.files s)
+GivesTrail g v (Err e) = IsTrue g.tells → Grown v.end.total v.first v.files (g.files e.1)

@@ -4,6 +4,7 @@ pub mod Database
 pub mod Starting
 pub mod Faults
 pub mod Writing
+pub mod Passing
 pub mod Changing
 pub mod Controls
 pub mod Closing

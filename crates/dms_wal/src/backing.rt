@@ -1,12 +1,11 @@
 //! Going back to the last quiet point.
 
 ghost use Rattle.std.specs.Prelude.{◌≡◌, ◌⊎◌, ◌<◌, IfErr, IsErrOf, IsTrue, OnOk, false, true};
-ghost use Rattle.dms_moments.specs.Moments.{Steps};
 ghost use Rattle.dms_block.specs.Held.{HasCauses, MakesNoPoint, Stays, WentBack};
 ghost use Rattle.dms_audfile.specs.Counting.{CountedAt};
 ghost use Rattle.dms_restore.specs.BackOuts.{FilesStay, IsBackFault, SealedAlone, WentBackTo};
 ghost use Rattle.dms_restore.specs.Logging as logs;
-ghost use Rattle.dms_restore.specs.Logging.{Ends, points, LogLeaves, LogRuns, PrintsNothing, trail_of};
+ghost use Rattle.dms_restore.specs.Logging.{Ends, points, LogRuns};
 ghost use Rattle.dms_restore.specs.Views.{view_of};
 ghost use Rattle.dms_wal.specs.BackOuts.{entries_back, WentBackFrom};
 ghost use Rattle.dms_wal.specs.Controls.{KeepsPace};
@@ -15,6 +14,7 @@ ghost use Rattle.dms_wal.specs.Marks.{IsDescription, IsMarkOf};
 ghost use Rattle.dms_wal.specs.Database.{held};
 ghost use Rattle.dms_wal.specs.Faults.{IsSeenInBack};
 ghost use Rattle.dms_wal.specs.Growing.{GrowsBy, LogsAtMost};
+ghost use Rattle.dms_wal.specs.Passing.{LogPasses};
 
 use crate::Running;
 use crate::closing::LAST_AUDIT_FILE;
@@ -51,21 +51,14 @@ fn go_back<S: Site>(
     requires numbered { IsTrue S.tells → next ≡ logs.next (view_of S.Site log.old) }
     requires pointed { IsTrue S.tells → IsMarkOf (points (view_of S.Site log.old)) point marks.now }
     ensures back { OnOk result (IsTrue S.tells → WentBackTo point (view_of S.Site log.old) (view_of S.Site log.new) (entries_back point schema.now next marks.now)) }
-    ensures moments { IsTrue S.tells → let a = view_of S.Site log.old in LogLeaves a (view_of S.Site log.new) (points a) (logs.next a) }
-    ensures silent { IsTrue S.tells → Steps PrintsNothing (S.clock log.old.site) (S.clock log.new.site) }
-    ensures kind { trail_of (view_of S.Site log.new) ≡ trail_of (view_of S.Site log.old) }
-    ensures trail { (log.new.end.total ≡ log.old.end.total) × (log.new.first ≡ log.old.first) }
-    ensures limit { log.new.end.limit ≡ log.old.end.limit }
+    ensures passes { LogPasses S.Site log.old log.new }
     ensures only { IfErr result (IsBackFault 9999) }
     ensures memory { IsErrOf result AudFault.Memory → IsTrue S.tells → SealedAlone (view_of S.Site log.old) (view_of S.Site log.new) }
     ensures idle { IsErrOf result AudFault.Memory → log.old.end.used ≡ 0 → IsTrue S.tells → FilesStay (view_of S.Site log.old) (view_of S.Site log.new) }
     ensures few { (IsErrOf result AudFault.Disk → ⊥) → IsTrue S.tells → LogsAtMost 19 (view_of S.Site log.old) (view_of S.Site log.new) }
     ensures ends { IsErrOf result (AudFault.Full 9999) → IsTrue S.tells → Ends (view_of S.Site log.new) }
     ensures full { IsErrOf result (AudFault.Full 9999) → (log.new.end.used ≡ 0) × (19999 < log.new.end.file) }
-    ensures said { S.said log.new.site ≡ S.said log.old.site }
-    ensures same_site { S.same_site log.old.site log.new.site }
     ensures disk { CountedAt (IsErrOf result AudFault.Disk) (S.disk_faults log.old.site) (S.disk_faults log.new.site) }
-    ensures say_faults { S.say_faults log.new.site ≡ S.say_faults log.old.site }
 {
     let mut room = [0u8; 1600];
     let used = count_bytes(marks, &mut room);

@@ -20,7 +20,7 @@ impl<S: Site> Blocks for Running<S> {
 
     ghost same_again = { λ r. (S.Site.same_again r.log.site, pace_none r, grows_none r) };
 
-    ghost same_then = { λ a b c one two. (S.Site.same_then a.log.site b.log.site c.log.site one.0 two.0, pace_on one.1 two.1, grows_on one.2 two.2) };
+    ghost same_then = { λ a b c one two. (S.Site.same_then a.log.site b.log.site c.log.site one.0 two.0, pace_on one.1 two.1, grows_on one.1 one.2 two.2) };
 
     fn count(&self, file: u32) -> u32 {
         Running::count(self, file)

@@ -3,17 +3,17 @@
 ghost use Rattle.std.specs.Prelude.{◌≡◌, ◌≤◌, ◌<◌, ◌+◌, ◌-◌, ◌^◌, [], ◌∷◌, IfErr, IfOk, IfSome, IsErrOf, IsTrue, OnOk, length, min, option_map, true};
 ghost use Rattle.std.specs.Option.{option_copied};
 ghost use Rattle.dms_base.specs.Causes.{HasCause};
-ghost use Rattle.dms_moments.specs.Moments.{Steps};
 ghost use Rattle.dms_block.specs.Content.{changed, grown, limit, raised, FitsIn};
 ghost use Rattle.dms_block.specs.Held.{Alters, HasCauses, Looks};
-ghost use Rattle.dms_restore.specs.Logging.{entries, points, next, PrintsNothing, LogLeaves, trail_of};
+ghost use Rattle.dms_restore.specs.Logging.{entries};
 ghost use Rattle.dms_restore.specs.Views.{view_of};
 ghost use Rattle.dms_restore.specs.Counts.{count_of};
 ghost use Rattle.dms_wal.specs.Lifting.{owns_of};
 ghost use Rattle.dms_wal.specs.Controls.{KeepsPace};
 ghost use Rattle.dms_wal.specs.Database.{held, HoldsCounted};
 ghost use Rattle.dms_wal.specs.Faults.{StandsFull};
-ghost use Rattle.dms_wal.specs.Growing.{GrowsBy};
+ghost use Rattle.dms_wal.specs.Growing.{GrowsBy, TrailGrows};
+ghost use Rattle.dms_wal.specs.Passing.{LogPasses};
 ghost use Rattle.dms_wal.specs.Changing.{DamagedOnly, HasChange, IsImaged, KeepsLog, LogsChanges, LogsFirst, TellsOld};
 
 use crate::Running;
@@ -60,16 +60,9 @@ fn keep<S: Site>(
     requires imaged { IsTrue S.tells → IsImaged (view_of S.Site log.old) pool.old id.file id.block block.now.0 }
     ensures kept { OnOk result (IsTrue S.tells → KeepsLog (view_of S.Site log.old) (view_of S.Site log.new) pool.new) }
     ensures counted { (counts : _) → HoldsCounted pool.old counts → id.block < count_of counts id.file → HoldsCounted pool.new counts }
-    ensures moments { IsTrue S.tells → let a = view_of S.Site log.old in LogLeaves a (view_of S.Site log.new) (points a) (next a) }
-    ensures silent { IsTrue S.tells → Steps PrintsNothing (S.clock log.old.site) (S.clock log.new.site) }
-    ensures kind { trail_of (view_of S.Site log.new) ≡ trail_of (view_of S.Site log.old) }
-    ensures limit { log.new.end.limit ≡ log.old.end.limit }
-    ensures trail { (log.new.end.total ≡ log.old.end.total) × (log.new.first ≡ log.old.first) }
+    ensures passes { LogPasses S.Site log.old log.new }
     ensures only { IfErr result (λ e. e ≡ BlockFault.Disk) }
-    ensures said { S.said log.new.site ≡ S.said log.old.site }
-    ensures same_site { S.same_site log.old.site log.new.site }
     ensures faults { HasCause (S.disk_faults log.old.site) (S.disk_faults log.new.site) result }
-    ensures say_faults { S.say_faults log.new.site ≡ S.say_faults log.old.site }
 {
     let held = pool.get(id).is_some();
     if !held && !pool.room() {
@@ -137,6 +130,7 @@ impl<S: Site> Running<S> {
         ensures pace { KeepsPace self.old self.new }
         ensures broken { IfErr result (λ e. self.new.broken ≡ true) }
         ensures kept { IfErr result (λ e. (e ≡ BlockFault.Disk → ⊥) → IsTrue S.tells → entries (view_of S.Site self.new.log) ≡ entries (view_of S.Site self.old.log)) }
+        ensures grown { TrailGrows S.Site self.old self.new }
         ensures same { S.same_site self.old.log.site self.new.log.site }
     {
         match self.before(change.id) {
@@ -159,6 +153,7 @@ impl<S: Site> Running<S> {
         ensures pace { KeepsPace self.old self.new }
         ensures broken { IfErr result (λ e. self.new.broken ≡ true) }
         ensures kept { IfErr result (λ e. (e ≡ BlockFault.Disk → ⊥) → IsTrue S.tells → entries (view_of S.Site self.new.log) ≡ entries (view_of S.Site self.old.log)) }
+        ensures grown { TrailGrows S.Site self.old self.new }
         ensures same { S.same_site self.old.log.site self.new.log.site }
     {
         if let Some(block) = self.pool.get(id) {
@@ -196,6 +191,7 @@ impl<S: Site> Running<S> {
         ensures pace { KeepsPace self.old self.new }
         ensures broken { IfErr result (λ e. self.new.broken ≡ true) }
         ensures kept { IfErr result (λ e. (e ≡ BlockFault.Disk → ⊥) → IsTrue S.tells → entries (view_of S.Site self.new.log) ≡ entries (view_of S.Site self.old.log)) }
+        ensures grown { TrailGrows S.Site self.old self.new }
         ensures same { S.same_site self.old.log.site self.new.log.site }
     {
         let id = change.id;

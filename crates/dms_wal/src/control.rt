@@ -2,16 +2,16 @@
 
 ghost use Rattle.std.specs.Prelude.{◌≡◌, ◌⊎◌, ◌<◌, IfErr, IsErrOf, IsTrue, OnOk, [], false, true};
 ghost use Rattle.dms_base.specs.Causes.{HasCause};
-ghost use Rattle.dms_moments.specs.Moments.{Steps};
 ghost use Rattle.dms_site.specs.Files.{Only};
 ghost use Rattle.dms_block.specs.Held.{HasCauses, Looks, MadeDurable, MakesNoPoint, Used};
 ghost use Rattle.dms_pool.specs.Held.{is_dirty, to_write};
-ghost use Rattle.dms_restore.specs.Logging.{Ends, waits, points, next, LogLeaves, LogRuns, LogsNothing, PrintsNothing, trail_of};
+ghost use Rattle.dms_restore.specs.Logging.{Ends, waits, LogRuns, LogsNothing, trail_of};
 ghost use Rattle.dms_restore.specs.Views.{view_of};
 ghost use Rattle.dms_wal.specs.Controls.{IsSettled, KeepsFields, MakesControl, TellsSame};
 ghost use Rattle.dms_wal.specs.Database.{held};
 ghost use Rattle.dms_wal.specs.Faults.{StandsFull};
-ghost use Rattle.dms_wal.specs.Growing.{LogsAtMost};
+ghost use Rattle.dms_wal.specs.Growing.{LogsAtMost, TrailGrows};
+ghost use Rattle.dms_wal.specs.Passing.{LogPasses};
 
 use crate::Running;
 use crate::faults::append_fault;
@@ -27,16 +27,9 @@ fn make_stable<S: Site>(log: &mut Log<S>) -> Result<(), BlockFault>
     ensures nothing { OnOk result (IsTrue S.tells → LogsNothing (view_of S.Site log.old) (view_of S.Site log.new)) }
     ensures waits { OnOk result (IsTrue S.tells → waits log.new.end ≡ []) }
     ensures stable { OnOk result (IsTrue S.tells → Only (S.files log.new.site) (S.clock log.new.site)) }
-    ensures moments { IsTrue S.tells → let a = view_of S.Site log.old in LogLeaves a (view_of S.Site log.new) (points a) (next a) }
-    ensures silent { IsTrue S.tells → Steps PrintsNothing (S.clock log.old.site) (S.clock log.new.site) }
-    ensures kind { trail_of (view_of S.Site log.new) ≡ trail_of (view_of S.Site log.old) }
-    ensures limit { log.new.end.limit ≡ log.old.end.limit }
-    ensures trail { (log.new.end.total ≡ log.old.end.total) × (log.new.first ≡ log.old.first) }
+    ensures passes { LogPasses S.Site log.old log.new }
     ensures only { IfErr result (λ e. e ≡ BlockFault.Disk) }
-    ensures said { S.said log.new.site ≡ S.said log.old.site }
-    ensures same_site { S.same_site log.old.site log.new.site }
     ensures faults { HasCause (S.disk_faults log.old.site) (S.disk_faults log.new.site) result }
-    ensures say_faults { S.say_faults log.new.site ≡ S.say_faults log.old.site }
 {
     match log.sync() {
         Ok(()) => {}
@@ -61,6 +54,7 @@ impl<S: Site> Running<S> {
         ensures causes { HasCauses result (held S.Site self.old) (held S.Site self.new) }
         ensures only { IfErr result (λ e. e ≡ BlockFault.Disk) }
         ensures broken { IfErr result (λ e. self.new.broken ≡ true) }
+        ensures grown { TrailGrows S.Site self.old self.new }
         ensures same { S.same_site self.old.log.site self.new.log.site }
     {
         match self.pool.peek(id) {
@@ -89,6 +83,7 @@ impl<S: Site> Running<S> {
         ensures causes { HasCauses result (held S.Site self.old) (held S.Site self.new) }
         ensures only { IfErr result (λ e. e ≡ BlockFault.Disk) }
         ensures broken { IfErr result (λ e. self.new.broken ≡ true) }
+        ensures grown { TrailGrows S.Site self.old self.new }
         ensures same { S.same_site self.old.log.site self.new.log.site }
     {
         while let Some(id) = self.pool.dirty() {
@@ -112,6 +107,7 @@ impl<S: Site> Running<S> {
         ensures causes { HasCauses result (held S.Site self.old) (held S.Site self.new) }
         ensures only { IfErr result (λ e. e ≡ BlockFault.Disk) }
         ensures broken { IfErr result (λ e. self.new.broken ≡ true) }
+        ensures grown { TrailGrows S.Site self.old self.new }
         ensures same { S.same_site self.old.log.site self.new.log.site }
     {
         match self.write_changed() {
@@ -147,6 +143,7 @@ impl<S: Site> Running<S> {
         ensures silent { IsErrOf result BlockFault.Say → ⊥ }
         ensures broken { IfErr result (λ e. self.new.broken ≡ true) }
         ensures few { (IsErrOf result BlockFault.Disk → ⊥) → IsTrue S.tells → LogsAtMost 18 (view_of S.Site self.old.log) (view_of S.Site self.new.log) }
+        ensures grown { TrailGrows S.Site self.old self.new }
         ensures same { S.same_site self.old.log.site self.new.log.site }
     {
         let mut room = [0u8; 1600];
@@ -185,6 +182,7 @@ impl<S: Site> Running<S> {
         ensures silent { IsErrOf result BlockFault.Say → ⊥ }
         ensures broken { IfErr result (λ e. self.new.broken ≡ true) }
         ensures few { (IsErrOf result BlockFault.Disk → ⊥) → IsTrue S.tells → LogsAtMost 18 (view_of S.Site self.old.log) (view_of S.Site self.new.log) }
+        ensures grown { TrailGrows S.Site self.old self.new }
         ensures same { S.same_site self.old.log.site self.new.log.site }
     {
         match self.settle() {

@@ -8,7 +8,7 @@ ghost use Rattle.dms_restore.specs.Views.{view_of};
 ghost use Rattle.dms_wal.specs.Controls.{is_due, is_due_at, KeepsFields, KeepsPace, MakesControl};
 ghost use Rattle.dms_wal.specs.Database.{held};
 ghost use Rattle.dms_wal.specs.Faults.{lacks_room, StandsFull};
-ghost use Rattle.dms_wal.specs.Growing.{GrowsBy};
+ghost use Rattle.dms_wal.specs.Growing.{GrowsBy, TrailGrows};
 
 use crate::Running;
 use crate::faults::append_fault;
@@ -40,6 +40,7 @@ impl<S: Site> Running<S> {
         ensures number { HasNextNumber (held S.Site self.old) → IfOk result (λ n. n ≡ (held S.Site self.old).next) }
         ensures made { OnOk result (MadeQuiet (held S.Site self.old) (held S.Site self.new)) }
         ensures not_fallen { (held S.Site self.old).next ≤ (held S.Site self.new).next }
+        ensures one_number { (held S.Site self.new).next ≤ (held S.Site self.old).next + 1 }
         ensures said { (held S.Site self.new).said ≡ (held S.Site self.old).said }
         ensures leaves { let a = held S.Site self.old in IfTold a (Leaves a (held S.Site self.new) (a.points ++ a.here ∷ []) (a.next + 1)) }
         ensures lasts { Lasts (held S.Site self.old) (held S.Site self.new) }
@@ -120,6 +121,7 @@ impl<S: Site> Running<S> {
         ensures silent { IsErrOf result BlockFault.Say → ⊥ }
         ensures kept { KeepsFields self.old self.new }
         ensures broken { IfErr result (λ e. self.new.broken ≡ true) }
+        ensures grown { TrailGrows S.Site self.old self.new }
         ensures same { S.same_site self.old.log.site self.new.log.site }
     {
         match self.log.sync() {

@@ -9,7 +9,7 @@ ghost use Rattle.dms_restore.specs.Views.{view_of};
 ghost use Rattle.dms_wal.specs.Changing.{DamagedOnly};
 ghost use Rattle.dms_wal.specs.Controls.{KeepsPace};
 ghost use Rattle.dms_wal.specs.Database.{held};
-ghost use Rattle.dms_wal.specs.Growing.{GrowsBy};
+ghost use Rattle.dms_wal.specs.Growing.{GrowsBy, TrailGrows};
 
 use crate::Running;
 use dms_block::{Block, BlockFault, BlockId};
@@ -51,6 +51,7 @@ impl<S: Site> Running<S> {
         ensures pace { KeepsPace self.old self.new }
         ensures broken { IfErr result (λ e. self.new.broken ≡ true) }
         ensures logs { (IsErrOf result BlockFault.Disk → ⊥) → IsTrue S.tells → entries (view_of S.Site self.new.log) ≡ entries (view_of S.Site self.old.log) }
+        ensures grown { TrailGrows S.Site self.old self.new }
         ensures same { S.same_site self.old.log.site self.new.log.site }
     {
         match self.make_room() {
@@ -81,6 +82,7 @@ impl<S: Site> Running<S> {
         ensures silent { IsErrOf result BlockFault.Say → ⊥ }
         ensures pace { KeepsPace self.old self.new }
         ensures broken { IfErr result (λ e. self.new.broken ≡ true) }
+        ensures grown { TrailGrows S.Site self.old self.new }
         ensures same { S.same_site self.old.log.site self.new.log.site }
     {
         let mut buffer = [0u8; 1024];

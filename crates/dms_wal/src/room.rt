@@ -2,14 +2,15 @@
 
 ghost use Rattle.std.specs.Prelude.{◌≡◌, ◌<◌, IfErr, IsTrue, None, OnOk, true};
 ghost use Rattle.dms_base.specs.Causes.{HasCause};
-ghost use Rattle.dms_moments.specs.Moments.{Steps};
 ghost use Rattle.dms_block.specs.Content.{block_in, limit};
 ghost use Rattle.dms_block.specs.Held.{HasCauses, Looks};
 ghost use Rattle.dms_pool.specs.Held.{frame_of};
-ghost use Rattle.dms_restore.specs.Logging.{entries, points, next, content, IsChangedBlock, PrintsNothing, LogLeaves, LogRuns, trail_of};
+ghost use Rattle.dms_restore.specs.Logging.{entries, content, IsChangedBlock, LogRuns};
 ghost use Rattle.dms_restore.specs.Views.{view_of};
 ghost use Rattle.dms_wal.specs.Controls.{KeepsPace};
 ghost use Rattle.dms_wal.specs.Database.{held};
+ghost use Rattle.dms_wal.specs.Growing.{TrailGrows};
+ghost use Rattle.dms_wal.specs.Passing.{LogPasses};
 ghost use Rattle.dms_wal.specs.Writing.{WritesBack};
 
 use crate::Running;
@@ -30,16 +31,9 @@ pub(crate) fn write_back<S: Site>(
     requires block { IsTrue S.tells → block_in (content (view_of S.Site log.old)) id.file id.block ≡ block.now.0 }
     ensures runs { OnOk result (IsTrue S.tells → LogRuns (view_of S.Site log.new)) }
     ensures back { OnOk result (IsTrue S.tells → WritesBack (view_of S.Site log.old) (view_of S.Site log.new) id.file id.block block.now.0) }
-    ensures moments { IsTrue S.tells → let a = view_of S.Site log.old in LogLeaves a (view_of S.Site log.new) (points a) (next a) }
-    ensures silent { IsTrue S.tells → Steps PrintsNothing (S.clock log.old.site) (S.clock log.new.site) }
-    ensures kind { trail_of (view_of S.Site log.new) ≡ trail_of (view_of S.Site log.old) }
-    ensures limit { log.new.end.limit ≡ log.old.end.limit }
-    ensures trail { (log.new.end.total ≡ log.old.end.total) × (log.new.first ≡ log.old.first) }
+    ensures passes { LogPasses S.Site log.old log.new }
     ensures only { IfErr result (λ e. e ≡ BlockFault.Disk) }
-    ensures said { S.said log.new.site ≡ S.said log.old.site }
-    ensures same_site { S.same_site log.old.site log.new.site }
     ensures faults { HasCause (S.disk_faults log.old.site) (S.disk_faults log.new.site) result }
-    ensures say_faults { S.say_faults log.new.site ≡ S.say_faults log.old.site }
 {
     match log.sync() {
         Ok(()) => {}
@@ -63,6 +57,7 @@ impl<S: Site> Running<S> {
         ensures fewer { (id : _) → frame_of id self.old.pool ≡ None → frame_of id self.new.pool ≡ None }
         ensures pace { KeepsPace self.old self.new }
         ensures broken { IfErr result (λ e. self.new.broken ≡ true) }
+        ensures grown { TrailGrows S.Site self.old self.new }
         ensures same { S.same_site self.old.log.site self.new.log.site }
     {
         if self.pool.room() {

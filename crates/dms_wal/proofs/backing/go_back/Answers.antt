@@ -30,12 +30,21 @@ returns-clause-back g c = one_ok c.back_out-done.result c.back_out-done.ensures.
     (went_to c.back_out-done.new.self.end _ (record { file = refl; total = refl; tag = refl; count = refl; used = refl; block = refl }) c.back_out-done.new.self.first _ _ (view_of g.S.Site c.args.log.now) c.args.point _
     (went_from c.args.log.now.end _ (record { file = refl; total = refl; tag = refl; count = refl; used = refl; block = refl }) c.args.log.now.first _ _ (view_of g.S.Site c.back_out-done.new.self) c.args.point _ (back tells))))
 
-pub returns-clause-moments : goal.returns-clause-moments
-returns-clause-moments g c tells =
-    leaves_with c.args.log.now.end _ (record { file = refl; total = refl; tag = refl; count = refl; used = refl; block = refl }) c.args.log.now.first _ _ _ (c.back_out-done.ensures.moments tells)
-
-pub returns-clause-kind : goal.returns-clause-kind
-returns-clause-kind g c = λ i. record { total = c.back_out-done.ensures.kind.0 i; first = c.back_out-done.ensures.kind.3 i }
+pub returns-clause-passes : goal.returns-clause-passes
+returns-clause-passes g c =
+    let e = c.back_out-done.ensures in
+    record {
+      moments = λ tells. leaves_with c.args.log.now.end _ (record { file = refl; total = refl; tag = refl; count = refl; used = refl; block = refl }) c.args.log.now.first _ _ _ (e.moments tells);
+      grown = e.grown;
+      silent = e.silent;
+      kind = λ i. record { total = e.kind.0 i; first = e.kind.3 i };
+      limit = refl;
+      total = e.kind.0;
+      first = e.kind.3;
+      said = e.said;
+      same_site = e.same_site;
+      say_faults = e.say_faults;
+    }
 
 pub returns-clause-memory : goal.returns-clause-memory
 returns-clause-memory g c memory tells =

@@ -46,7 +46,7 @@ loop-change-preserved g c =
       logs = λ t. logs_more all c.as_slice-items.result.now c.loop-change.change-index no_change_of c.as_slice-items.ensures c.loop-change-test.true (view_of g.S.Site c.args.self.now.log) (view_of g.S.Site a.log) (view_of g.S.Site b.log)
           (was.logs t) (was.made.content t) (c.in-Ok.ensures.logs t);
       pace = pace_on was.pace (let p = c.change.ensures.pace in record { every = p.every; limit = p.limit; total = p.total; first = p.first; schema = p.schema });
-      grows = grows_on was.grows (grows_logged g.S.Site a _ c.change.ensures.pace.every (omega (arith, was.counted, rose)) (omega (arith, made.passes.next)) (disk_kept {T = Unit {0}} (Ok tt) (held g.S.Site a) (held g.S.Site b) c.in-Ok.ensures.causes) made.uses.syncs made.uses.outs
+      grows = grows_on was.pace was.grows (grows_logged g.S.Site a _ c.change.ensures.pace.every (omega (arith, was.counted, rose)) (omega (arith, made.passes.next)) (disk_kept {T = Unit {0}} (Ok tt) (held g.S.Site a) (held g.S.Site b) c.in-Ok.ensures.causes) c.change.ensures.grown made.uses.syncs made.uses.outs
           (λ tells stayed counted. omega (arith, change_more g.S.Site a b _ c.in-Ok.ensures.logs tells, rose, was.counted, counted.spent, made.passes.next)));
       counted = refl;
       spent = omega (arith, was.spent, rose, longer_take all c.as_slice-items.result.now c.loop-change.change-index no_change_of c.as_slice-items.ensures c.loop-change-test.true);
@@ -63,7 +63,7 @@ returns-in-Err-clause-grows g c =
     let b = c.change.new.self in
     let alters = c.in-Err.ensures.alters in
     let uses = alters.uses in
-    grows_on c.loop-change.invariant.grows (grows_still g.S.Site a b c.change.ensures.pace.every uses.not_less (omega (arith, alters.passes.next)) (disk_kept {T = Unit {0}} (Err c.in-Err.fault) (held g.S.Site a) (held g.S.Site b) c.in-Err.ensures.causes) uses.syncs uses.outs
+    grows_on c.loop-change.invariant.pace c.loop-change.invariant.grows (grows_still g.S.Site a b c.change.ensures.pace.every uses.not_less (omega (arith, alters.passes.next)) (disk_kept {T = Unit {0}} (Err c.in-Err.fault) (held g.S.Site a) (held g.S.Site b) c.in-Err.ensures.causes) c.change.ensures.grown uses.syncs uses.outs
     (λ tells stayed. c.in-Err.ensures.kept (λ is. not_disk {T = Unit {0}} (Err c.in-Err.fault) (held g.S.Site a) (held g.S.Site b) c.in-Err.ensures.causes stayed (λ i. Err (is i))) tells))
 
 pub returns-in-Err-clause-part : goal.returns-in-Err-clause-part

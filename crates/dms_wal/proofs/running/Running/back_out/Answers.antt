@@ -13,10 +13,10 @@ pub returns-in-Err-clause-passes : goal.returns-in-Err-clause-passes
 returns-in-Err-clause-passes g c =
     let m = g.met.S.Site in
     let r = c.args.self.now in
-    passes_back g.S.Site m.may_stay m.now_said r c.requires c.go_back.new.log r.pool true r.changed _ _ r.counts (told_same c.go_back.ensures.kind) refl c.go_back.ensures.said c.go_back.ensures.moments c.go_back.ensures.silent
+    passes_back g.S.Site m.may_stay m.now_said r c.requires c.go_back.new.log r.pool true r.changed _ _ r.counts (told_same c.go_back.ensures.passes.kind) refl c.go_back.ensures.passes.said c.go_back.ensures.passes.moments c.go_back.ensures.passes.silent
 
 pub returns-in-Err-clause-causes : goal.returns-in-Err-clause-causes
-returns-in-Err-clause-causes g c = caused_back c.in-Err.fault c.back_fault.result 9999 _ _ c.in-Err.ensures.only c.back_fault.ensures c.in-Err.ensures.disk c.go_back.ensures.say_faults refl
+returns-in-Err-clause-causes g c = caused_back c.in-Err.fault c.back_fault.result 9999 _ _ c.in-Err.ensures.only c.back_fault.ensures c.in-Err.ensures.disk c.go_back.ensures.passes.say_faults refl
 
 pub returns-in-Err-clause-silent : goal.returns-in-Err-clause-silent
 returns-in-Err-clause-silent g c = back_silent c.in-Err.fault c.back_fault.result 9999 _ _ c.in-Err.ensures.only c.back_fault.ensures
@@ -31,7 +31,7 @@ pub returns-clause-passes : goal.returns-clause-passes
 returns-clause-passes g c =
     let m = g.met.S.Site in
     let r = c.args.self.now in
-    passes_back g.S.Site m.may_stay m.now_said r c.requires c.go_back.new.log _ r.broken false r.full _ _ (told_same c.go_back.ensures.kind) (ap length (c.copy_counts.ensures ∙ c.deref-3.ensures.value) ∙ c.requires.marked.as_many) c.go_back.ensures.said c.go_back.ensures.moments c.go_back.ensures.silent
+    passes_back g.S.Site m.may_stay m.now_said r c.requires c.go_back.new.log _ r.broken false r.full _ _ (told_same c.go_back.ensures.passes.kind) (ap length (c.copy_counts.ensures ∙ c.deref-3.ensures.value) ∙ c.requires.marked.as_many) c.go_back.ensures.passes.said c.go_back.ensures.passes.moments c.go_back.ensures.passes.silent
 
 pub returns-clause-stays : goal.returns-clause-stays
 returns-clause-stays g c =
@@ -50,10 +50,10 @@ returns-clause-content g c =
     (subst (λ (l : List ℕ). WentBackTo r.point (view_of g.S.Site r.log) (view_of g.S.Site c.go_back.new.log) (entries_back r.point c.deref.result.now r.next l)) c.deref-2.ensures.value (c.in-Ok.ensures.back t)))
 
 pub returns-in-Err-clause-pace : goal.returns-in-Err-clause-pace
-returns-in-Err-clause-pace g c = record { every = refl; limit = c.go_back.ensures.limit; total = c.go_back.ensures.trail.0; first = c.go_back.ensures.trail.1; schema = refl }
+returns-in-Err-clause-pace g c = record { every = refl; limit = c.go_back.ensures.passes.limit; total = c.go_back.ensures.passes.total; first = c.go_back.ensures.passes.first; schema = refl }
 
 pub returns-clause-pace : goal.returns-clause-pace
-returns-clause-pace g c = record { every = refl; limit = c.go_back.ensures.limit; total = c.go_back.ensures.trail.0; first = c.go_back.ensures.trail.1; schema = refl }
+returns-clause-pace g c = record { every = refl; limit = c.go_back.ensures.passes.limit; total = c.go_back.ensures.passes.total; first = c.go_back.ensures.passes.first; schema = refl }
 
 pub returns-in-Err-clause-memory : goal.returns-in-Err-clause-memory
 returns-in-Err-clause-memory g c is = c.in-Err.ensures.memory (back_memory c.in-Err.fault c.back_fault.result 9999 _ _ c.in-Err.ensures.only c.back_fault.ensures is)
@@ -66,14 +66,20 @@ returns-in-Err-clause-ends g c is = c.in-Err.ensures.ends (back_full c.in-Err.fa
 
 pub returns-in-Err-clause-grows : goal.returns-in-Err-clause-grows
 returns-in-Err-clause-grows g c =
-    grows_back g.S.Site c.args.self.now _ refl (omega arith) (omega arith) c.go_back.ensures.disk.later refl (omega (arith, c.saturating_add-self.ensures)) (omega (arith, c.saturating_add-self.ensures)) (λ tells stayed. c.go_back.ensures.few (λ is. rose_not _ _ (c.go_back.ensures.disk.failed is) stayed) tells)
+    grows_back g.S.Site c.args.self.now _ refl (omega arith) (omega arith) c.go_back.ensures.disk.later c.go_back.ensures.passes.grown refl (omega (arith, c.saturating_add-self.ensures)) (omega (arith, c.saturating_add-self.ensures)) (λ tells stayed. c.go_back.ensures.few (λ is. rose_not _ _ (c.go_back.ensures.disk.failed is) stayed) tells)
 
 pub returns-clause-grows : goal.returns-clause-grows
 returns-clause-grows g c =
-    grows_back g.S.Site c.args.self.now _ refl (omega arith) (omega arith) c.go_back.ensures.disk.later refl (omega (arith, c.saturating_add-self.ensures)) (omega (arith, c.saturating_add-self.ensures)) (λ tells stayed. c.go_back.ensures.few (λ is. rose_not _ _ (c.go_back.ensures.disk.failed is) stayed) tells)
+    grows_back g.S.Site c.args.self.now _ refl (omega arith) (omega arith) c.go_back.ensures.disk.later c.go_back.ensures.passes.grown refl (omega (arith, c.saturating_add-self.ensures)) (omega (arith, c.saturating_add-self.ensures)) (λ tells stayed. c.go_back.ensures.few (λ is. rose_not _ _ (c.go_back.ensures.disk.failed is) stayed) tells)
 
 pub returns-in-Err-clause-few : goal.returns-in-Err-clause-few
 returns-in-Err-clause-few g c off t = c.in-Err.ensures.few (λ is. off (back_disk c.in-Err.fault c.back_fault.result _ _ c.back_fault.ensures is)) t
 
 pub returns-clause-few : goal.returns-clause-few
 returns-clause-few g c off t = c.in-Ok.ensures.few (ok_not_disk _) t
+
+pub returns-clause-back : goal.returns-clause-back
+returns-clause-back g c t =
+    let r = c.args.self.now in
+    subst (λ (l : List ℕ). WentBackTo r.point (view_of g.S.Site r.log) (view_of g.S.Site c.go_back.new.log) (entries_back r.point l r.next r.marks.items)) c.deref.ensures.value
+    (subst (λ (l : List ℕ). WentBackTo r.point (view_of g.S.Site r.log) (view_of g.S.Site c.go_back.new.log) (entries_back r.point c.deref.result.now r.next l)) c.deref-2.ensures.value (c.in-Ok.ensures.back t))

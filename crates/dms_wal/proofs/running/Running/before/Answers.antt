@@ -2,9 +2,11 @@ use Rattle.std.specs.declared.result.Result.TheVariants.{Ok, Err}
 use Rattle.dms_block.specs.declared.block.Block.{Block}
 use Rattle.dms_block.specs.HeldLaws.{causes_on, looks_as, looks_err, looks_on, used_none}
 use Rattle.dms_wal.specs.Database.{held}
+use Rattle.dms_wal.specs.PaceLaws.{trail_none, trail_then}
 use Rattle.dms_wal.proofs.Fetched.{usable_asked}
 use Rattle.dms_wal.proofs.Stepped.{looks_sound}
-use Rattle.std.proofs.Common.{◌∙◌}
+use Rattle.std.proofs.Common.{ℕ, ◌∙◌, ap, arith}
+use Rattle.dms_block.specs.Content.{Content, block_in}
 use Rattle.dms_wal.proofs.running.Running.before.Goals as goal
 
 pub returns-in-Ok-fetch-clause-looks : goal.returns-in-Ok-fetch-clause-looks
@@ -31,3 +33,22 @@ returns-in-Err-clause-kept g c off = absurd (off c.in-Err.ensures.only)
 
 pub returns-in-Err-fetch-clause-kept : goal.returns-in-Err-fetch-clause-kept
 returns-in-Err-fetch-clause-kept g c off t = c.fetch.ensures.logs t ∙ c.in-Ok.ensures.logs t
+
+pub returns-in-Some-clause-grown : goal.returns-in-Some-clause-grown
+returns-in-Some-clause-grown g c = trail_none g.S.Site c.args.self.now
+
+pub returns-in-Ok-fetch-clause-grown : goal.returns-in-Ok-fetch-clause-grown
+returns-in-Ok-fetch-clause-grown g c = trail_then g.S.Site _ c.make_room.new.self c.fetch.new.self c.make_room.ensures.pace c.make_room.ensures.grown c.fetch.ensures.grown
+
+pub returns-in-Err-fetch-clause-grown : goal.returns-in-Err-fetch-clause-grown
+returns-in-Err-fetch-clause-grown g c = trail_then g.S.Site _ c.make_room.new.self c.fetch.new.self c.make_room.ensures.pace c.make_room.ensures.grown c.fetch.ensures.grown
+
+pub returns-in-Ok-fetch-clause-before : goal.returns-in-Ok-fetch-clause-before
+returns-in-Ok-fetch-clause-before g c t = (
+  omega (arith, c.if-id-count.true, c.count.ensures, ap (λ (k : ℕ → ℕ). k c.args.id.file) c.in-Ok.ensures.looks.counts, (c.requires.sound.goes t).counted c.args.id.file),
+  c.in-Ok-fetch.ensures.block t ∙ ap (λ (k : Content). block_in k c.args.id.file c.args.id.block) (c.in-Ok.ensures.looks.same.content t),
+)
+
+pub returns-else-id-count-clause-before : goal.returns-else-id-count-clause-before
+returns-else-id-count-clause-before g c t =
+    omega (arith, c.if-id-count.false, c.count.ensures, ap (λ (k : ℕ → ℕ). k c.args.id.file) c.in-Ok.ensures.looks.counts, (c.requires.sound.goes t).counted c.args.id.file, c.requires.place)

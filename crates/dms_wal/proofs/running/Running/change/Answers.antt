@@ -1,7 +1,11 @@
-use Rattle.std.proofs.Common.{ℕ, Bool, IsTrue, Option, sym, ◌∙◌, subst}
+use Rattle.std.proofs.Common.{ℕ, Bool, IsTrue, Option, sym, ◌∙◌, ap, subst}
+use Rattle.std.specs.Prelude.{option_map}
+use Rattle.dms_block.specs.Content.{Content, with_block}
+use Rattle.dms_history.specs.Replay.{TellsBefore}
 use Rattle.dms_block.specs.declared.block.Block.{Block}
 use Rattle.dms_block.specs.HeldLaws.{alters_on, causes_on}
 use Rattle.dms_wal.specs.Database.{held}
+use Rattle.dms_wal.specs.PaceLaws.{trail_then}
 use Rattle.dms_wal.proofs.Causes.{not_full}
 use Rattle.dms_restore.proofs.Results.{one_if_err, one_ok}
 use Rattle.dms_wal.proofs.Logged.{logs_from}
@@ -26,3 +30,14 @@ returns-in-Ok-clause-logs g c = one_ok c.log_change.result c.log_change.ensures.
 
 pub returns-in-Ok-clause-kept : goal.returns-in-Ok-clause-kept
 returns-in-Ok-clause-kept g c = one_if_err c.log_change.result c.log_change.ensures.kept (λ e kept off t. kept off t ∙ c.in-Ok.ensures.logs t)
+
+pub returns-in-Ok-clause-grown : goal.returns-in-Ok-clause-grown
+returns-in-Ok-clause-grown g c = trail_then g.S.Site c.args.self.now c.before-2.new.self c.log_change.new.self c.before-2.ensures.pace c.before-2.ensures.grown c.log_change.ensures.grown
+
+pub log_change-requires-clause-before : goal.log_change-requires-clause-before
+log_change-requires-clause-before g c t =
+    subst (λ (k : Content). TellsBefore c.args.change.now.id.block (option_map (λ (x : Block). x.0) c.in-Ok.before) (k c.args.change.now.id.file)) (sym (c.in-Ok.ensures.looks.same.content t)) (c.in-Ok.ensures.before t)
+
+pub returns-in-Ok-clause-content : goal.returns-in-Ok-clause-content
+returns-in-Ok-clause-content g c = one_ok c.log_change.result c.log_change.ensures.content (λ has t.
+    let x = c.args.change.now in has t ∙ ap (λ (k : Content). with_block k x.id.file x.id.block x.block.0) (c.in-Ok.ensures.looks.same.content t))

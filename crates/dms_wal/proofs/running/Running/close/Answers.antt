@@ -3,8 +3,9 @@ use Rattle.std.specs.declared.result.Result.TheVariants.{Err}
 use Rattle.dms_block.specs.declared.block_fault.BlockFault.TheVariants.{Disk}
 use Rattle.dms_block.specs.Counts.{Faults}
 use Rattle.dms_audfile.specs.Counting.{CountedAt}
+use Rattle.dms_audfile.specs.Ends.{Grown}
 use Rattle.dms_restore.proofs.Results.{one_if_ok, one_if_err}
-use Rattle.dms_wal.proofs.Grown.{files_few, files_more, gives_more, gives_on, ok_never, which_error}
+use Rattle.dms_wal.proofs.Grown.{files_few, files_more, gives_more, gives_on, gives_trail, ok_never, which_error}
 use Rattle.dms_wal.specs.Closing.{IsFullTrail, LeavesUntil, entries_control}
 use Rattle.dms_wal.specs.Database.{held}
 use Rattle.dms_restore.specs.Logging.{telling}
@@ -104,3 +105,9 @@ returns-in-Err-clause-few g c off tells =
     let v = view_of g.S.Site c.args.self.log in
     files_more 19 37 v (g.S.Site.files c.into_site.result) (omega arith)
     (files_few 19 v v (view_of g.S.Site c.back_out.new.self.log) refl (pace_kind c.back_out.ensures.pace) (c.in-Err.ensures.few (λ is. off (which_error c.in-Err.fault Disk is)) tells) (g.S.Site.files c.into_site.result) (ap g.S.Site.files c.into_site.ensures))
+
+pub returns-in-Ok-clause-grown : goal.returns-in-Ok-clause-grown
+returns-in-Ok-clause-grown g c = gives_trail g.S.Site c.args.self c.back_out.new.self c.close_by_control-in-Ok.result c.back_out.ensures.pace c.back_out.ensures.grows.grown c.close_by_control-in-Ok.ensures.grown
+
+pub returns-in-Err-clause-grown : goal.returns-in-Err-clause-grown
+returns-in-Err-clause-grown g c = λ tells. subst (λ (x : _). Grown c.args.self.log.end.total c.args.self.log.first (g.S.Site.files c.args.self.log.site) (g.S.Site.files x)) (sym c.into_site.ensures) (c.back_out.ensures.grows.grown tells)

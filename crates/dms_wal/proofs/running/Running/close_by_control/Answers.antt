@@ -1,6 +1,7 @@
 use Rattle.dms_wal.proofs.Lifts.{told_same}
 use Rattle.std.proofs.Common.{refl, sym, ◌∙◌, ap, subst}
 use Rattle.std.specs.declared.result.Result.TheVariants.{Err}
+use Rattle.dms_audfile.specs.Ends.{Grown}
 use Rattle.dms_wal.proofs.Closed.{full_trail, said_told}
 use Rattle.dms_wal.specs.Closing.{IsFullTrail}
 use Rattle.dms_restore.specs.Views.{view_of}
@@ -50,3 +51,9 @@ returns-in-Err-clause-few g c off tells =
     let log = c.args.self.log in
     files_few 18 (view_of g.S.Site log) _ (view_of g.S.Site c.control.new.self.log) (entries_alike log.end _ (record { file = refl; total = refl; tag = refl; count = refl; used = refl; block = refl }) log.first (g.S.Site.files log.site) (g.S.Site.clock log.site)) (told_same c.control.ensures.kind)
     (c.in-Err.ensures.few (λ is. off (which_error c.in-Err.fault Disk is)) tells) (g.S.Site.files c.into_site-in-Err.result) (ap g.S.Site.files c.into_site-in-Err.ensures)
+
+pub returns-in-Ok-clause-grown : goal.returns-in-Ok-clause-grown
+returns-in-Ok-clause-grown g c = λ tells. subst (λ (x : _). Grown c.args.self.log.end.total c.args.self.log.first (g.S.Site.files c.args.self.log.site) (g.S.Site.files x)) (sym c.into_site.ensures) (c.control.ensures.grown tells)
+
+pub returns-in-Err-clause-grown : goal.returns-in-Err-clause-grown
+returns-in-Err-clause-grown g c = λ tells. subst (λ (x : _). Grown c.args.self.log.end.total c.args.self.log.first (g.S.Site.files c.args.self.log.site) (g.S.Site.files x)) (sym c.into_site-in-Err.ensures) (c.control.ensures.grown tells)

@@ -5,6 +5,7 @@ use Rattle.dms_restore.proofs.Results.{one_ok}
 use Rattle.std.specs.declared.result.Result.TheVariants.{Err}
 use Rattle.dms_restore.specs.Views.{view_of}
 use Rattle.dms_wal.specs.Database.{held}
+use Rattle.dms_wal.specs.PaceLaws.{trail_then}
 use Rattle.dms_wal.proofs.Grown.{some_from}
 use Rattle.dms_wal.proofs.Controlling.{durable_on, makes_on}
 use Rattle.dms_wal.proofs.Keeping.{keeps_on}
@@ -38,3 +39,6 @@ returns-in-Err-clause-few g c off = absurd (off (λ i. Err (c.in-Err.ensures.onl
 
 pub returns-clause-few : goal.returns-clause-few
 returns-clause-few g c off t = some_from 18 (view_of g.S.Site c.args.self.now.log) (view_of g.S.Site c.settle.new.self.log) (view_of g.S.Site c.seal_control.new.self.log) (c.in-Ok.ensures.tells t).entries_same (c.seal_control.ensures.few off t)
+
+pub returns-clause-grown : goal.returns-clause-grown
+returns-clause-grown g c = trail_then g.S.Site c.args.self.now c.settle.new.self c.seal_control.new.self c.settle.ensures.kept.pace c.settle.ensures.grown c.seal_control.ensures.grown

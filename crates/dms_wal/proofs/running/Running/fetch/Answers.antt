@@ -3,6 +3,7 @@ use Rattle.std.proofs.lemmas.List.{length-replicate}
 use Rattle.dms_wal.proofs.Fetched.{fetched, not_whole, owned_by}
 use Rattle.dms_wal.proofs.Rooming.{looks_looked}
 use Rattle.dms_wal.proofs.Logged.{entries_still}
+use Rattle.dms_wal.proofs.Passes.{trail_kept}
 use Rattle.dms_wal.proofs.running.Running.fetch.Goals as goal
 
 pub returns-in-Ok-eq1024-clause-block : goal.returns-in-Ok-eq1024-clause-block
@@ -35,3 +36,12 @@ returns-in-Ok-clause-logs g c t = entries_still c.args.self.now.log.end c.args.s
 
 pub returns-in-Err-clause-logs : goal.returns-in-Err-clause-logs
 returns-in-Err-clause-logs g c t = entries_still c.args.self.now.log.end c.args.self.now.log.first _ _ (g.S.Site.clock c.args.self.now.log.site) (g.S.Site.clock c.read.new.self) (c.read.ensures.files t)
+
+pub returns-in-Ok-eq1024-clause-grown : goal.returns-in-Ok-eq1024-clause-grown
+returns-in-Ok-eq1024-clause-grown g c = λ tells. trail_kept c.args.self.now.log.end.total c.args.self.now.log.first _ _ (c.read.ensures.files tells)
+
+pub returns-in-Ok-clause-grown : goal.returns-in-Ok-clause-grown
+returns-in-Ok-clause-grown g c = λ tells. trail_kept c.args.self.now.log.end.total c.args.self.now.log.first _ _ (c.read.ensures.files tells)
+
+pub returns-in-Err-clause-grown : goal.returns-in-Err-clause-grown
+returns-in-Err-clause-grown g c = λ tells. trail_kept c.args.self.now.log.end.total c.args.self.now.log.first _ _ (c.read.ensures.files tells)

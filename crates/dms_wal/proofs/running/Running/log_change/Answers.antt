@@ -3,6 +3,7 @@ use Rattle.std.proofs.Common.{ℕ, IsTrue, List, Option, refl, sym, ◌∙◌, s
 use Rattle.std.specs.Option.{option_copied}
 use Rattle.std.proofs.Common.{inl}
 use Rattle.dms_history.specs.Replay.{TellsBefore}
+use Rattle.dms_restore.specs.GrowLaws.{log_grows_on}
 use Rattle.dms_restore.specs.Logging.{content}
 use Rattle.dms_restore.specs.Views.{view_of}
 use Rattle.dms_wal.proofs.Causes.{disk_not_full, disk_or_full, full_left}
@@ -36,9 +37,9 @@ returns-in-Ok-keep-clause-alters g c =
     let kind = kind_is c.image.ensures.kind.0 c.image.ensures.kind.3 in
     let id = c.args.change.now.id in
     let told = λ (t : IsTrue g.S.Site.tells). subst (λ (o : Option (List ℕ)). TellsBefore id.block o (content (view_of g.S.Site r.log) id.file)) (sym c.bytes_of.ensures.bytes) (c.requires.before t) in
-    alters_made g.S.Site m.may_stay m.now_said m.counts_now r u c.keep.new.log (told_same c.keep.ensures.kind ∙ kind) (c.keep.ensures.said ∙ c.image.ensures.said)
-    (then_left g.S.Site m.may_stay m.counts_now r u c.image.new.self c.keep.new.log id.file id.block (option_copied c.bytes_of.result) c.args.change.now.block.0 kind c.in-Ok.ensures.logs c.image.ensures.moments c.keep.ensures.moments)
-    (λ t. then_silent (c.image.ensures.silent t) (c.keep.ensures.silent t)) c.keep.new.pool _ c.raise.ensures.files
+    alters_made g.S.Site m.may_stay m.now_said m.counts_now r u c.keep.new.log (told_same c.keep.ensures.passes.kind ∙ kind) (c.keep.ensures.passes.said ∙ c.image.ensures.said)
+    (then_left g.S.Site m.may_stay m.counts_now r u c.image.new.self c.keep.new.log id.file id.block (option_copied c.bytes_of.result) c.args.change.now.block.0 kind c.in-Ok.ensures.logs c.image.ensures.moments c.keep.ensures.passes.moments)
+    (λ t. then_silent (c.image.ensures.silent t) (c.keep.ensures.passes.silent t)) c.keep.new.pool _ c.raise.ensures.files
     (usable_changed g.S.Site r u id c.args.change.now.block (option_copied c.bytes_of.result) c.requires.owned c.requires.low told c.image.new.self c.keep.new.log c.keep.new.pool _ c.in-Ok.ensures.logs c.in-Ok-keep.ensures.kept c.raise.ensures.raised c.raise.ensures.files
     (c.keep.ensures.counted _ (counted_more r.pool r.counts.items _ id.file id.block u.counted c.raise.ensures.raised) (raised_there r.counts.items _ id.file id.block c.raise.ensures.raised)))
     (λ t. (c.in-Ok-keep.ensures.kept t).points_same ∙ (c.in-Ok.ensures.logs t).points_same)
@@ -50,9 +51,9 @@ returns-in-Err-keep-clause-alters g c =
     let u = c.requires.sound in
     let kind = kind_is c.image.ensures.kind.0 c.image.ensures.kind.3 in
     let id = c.args.change.now.id in
-    alters_failed g.S.Site m.may_stay m.now_said m.counts_now r u c.keep.new.log (told_same c.keep.ensures.kind ∙ kind) (c.keep.ensures.said ∙ c.image.ensures.said)
-    (then_left g.S.Site m.may_stay m.counts_now r u c.image.new.self c.keep.new.log id.file id.block (option_copied c.bytes_of.result) c.args.change.now.block.0 kind c.in-Ok.ensures.logs c.image.ensures.moments c.keep.ensures.moments)
-    (λ t. then_silent (c.image.ensures.silent t) (c.keep.ensures.silent t)) c.in-Err-keep.fault (inl c.in-Err-keep.ensures.only) c.keep.new.pool _ _ c.raise.ensures.files
+    alters_failed g.S.Site m.may_stay m.now_said m.counts_now r u c.keep.new.log (told_same c.keep.ensures.passes.kind ∙ kind) (c.keep.ensures.passes.said ∙ c.image.ensures.said)
+    (then_left g.S.Site m.may_stay m.counts_now r u c.image.new.self c.keep.new.log id.file id.block (option_copied c.bytes_of.result) c.args.change.now.block.0 kind c.in-Ok.ensures.logs c.image.ensures.moments c.keep.ensures.passes.moments)
+    (λ t. then_silent (c.image.ensures.silent t) (c.keep.ensures.passes.silent t)) c.in-Err-keep.fault (inl c.in-Err-keep.ensures.only) c.keep.new.pool _ _ c.raise.ensures.files
 
 pub returns-in-Err-clause-full : goal.returns-in-Err-clause-full
 returns-in-Err-clause-full g c n is = full_left c.in-Err.fault c.append_fault.result _ _ n c.args.self.now.log.end c.image.new.self.end c.in-Err.ensures.only c.append_fault.ensures c.image.ensures.kind.2 c.in-Err.ensures.full is
@@ -71,3 +72,9 @@ returns-in-Err-clause-kept g c off t = kept_append c.in-Err.fault c.append_fault
 
 pub returns-in-Err-keep-clause-kept : goal.returns-in-Err-keep-clause-kept
 returns-in-Err-keep-clause-kept g c off = absurd (off c.in-Err-keep.ensures.only)
+
+pub returns-in-Ok-keep-clause-grown : goal.returns-in-Ok-keep-clause-grown
+returns-in-Ok-keep-clause-grown g c = λ t. log_grows_on (view_of g.S.Site c.args.self.now.log) (view_of g.S.Site c.image.new.self) (view_of g.S.Site c.keep.new.log) c.image.ensures.kind.0 c.image.ensures.kind.3 (c.image.ensures.grown t) (c.keep.ensures.passes.grown t)
+
+pub returns-in-Err-keep-clause-grown : goal.returns-in-Err-keep-clause-grown
+returns-in-Err-keep-clause-grown g c = λ t. log_grows_on (view_of g.S.Site c.args.self.now.log) (view_of g.S.Site c.image.new.self) (view_of g.S.Site c.keep.new.log) c.image.ensures.kind.0 c.image.ensures.kind.3 (c.image.ensures.grown t) (c.keep.ensures.passes.grown t)

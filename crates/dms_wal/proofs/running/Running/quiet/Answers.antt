@@ -35,11 +35,11 @@ returns-in-Err-clause-kept g c n is =
 
 pub returns-in-Ok-clause-grows : goal.returns-in-Ok-clause-grows
 returns-in-Ok-clause-grows g c =
-    grows_logged g.S.Site c.args.self.now _ refl (omega arith) (omega arith) c.quiet.ensures.disk.later refl refl (λ tells stayed counted. omega (arith, logged_quiet (view_of g.S.Site c.args.self.now.log) (view_of g.S.Site c.quiet.new.self) (c.in-Ok.ensures.logs tells)))
+    grows_logged g.S.Site c.args.self.now _ refl (omega arith) (omega arith) c.quiet.ensures.disk.later c.quiet.ensures.grown refl refl (λ tells stayed counted. omega (arith, logged_quiet (view_of g.S.Site c.args.self.now.log) (view_of g.S.Site c.quiet.new.self) (c.in-Ok.ensures.logs tells)))
 
 pub returns-in-Err-clause-grows : goal.returns-in-Err-clause-grows
 returns-in-Err-clause-grows g c =
-    grows_still g.S.Site c.args.self.now _ refl (omega arith) (omega arith) c.quiet.ensures.disk.later refl refl (λ tells stayed. kept_unless c.in-Err.fault _ _ _ c.in-Err.ensures.only c.in-Err.ensures.disk (λ full. (c.in-Err.ensures.kept full tells).entries_same) stayed)
+    grows_still g.S.Site c.args.self.now _ refl (omega arith) (omega arith) c.quiet.ensures.disk.later c.quiet.ensures.grown refl refl (λ tells stayed. kept_unless c.in-Err.fault _ _ _ c.in-Err.ensures.only c.in-Err.ensures.disk (λ full. (c.in-Err.ensures.kept full tells).entries_same) stayed)
 
 pub returns-then-number-clause-grows : goal.returns-then-number-clause-grows
 returns-then-number-clause-grows g c = grows_none c.args.self.now

@@ -2,6 +2,7 @@ use Rattle.std.proofs.Common.{◌∙◌, refl}
 use Rattle.std.specs.declared.result.Result.TheVariants.{Ok}
 use Rattle.dms_block.specs.HeldLaws.{looks_none, looks_on}
 use Rattle.dms_wal.specs.Database.{held}
+use Rattle.dms_wal.specs.PaceLaws.{trail_none, trail_then}
 use Rattle.dms_wal.proofs.Keeping.{keeps_none, keeps_on, tells_none, tells_on}
 use Rattle.dms_wal.proofs.running.Running.write_changed.Goals as goal
 
@@ -12,6 +13,7 @@ loop-id-init g c = record {
   kept = keeps_none c.args.self.now;
   tells = λ t. tells_none _;
   causes = refl;
+  grown = trail_none g.S.Site c.args.self.now;
   same = g.met.S.Site.same_again c.args.self.now.log.site;
 }
 
@@ -24,6 +26,7 @@ loop-id-preserved g c =
       kept = keeps_on inv.kept c.write_out.ensures.kept;
       tells = λ t. tells_on (inv.tells t) (c.in-Ok.ensures.tells t);
       causes = c.in-Ok.ensures.causes ∙ inv.causes;
+      grown = trail_then g.S.Site c.args.self.now c.loop-id.self c.write_out.new.self inv.kept.pace inv.grown c.write_out.ensures.grown;
       same = g.met.S.Site.same_then _ _ _ inv.same c.write_out.ensures.same;
     }
 
@@ -35,3 +38,6 @@ returns-in-Err-clause-kind g c = c.write_out.ensures.kind ∙ c.loop-id.invarian
 
 pub returns-in-Err-clause-kept : goal.returns-in-Err-clause-kept
 returns-in-Err-clause-kept g c = keeps_on c.loop-id.invariant.kept c.write_out.ensures.kept
+
+pub returns-in-Err-clause-grown : goal.returns-in-Err-clause-grown
+returns-in-Err-clause-grown g c = trail_then g.S.Site c.args.self.now c.loop-id.self c.write_out.new.self c.loop-id.invariant.kept.pace c.loop-id.invariant.grown c.write_out.ensures.grown

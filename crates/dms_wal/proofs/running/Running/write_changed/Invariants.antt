@@ -6,6 +6,7 @@ use Rattle.dms_restore.specs.Logging.{trail_of}
 use Rattle.dms_restore.specs.Views.{view_of}
 use Rattle.dms_wal.specs.Controls.{KeepsFields, TellsSame}
 use Rattle.dms_wal.specs.Database.{held, faults_of}
+use Rattle.dms_wal.specs.Growing.{TrailGrows}
 use Rattle.dms_wal.proofs.running.Running.write_changed.Given as goal
 
 abbrev pub invariant-loop-id : goal.invariant-loop-id
@@ -15,6 +16,7 @@ invariant-loop-id g l = record {
   kept : KeepsFields l.fn.self l.self;
   tells : IsTrue g.S.Site.tells → TellsSame (view_of g.S.Site l.fn.self.log) (view_of g.S.Site l.self.log);
   causes : faults_of g.S.Site l.self ≡ faults_of g.S.Site l.fn.self;
+  grown : TrailGrows g.S.Site l.fn.self l.self;
   same : g.S.Site.same_site l.fn.self.log.site l.self.log.site;
 }
 
