@@ -9,6 +9,7 @@ use Rattle.dms_runner.specs.Answers.{RunState, LineEffect, MayTakeLine, line_ste
 use Rattle.dms_runner.specs.Trying.{MatchesLine}
 use Rattle.dms_runner.proofs.Always.{then_ok}
 use Rattle.dms_runner.proofs.Exclusive.{line_more}
+use Rattle.dms_runner.proofs.Happening.{part_none}
 use Rattle.dms_runner.proofs.LineVerbs.{line_verb}
 use Rattle.dms_runner.proofs.Lining.{goes_empty, line_is}
 use Rattle.dms_runner.proofs.lines.take_line.Goals as goal
@@ -17,6 +18,9 @@ pub returns-in-Empty-clause-lined : goal.returns-in-Empty-clause-lined
 returns-in-Empty-clause-lined g c = λ now whole raw stands same line may.
     let e : line_step (described c.args.engine.now.desc) now whole ≡ line_effect (described c.args.engine.now.desc) (one_line_more now) Empty = line_is (described c.args.engine.now.desc) now whole c.args.raw.now c.line_text.result.now Empty raw c.line_text.ensures (sym c.in-Empty.is ∙ c.in_ok-read_line.ensures ∙ ap (λ (d : Description). line_of (described d) c.line_text.result.now) c.description.ensures) in
     subst (λ (l : LineEffect). MatchesLine l true (view c.args.engine.now) c.args.waiting.now.items (seen c.args.engine.now) (seen c.args.engine.now)) (sym e) (goes_empty (one_line_more now) _ _ _ stands (sym same))
+
+pub returns-in-Empty-clause-part : goal.returns-in-Empty-clause-part
+returns-in-Empty-clause-part g c = λ now whole raw stands same line may. part_none _ _
 
 pub returns-in-Bad-clause-lined : goal.returns-in-Bad-clause-lined
 returns-in-Bad-clause-lined g c = then_ok c.bad_line.result
