@@ -1,4 +1,4 @@
-use Rattle.std.proofs.Common.{◌≡◌, take, length, List, get_or, refl, ap, arith}
+use Rattle.std.proofs.Common.{take, length, List, refl, ap, arith}
 use Rattle.std.specs.declared.result.Result.TheVariants.{Ok, Err}
 use Rattle.dms_block.specs.declared.change.Change.{Change}
 use Rattle.dms_block.specs.Changing.{fits_take, no_change_of}
