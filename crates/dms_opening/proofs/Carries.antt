@@ -1,9 +1,6 @@
 -- A plan that is carried out.
 use Rattle.std.proofs.Common.{ℕ, ◌/◌, ◌≡◌, ◌⊎◌, inl, inr, Bool, true, false, cond, IsTrue, List, [], ◌∷◌, ◌++◌, append_assoc, length, take, Option, Some, None, refl, sym, ◌∙◌, ap, subst, arith}
 use Rattle.std.proofs.lemmas.List.{take_all}
-use Rattle.std.specs.Prelude.{IfErr}
-use Rattle.std.specs.declared.result.Result.{Result}
-use Rattle.std.specs.declared.result.Result.TheVariants.{Ok, Err}
 use Rattle.dms_moments.specs.Moments.{After, Clock, Now, Runs, Steps}
 use Rattle.dms_site.specs.declared.site.Site.{Ghosts}
 use Rattle.dms_site.specs.Files.{Files, Left, stored_of}
@@ -206,12 +203,6 @@ module _ {S : Type 0} (g : Ghosts S) (now_said : (s : S) (x : Left) → IsTrue g
 
   pub reopens_all : (waiting : List Entry) → LeavesAll t (record { waiting = waiting; files = g.files site; clock = g.clock site }) later → Steps PrintsNothing (g.clock site) later → Runs (g.clock site) later (Reopens t (g.files site) (text_of g site))
   reopens_all waiting leaves silent = runs_both leaves silent.runs (λ x l after. left_all t (g.files site) (text_of g site) x l (text_left x after))
-
--- ---- by the answer of a call
-
-pub two_if_err : {T E : Type 0} {P Q R : E → Type 0} (r : Result T E) → IfErr r P → IfErr r Q → ((e : E) → P e → Q e → R e) → IfErr r R
-two_if_err (Ok x) one two f = tt
-two_if_err (Err e) one two f = f e one two
 
 -- a failed call, or no room up to file 9,999
 pub written_at : (limit : ℕ) (fault : AudFault) → limit ≡ 9999 → (fault ≡ aud.Disk) ⊎ (fault ≡ aud.Full limit) → MayHaveWritten (Audit fault)

@@ -22,3 +22,4 @@ pub mod Started
 pub mod Standing
 pub mod Rooms
 pub mod Sealings
+pub mod Growths

@@ -14,10 +14,11 @@ use Rattle.dms_opening.specs.declared.choosing.OpenFault.{OpenFault}
 use Rattle.dms_restore.specs.Laying.{IsAtStart}
 use Rattle.dms_restore.specs.Logging.{LogView, telling_of, telling}
 use Rattle.dms_restore.specs.Views.{view_of}
+use Rattle.dms_wal.specs.Marks.{IsDescription}
 use Rattle.dms_opening.specs.declared.looking.PlannedOpening.{PlannedOpening}
 use Rattle.dms_opening.specs.declared.opened.Opened.{Opened}
 use Rattle.dms_opening.specs.Carrying.{IsPlanned}
-use Rattle.dms_opening.specs.Openings.{IsTrailFound, NamesStructures, OpensAt, RunsFrom, Reopens, ReopensSince, text_of, RefusesFiles, SealsFew, CanOpen, MayHaveWritten}
+use Rattle.dms_opening.specs.Openings.{IsTrailFound, NamesStructures, OpensAt, RunsFrom, Reopens, ReopensSince, text_of, RefusesFiles, CanOpen, MayHaveWritten}
 use Rattle.dms_opening.specs.Plans.{Plans}
 use Rattle.dms_opening.proofs.OneTrail.{one_first, one_total, unchanged}
 
@@ -45,8 +46,8 @@ module _ {S : Type 0} (files : Files) (p : PlannedOpening S) where
     named = named;
   }
 
-  pub can_open : IsTrailFound p.log.end.total p.log.first files → Plans p.log.end.total p.log.first files p.plan → NamesStructures p.plan.schema.items p.plan.counts.items → CanOpen files
-  can_open trail plans named = record {
+  pub can_open : IsTrailFound p.log.end.total p.log.first files → Plans p.log.end.total p.log.first files p.plan → NamesStructures p.plan.schema.items p.plan.counts.items → IsDescription p.plan.schema.items → CanOpen files
+  can_open trail plans named described = record {
     total = p.log.end.total;
     first = p.log.first;
     point = p.plan.choice.point;
@@ -54,6 +55,7 @@ module _ {S : Type 0} (files : Files) (p : PlannedOpening S) where
     schema = p.plan.schema.items;
     counts = p.plan.counts.items;
     opens = planned_opens trail plans named;
+    described = described;
   }
 
 -- the plan of an opening is what it does
@@ -86,16 +88,6 @@ module _ {S : Type 0} (g : Ghosts S) (site : S) (p : PlannedOpening S) (same : g
   whole_at total first one two w =
       subst (λ (f : Files). IsWhole (telling (view_of g p.log)) f) (sym same)
       (subst (λ (t : Telling). IsWhole t (g.files site)) (λ i. telling_of (one i) (two i)) w)
-
-  -- few entries were sealed
-  pub few_since : IsTrailFound p.log.end.total p.log.first (g.files site) → (now : Files) (total first : ℕ) → IsTrailFound total first (g.files site) → IsWhole (telling_of total first) (g.files site)
-      → (IsWhole (telling (view_of g p.log)) (g.files p.log.site) → SealsFew p.log.end.total p.log.first (g.files p.log.site) now) → SealsFew total first (g.files site) now
-  few_since trail now total first found whole few =
-      let one = one_total total first p.log.end.total p.log.first (g.files site) found trail in
-      let two = one_first total first p.log.end.total p.log.first (g.files site) found trail in
-      subst (λ n. SealsFew n first (g.files site) now) (sym one)
-      (subst (λ n. SealsFew p.log.end.total n (g.files site) now) (sym two)
-      (subst (λ (f : Files). SealsFew p.log.end.total p.log.first f now) same (few (whole_at total first one two whole))))
 
   -- at every moment
   module _ (counts_now : (s : S) (t : ℕ) (x : Left) → t ≤ (g.clock s).now → Now (g.clock s) x → (g.clock s).left t x) (steps : Steps Same (g.clock site) (g.clock p.log.site)) (said : g.said p.log.site ≡ g.said site)

@@ -2,7 +2,7 @@
 use Rattle.std.proofs.Common.{ℕ, ◌≡◌, Bool, true, false, List, [], ◌++◌, refl, sym, ◌∙◌, ap, subst}
 use Rattle.dms_moments.specs.Moments.{Clock}
 use Rattle.dms_moments.specs.MomentLaws.{runs_none}
-use Rattle.dms_site.specs.Files.{Files, Left, stored_of}
+use Rattle.dms_site.specs.Files.{Left, stored_of}
 use Rattle.dms_history.specs.Events.{halt_load}
 use Rattle.dms_history.specs.Places.{IsLive}
 use Rattle.dms_history.specs.History.{Pending, last_point}
@@ -11,9 +11,7 @@ use Rattle.dms_history.specs.Here.{restore_pick, outcome}
 use Rattle.dms_history.specs.Entries.{Entry}
 use Rattle.dms_history.specs.EntryEvents.{history_of, live_of, next_of}
 use Rattle.dms_history.proofs.Order.{append_none}
-use Rattle.dms_audfile.specs.Ends.{Grown}
 use Rattle.dms_audfile.specs.TrailEntries.{trail_entries}
-use Rattle.dms_audfile.specs.Trail.{trail_from}
 use Rattle.dms_running.specs.Points.{DescribedPoint, points_told, points_of, next_in}
 use Rattle.dms_running.specs.Running.{entries_now, LeavesPoints}
 use Rattle.dms_running.specs.Begun.{outcome_now}
@@ -78,6 +76,3 @@ keeps_found p v = record { points_same = refl; next_same = refl; outcome_same = 
 
 pub leaves_found : (v : LogView) → LeavesEach v v
 leaves_found v = runs_none v.clock _
-
-pub grown_none : (total first : ℕ) (files : Files) → Grown total first files files
-grown_none total first files = record { made = []; trail = sym (append_none (trail_from 10000 total first files)); filled = tt }

@@ -15,6 +15,7 @@ use Rattle.dms_history.specs.EntryEvents.{history_of, next_of}
 use Rattle.dms_history.specs.Schemas.{schema_entries}
 use Rattle.dms_history.specs.SchemaAt.{schema_at}
 use Rattle.dms_audfile.specs.AuditTrail.{IsFound}
+use Rattle.dms_audfile.specs.Ends.{Grown}
 use Rattle.dms_audfile.specs.Gates.{is_full}
 use Rattle.dms_audfile.specs.Reads.{Refuses}
 use Rattle.dms_audfile.specs.Sealing.{IsWrittenUpTo}
@@ -37,7 +38,7 @@ use Rattle.dms_restore.specs.Views.{view_of}
 use Rattle.dms_restore.specs.Logging as logs
 use Rattle.dms_restore.specs.Logging.{LogView, telling_of, telling, state, waits, LogRuns, entries, points, durable, content}
 use Rattle.dms_wal.specs.Lifting.{block_point, last_blocks}
-use Rattle.dms_wal.specs.Marks.{IsMarkOf, StandsUnder}
+use Rattle.dms_wal.specs.Marks.{IsDescription, IsMarkOf, StandsUnder}
 use Rattle.dms_opening.specs.declared.opened.Opened.{Opened}
 use Rattle.dms_opening.specs.Plans.{IsPlainFault, RefusesPlan}
 use Rattle.dms_opening.specs.Laws.{LastIsDescribed}
@@ -115,6 +116,10 @@ module _ {S : Type 0} (g : Ghosts S) where
   abbrev pub RunsWhere : Files → Opened S → Type 0
   RunsWhere files o = IsWhole (telling (view_of g o.log)) files → RunsFrom files o.point o.next o.schema.items o.counts.items (view_of g o.log)
 
+  -- there are files that held a database, from which what was opened runs
+  abbrev pub OpenedRuns : Opened S → Type 0
+  OpenedRuns o = (files : Files) × RunsFrom files o.point o.next o.schema.items o.counts.items (view_of g o.log)
+
   -- Where the files of then held a database, each stop since then left what it could leave then, or all their points.
   abbrev pub ReopensSince : S → S → Type 0
   ReopensSince a b = (total first : ℕ) → IsTrailFound total first (g.files a) → IsWhole (telling_of total first) (g.files a) → Runs (g.clock a) (g.clock b) (Reopens (telling_of total first) (g.files a) (text_of a))
@@ -152,6 +157,12 @@ pub record SealsFew (total first : ℕ) (old new : Files) : Type 0 where
   pub few : length more ≤ 19
   pub entries_are : trail_entries total first new ≡ trail_entries total first old ++ more
 
+-- What an opening does to the trail of these files, whatever it answers: the trail is the old one and blocks behind it, each of which is in its
+-- grammar and holds an entry. Unless it failed so, at most 19 entries were sealed, where the files held a database.
+pub record OpeningGrows (failed : Type 0) (old new : Files) : Type 0 where
+  pub grown : (total first : ℕ) → IsTrailFound total first old → Grown total first old new
+  pub few : (failed → ⊥) → (total first : ℕ) → IsTrailFound total first old → IsWhole (telling_of total first) old → SealsFew total first old new
+
 -- Why the audit has no room: each file of the trail of these files, up to file 9,999, is full now.
 pub record IsFullIn (files now : Files) : Type 0 where
   pub total : ℕ
@@ -159,7 +170,7 @@ pub record IsFullIn (files now : Files) : Type 0 where
   pub trail : IsTrailFound total first files
   pub full : (g : ℕ) → first ≤ g → g ≤ 19999 → is_full total (now g) ≡ true
 
--- Neither the trail of these files nor a point of it is refused: so they are opened.
+-- Neither the trail of these files nor a point of it is refused, and the Schema at the point has from 1 to 65,535 bytes: so they are opened.
 pub record CanOpen (files : Files) : Type 0 where
   pub total : ℕ
   pub first : ℕ
@@ -168,6 +179,7 @@ pub record CanOpen (files : Files) : Type 0 where
   pub schema : List ℕ
   pub counts : List ℕ
   pub opens : OpensAt total first files point next schema counts
+  pub described : IsDescription schema
 
 module _ {S : Type 0} (g : Ghosts S) where
   -- Nothing was done for this fault, which is none of a full audit: the files are the same, and a stop leaves what it could leave before.

@@ -3,6 +3,7 @@
 ghost use Rattle.std.specs.Prelude.{◌≡◌, ◌≤◌, IfOk, IfErr, IsTrue};
 ghost use Rattle.dms_moments.specs.Moments.{Runs};
 ghost use Rattle.dms_audfile.specs.Counting.{CountedAt};
+ghost use Rattle.dms_audfile.specs.Ends.{Grown};
 ghost use Rattle.dms_running.specs.Standing.{IsWhole};
 ghost use Rattle.dms_restore.specs.Logging.{telling};
 ghost use Rattle.dms_restore.specs.Views.{view_of};
@@ -34,16 +35,20 @@ pub(crate) fn site_of<S: Site>(log: Log<S>) -> S
 pub(crate) fn carry_out<S: Site>(planned: PlannedOpening<S>) -> Result<Opened<S>, (OpenFault, S)>
     requires ready { IsFitPlan planned.plan }
     requires limit { planned.log.end.limit ≡ 9999 }
-    ensures runs { IfOk result (λ o. IsTrue S.tells → IsPlanned (view_of S.Site planned.log) planned.plan → IsWhole (telling (view_of S.Site planned.log)) (S.files planned.log.site)
-        → RunsFrom (S.files planned.log.site) planned.plan.choice.point planned.plan.next planned.plan.schema.items planned.plan.counts.items (view_of S.Site o.log)) }
-    ensures moments { IfOk result (λ o. IsTrue S.tells → IsPlanned (view_of S.Site planned.log) planned.plan → IsWhole (telling (view_of S.Site planned.log)) (S.files planned.log.site)
-        → Runs (S.clock planned.log.site) (S.clock o.log.site) (Reopens (telling (view_of S.Site planned.log)) (S.files planned.log.site) (text_of S.Site planned.log.site))) }
-    ensures stopped { IfErr result (λ e. IsTrue S.tells → IsPlanned (view_of S.Site planned.log) planned.plan → IsWhole (telling (view_of S.Site planned.log)) (S.files planned.log.site)
-        → Runs (S.clock planned.log.site) (S.clock e.1) (Reopens (telling (view_of S.Site planned.log)) (S.files planned.log.site) (text_of S.Site planned.log.site))) }
+    ensures runs { IfOk result (λ o. IsTrue S.tells → let v = view_of S.Site planned.log in IsPlanned v planned.plan → IsWhole (telling v) v.files
+        → RunsFrom v.files planned.plan.choice.point planned.plan.next planned.plan.schema.items planned.plan.counts.items (view_of S.Site o.log)) }
+    ensures moments { IfOk result (λ o. IsTrue S.tells → let v = view_of S.Site planned.log in IsPlanned v planned.plan → IsWhole (telling v) v.files
+        → Runs v.clock (S.clock o.log.site) (Reopens (telling v) v.files (text_of S.Site planned.log.site))) }
+    ensures stopped { IfErr result (λ e. IsTrue S.tells → let v = view_of S.Site planned.log in IsPlanned v planned.plan → IsWhole (telling v) v.files
+        → Runs v.clock (S.clock e.1) (Reopens (telling v) v.files (text_of S.Site planned.log.site))) }
     ensures only { IfErr result (λ e. IsTrue S.tells → IsPlanned (view_of S.Site planned.log) planned.plan → MayHaveWritten e.0) }
     ensures full { IfErr result (λ e. IsTrue S.tells → IsPlanned (view_of S.Site planned.log) planned.plan → IsFullFault e.0 → IsFullTrail (view_of S.Site planned.log) (S.files e.1)) }
-    ensures few { IfErr result (λ e. IsTrue S.tells → IsPlanned (view_of S.Site planned.log) planned.plan → IsWhole (telling (view_of S.Site planned.log)) (S.files planned.log.site) → IsFullFault e.0
-        → SealsFew planned.log.end.total planned.log.first (S.files planned.log.site) (S.files e.1)) }
+    ensures few { IfErr result (λ e. IsTrue S.tells → let v = view_of S.Site planned.log in IsPlanned v planned.plan → IsWhole (telling v) v.files
+        → IsFullFault e.0 → SealsFew v.end.total v.first v.files (S.files e.1)) }
+    ensures grown { IfOk result (λ o. IsTrue S.tells → let v = view_of S.Site planned.log in IsPlanned v planned.plan
+        → Grown v.end.total v.first v.files (S.files o.log.site)) }
+    ensures grown_then { IfErr result (λ e. IsTrue S.tells → let v = view_of S.Site planned.log in IsPlanned v planned.plan
+        → Grown v.end.total v.first v.files (S.files e.1)) }
     ensures plan { IfOk result (λ o. (o.point ≡ planned.plan.choice.point) × (o.next ≡ planned.plan.next) × (o.schema ≡ planned.plan.schema) × (o.counts ≡ planned.plan.counts)) }
     ensures kind { IfOk result (λ o. (o.log.end.total ≡ planned.log.end.total) × (o.log.end.limit ≡ planned.log.end.limit) × (o.log.first ≡ planned.log.first)) }
     ensures same { IfOk result (λ o. S.same_site planned.log.site o.log.site) }

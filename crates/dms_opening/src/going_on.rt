@@ -6,7 +6,7 @@ ghost use Rattle.dms_history.specs.Entries.{control_point};
 ghost use Rattle.dms_audrec.specs.Spelling.{IsEntry};
 ghost use Rattle.dms_audrec.specs.Reading.{counts_at};
 ghost use Rattle.dms_audfile.specs.Counting.{CountedAt};
-ghost use Rattle.dms_restore.specs.Logging.{Ends, EndsSealed};
+ghost use Rattle.dms_restore.specs.Logging.{Ends, EndsSealed, LogGrows};
 ghost use Rattle.dms_restore.specs.Parts.{SealsPart};
 ghost use Rattle.dms_restore.specs.Views.{view_of, StaysSilent, IsSameTrail};
 ghost use Rattle.dms_restore.specs.Laying.{schema_control};
@@ -38,8 +38,14 @@ pub(crate) fn go_on<S: Site>(
         → LeavesEach (view_of S.Site begun.log) (view_of S.Site l)) }
     ensures stopped { IfErr result (λ e. (p : Pending) → IsTrue S.tells → MayGoOn p (view_of S.Site begun.log) table.now point next counts.now
         → LeavesEach (view_of S.Site begun.log) (view_of S.Site e.1)) }
-    ensures silent { IfOk result (λ l. (p : Pending) → IsTrue S.tells → MayGoOn p (view_of S.Site begun.log) table.now point next counts.now → StaysSilent S.Site begun.log.site l.site) }
-    ensures silent_then { IfErr result (λ e. (p : Pending) → IsTrue S.tells → MayGoOn p (view_of S.Site begun.log) table.now point next counts.now → StaysSilent S.Site begun.log.site e.1.site) }
+    ensures silent { IfOk result (λ l. (p : Pending) → IsTrue S.tells → MayGoOn p (view_of S.Site begun.log) table.now point next counts.now
+        → StaysSilent S.Site begun.log.site l.site) }
+    ensures silent_then { IfErr result (λ e. (p : Pending) → IsTrue S.tells → MayGoOn p (view_of S.Site begun.log) table.now point next counts.now
+        → StaysSilent S.Site begun.log.site e.1.site) }
+    ensures grown { IfOk result (λ l. (p : Pending) → IsTrue S.tells → IsTable p.entries p.point (S.files begun.log.site) table.now → EndsSealed (view_of S.Site begun.log)
+        → LogGrows (view_of S.Site begun.log) (view_of S.Site l)) }
+    ensures grown_then { IfErr result (λ e. (p : Pending) → IsTrue S.tells → IsTable p.entries p.point (S.files begun.log.site) table.now → EndsSealed (view_of S.Site begun.log)
+        → LogGrows (view_of S.Site begun.log) (view_of S.Site e.1)) }
     ensures same { IfOk result (λ l. S.same_site begun.log.site l.site) }
     ensures same_then { IfErr result (λ e. S.same_site begun.log.site e.1.site) }
     ensures said { IfOk result (λ l. S.said l.site ≡ S.said begun.log.site) }

@@ -4,13 +4,12 @@ ghost use Rattle.std.specs.Prelude.{◌≡◌, ◌⊎◌, [], ℕ, false, ◌<�
 ghost use Rattle.dms_moments.specs.Moments.{Steps};
 ghost use Rattle.dms_site.specs.Files.{Files, Same};
 ghost use Rattle.dms_audfile.specs.Counting.{CountedAt};
-ghost use Rattle.dms_running.specs.Standing.{IsWhole};
 ghost use Rattle.dms_restore.specs.Logging.{telling_of, waits};
 ghost use Rattle.dms_restore.specs.Views.{view_of};
 ghost use Rattle.dms_wal.specs.Database.{IsRunningUsable, held};
 ghost use Rattle.dms_wal.specs.Lifting.{AreCounts};
 ghost use Rattle.dms_wal.specs.Marks.{IsDescription};
-ghost use Rattle.dms_opening.specs.Openings.{IsTrailFound, NamesStructures, OpensAt, RunsFrom, RunsWhere, ReopensSince, TellsOpened, RefusesFiles, IsFullFault, IsFullIn, SealsFew, CanOpen, StaysUnopened, MayHaveWritten, IsOpenable, IsNoRefusal};
+ghost use Rattle.dms_opening.specs.Openings.{NamesStructures, OpensAt, RunsFrom, RunsWhere, OpenedRuns, ReopensSince, TellsOpened, RefusesFiles, IsFullFault, IsFullIn, OpeningGrows, CanOpen, StaysUnopened, MayHaveWritten, IsOpenable, IsNoRefusal};
 
 use crate::carrying::{carry_out, site_of};
 use crate::looking::look;
@@ -50,8 +49,8 @@ pub fn open<S: Site>(alloc: Global, found: Found<S>) -> Result<Opened<S>, (OpenF
     ensures stopped { IfErr result (λ e. IsTrue S.tells → ReopensSince S.Site found.site e.1) }
     ensures refused { IfErr result (λ e. IsTrue S.tells → RefusesFiles (S.files found.site) e.0) }
     ensures full { IfErr result (λ e. IsTrue S.tells → IsFullFault e.0 → IsFullIn (S.files found.site) (S.files e.1)) }
-    ensures few { IfErr result (λ e. IsTrue S.tells → IsFullFault e.0 → (total first : ℕ) → IsTrailFound total first (S.files found.site) → IsWhole (telling_of total first) (S.files found.site)
-        → SealsFew total first (S.files found.site) (S.files e.1)) }
+    ensures grows { IfOk result (λ o. IsTrue S.tells → OpeningGrows ⊥ (S.files found.site) (S.files o.log.site)) }
+    ensures grows_then { IfErr result (λ e. IsTrue S.tells → OpeningGrows (e.0 ≡ OpenFault.Audit AudFault.Disk) (S.files found.site) (S.files e.1)) }
     ensures begun { IfErr result (λ e. IsTrue S.tells → CanOpen (S.files found.site) ⊎ StaysUnopened S.Site found.site e.1 e.0) }
     ensures complete { IfErr result (λ e. IsTrue S.tells → (total first : ℕ) → IsOpenable total first (S.files found.site) → IsNoRefusal e.0) }
     ensures files_then { IfErr result (λ e. IsTrue S.tells → (MayHaveWritten e.0 → ⊥) → S.files e.1 ≡ S.files found.site) }
@@ -84,7 +83,7 @@ impl<S: Site> Opened<S> {
         requires limit { limit ≤ 9999 }
         requires described { IsDescription self.schema.items }
         requires table { AreCounts self.counts.items }
-        ensures usable { IfOk result (λ r. (IsTrue S.tells → (files : Files) × RunsFrom files self.point self.next self.schema.items self.counts.items (view_of S.Site self.log)) → IsRunningUsable S.Site r) }
+        ensures usable { IfOk result (λ r. (IsTrue S.tells → OpenedRuns S.Site self) → IsRunningUsable S.Site r) }
         ensures tells { IfOk result (λ r. (files : Files) → RunsFrom files self.point self.next self.schema.items self.counts.items (view_of S.Site self.log)
             → TellsOpened (telling_of self.log.end.total self.log.first) files self.next (held S.Site r)) }
         ensures log { IfOk result (λ r. (r.log.site ≡ self.log.site) × (r.log.first ≡ self.log.first) × (r.log.end.total ≡ self.log.end.total) × (r.log.end.limit ≡ limit)) }

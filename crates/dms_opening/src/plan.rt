@@ -70,7 +70,8 @@ fn read_description<S: Site>(
     ensures some { IfOk result (λ v. 1 ≤ length v.items) }
     ensures few { IfOk result (λ v. length v.items ≤ 65535) }
     ensures only { IfErr result (λ e. IsTrue S.tells → (total : ℕ) → IsTrailRead total first (S.files site.old) places.now trace.now
-        → IsLive (live_of (trail_entries total first (S.files site.old))) point → IsPlainFault e ⊎ ((e ≡ OpenFault.Audit (AudFault.Damaged first 0)) × HasNoDescriptionAt (trail_entries total first (S.files site.old)) point)) }
+        → let es = trail_entries total first (S.files site.old) in IsLive (live_of es) point
+        → IsPlainFault e ⊎ ((e ≡ OpenFault.Audit (AudFault.Damaged first 0)) × HasNoDescriptionAt es point)) }
     ensures reads { ReadsAlone S.Site site.old site.new }
     ensures same_site { S.same_site site.old site.new }
     ensures disk { CountedAt (IsErrOf result (OpenFault.Audit AudFault.Disk)) (S.disk_faults site.old) (S.disk_faults site.new) }

@@ -5,8 +5,8 @@ ghost use Rattle.dms_history.specs.History.{Pending};
 ghost use Rattle.dms_audfile.specs.Counting.{CountedAt};
 ghost use Rattle.dms_history.specs.Entries.{begin_restore, by_halt_load};
 ghost use Rattle.dms_audrec.specs.Spelling.{spelling};
-ghost use Rattle.dms_audfile.specs.Ends.{Grown, is_past};
-ghost use Rattle.dms_restore.specs.Logging.{Ends, EndsSealed};
+ghost use Rattle.dms_audfile.specs.Ends.{is_past};
+ghost use Rattle.dms_restore.specs.Logging.{Ends, EndsSealed, LogGrows};
 ghost use Rattle.dms_restore.specs.Parts.{SealsPart};
 ghost use Rattle.dms_restore.specs.Views.{view_of, StaysSilent, LogStarts, IsSameTrail, SealsBehind};
 ghost use Rattle.dms_restore.specs.Begins.{BegunAt, LeavesEach};
@@ -33,7 +33,8 @@ pub(crate) fn start<S: Site>(
     ensures sealed { IfOk result (λ b. IsTrue S.tells → LogStarts (view_of S.Site log)
         → SealsBehind (view_of S.Site log) (view_of S.Site b.log) (if begins then begin_restore point by_halt_load ∷ [] else [])) }
     ensures starts { IfOk result (λ b. IsTrue S.tells → LogStarts (view_of S.Site log) → EndsSealed (view_of S.Site b.log)) }
-    ensures grown { IfOk result (λ b. IsTrue S.tells → LogStarts (view_of S.Site log) → Grown log.end.total log.first (S.files log.site) (S.files b.log.site)) }
+    ensures grown { IfOk result (λ b. IsTrue S.tells → LogStarts (view_of S.Site log) → LogGrows (view_of S.Site log) (view_of S.Site b.log)) }
+    ensures grown_then { IfErr result (λ e. IsTrue S.tells → LogStarts (view_of S.Site log) → LogGrows (view_of S.Site log) (view_of S.Site e.1)) }
     ensures moments { IfOk result (λ b. (p : Pending) → IsTrue S.tells → MayOpen (view_of S.Site log) begins point p
         → LeavesEach (view_of S.Site log) (view_of S.Site b.log)) }
     ensures stopped { IfErr result (λ e. (p : Pending) → IsTrue S.tells → MayOpen (view_of S.Site log) begins point p

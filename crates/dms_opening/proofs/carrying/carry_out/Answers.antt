@@ -1,5 +1,7 @@
 use Rattle.std.proofs.Common.{◌∙◌, [], List, sym, subst, arith}
 use Rattle.dms_moments.specs.Moments.{Runs}
+use Rattle.dms_audfile.specs.Ends.{Grown}
+use Rattle.dms_restore.specs.GrowLaws.{log_grows_on}
 use Rattle.dms_restore.specs.Logging.{LogView, telling, telling_of}
 use Rattle.dms_restore.specs.Table.{IsTable}
 use Rattle.dms_restore.specs.declared.told.Told.{Told}
@@ -56,6 +58,9 @@ returns-clause-stopped g c tells s whole =
     (leaves_on a b c.args.planned.plan _ w (r.moments _ tells (may_open a c.args.planned.plan s whole)) (c.in-Err-go_on.ensures.stopped _ tells e))
     (silent_on _ _ _ (r.silent tells s.start) (c.in-Err-go_on.ensures.silent_then _ tells e)))
 
+pub returns-in-Err-clause-only : goal.returns-in-Err-clause-only
+returns-in-Err-clause-only g c tells s = written_at _ _ c.requires.limit c.in-Err.ensures.only
+
 pub returns-clause-only : goal.returns-clause-only
 returns-clause-only g c tells s =
     let r = c.in-Ok.ensures in
@@ -100,3 +105,25 @@ returns-clause-few g c tells s whole full =
     let is = as_limit _ _ (r.kind.2 ∙ c.requires.limit) full in
     subst (λ site. SealsFew a.end.total a.first a.files (g.S.Site.files site)) (sym c.site_of-in-Err-go_on.ensures)
     (few_ended a b (view_of g.S.Site c.in-Err-go_on.log) plan w c.requires.ready _ _ c.deref-3.ensures.value (c.in-Err-go_on.ensures.part _ tells e is))
+
+pub returns-in-Err-clause-grown_then : goal.returns-in-Err-clause-grown_then
+returns-in-Err-clause-grown_then g c tells s =
+    let a : LogView = view_of g.S.Site c.args.planned.log in
+    subst (λ site. Grown a.end.total a.first a.files (g.S.Site.files site)) (sym c.site_of.ensures) (c.in-Err.ensures.grown_then tells s.start)
+
+pub returns-in-Ok-go_on-clause-grown : goal.returns-in-Ok-go_on-clause-grown
+returns-in-Ok-go_on-clause-grown g c tells s =
+    let r = c.in-Ok.ensures in
+    let p = s.plans.chooses.restore in
+    let table = subst (λ (l : List Told). IsTable p.entries p.point (g.S.Site.files c.in-Ok.begun.log.site) l) (sym c.deref-2.ensures.value) (s.plans.table_is _ (r.grown tells s.start)) in
+    log_grows_on (view_of g.S.Site c.args.planned.log) (view_of g.S.Site c.in-Ok.begun.log) (view_of g.S.Site c.in-Ok-go_on.log) r.kind.0 r.kind.3 (r.grown tells s.start)
+    (c.in-Ok-go_on.ensures.grown p tells table (r.starts tells s.start))
+
+pub returns-clause-grown_then : goal.returns-clause-grown_then
+returns-clause-grown_then g c tells s =
+    let a : LogView = view_of g.S.Site c.args.planned.log in
+    let r = c.in-Ok.ensures in
+    let p = s.plans.chooses.restore in
+    let table = subst (λ (l : List Told). IsTable p.entries p.point (g.S.Site.files c.in-Ok.begun.log.site) l) (sym c.deref-2.ensures.value) (s.plans.table_is _ (r.grown tells s.start)) in
+    subst (λ site. Grown a.end.total a.first a.files (g.S.Site.files site)) (sym c.site_of-in-Err-go_on.ensures)
+    (log_grows_on a (view_of g.S.Site c.in-Ok.begun.log) (view_of g.S.Site c.in-Err-go_on.log) r.kind.0 r.kind.3 (r.grown tells s.start) (c.in-Err-go_on.ensures.grown_then p tells table (r.starts tells s.start)))

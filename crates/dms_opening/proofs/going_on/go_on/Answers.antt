@@ -1,7 +1,10 @@
-use Rattle.std.proofs.Common.{◌+◌, ◌<◌, ◌≡◌, inl, sym, ◌∙◌, ap, subst}
+use Rattle.std.proofs.Common.{[], ◌+◌, ◌<◌, ◌≡◌, inl, sym, ◌∙◌, ap, subst}
 use Rattle.dms_audfile.specs.TrailEntries.{trail_entries}
 use Rattle.dms_audfile.specs.declared.fault.AudFault.TheVariants.{Full}
 use Rattle.dms_restore.specs.Logging.{LogView, view, telling_of}
+use Rattle.dms_restore.specs.GrowLaws.{log_grows_on, starts_takes}
+use Rattle.dms_restore.specs.Views.{view_of}
+use Rattle.dms_restore.proofs.Trails.{first_low}
 use Rattle.dms_restore.proofs.Results.{one_if_ok, one_if_err}
 use Rattle.dms_restore.proofs.Backed.{silent_on}
 use Rattle.dms_opening.proofs.GoneOn.{each_on, ends_by, opened}
@@ -98,3 +101,20 @@ returns-in-Ok-clause-part g c = one_if_err c.finish.result c.finish.ensures.part
 
 pub returns-in-Err-clause-part : goal.returns-in-Err-clause-part
 returns-in-Err-clause-part g c p tells m is = absurd (disk_no_full (c.in-Err.ensures.only p tells m.table_is) is)
+
+pub returns-in-Ok-clause-grown : goal.returns-in-Ok-clause-grown
+returns-in-Ok-clause-grown g c = one_if_ok c.finish.result c.finish.ensures.grown (λ l grown p tells table sealed.
+    let was = c.args.begun.log in
+    let r = c.in-Ok.ensures in
+    log_grows_on (view_of g.S.Site was) (view_of g.S.Site c.in-Ok.restored.log) (view_of g.S.Site l) (λ i. (r.kind.0 i).total) r.kind.1
+    (r.grown tells (first_low was.end was.first [] _ _ sealed)) (grown tells (starts_takes _ (r.stays p tells table sealed))))
+
+pub returns-in-Ok-clause-grown_then : goal.returns-in-Ok-clause-grown_then
+returns-in-Ok-clause-grown_then g c = one_if_err c.finish.result c.finish.ensures.grown_then (λ e grown p tells table sealed.
+    let was = c.args.begun.log in
+    let r = c.in-Ok.ensures in
+    log_grows_on (view_of g.S.Site was) (view_of g.S.Site c.in-Ok.restored.log) (view_of g.S.Site e.1) (λ i. (r.kind.0 i).total) r.kind.1
+    (r.grown tells (first_low was.end was.first [] _ _ sealed)) (grown tells (starts_takes _ (r.stays p tells table sealed))))
+
+pub returns-in-Err-clause-grown_then : goal.returns-in-Err-clause-grown_then
+returns-in-Err-clause-grown_then g c p tells table sealed = c.in-Err.ensures.grown_then tells (first_low c.args.begun.log.end c.args.begun.log.first [] _ _ sealed)

@@ -1,7 +1,9 @@
 use Rattle.std.proofs.Common.{inl, inr}
+use Rattle.dms_restore.specs.Views.{view_of}
 use Rattle.dms_restore.proofs.Results.{one_if_ok, two_if_ok, three_if_ok, one_if_err}
-use Rattle.dms_opening.proofs.Opens.{may_refuse, can_open, opens_at, runs_at, is_planned, whole_at, since, since_none, counted_on, few_since}
+use Rattle.dms_opening.proofs.Opens.{may_refuse, can_open, opens_at, runs_at, is_planned, whole_at, since, since_none, counted_on}
 use Rattle.dms_opening.proofs.Complete.{refuses_none}
+use Rattle.dms_opening.proofs.Growths.{grows_none, grows_by, few_run, full_unless, three_if_err}
 use Rattle.dms_opening.proofs.opened.open.Goals as goal
 
 pub returns-in-Ok-clause-opens : goal.returns-in-Ok-clause-opens
@@ -64,18 +66,28 @@ returns-in-Ok-clause-full g c = one_if_err c.carry_out.result c.carry_out.ensure
 pub returns-in-Err-clause-full : goal.returns-in-Err-clause-full
 returns-in-Err-clause-full g c tells is = absurd (c.in-Err.ensures.room tells is)
 
-pub returns-in-Ok-clause-few : goal.returns-in-Ok-clause-few
-returns-in-Ok-clause-few g c = one_if_err c.carry_out.result c.carry_out.ensures.few (λ e few tells full total first found whole.
+pub returns-in-Ok-clause-grows : goal.returns-in-Ok-clause-grows
+returns-in-Ok-clause-grows g c = three_if_ok c.carry_out.result c.carry_out.ensures.kind c.carry_out.ensures.runs c.carry_out.ensures.grown (λ o kind runs grown tells.
     let l = c.in-Ok.ensures in
-    few_since g.S.Site c.args.found.site c.in-Ok.planned (l.files tells) (l.trail tells) _ total first found whole
-    (λ was. few tells (is_planned g.S.Site c.args.found.site c.in-Ok.planned (l.files tells) (l.starts tells) (l.plans tells)) was full))
+    let p = c.in-Ok.planned in
+    let s = is_planned g.S.Site c.args.found.site p (l.files tells) (l.starts tells) (l.plans tells) in
+    grows_by p.log.end.total p.log.first _ _ _ (l.files tells) (l.trail tells) _ (grown tells s)
+    (λ off whole. few_run p.log.end.total p.log.first _ _ _ _ _ (view_of g.S.Site o.log) kind.0 kind.2 l.ready.described.1 (runs tells s whole)))
 
-pub returns-in-Err-clause-few : goal.returns-in-Err-clause-few
-returns-in-Err-clause-few g c tells full = absurd (c.in-Err.ensures.room tells full)
+pub returns-in-Ok-clause-grows_then : goal.returns-in-Ok-clause-grows_then
+returns-in-Ok-clause-grows_then g c = three_if_err c.carry_out.result c.carry_out.ensures.only c.carry_out.ensures.few c.carry_out.ensures.grown_then (λ e only few grown tells.
+    let l = c.in-Ok.ensures in
+    let p = c.in-Ok.planned in
+    let s = is_planned g.S.Site c.args.found.site p (l.files tells) (l.starts tells) (l.plans tells) in
+    grows_by p.log.end.total p.log.first _ _ _ (l.files tells) (l.trail tells) _ (grown tells s)
+    (λ off whole. few tells s whole (full_unless e.0 off (only tells s))))
+
+pub returns-in-Err-clause-grows_then : goal.returns-in-Err-clause-grows_then
+returns-in-Err-clause-grows_then g c tells = grows_none _ _ _ (c.in-Err.ensures.files_then tells)
 
 pub returns-in-Ok-clause-begun : goal.returns-in-Ok-clause-begun
 returns-in-Ok-clause-begun g c = one_if_err c.carry_out.result c.carry_out.ensures.only (λ e only tells.
-    let l = c.in-Ok.ensures in inl (can_open _ c.in-Ok.planned (l.trail tells) (l.plans tells) l.named))
+    let l = c.in-Ok.ensures in inl (can_open _ c.in-Ok.planned (l.trail tells) (l.plans tells) l.named l.ready.described))
 
 pub returns-in-Err-clause-begun : goal.returns-in-Err-clause-begun
 returns-in-Err-clause-begun g c tells = inr (record { files = c.in-Err.ensures.files_then tells; moments = c.in-Err.ensures.moments_then; room = c.in-Err.ensures.room tells })

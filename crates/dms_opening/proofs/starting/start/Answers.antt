@@ -3,9 +3,10 @@ use Rattle.dms_history.specs.Entries.{begin_restore, by_halt_load}
 use Rattle.dms_history.proofs.Order.{append_none}
 use Rattle.dms_audfile.specs.TrailEntries.{trail_entries}
 use Rattle.dms_restore.proofs.Laid.{none_silent}
+use Rattle.dms_restore.specs.GrowLaws.{trail_stays, starts_takes}
 use Rattle.dms_restore.specs.Logging.{LogView, view}
 use Rattle.dms_restore.proofs.Results.{one_if_ok, one_if_err}
-use Rattle.dms_opening.proofs.Started.{may_run, last_found, begun_new, keeps_new, leaves_new, begun_found, keeps_found, leaves_found, grown_none}
+use Rattle.dms_opening.proofs.Started.{may_run, last_found, begun_new, keeps_new, leaves_new, begun_found, keeps_found, leaves_found}
 use Rattle.dms_opening.proofs.starting.start.Goals as goal
 
 pub returns-then-begins-clause-begun : goal.returns-then-begins-clause-begun
@@ -40,7 +41,7 @@ pub returns-else-begins-clause-moments : goal.returns-else-begins-clause-moments
 returns-else-begins-clause-moments g c p tells s = leaves_found (view c.args.log.end c.args.log.first (g.S.Site.files c.args.log.site) (g.S.Site.clock c.args.log.site))
 
 pub returns-else-begins-clause-grown : goal.returns-else-begins-clause-grown
-returns-else-begins-clause-grown g c tells start = grown_none c.args.log.end.total c.args.log.first (g.S.Site.files c.args.log.site)
+returns-else-begins-clause-grown g c tells start = trail_stays c.args.log.end.total c.args.log.first (g.S.Site.files c.args.log.site)
 
 pub returns-then-begins-clause-sealed : goal.returns-then-begins-clause-sealed
 returns-then-begins-clause-sealed g c = one_if_ok c.begin.result c.begin.ensures.sealed (λ b sealed tells start.
@@ -68,3 +69,6 @@ returns-then-begins-clause-ends g c = c.begin.ensures.ends
 
 pub returns-then-begins-clause-part : goal.returns-then-begins-clause-part
 returns-then-begins-clause-part g c = c.begin.ensures.part
+
+pub returns-then-begins-clause-grown_then : goal.returns-then-begins-clause-grown_then
+returns-then-begins-clause-grown_then g c = one_if_err c.begin.result c.begin.ensures.grows_then (λ e grows tells start. grows tells (starts_takes _ start))
