@@ -41,7 +41,7 @@ use Rattle.dms_status.specs.declared.status.Status.{Status}
 use Rattle.dms_status.specs.declared.status.Status.TheVariants.{Ok, Memory}
 use Rattle.dms_runtop.specs.Bound.{BoundsAudit, CountsFailures}
 use Rattle.dms_runtop.specs.Faults.{IsWithin, run_status}
-use Rattle.dms_runtop.proofs.Bounds.{bounds_other, no_bound_memory}
+use Rattle.dms_runtop.proofs.Bounds.{bounds_none}
 use Rattle.dms_runtop.specs.Over.{BeginsAt, ClosesOver, FilesEndWith, RunsOver, ScriptRuns, seen_site}
 use Rattle.dms_runtop.specs.Statuses.{IsOfClosing}
 use Rattle.dms_runtop.proofs.Ran.{moments_under, ends_under, closed_under, moments_below, closing_below, ran_nothing, ran_failed, ran_closed}
@@ -142,12 +142,18 @@ module _ {S : Type 0} (g : Ghosts S) (d e e' : Described) (r r' : Running S) (sa
       → PrintsPrefix entry (said_of g r'.log) (answers_text d db r.next (raw_lines all)) → ((fault ≡ Block block.Say → ⊥) → SaidWhole entry (said_of g r'.log) events)
       → (fault ≡ run.Lines → PassesLines d db r.next (raw_lines all) entry (said_of g r'.log)) → (fault ≡ run.Bytes → PassesBytes d db r.next (raw_lines all) entry (said_of g r'.log))
       → (fault ≡ run.Held → PassesWaiting d db r.next (raw_lines all) entry (said_of g r'.log)) → (fault ≡ run.Input → CutInput d db r.next all left' entry (said_of g r'.log))
-      → ((f k : ℕ) → fault ≡ Block (block.Damaged f k) → ⊥) → ((f : ℕ) → fault ≡ Block (block.Full f) → f ≡ r'.log.end.limit) → BoundsAudit 0 (CountsFailures g r.log.site) t d events (g.files r.log.site) (g.files r'.log.site) entry (said_of g r'.log) (run_status fault)
+      → ((f k : ℕ) → fault ≡ Block (block.Damaged f k) → ⊥) → ((f : ℕ) → fault ≡ Block (block.Full f) → f ≡ r'.log.end.limit) → BoundsAudit 0 (CountsFailures g r.log.site (run_status fault)) t d events (g.files r.log.site) (g.files r'.log.site) entry (said_of g r'.log) (run_status fault)
       → ScriptRuns 0 (CountsFailures g r.log.site) t d ps n db r.next all (seen_site g r.log.site) (seen_site g site) left' status
   failed_over left' fault status site status_is site_is leaves part whole lines bytes waits cut damaged full bound =
       subst (λ (x : Status). ScriptRuns 0 (CountsFailures g r.log.site) t d ps n db r.next all (seen_site g r.log.site) (seen_site g site) left' x) (sym status_is)
       (subst (λ (x : S). ScriptRuns 0 (CountsFailures g r.log.site) t d ps n db r.next all (seen_site g r.log.site) (seen_site g x) left' (run_status fault)) (sym site_is)
       (ran_failed 0 (CountsFailures g r.log.site) t d ps n db r.next all (seen_site g r.log.site) (seen_site g r'.log.site) left' fault (moments_of leaves) part whole lines bytes waits cut damaged (λ f is. full f is ∙ pace.limit ∙ b.limit_is) bound))
+
+  -- the bound of one fault is that of the same one
+  bound_at : (then fault : RunFault) → then ≡ fault → BoundsAudit 0 (CountsFailures g r.log.site (run_status then)) t d events (g.files r.log.site) (g.files r'.log.site) entry (said_of g r'.log) (run_status then)
+      → BoundsAudit 0 (CountsFailures g r.log.site (run_status fault)) t d events (g.files r.log.site) (g.files r'.log.site) entry (said_of g r'.log) (run_status fault)
+  bound_at then fault same bound =
+      subst (λ (x : RunFault). BoundsAudit 0 (CountsFailures g r.log.site (run_status x)) t d events (g.files r.log.site) (g.files r'.log.site) entry (said_of g r'.log) (run_status x)) same bound
 
   -- the same, where a full audit at another file counted as want of memory
   pub within_over : (left' : Option (List ℕ)) (last : ℕ) (fault then : RunFault) (status : Status) (site : S) → IsWithin last fault then → last ≡ r'.log.end.limit → status ≡ run_status then → site ≡ r'.log.site
@@ -155,13 +161,13 @@ module _ {S : Type 0} (g : Ghosts S) (d e e' : Described) (r r' : Running S) (sa
       → PrintsPrefix entry (said_of g r'.log) (answers_text d db r.next (raw_lines all)) → ((fault ≡ Block block.Say → ⊥) → SaidWhole entry (said_of g r'.log) events)
       → (fault ≡ run.Lines → PassesLines d db r.next (raw_lines all) entry (said_of g r'.log)) → (fault ≡ run.Bytes → PassesBytes d db r.next (raw_lines all) entry (said_of g r'.log))
       → (fault ≡ run.Held → PassesWaiting d db r.next (raw_lines all) entry (said_of g r'.log)) → (fault ≡ run.Input → CutInput d db r.next all left' entry (said_of g r'.log))
-      → ((f k : ℕ) → fault ≡ Block (block.Damaged f k) → ⊥) → BoundsAudit 0 (CountsFailures g r.log.site) t d events (g.files r.log.site) (g.files r'.log.site) entry (said_of g r'.log) (run_status fault)
+      → ((f k : ℕ) → fault ≡ Block (block.Damaged f k) → ⊥) → BoundsAudit 0 (CountsFailures g r.log.site (run_status then)) t d events (g.files r.log.site) (g.files r'.log.site) entry (said_of g r'.log) (run_status then)
       → ScriptRuns 0 (CountsFailures g r.log.site) t d ps n db r.next all (seen_site g r.log.site) (seen_site g site) left' status
   within_over left' last fault then status site (inl within) last_is status_is site_is leaves part whole lines bytes waits cut damaged bound =
-      failed_over left' fault status site (status_is ∙ ap run_status within.0) site_is leaves part whole lines bytes waits cut damaged (λ f is. within.1 f is ∙ last_is) bound
+      failed_over left' fault status site (status_is ∙ ap run_status within.0) site_is leaves part whole lines bytes waits cut damaged (λ f is. within.1 f is ∙ last_is) (bound_at then fault within.0 bound)
   within_over left' last fault then status site (inr memory) last_is status_is site_is leaves part whole lines bytes waits cut damaged bound =
       failed_over left' run.Memory status site (status_is ∙ ap run_status memory.0) site_is leaves part (λ unsaid. whole (λ is. full_not_say memory.1.0 (sym memory.1.1 ∙ is)))
-      (λ is. absurd (memory_not_lines is)) (λ is. absurd (memory_not_bytes is)) (λ is. absurd (memory_not_held is)) (λ is. absurd (memory_not_input is)) (λ f k is. memory_not_block (block.Damaged f k) is) (λ f is. absurd (memory_not_block (block.Full f) is)) (bounds_other no_bound_memory)
+      (λ is. absurd (memory_not_lines is)) (λ is. absurd (memory_not_bytes is)) (λ is. absurd (memory_not_held is)) (λ is. absurd (memory_not_input is)) (λ f k is. memory_not_block (block.Damaged f k) is) (λ f is. absurd (memory_not_block (block.Full f) is)) (bound_at then run.Memory memory.0 bound)
 
   -- the script was carried out, and then the database closed
   pub closed_over : (left' : Option (List ℕ)) (status : Status) (site : S) → (status ≡ Ok) ⊎ IsOfClosing status → ClosesOver g r' status site → (IsTrue g.tells_said → g.said site ≡ g.said r'.log.site)
@@ -171,7 +177,7 @@ module _ {S : Type 0} (g : Ghosts S) (d e e' : Described) (r r' : Running S) (sa
       → EndsWith (map (point_of e') (held g r').points) (last_quiet_number n (quiets_of events)) (last_quiet db (quiets_of events))
       → Prints entry (said_of g r'.log) (answers_text d db r.next (raw_lines all)) → PrintsPrefix entry (said_of g r'.log) (answers_text d db r.next (raw_lines all)) → SaidWhole entry (said_of g r'.log) events
       → KeepsLimits d db r.next (raw_lines all) → r'.next ≡ (ended (script_run d db r.next (raw_lines all)).going.session).next
-      → BoundsAudit 0 (CountsFailures g r.log.site) t d events (g.files r.log.site) (g.files site) entry (said_of g r'.log) status
+      → BoundsAudit 0 (CountsFailures g r.log.site status) t d events (g.files r.log.site) (g.files site) entry (said_of g r'.log) status
       → ScriptRuns 0 (CountsFailures g r.log.site) t d ps n db r.next all (seen_site g r.log.site) (seen_site g site) left' status
   closed_over left' status site of closes said leaves behind ends prints part whole limits next_is bound =
       let text : (seen_site g site).said ≡ said_of g r'.log = told_text g.tells_said (g.said site) (g.said r'.log.site) said in
@@ -183,7 +189,7 @@ module _ {S : Type 0} (g : Ghosts S) (d e e' : Described) (r r' : Running S) (sa
       (subst (λ (s : Option (List ℕ)). PrintsPrefix entry s (answers_text d db r.next (raw_lines all))) (sym text) part)
       (subst (λ (s : Option (List ℕ)). SaidWhole entry s events) (sym text) whole)
       limits
-      (subst (λ (s : Option (List ℕ)). BoundsAudit 0 (CountsFailures g r.log.site) t d events (g.files r.log.site) (g.files site) entry s status) (sym text) bound)
+      (subst (λ (s : Option (List ℕ)). BoundsAudit 0 (CountsFailures g r.log.site status) t d events (g.files r.log.site) (g.files site) entry s status) (sym text) bound)
 
 -- ---- before the script
 
@@ -196,4 +202,4 @@ pub refused_over : {S : Type 0} (g : Ghosts S) (d : Described) (r : Running S) (
 refused_over {S} g d r site left left' same total first ps n db all b is =
     subst (λ (x : S). ScriptRuns 0 (CountsFailures g r.log.site) (telling_of total first) d ps n db r.next all (seen_site g r.log.site) (seen_site g x) left' Memory) (sym same)
     (ran_nothing 0 (CountsFailures g r.log.site) (telling_of total first) d ps n db r.next all (seen_site g r.log.site) (seen_site g r.log.site) left' Memory tt
-    (runs_none (g.clock r.log.site) (RunLeavesFiles (telling_of total first) d (said_of g r.log) ps n db r.next (script_events d db r.next (raw_lines all)))) refl (bounds_other no_bound_memory))
+    (runs_none (g.clock r.log.site) (RunLeavesFiles (telling_of total first) d (said_of g r.log) ps n db r.next (script_events d db r.next (raw_lines all)))) refl (bounds_none Memory (λ is. absurd cc) refl refl))

@@ -17,3 +17,5 @@ pub mod Instead
 pub mod Guarding
 pub mod Fulls
 pub mod Bounds
+pub mod Inputs
+pub mod Grows

@@ -1,5 +1,5 @@
 -- A database that was opened, and a call since that only looked, or that did nothing.
-use Rattle.std.proofs.Common.{ℕ, ◌≡◌, ◌≤◌, ◌∙◌, Bool, IsTrue, List, Option, Some, None, cond, refl, sym, ap, subst, arith}
+use Rattle.std.proofs.Common.{ℕ, ◌≡◌, ◌≤◌, ◌∙◌, Bool, IsTrue, List, length, Option, Some, None, cond, refl, sym, ap, subst, arith}
 use Rattle.dms_moments.specs.Moments.{Clock, Now, Runs, Steps}
 use Rattle.dms_moments.specs.MomentLaws.{runs_none, steps_weaken}
 use Rattle.dms_moments.specs.SeenLaws.{runs_looking}
@@ -15,12 +15,11 @@ use Rattle.dms_descfile.specs.declared.fault.FileFault.{FileFault}
 use Rattle.dms_descfile.specs.declared.fault.FileFault.TheVariants as file
 use Rattle.dms_status.specs.declared.status.Status.{Status}
 use Rattle.dms_status.specs.declared.status.Status.TheVariants.{DiskFault, Memory}
-use Rattle.dms_wal.specs.Growing.{others}
 use Rattle.dms_runtop.specs.Bound.{CountsFailures}
 use Rattle.dms_runtop.specs.Command.{RunsOpened, StandsOpened}
-use Rattle.dms_runtop.proofs.Bounds.{IsNoBound, bounds_other, no_bound_disk, no_bound_memory}
+use Rattle.dms_runtop.proofs.Bounds.{bounds_none}
 use Rattle.dms_runtop.specs.Over.{seen_site}
-use Rattle.dms_runtop.proofs.Endings.{IsUndone}
+use Rattle.dms_runtop.proofs.Endings.{IsUndone, undone_ok}
 use Rattle.dms_runtop.proofs.Ran.{ran_nothing}
 use Rattle.dms_runtop.proofs.Since.{runs_since}
 
@@ -59,26 +58,22 @@ module _ {S : Type 0} (g : Ghosts S) where
       → RunsOpened g (record o { log = record o.log { site = site } }) known left left' status new → RunsOpened g o known left left' status new
   runs_looked counts o site new known left left' status same said disk steps ran t k st n db all state room is =
       runs_since 0 0 (CountsFailures g site) (CountsFailures g o.log.site) (telling (view_of g o.log)) st.desc (points_of (telling (view_of g o.log)) st.files) n db o.next all (seen_site g o.log.site) (seen_site g site) (seen_site g new) left' status
-      (said_seen o.log.site site said) (runs_looking (counts o.log.site) steps) (λ c. omega (arith, c, disk)) (omega (arith, ap (λ (f : Files). others ((telling (view_of g o.log)).entries f)) (same t)))
+      (said_seen o.log.site site said) (runs_looking (counts o.log.site) steps) (λ c. omega (arith, c, disk)) (omega (arith, ap (λ (f : Files). length ((telling (view_of g o.log)).entries f)) (same t)))
       (ran t k (stands_looked o site (same t) steps st) n db all state room is)
 
   -- no line was run
-  pub runs_undone : (o : Opened S) (new : S) (known : Bool) (left left' : Option (List ℕ)) (status : Status) → IsUndone status → IsNoBound status
+  pub runs_undone : (o : Opened S) (new : S) (known : Bool) (left left' : Option (List ℕ)) (status : Status) → IsUndone status → (IsTrue g.tells → g.files new ≡ g.files o.log.site)
       → ((P : Left → Type 0) → Runs (g.clock o.log.site) (g.clock new) P) → g.said new ≡ g.said o.log.site → RunsOpened g o known left left' status new
-  runs_undone o new known left left' status undone none moments said t k st n db all state room is =
+  runs_undone o new known left left' status undone files moments said t k st n db all state room is =
       ran_nothing 0 (CountsFailures g o.log.site) (telling (view_of g o.log)) st.desc (points_of (telling (view_of g o.log)) st.files) n db o.next all (seen_site g o.log.site) (seen_site g new) left' status undone
-      (moments _) (said_seen o.log.site new said) (bounds_other none)
+      (moments _) (said_seen o.log.site new said) (bounds_none status (undone_ok status undone) (files t) (said_seen o.log.site new said))
 
 -- a fault of the description
 pub undone_description : (fault : FileFault) (status : Status) → (fault ≡ file.Disk → status ≡ DiskFault) → (fault ≡ file.Memory → status ≡ Memory) → IsUndone status
 undone_description file.Disk status disk memory = subst IsUndone (sym (disk refl)) tt
 undone_description file.Memory status disk memory = subst IsUndone (sym (memory refl)) tt
 
-pub no_bound_description : (fault : FileFault) (status : Status) → (fault ≡ file.Disk → status ≡ DiskFault) → (fault ≡ file.Memory → status ≡ Memory) → IsNoBound status
-no_bound_description file.Disk status disk memory = subst IsNoBound (sym (disk refl)) no_bound_disk
-no_bound_description file.Memory status disk memory = subst IsNoBound (sym (memory refl)) no_bound_memory
-
 -- memory was refused before the first line, and the site is the same
 pub runs_left : {S : Type 0} (g : Ghosts S) (o : Opened S) (new : S) (known : Bool) (left left' : Option (List ℕ)) → new ≡ o.log.site → RunsOpened g o known left left' Memory new
 runs_left g o new known left left' same =
-    subst (λ x. RunsOpened g o known left left' Memory x) (sym same) (runs_undone g o o.log.site known left left' Memory tt no_bound_memory (λ P. runs_none (g.clock o.log.site) P) refl)
+    subst (λ x. RunsOpened g o known left left' Memory x) (sym same) (runs_undone g o o.log.site known left left' Memory tt (λ tells. refl) (λ P. runs_none (g.clock o.log.site) P) refl)

@@ -10,11 +10,12 @@ use Rattle.dms_moments.specs.Moments.{Steps}
 use Rattle.dms_site.specs.Files.{Files, Same}
 use Rattle.dms_status.specs.declared.status.Status.{Status}
 use Rattle.dms_status.specs.declared.status.Status.TheVariants.{Memory}
+use Rattle.dms_wal.specs.Marks.{IsDescription}
 use Rattle.dms_runtop.specs.Command.{IsUnopened}
 use Rattle.dms_runtop.specs.Faults.{open_status}
 
-pub opened_files : {S : Type 0} {files : Files} (o : Opened S) → OpensAt o.log.end.total o.log.first files o.point o.next o.schema.items o.counts.items → CanOpen files
-opened_files o opens = record { total = o.log.end.total; first = o.log.first; point = o.point; next = o.next; schema = o.schema.items; counts = o.counts.items; opens = opens }
+pub opened_files : {S : Type 0} {files : Files} (o : Opened S) → OpensAt o.log.end.total o.log.first files o.point o.next o.schema.items o.counts.items → IsDescription o.schema.items → CanOpen files
+opened_files o opens described = record { total = o.log.end.total; first = o.log.first; point = o.point; next = o.next; schema = o.schema.items; counts = o.counts.items; opens = opens; described = described }
 
 module _ {S : Type 0} (g : Ghosts S) (old new : S) where
   -- an opening that was refused

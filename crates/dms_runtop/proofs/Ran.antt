@@ -134,9 +134,9 @@ said_nothing said events = (0, λ t is. is ∙ ap (λ (s : List ℕ). Some s) (s
 
 -- ---- a run, by how it ended
 
-module _ (opening : ℕ) (counts : Type 0) (t : Telling) (d : Described) (ps : List DescribedPoint) (n : ℕ) (db : Db) (next : ℕ) (all : List ℕ) (a b : SiteSeen) (left' : Option (List ℕ)) where
+module _ (opening : ℕ) (counts : Status → Type 0) (t : Telling) (d : Described) (ps : List DescribedPoint) (n : ℕ) (db : Db) (next : ℕ) (all : List ℕ) (a b : SiteSeen) (left' : Option (List ℕ)) where
   abbrev Bound : Status → Type 0
-  Bound status = BoundsAudit opening counts t d (script_events d db next (raw_lines all)) a.files b.files a.said b.said status
+  Bound status = BoundsAudit opening (counts status) t d (script_events d db next (raw_lines all)) a.files b.files a.said b.said status
 
   abbrev events : List RunEvent
   events = script_events d db next (raw_lines all)
@@ -212,7 +212,7 @@ module _ (opening : ℕ) (counts : Type 0) (t : Telling) (d : Described) (ps : L
       closing_limit s (inr of) k is = of_audit k (subst IsOfClosing is of)
 
 -- where less is asked for to bound the audit
-pub script_with : {opening : ℕ} {P Q : Type 0} {t : Telling} {d : Described} {ps : List DescribedPoint} {n : ℕ} {db : Db} {next : ℕ} {all : List ℕ} {a b : SiteSeen} {left' : Option (List ℕ)} {status : Status} → (Q → P)
+pub script_with : {opening : ℕ} {P Q : Status → Type 0} {t : Telling} {d : Described} {ps : List DescribedPoint} {n : ℕ} {db : Db} {next : ℕ} {all : List ℕ} {a b : SiteSeen} {left' : Option (List ℕ)} {status : Status} → (Q status → P status)
     → ScriptRuns opening P t d ps n db next all a b left' status → ScriptRuns opening Q t d ps n db next all a b left' status
 script_with counts r = record {
   every_moment = r.every_moment;

@@ -1,5 +1,5 @@
 -- A run since the opening, and before it what the opening leaves.
-use Rattle.std.proofs.Common.{ℕ, ◌≡◌, ◌≤◌, ◌+◌, ◌∙◌, List, [], ◌∷◌, ◌++◌, Option, Some, None, refl, sym, ap, subst, arith}
+use Rattle.std.proofs.Common.{ℕ, ◌≡◌, ◌≤◌, ◌+◌, ◌∙◌, List, [], ◌∷◌, ◌++◌, length, Option, Some, None, refl, sym, ap, subst, arith}
 use Rattle.std.proofs.lemmas.List.{append-nil}
 use Rattle.dms_desc.specs.Shape.{Described}
 use Rattle.dms_feed.specs.Lines.{raw_lines}
@@ -16,7 +16,6 @@ use Rattle.dms_wal.specs.Marks.{last_number, number_from}
 use Rattle.dms_run.specs.Files.{RunLeavesFiles}
 use Rattle.dms_run.specs.States.{LivesEndWith}
 use Rattle.dms_status.specs.declared.status.Status.{Status}
-use Rattle.dms_wal.specs.Growing.{others}
 use Rattle.dms_runtop.specs.Over.{ScriptRuns, SiteSeen}
 use Rattle.dms_runtop.proofs.Bounds.{bounds_since}
 
@@ -59,12 +58,12 @@ module _ (t : Telling) (files : Files) (said : Option (List ℕ)) (desc : Descri
 
 -- ---- a run since the opening
 
-module _ (opening opening0 : ℕ) (counts counts0 : Type 0) (t : Telling) (d : Described) (ps : List DescribedPoint) (n : ℕ) (db : Db) (next : ℕ) (all : List ℕ) (a0 a b : SiteSeen) (left' : Option (List ℕ)) (status : Status) where
+module _ (opening opening0 : ℕ) (counts counts0 : Status → Type 0) (t : Telling) (d : Described) (ps : List DescribedPoint) (n : ℕ) (db : Db) (next : ℕ) (all : List ℕ) (a0 a b : SiteSeen) (left' : Option (List ℕ)) (status : Status) where
   same_said : a.said ≡ a0.said → ScriptRuns opening counts t d ps n db next all a b left' status → ScriptRuns opening counts t d ps n db next all (record { files = a.files; clock = a.clock; said = a0.said }) b left' status
   same_said same ran = subst (λ (s : Option (List ℕ)). ScriptRuns opening counts t d ps n db next all (record { files = a.files; clock = a.clock; said = s }) b left' status) same ran
 
   pub runs_since : a.said ≡ a0.said → Runs a0.clock a.clock (RunLeavesFiles t d a0.said ps n db next (script_events d db next (raw_lines all)))
-      → (counts0 → counts) → others (t.entries a.files) + opening ≤ others (t.entries a0.files) + opening0 → ScriptRuns opening counts t d ps n db next all a b left' status → ScriptRuns opening0 counts0 t d ps n db next all a0 b left' status
+      → (counts0 status → counts status) → length (t.entries a.files) + opening ≤ length (t.entries a0.files) + opening0 → ScriptRuns opening counts t d ps n db next all a b left' status → ScriptRuns opening0 counts0 t d ps n db next all a0 b left' status
   runs_since same before counted grew ran =
       let r = same_said same ran in
       record {

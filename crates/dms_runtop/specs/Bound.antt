@@ -1,26 +1,26 @@
 -- How much audit a run takes.
 use Rattle.std.specs.Prelude.{ℕ, ◌≡◌, ◌+◌, ◌-◌, ◌*◌, ◌^◌, ◌<◌, ◌≤◌, true, List, length, take}
 use Rattle.std.specs.declared.option.Option.{Option}
-use Rattle.dms_block.specs.Texts.{Prints}
+use Rattle.dms_block.specs.Texts.{Prints, PrintsPrefix}
 use Rattle.dms_desc.specs.Shape.{Described}
-use Rattle.dms_runner.specs.Events.{RunEvent, backs_of, blocks_of, syncs_of, text_of}
+use Rattle.dms_runner.specs.Events.{RunEvent, SaidAtLeast, backs_of, blocks_of, quiets_of, syncs_of, text_of}
 use Rattle.dms_running.specs.Telling.{Telling}
 use Rattle.dms_site.specs.declared.site.Site.{Ghosts}
 use Rattle.dms_site.specs.Files.{Files}
-use Rattle.dms_status.specs.declared.status.LimitKind.TheVariants.{AuditFile}
 use Rattle.dms_status.specs.declared.status.Status.{Status}
-use Rattle.dms_status.specs.declared.status.Status.TheVariants.{Ok, Limit}
+use Rattle.dms_status.specs.declared.status.Status.TheVariants.{Ok, Memory, DiskFault, SayFault}
 use Rattle.dms_storeverbs.specs.Costs.{limit_if}
-use Rattle.dms_wal.specs.Growing.{controls_among, others}
+use Rattle.dms_wal.specs.Growing.{controls_among}
 
--- How many entries these events may make, quiet points apart: one for each block that is changed, 64 of each structure for each record that may be
--- stored; 18 for each m-th syncpoint; and 19 for each back-out.
+-- How many entries these events may make: one for each block that is changed, 64 of each structure for each record that may be stored; one for each
+-- quiet point; 18 for each m-th syncpoint; and 19 for each back-out.
 abbrev pub audit_of : Described → List RunEvent → ℕ
-audit_of desc events = blocks_of desc events + 18 * controls_among desc.controlpoint (syncs_of events) + 19 * backs_of events
+audit_of desc events = blocks_of desc events + length (quiets_of events) + 18 * controls_among desc.controlpoint (syncs_of events) + 19 * backs_of events
 
--- And one call more that is under way: a record, a syncpoint and a back-out.
+-- And one call more that is under way: a record, a quiet point, a syncpoint and a back-out.
 abbrev pub audit_begun : Described → List RunEvent → ℕ
-audit_begun desc events = blocks_of desc events + limit_if true desc + 18 * controls_among desc.controlpoint (syncs_of events + 1) + 19 * (backs_of events + 1)
+audit_begun desc events =
+    blocks_of desc events + limit_if true desc + length (quiets_of events) + 1 + 18 * controls_among desc.controlpoint (syncs_of events + 1) + 19 * (backs_of events + 1)
 
 -- The counts of 64 bits can tell what they do.
 pub record AreCounted (desc : Described) (events : List RunEvent) : Type 0 where
@@ -28,16 +28,24 @@ pub record AreCounted (desc : Described) (events : List RunEvent) : Type 0 where
   pub syncs : syncs_of events + 1 < 2 ^ 64 - 1
   pub backs : backs_of events + 1 < 2 ^ 64 - 1
 
--- The audit of the files of now has at most so many entries more than that of then, quiet points apart.
+-- The audit of the files of now has at most so many entries more than that of then.
 abbrev pub AuditGrew : Telling → ℕ → Files → Files → Type 0
-AuditGrew t n then now = others (t.entries now) ≤ others (t.entries then) + n
+AuditGrew t n then now = length (t.entries now) ≤ length (t.entries then) + n
 
--- Exactly the text of the first so many events was printed, and the audit grew by no more than these make, one call that was under way, an opening
--- and a close.
-pub record GrewByPart (n : ℕ) (t : Telling) (desc : Described) (events : List RunEvent) (then now : Files) (said said' : Option (List ℕ)) : Type 0 where
+-- Exactly the text of the first k events was printed. Where it was cut off, that of all these or of all but the last was printed whole, and of the
+-- last one's a prefix.
+pub record PrintsEvents (cut : Type 0) (k : ℕ) (events : List RunEvent) (said said' : Option (List ℕ)) : Type 0 where
+  pub text : (cut → ⊥) → Prints said said' (text_of (take k events))
+  pub whole : ℕ
+  pub near : (whole ≤ k) × (k ≤ whole + 1)
+  pub least : SaidAtLeast said said' (text_of (take whole events))
+  pub most : PrintsPrefix said said' (text_of (take k events))
+
+-- So much was printed, and the audit grew by no more than the first k events make, one call that was under way, an opening and a close.
+pub record GrewByPart (cut : Type 0) (n : ℕ) (t : Telling) (desc : Described) (events : List RunEvent) (then now : Files) (said said' : Option (List ℕ)) : Type 0 where
   pub k : ℕ
   pub within : k ≤ length events
-  pub text : Prints said said' (text_of (take k events))
+  pub printed : PrintsEvents cut k events said said'
   pub grew : AreCounted desc (take k events) → AuditGrew t (n + audit_begun desc (take k events) + 37) then now
 
 -- So much audit a run takes, where an opening before it took at most n entries. A close takes at most 37: a back-out and a control point. P says that
@@ -45,9 +53,13 @@ pub record GrewByPart (n : ℕ) (t : Telling) (desc : Described) (events : List 
 pub record BoundsAudit (n : ℕ) (P : Type 0) (t : Telling) (desc : Described) (events : List RunEvent) (then now : Files) (said said' : Option (List ℕ)) (status : Status) : Type 0 where
   -- at status 0 no more than all events make
   pub at_ok : P → status ≡ Ok → AreCounted desc events → AuditGrew t (n + audit_of desc events + 37) then now
-  -- at status 8 of an audit file no more than those make that are answered, and the call that found no room
-  pub at_full : P → (f : ℕ) → status ≡ Limit (AuditFile f) → GrewByPart n t desc events then now said said'
+  -- at each status but 5 no more than those make that are answered, and the call that was under way; at 10 the last answer may be cut off
+  pub at_end : P → (status ≡ DiskFault → ⊥) → GrewByPart (status ≡ SayFault) n t desc events then now said said'
 
--- a failed call of the disk would be counted: the count isn't at its type's end
-abbrev pub CountsFailures : {S : Type 0} → Ghosts S → S → Type 0
-CountsFailures g site = g.disk_faults site < 2 ^ 64 - 1
+-- A failed call of the disk would be counted, whatever the status is: the count isn't at its type's end.
+abbrev pub CountsFailures : {S : Type 0} → Ghosts S → S → Status → Type 0
+CountsFailures g site status = g.disk_faults site < 2 ^ 64 - 1
+
+-- So it is at each status but 7, which may stand for a call that the guard refused (`Guarded`): no run makes one, but no clause says so.
+abbrev pub CountsUnguarded : {S : Type 0} → Ghosts S → S → Status → Type 0
+CountsUnguarded g site status = CountsFailures g site status × (status ≡ Memory → ⊥)

@@ -8,3 +8,4 @@ pub mod Guard
 pub mod GuardLaws
 pub mod Full
 pub mod Bound
+pub mod Inputs

@@ -2,6 +2,7 @@
 use Rattle.std.specs.Prelude.{ℕ, ◌≡◌, ◌⊎◌, ◌+◌, ◌<◌, ◌^◌, List, [], length, map, Some, None, IsTrue, if◌then◌else◌}
 use Rattle.std.specs.declared.option.Option.{Option}
 use Rattle.dms_moments.specs.Moments.{Clock, Runs}
+use Rattle.dms_audfile.specs.Ends.{Grown}
 use Rattle.dms_block.specs.Texts.{Prints, PrintsPrefix}
 use Rattle.dms_desc.specs.Shape.{Described}
 use Rattle.dms_feed.specs.Lines.{raw_lines}
@@ -66,8 +67,8 @@ ReachesFiles t desc n db next lines s =
 
 -- A run of the script that an input has, over a database that at point n is db, whose next number is this one. These were the points before the run,
 -- so the site was seen before it and behind it, so much of the input was left, and so the run ended. An opening before it took at most so many entries
--- of the audit.
-pub record ScriptRuns (opening : ℕ) (counts : Type 0) (t : Telling) (desc : Described) (ps : List DescribedPoint) (n : ℕ) (db : Db) (next : ℕ) (all : List ℕ) (a b : SiteSeen) (left' : Option (List ℕ)) (status : Status) : Type 0 where
+-- of the audit, and a failed call would be counted, as far as the status tells.
+pub record ScriptRuns (opening : ℕ) (counts : Status → Type 0) (t : Telling) (desc : Described) (ps : List DescribedPoint) (n : ℕ) (db : Db) (next : ℕ) (all : List ℕ) (a b : SiteSeen) (left' : Option (List ℕ)) (status : Status) : Type 0 where
   -- a stop at each moment left what a run leaves: the database of one quiet point, none before those that syncpoints made durable before what
   -- was printed last, and each point as it was
   pub every_moment : Runs a.clock b.clock (RunLeavesFiles t desc a.said ps n db next (script_events desc db next (raw_lines all)))
@@ -83,8 +84,8 @@ pub record ScriptRuns (opening : ℕ) (counts : Type 0) (t : Telling) (desc : De
   pub within : status ≡ Ok → KeepsLimits desc db next (raw_lines all)
   -- at status 8 by the script it passes that limit, and none before
   pub limit : (k : LimitKind) → status ≡ Limit k → PassesScript k desc db next (raw_lines all) a.said b.said
-  -- at status 0, and at status 8 of an audit file, it took no more of the audit than what is answered may take, and one call that was under way
-  pub bound : BoundsAudit opening counts t desc (script_events desc db next (raw_lines all)) a.files b.files a.said b.said status
+  -- at each status but 5 it took no more of the audit than what is answered may take, and one call that was under way
+  pub bound : BoundsAudit opening (counts status) t desc (script_events desc db next (raw_lines all)) a.files b.files a.said b.said status
   -- at status 6 what the whole lines that were taken answer was printed
   pub input_cut : status ≡ InputFault → CutInput desc db next all left' a.said b.said
   -- no block of a structure file is found damaged
@@ -114,9 +115,13 @@ module _ {S : Type 0} (g : Ghosts S) where
       (total first : ℕ) (ps : List DescribedPoint) (n : ℕ) (db : Db) (all : List ℕ) → BeginsAt r total first ps desc n db → left ≡ Some all
       → ScriptRuns 0 (CountsFailures g r.log.site) (telling_of total first) desc ps n db r.next all (seen_site g r.log.site) (seen_site g site) left' status
 
+  -- the trail is the one of before and blocks behind it, each of which is in its grammar and holds an entry
+  abbrev pub GrowsOver : Running S → S → Type 0
+  GrowsOver r site = IsTrue g.tells → Grown r.log.end.total r.log.first (g.files r.log.site) (g.files site)
+
   -- The database was closed: at status 0 the files hold it, with all its points and its next number, and a stop leaves no other files. Until then each
   -- stop left the first so many of its points, at least the durable ones, and no other text. Unless a call of the disk failed the audit took at most 37
-  -- entries.
+  -- entries, and whatever failed they stand in blocks behind the old ones.
   pub record ClosesOver (r : Running S) (status : Status) (site : S) : Type 0 where
     pub leaves : LeavesUntil (held g r) (lifted (telling (view_of g r.log)) (g.clock site))
     pub points_are : status ≡ Ok → IsTrue g.tells → points_of (telling (view_of g r.log)) (g.files site) ≡ points (view_of g r.log)
@@ -124,3 +129,4 @@ module _ {S : Type 0} (g : Ghosts S) where
     pub next_is : status ≡ Ok → IsTrue g.tells → next_in (telling (view_of g r.log)) (g.files site) ≡ r.next
     pub only : status ≡ Ok → IsTrue g.tells → Only (g.files site) (g.clock site)
     pub few : (status ≡ DiskFault → ⊥) → IsTrue g.tells → FilesGrew 37 (view_of g r.log) (g.files site)
+    pub grown : GrowsOver r site

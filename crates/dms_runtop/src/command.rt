@@ -6,10 +6,11 @@ ghost use Rattle.dms_desc.specs.Shape.{described};
 ghost use Rattle.dms_desc_bytes.specs.Spelling.{spelling};
 ghost use Rattle.dms_desc_bytes.specs.WellFormed.{IsWellFormed};
 ghost use Rattle.dms_opening.specs.Openings.{NamesStructures};
-ghost use Rattle.dms_runtop.specs.Command.{DatabaseState, HoldsTold, NeverRefuses, NeverRefusesState, EndsInState, StandsOpened, StandsThroughout, RunsCommand, RunsOpened, RefusesRun, OpensOrStays};
+ghost use Rattle.dms_runtop.specs.Command.{DatabaseState, HoldsTold, NeverRefuses, NeverRefusesState, EndsInState, GrowsOpened, StandsOpened, StandsThroughout, RunsCommand, RunsFound, RunsOpened, RefusesRun, OpensOrStays};
 ghost use Rattle.dms_runtop.specs.Describing.{IsUnderSchema};
 ghost use Rattle.dms_runtop.specs.Full.{HasNoRoom, PassesAtFull};
 ghost use Rattle.dms_runtop.specs.Guard.{StaysBeside};
+ghost use Rattle.dms_runtop.specs.Inputs.{BlamesInput};
 ghost use Rattle.dms_runtop.specs.Statuses.{IsOfRun, IsOfScript, IsRefusal};
 ghost use Rattle.dms_wal.specs.Lifting.{AreCounts};
 ghost use Rattle.dms_wal.specs.Marks.{IsDescription};
@@ -99,6 +100,8 @@ fn run_described<S: Site, I: Source, K: Knows>(
     requires named { NamesStructures opened.schema.items opened.counts.items }
     requires known { IsTrue S.tells → IsTrue K.known → StandsOpened S.Site opened }
     ensures ran { RunsOpened S.Site opened K.known (I.left source.old) (I.left source.new) result.status result.site }
+    ensures grown { GrowsOpened S.Site opened K.known result.site }
+    ensures by_input { BlamesInput (I.left source.old) (I.left source.new) result.status }
     ensures end { result.status ≡ Status.Ok → (all : List ℕ) → I.left source.old ≡ Some all → I.left source.new ≡ Some [] }
     ensures statuses { (result.status ≡ Status.Ok) ⊎ IsOfScript result.status }
     ensures disk { CountedAt (result.status ≡ Status.DiskFault) (S.disk_faults opened.log.site) (S.disk_faults result.site) }
@@ -158,6 +161,8 @@ fn run_opened<S: Site, I: Source, K: Knows>(
     requires named { NamesStructures opened.schema.items opened.counts.items }
     requires known { IsTrue S.tells → IsTrue K.known → StandsOpened S.Site opened }
     ensures ran { RunsOpened S.Site opened K.known (I.left source.old) (I.left source.new) result.status result.site }
+    ensures grown { GrowsOpened S.Site opened K.known result.site }
+    ensures by_input { BlamesInput (I.left source.old) (I.left source.new) result.status }
     ensures end { result.status ≡ Status.Ok → (all : List ℕ) → I.left source.old ≡ Some all → I.left source.new ≡ Some [] }
     ensures statuses { (result.status ≡ Status.Ok) ⊎ IsOfScript result.status }
     ensures disk { CountedAt (result.status ≡ Status.DiskFault) (S.disk_faults opened.log.site) (S.disk_faults result.site) }
@@ -206,6 +211,8 @@ fn run_confirmed<S: Site, I: Source, K: Knows>(
     requires named { NamesStructures opened.schema.items opened.counts.items }
     requires known { IsTrue S.tells → IsTrue K.known → StandsOpened S.Site opened }
     ensures ran { RunsOpened S.Site opened K.known (I.left source.old) (I.left source.new) result.status result.site }
+    ensures grown { GrowsOpened S.Site opened K.known result.site }
+    ensures by_input { BlamesInput (I.left source.old) (I.left source.new) result.status }
     ensures end { result.status ≡ Status.Ok → (all : List ℕ) → I.left source.old ≡ Some all → I.left source.new ≡ Some [] }
     ensures statuses { (result.status ≡ Status.Ok) ⊎ IsOfScript result.status }
     ensures passes { PassesAtFull S.Site opened.log.end.total opened.log.first result.status result.site }
@@ -233,7 +240,8 @@ fn run_found<S: Site, I: Source>(alloc: Global, site: S, source: &mut I) -> Ende
     ghost state: { Option DatabaseState }
     requires told { IsTrue S.tells → HoldsTold state (S.files site) }
     ensures complete { NeverRefuses S.Site site result.status }
-    ensures ran { RunsCommand S.Site state site result.site (I.left source.old) (I.left source.new) result.status }
+    ensures ran { RunsFound S.Site state site result.site (I.left source.old) (I.left source.new) result.status }
+    ensures by_input { BlamesInput (I.left source.old) (I.left source.new) result.status }
     ensures refused { IsRefusal result.status → RefusesRun S.Site site result.site result.status }
     ensures opens { OpensOrStays S.Site site result.site result.status }
     ensures untaken { IsRefusal result.status → source.new ≡ source.old }
@@ -263,6 +271,7 @@ fn run_guarded<S: Site, I: Source>(alloc: Global, site: S, source: &mut I) -> En
     requires told { IsTrue S.tells → HoldsTold state (S.files site) }
     ensures complete { NeverRefuses S.Site site result.status }
     ensures ran { RunsCommand S.Site state site result.site (I.left source.old) (I.left source.new) result.status }
+    ensures by_input { BlamesInput (I.left source.old) (I.left source.new) result.status }
     ensures refused { IsRefusal result.status → RefusesRun S.Site site result.site result.status }
     ensures opens { OpensOrStays S.Site site result.site result.status }
     ensures untaken { IsRefusal result.status → source.new ≡ source.old }
@@ -301,6 +310,7 @@ pub fn run_command<S: Site, I: Source>(alloc: Global, site: &mut S, source: &mut
     ensures complete { NeverRefuses S.Site site.old result }
     ensures complete_state { NeverRefusesState S.Site site.old result }
     ensures ran { RunsCommand S.Site state site.old site.new (I.left source.old) (I.left source.new) result }
+    ensures by_input { BlamesInput (I.left source.old) (I.left source.new) result }
     ensures refused { IsRefusal result → RefusesRun S.Site site.old site.new result }
     ensures opens { OpensOrStays S.Site site.old site.new result }
     ensures untaken { IsRefusal result → source.new ≡ source.old }

@@ -8,7 +8,8 @@ ghost use Rattle.dms_model.specs.Db.{Db};
 ghost use Rattle.dms_model.specs.Session.{fresh_session};
 ghost use Rattle.dms_restore.specs.Logging.{telling, points};
 ghost use Rattle.dms_restore.specs.Views.{view_of};
-ghost use Rattle.dms_runtop.specs.Over.{RunsOver, ClosesOver};
+ghost use Rattle.dms_runtop.specs.Inputs.{BlamesInput};
+ghost use Rattle.dms_runtop.specs.Over.{RunsOver, ClosesOver, GrowsOver};
 ghost use Rattle.dms_runtop.specs.Statuses.{IsOfClosing, IsOfScript};
 ghost use Rattle.dms_store.specs.Lifted.{Serves};
 ghost use Rattle.dms_storeverbs.specs.View.{StandsFor, seen, view};
@@ -67,6 +68,8 @@ fn run_engine<S: Site, I: Source>(
     requires fresh { (db : Db) → (seen engine).db ≡ Some db → StandsFor (view engine) (fresh_session db (seen engine).next) }
     requires found { engine.store.found ≡ 0 }
     ensures ran { RunsOver S.Site engine.store.over.below (described engine.desc) (I.left source.old) (I.left source.new) result.status result.site }
+    ensures grown { GrowsOver S.Site engine.store.over.below result.site }
+    ensures by_input { BlamesInput (I.left source.old) (I.left source.new) result.status }
     ensures end { result.status ≡ Status.Ok → (all : List ℕ) → I.left source.old ≡ Some all → I.left source.new ≡ Some [] }
     ensures statuses { (result.status ≡ Status.Ok) ⊎ IsOfScript result.status }
     ensures disk { CountedAt (result.status ≡ Status.DiskFault) (S.disk_faults engine.store.over.below.log.site) (S.disk_faults result.site) }
@@ -105,6 +108,8 @@ pub fn run_over<S: Site, I: Source>(
     requires formed { IsWellFormed (described desc.now) }
     requires mark { IsTrue S.tells → (held S.Site running).mark ≡ (held S.Site running).content }
     ensures ran { RunsOver S.Site running (described desc.now) (I.left source.old) (I.left source.new) result.status result.site }
+    ensures grown { GrowsOver S.Site running result.site }
+    ensures by_input { BlamesInput (I.left source.old) (I.left source.new) result.status }
     ensures end { result.status ≡ Status.Ok → (all : List ℕ) → I.left source.old ≡ Some all → I.left source.new ≡ Some [] }
     ensures statuses { (result.status ≡ Status.Ok) ⊎ IsOfScript result.status }
     ensures disk { CountedAt (result.status ≡ Status.DiskFault) (S.disk_faults running.log.site) (S.disk_faults result.site) }

@@ -22,6 +22,7 @@ ghost use Rattle.dms_audfile.specs.Counting.{CountedAt};
 ghost use Rattle.dms_runtop.specs.Command.{DatabaseState, HoldsTold, NeverRefuses, NeverRefusesState, RefusesRun, RunsCommand, EndsInState, StandsThroughout, OpensOrStays};
 ghost use Rattle.dms_runtop.specs.Full.{HasNoRoom};
 ghost use Rattle.dms_runtop.specs.Guard.{StaysBeside};
+ghost use Rattle.dms_runtop.specs.Inputs.{BlamesInput};
 ghost use Rattle.dms_runtop.specs.Statuses.{IsOfRun, IsRefusal};
 ghost use Rattle.dms_top.specs.SiteText.{text_told};
 ghost use Rattle.dms_top.specs.Words.{IsTry, IsCompile, IsRun, IsCommand, IsOfTry, IsOfCompile, IsPast, ComesUnsaid, IsUntouched};
@@ -267,10 +268,14 @@ pub fn dms<S: Site, I: Source>(
     ensures run_complete_state { OnRun words.now (NeverRefusesState S.Site site.old result) }
     // status 8 of an audit file comes only where the trail of entry goes on behind that file: it begins behind it, or all gates of that file are open
     ensures run_full { OnRun words.now (HasNoRoom S.Site site.old site.new result) }
+    // whatever the files stand for, status 8 of lines or bytes comes only where the input has more of them than a script may have, and at status 6 taking
+    // failed behind so many whole lines and a part of the next one
+    ensures run_by_input { OnRun words.now (BlamesInput (I.left input.old) (I.left input.new) result) }
     // only audit files and structure files change: the description and the dumps read as they did, and each stop left them as one at entry could
     ensures run_beside { OnRun words.now (StaysBeside S.Site site.old site.new) }
     // of the state that is told: at every moment a stop leaves the database of one quiet point, at status 0 the last one's, and exactly the answers or a
-    // prefix of them were printed
+    // prefix of them were printed. At each status the audit grew by blocks that hold an entry, and at each but 5 and 7 by no more entries than what was
+    // answered may take, and the call that was under way
     ensures run { OnRun words.now (RunsCommand S.Site state site.old site.new (I.left input.old) (I.left input.new) result) }
     // where a run may begin with that database, each stop leaves files that stand for it or for that of one quiet point, no earlier than the printed text
     // tells, with which a run may begin again

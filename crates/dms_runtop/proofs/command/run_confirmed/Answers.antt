@@ -3,6 +3,8 @@ use Rattle.dms_moments.specs.Moments.{Steps}
 use Rattle.dms_site.specs.Files.{Same}
 use Rattle.dms_status.specs.declared.status.LimitKind.TheVariants.{AuditFile}
 use Rattle.dms_status.specs.declared.status.Status.TheVariants.{Limit}
+use Rattle.dms_runtop.proofs.Grows.{grows_upto}
+use Rattle.dms_runtop.proofs.Inputs.{blames_full}
 use Rattle.dms_runtop.proofs.Instead.{full_place, opened_instead}
 use Rattle.dms_runtop.proofs.command.run_confirmed.Goals as goal
 
@@ -14,3 +16,10 @@ returns-in-Limit-AuditFile-clause-ran g c =
     (subst (λ x. Steps Same (g.S.Site.clock x) (g.S.Site.clock c.status_of_full-status.new.site)) c.into_site-site.ensures c.status_of_full-status.ensures.moments)
     (c.status_of_full-status.ensures.said ∙ ap g.S.Site.said c.into_site-site.ensures) c.in-Limit-AuditFile.limit was (λ tells. c.status_of_full-status.ensures.files tells ∙ ap g.S.Site.files c.into_site-site.ensures)
     c.run_opened-ended.ensures.ran
+
+pub returns-in-Limit-AuditFile-clause-grown : goal.returns-in-Limit-AuditFile-clause-grown
+returns-in-Limit-AuditFile-clause-grown g c =
+    grows_upto g.S.Site c.args.opened c.run_opened-ended.result.site c.status_of_full-status.new.site g.K.Knows.known (λ tells. c.status_of_full-status.ensures.files tells ∙ ap g.S.Site.files c.into_site-site.ensures) c.run_opened-ended.ensures.grown
+
+pub returns-in-Limit-AuditFile-clause-by_input : goal.returns-in-Limit-AuditFile-clause-by_input
+returns-in-Limit-AuditFile-clause-by_input g c = blames_full c.in-Limit-AuditFile.limit c.status_of_full-status.result c.status_of_full-status.ensures.kind

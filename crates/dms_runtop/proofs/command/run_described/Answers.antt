@@ -1,9 +1,14 @@
 use Rattle.std.proofs.Common.{◌≤◌, ◌<◌, ◌∙◌, ℕ, length, refl, sym, ap, subst}
 use Rattle.std.specs.Global.{Vec}
 use Rattle.dms_desc.specs.Shape.{described}
+use Rattle.dms_status.specs.declared.status.Status.{Status}
+use Rattle.dms_status.specs.declared.status.Status.TheVariants.{Memory}
 use Rattle.dms_wal.specs.Marks.{IsDescription}
 use Rattle.dms_runtop.specs.Both.{first_of, second_of, both_of}
+use Rattle.dms_runtop.specs.Inputs.{BlamesInput}
 use Rattle.dms_runtop.proofs.Formed.{bytes_fit, files_of, frames_of}
+use Rattle.dms_runtop.proofs.Grows.{grows_none, grows_unveiled}
+use Rattle.dms_runtop.proofs.Inputs.{blames_undone}
 use Rattle.dms_runtop.proofs.Looked.{runs_left}
 use Rattle.dms_runtop.proofs.Serving.{counts_each, serves_by}
 use Rattle.dms_runtop.proofs.Unveiled.{files_under, runs_unveiled, same_end}
@@ -56,3 +61,20 @@ returns-clause-ran g c =
 
 pub returns-in_default-clause-ran : goal.returns-in_default-clause-ran
 returns-in_default-clause-ran g c = runs_left g.S.Site c.args.opened c.site_of.result g.K.Knows.known _ _ c.site_of.ensures
+
+pub returns-in-Ok-clause-grown : goal.returns-in-Ok-clause-grown
+returns-in-Ok-clause-grown g c =
+    grows_unveiled g.S.Site _ (λ v. v.site) g.K.Knows.known (both_of g.S.Site.tells g.K.Knows.known) (λ v. refl) c.args.opened c.in-Ok.running (ap (λ v. v.site) c.in-Ok.ensures.log.0) c.in-Ok.ensures.log.2 c.in-Ok.ensures.log.1
+    c.run_over.result.site _ c.unveil.ensures.1 c.run_over.ensures.grown
+
+pub returns-clause-grown : goal.returns-clause-grown
+returns-clause-grown g c = grows_none g.S.Site c.args.opened _ g.K.Knows.known (λ tells. ap g.S.Site.files (c.unveil-in-Err.ensures.1 ∙ ap (λ v. v.site) c.in-Err.ensures.site))
+
+pub returns-in_default-clause-grown : goal.returns-in_default-clause-grown
+returns-in_default-clause-grown g c = grows_none g.S.Site c.args.opened c.site_of.result g.K.Knows.known (λ tells. ap g.S.Site.files c.site_of.ensures)
+
+pub returns-in_default-clause-by_input : goal.returns-in_default-clause-by_input
+returns-in_default-clause-by_input g c = blames_undone Memory tt
+
+pub returns-clause-by_input : goal.returns-clause-by_input
+returns-clause-by_input g c = subst (λ (x : Status). BlamesInput (g.I.Source.left c.args.source.now) (g.I.Source.left c.args.source.now) x) (sym c.unveil-in-Err.ensures.0) (blames_undone Memory tt)

@@ -8,6 +8,7 @@ use Rattle.dms_runtop.specs.Statuses.{IsOfRun, IsRefusal}
 use Rattle.dms_runtop.proofs.Counted.{on_from, on_status}
 use Rattle.dms_runtop.proofs.Entered.{opened_known, runs_found, runs_refused}
 use Rattle.dms_runtop.proofs.Fulls.{full_entered, full_opening}
+use Rattle.dms_runtop.proofs.Inputs.{blames_opening}
 use Rattle.dms_runtop.proofs.Refused.{not_written, no_refusal, script_no_refusal, of_run, open_of_run, counts_open, open_say, open_input, open_ok}
 use Rattle.dms_runtop.proofs.command.run_found.Goals as goal
 
@@ -68,11 +69,11 @@ run_confirmed-requires-clause-known g c = λ tells knows.
 
 pub returns-in-Ok-clause-ran : goal.returns-in-Ok-clause-ran
 returns-in-Ok-clause-ran g c =
-    runs_found g.S.Site c.args.site g.state c.states_law.ensures c.held_law.ensures.next c.requires.1.1 c.in-Ok.opened c.in-Ok.ensures.opens c.in-Ok.ensures.runs c.in-Ok.ensures.moments c.in-Ok.ensures.said c.in-Ok.ensures.clean.0 _ _ c.run_confirmed.result.status c.run_confirmed.result.site c.run_confirmed.ensures.ran
+    runs_found g.S.Site c.args.site g.state c.states_law.ensures c.held_law.ensures.next c.requires.1.1 c.in-Ok.opened c.in-Ok.ensures.opens c.in-Ok.ensures.runs c.in-Ok.ensures.moments c.in-Ok.ensures.grows c.in-Ok.ensures.said c.in-Ok.ensures.clean.0 _ _ c.run_confirmed.result.status c.run_confirmed.result.site c.run_confirmed.ensures.ran c.run_confirmed.ensures.grown
 
 pub returns-in-Err-clause-ran : goal.returns-in-Err-clause-ran
 returns-in-Err-clause-ran g c =
-    runs_refused g.S.Site c.args.site g.state c.states_law.ensures c.held_law.ensures.next c.requires.1.1 c.in-Err.fault c.in-Err.site c.in-Err.ensures.complete c.in-Err.ensures.few c.in-Err.ensures.stopped c.in-Err.ensures.said_then _ _ c.status_of_open.result c.status_of_open.ensures
+    runs_refused g.S.Site c.args.site g.state c.states_law.ensures c.held_law.ensures.next c.requires.1.1 c.in-Err.fault c.in-Err.site c.in-Err.ensures.complete c.in-Err.ensures.grows_then c.in-Err.ensures.stopped c.in-Err.ensures.said_then _ _ c.status_of_open.result c.status_of_open.ensures
 
 pub returns-in-Ok-clause-full : goal.returns-in-Ok-clause-full
 returns-in-Ok-clause-full g c = full_entered g.S.Site c.args.site c.run_confirmed.result.site c.run_confirmed.result.status c.in-Ok.opened.log.end.total c.in-Ok.opened.log.first (λ tells. (c.in-Ok.ensures.opens tells).trail) c.run_confirmed.ensures.passes
@@ -81,7 +82,10 @@ pub returns-in-Err-clause-full : goal.returns-in-Err-clause-full
 returns-in-Err-clause-full g c = full_opening g.S.Site c.args.site c.in-Err.site c.in-Err.fault c.status_of_open.result c.status_of_open.ensures c.in-Err.ensures.refused c.in-Err.ensures.full
 
 pub returns-in-Ok-clause-opens : goal.returns-in-Ok-clause-opens
-returns-in-Ok-clause-opens g c tells = inl (opened_files c.in-Ok.opened (c.in-Ok.ensures.opens tells))
+returns-in-Ok-clause-opens g c tells = inl (opened_files c.in-Ok.opened (c.in-Ok.ensures.opens tells) c.in-Ok.ensures.fit.0)
 
 pub returns-in-Err-clause-opens : goal.returns-in-Err-clause-opens
 returns-in-Err-clause-opens g c tells = unopened g.S.Site c.args.site c.in-Err.site c.in-Err.fault c.status_of_open.result c.status_of_open.ensures (c.in-Err.ensures.refused tells) (c.in-Err.ensures.begun tells)
+
+pub returns-in-Err-clause-by_input : goal.returns-in-Err-clause-by_input
+returns-in-Err-clause-by_input g c = blames_opening c.in-Err.fault c.status_of_open.result c.status_of_open.ensures

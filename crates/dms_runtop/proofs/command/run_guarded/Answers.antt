@@ -1,7 +1,7 @@
 use Rattle.std.proofs.Common.{◌<◌, ◌⊎◌, refl, sym, subst, arith}
-use Rattle.dms_runtop.proofs.Bounds.{no_bound_memory}
 use Rattle.dms_runtop.proofs.Ran.{script_with}
 use Rattle.dms_status.specs.declared.status.Status.TheVariants.{Memory}
+use Rattle.dms_runtop.proofs.Inputs.{blames_undone}
 use Rattle.dms_opening.specs.Openings.{CanOpen}
 use Rattle.dms_runtop.specs.Command.{IsUnopened, RunsCommand}
 use Rattle.dms_runtop.proofs.Opening.{opens_below, unopened_memory}
@@ -14,14 +14,14 @@ returns-then-refused-gt0-clause-ran g c =
     let ended = c.run_found-ended.ensures in
     let counted = refused_counts c.run_found-ended.result.status (g.S.Site.disk_faults c.args.site) (g.S.Site.disk_faults c.run_found-ended.result.site.site) c.run_found-ended.result.site.refused ended.same.counted
     (subst (λ x. 0 < x.refused) c.into_site-site.ensures c.if-refused-gt0.true) ended.disk in
-    command_instead g.S.Site g.state c.args.site c.into_site-site.result.site _ _ c.run_found-ended.result.status Memory (refused_place c.run_found-ended.result.status counted.0) no_bound_memory
+    command_instead g.S.Site g.state c.args.site c.into_site-site.result.site _ _ c.run_found-ended.result.status (refused_place c.run_found-ended.result.status counted.0)
     (subst (λ x. RunsCommand g.S.Site g.state c.args.site x.site (g.I.Source.left c.args.source.now) (g.I.Source.left c.run_found-ended.new.source) c.run_found-ended.result.status) (sym c.into_site-site.ensures)
-    (λ tells s is next has room all held. let r = ended.ran tells s is next has room all held in record { total = r.total; first = r.first; trail = r.trail; runs = script_with (λ c. omega (arith, c)) r.runs }))
+    (λ tells s is next has room all held. let r = ended.ran tells s is next has room all held in record { total = r.total; first = r.first; trail = r.trail; runs = script_with (λ c. omega (arith, c.0)) r.runs; grown = r.grown }))
 
 pub returns-clause-ran : goal.returns-clause-ran
 returns-clause-ran g c =
     subst (λ x. RunsCommand g.S.Site g.state c.args.site x.site (g.I.Source.left c.args.source.now) (g.I.Source.left c.run_found-ended.new.source) c.run_found-ended.result.status) (sym c.into_site-site.ensures)
-    (λ tells s is next has room all held. let r = c.run_found-ended.ensures.ran tells s is next has room all held in record { total = r.total; first = r.first; trail = r.trail; runs = script_with (λ c. omega (arith, c)) r.runs })
+    (λ tells s is next has room all held. let r = c.run_found-ended.ensures.ran tells s is next has room all held in record { total = r.total; first = r.first; trail = r.trail; runs = script_with (λ c. omega (arith, c.0)) r.runs; grown = r.grown })
 
 pub returns-clause-opens : goal.returns-clause-opens
 returns-clause-opens g c tells =
@@ -33,3 +33,6 @@ returns-then-refused-gt0-clause-opens g c tells =
     unopened_memory g.S.Site c.args.site c.into_site-site.result.site c.run_found-ended.result.status
     (subst (λ x. CanOpen (g.S.Site.files c.args.site) ⊎ IsUnopened g.S.Site c.args.site x.site c.run_found-ended.result.status) (sym c.into_site-site.ensures)
     (opens_below g.S.Site c.args.site c.run_found-ended.result.site.site refl refl (λ s. s) c.run_found-ended.result.status (c.run_found-ended.ensures.opens tells)))
+
+pub returns-then-refused-gt0-clause-by_input : goal.returns-then-refused-gt0-clause-by_input
+returns-then-refused-gt0-clause-by_input g c = blames_undone Memory tt

@@ -1,5 +1,7 @@
 use Rattle.dms_moments.specs.SeenLaws.{runs_looking}
-use Rattle.dms_runtop.proofs.Looked.{no_bound_description, runs_looked, runs_undone, stands_looked, undone_description}
+use Rattle.dms_runtop.proofs.Grows.{grows_looked, grows_none}
+use Rattle.dms_runtop.proofs.Inputs.{blames_undone}
+use Rattle.dms_runtop.proofs.Looked.{runs_looked, runs_undone, stands_looked, undone_description}
 use Rattle.dms_runtop.proofs.command.run_opened.Goals as goal
 
 pub run_described-requires-clause-known : goal.run_described-requires-clause-known
@@ -17,5 +19,16 @@ pub returns-in-Err-clause-ran : goal.returns-in-Err-clause-ran
 returns-in-Err-clause-ran g c =
     runs_undone g.S.Site c.args.opened c.describe.new.site g.K.Knows.known (g.I.Source.left c.args.source.now) (g.I.Source.left c.args.source.now) c.status_of_description.result
     (undone_description c.in-Err.fault c.status_of_description.result c.status_of_description.ensures.disk.1 c.status_of_description.ensures.memory)
-    (no_bound_description c.in-Err.fault c.status_of_description.result c.status_of_description.ensures.disk.1 c.status_of_description.ensures.memory)
+    c.describe.ensures.files
     (λ P. runs_looking (g.met.S.Site.counts_now c.args.opened.log.site) c.describe.ensures.moments) c.describe.ensures.said
+
+pub returns-in-Ok-clause-grown : goal.returns-in-Ok-clause-grown
+returns-in-Ok-clause-grown g c = grows_looked g.S.Site c.args.opened c.describe.new.site c.run_described.result.site g.K.Knows.known c.describe.ensures.files c.run_described.ensures.grown
+
+pub returns-in-Err-clause-grown : goal.returns-in-Err-clause-grown
+returns-in-Err-clause-grown g c = grows_none g.S.Site c.args.opened c.describe.new.site g.K.Knows.known c.describe.ensures.files
+
+pub returns-in-Err-clause-by_input : goal.returns-in-Err-clause-by_input
+returns-in-Err-clause-by_input g c =
+    blames_undone c.status_of_description.result
+    (undone_description c.in-Err.fault c.status_of_description.result c.status_of_description.ensures.disk.1 c.status_of_description.ensures.memory)

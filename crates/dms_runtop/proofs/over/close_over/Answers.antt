@@ -12,6 +12,7 @@ returns-in-Ok-clause-closes g c = record {
   next_is = λ ok tells. (c.in-Ok.ensures.closed tells).next_is ∙ sym (c.requires.goes tells).numbered;
   only = λ ok tells. (c.in-Ok.ensures.closed tells).only;
   few = λ off tells. c.in-Ok.ensures.few tells;
+  grown = c.in-Ok.ensures.grown;
 }
 
 pub returns-in-Err-clause-closes : goal.returns-in-Err-clause-closes
@@ -22,4 +23,5 @@ returns-in-Err-clause-closes g c = record {
   next_is = λ ok tells. absurd (run_not_ok (Block c.in-Err.fault) (sym c.status_of_block.ensures ∙ ok));
   only = λ ok tells. absurd (run_not_ok (Block c.in-Err.fault) (sym c.status_of_block.ensures ∙ ok));
   few = λ off tells. c.in-Err.ensures.few (λ disk. off (c.status_of_block.ensures ∙ ap block_status disk)) tells;
+  grown = c.in-Err.ensures.grown;
 }

@@ -3,8 +3,11 @@ use Rattle.dms_desc.specs.Shape.{Described, described}
 use Rattle.dms_store.specs.Storing.{seen_by}
 use Rattle.dms_storeverbs.specs.View.{view}
 use Rattle.dms_wal.specs.declared.running.Running.{Running}
-use Rattle.dms_runtop.specs.Over.{RunsOver}
+use Rattle.dms_runtop.specs.Over.{GrowsOver, RunsOver}
 use Rattle.dms_runtop.proofs.Engine.{fresh_over, refused_over}
+use Rattle.dms_runtop.proofs.Grows.{grows_left}
+use Rattle.dms_runtop.proofs.Inputs.{blames_undone}
+use Rattle.dms_status.specs.declared.status.Status.TheVariants.{Memory}
 use Rattle.dms_runtop.proofs.over.run_over.Goals as goal
 
 pub run_engine-requires-clause-fresh : goal.run_engine-requires-clause-fresh
@@ -25,3 +28,21 @@ returns-in-Ok-new-clause-ran g c =
     subst (λ (x : Described). RunsOver g.S.Site c.args.running x (g.I.Source.left c.args.source.now) (g.I.Source.left c.run_engine.new.source) c.run_engine.result.status c.run_engine.result.site) c.in-Ok-new.ensures.described
     (subst (λ (x : Running g.row.S.Denot). RunsOver g.S.Site x (described c.in-Ok-new.engine.desc) (g.I.Source.left c.args.source.now) (g.I.Source.left c.run_engine.new.source) c.run_engine.result.status c.run_engine.result.site)
     ((λ i. (c.in-Ok-new.ensures.store i).over.below) ∙ c.in-Ok.ensures.below) c.run_engine.ensures.ran)
+
+pub returns-in-Err-clause-grown : goal.returns-in-Err-clause-grown
+returns-in-Err-clause-grown g c = grows_left g.S.Site c.args.running c.into_site.result (c.into_site.ensures ∙ (λ i. (c.in-Err.ensures.below_back i).log.site))
+
+pub returns-in-Err-new-clause-grown : goal.returns-in-Err-new-clause-grown
+returns-in-Err-new-clause-grown g c =
+    grows_left g.S.Site c.args.running c.into_site-in-Err-new.result
+    (c.into_site-in-Err-new.ensures ∙ (λ i. (c.into_below.ensures i).log.site) ∙ (λ i. (c.in-Err-new.ensures.memory i).over.below.log.site) ∙ (λ i. (c.in-Ok.ensures.below i).log.site))
+
+pub returns-in-Ok-new-clause-grown : goal.returns-in-Ok-new-clause-grown
+returns-in-Ok-new-clause-grown g c =
+    subst (λ (x : Running g.row.S.Denot). GrowsOver g.S.Site x c.run_engine.result.site) ((λ i. (c.in-Ok-new.ensures.store i).over.below) ∙ c.in-Ok.ensures.below) c.run_engine.ensures.grown
+
+pub returns-in-Err-clause-by_input : goal.returns-in-Err-clause-by_input
+returns-in-Err-clause-by_input g c = blames_undone Memory tt
+
+pub returns-in-Err-new-clause-by_input : goal.returns-in-Err-new-clause-by_input
+returns-in-Err-new-clause-by_input g c = blames_undone Memory tt

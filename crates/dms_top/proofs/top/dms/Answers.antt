@@ -213,6 +213,9 @@ returns-then-is_run-clause-run_stands g c = λ is. c.run_command.ensures.stands
 pub returns-then-is_run-clause-run_full : goal.returns-then-is_run-clause-run_full
 returns-then-is_run-clause-run_full g c = λ is. c.run_command.ensures.full
 
+pub returns-then-is_run-clause-run_by_input : goal.returns-then-is_run-clause-run_by_input
+returns-then-is_run-clause-run_by_input g c = λ is. c.run_command.ensures.by_input
+
 pub returns-then-is_run-clause-run_beside : goal.returns-then-is_run-clause-run_beside
 returns-then-is_run-clause-run_beside g c = λ is. c.run_command.ensures.beside
 
