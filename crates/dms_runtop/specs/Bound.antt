@@ -41,7 +41,8 @@ pub record PrintsEvents (cut : Type 0) (k : ℕ) (events : List RunEvent) (said 
   pub least : SaidAtLeast said said' (text_of (take whole events))
   pub most : PrintsPrefix said said' (text_of (take k events))
 
--- So much was printed, and the audit grew by no more than the first k events make, one call that was under way, an opening and a close.
+-- So much was printed, and the audit grew by no more than the first k events make, one call that was under way, an opening and a close. The call of a
+-- verb is an event before the one that says its answer: so the last of the k may be a call, too, whose answer wasn't printed.
 pub record GrewByPart (cut : Type 0) (n : ℕ) (t : Telling) (desc : Described) (events : List RunEvent) (then now : Files) (said said' : Option (List ℕ)) : Type 0 where
   pub k : ℕ
   pub within : k ≤ length events
@@ -53,7 +54,8 @@ pub record GrewByPart (cut : Type 0) (n : ℕ) (t : Telling) (desc : Described) 
 pub record BoundsAudit (n : ℕ) (P : Type 0) (t : Telling) (desc : Described) (events : List RunEvent) (then now : Files) (said said' : Option (List ℕ)) (status : Status) : Type 0 where
   -- at status 0 no more than all events make
   pub at_ok : P → status ≡ Ok → AreCounted desc events → AuditGrew t (n + audit_of desc events + 37) then now
-  -- at each status but 5 no more than those make that are answered, and the call that was under way; at 10 the last answer may be cut off
+  -- at each status but 5 no more than those make whose text was printed, a call whose answer wasn't, and the one that was under way; at 10 the last
+  -- answer may be cut off
   pub at_end : P → (status ≡ DiskFault → ⊥) → GrewByPart (status ≡ SayFault) n t desc events then now said said'
 
 -- A failed call of the disk would be counted, whatever the status is: the count isn't at its type's end.

@@ -84,7 +84,8 @@ pub record ScriptRuns (opening : ℕ) (counts : Status → Type 0) (t : Telling)
   pub within : status ≡ Ok → KeepsLimits desc db next (raw_lines all)
   -- at status 8 by the script it passes that limit, and none before
   pub limit : (k : LimitKind) → status ≡ Limit k → PassesScript k desc db next (raw_lines all) a.said b.said
-  -- at each status but 5 it took no more of the audit than what is answered may take, and one call that was under way
+  -- at each status but 5, and where a failed call would be counted, it took no more of the audit than what is answered may take, a call whose answer
+  -- wasn't printed, and the one that was under way
   pub bound : BoundsAudit opening (counts status) t desc (script_events desc db next (raw_lines all)) a.files b.files a.said b.said status
   -- at status 6 what the whole lines that were taken answer was printed
   pub input_cut : status ≡ InputFault → CutInput desc db next all left' a.said b.said

@@ -274,8 +274,8 @@ pub fn dms<S: Site, I: Source>(
     // only audit files and structure files change: the description and the dumps read as they did, and each stop left them as one at entry could
     ensures run_beside { OnRun words.now (StaysBeside S.Site site.old site.new) }
     // of the state that is told: at every moment a stop leaves the database of one quiet point, at status 0 the last one's, and exactly the answers or a
-    // prefix of them were printed. At each status the audit grew by blocks that hold an entry, and at each but 5 and 7 by no more entries than what was
-    // answered may take, and the call that was under way
+    // prefix of them were printed. At each status the trail is the old one and blocks that hold an entry, and at each but 5 and 7 it has no more new entries
+    // than these may make: an opening, what was answered, up to two calls whose answers weren't printed, and a close
     ensures run { OnRun words.now (RunsCommand S.Site state site.old site.new (I.left input.old) (I.left input.new) result) }
     // where a run may begin with that database, each stop leaves files that stand for it or for that of one quiet point, no earlier than the printed text
     // tells, with which a run may begin again
