@@ -35,9 +35,9 @@ module _ {S : Type 0} (g : Ghosts S) where
   grows_none o new known same told knows = subst (λ (f : Files). Grown o.log.end.total o.log.first (g.files o.log.site) f) (sym (same told)) (trail_stays o.log.end.total o.log.first (g.files o.log.site))
 
 -- over a site whose files are told only where it is known what they stand for
-pub grows_unveiled : {S V : Type 0} (g : Ghosts S) (gv : Ghosts V) (of : V → S) (known : Bool) → (IsTrue g.tells → IsTrue known → IsTrue gv.tells) → ((v : V) → gv.files v ≡ g.files (of v)) → (o : Opened S) (r : Running V) → of r.log.site ≡ o.log.site
-    → r.log.end.total ≡ o.log.end.total → r.log.first ≡ o.log.first → (v : V) (site : S) → site ≡ of v → GrowsOver gv r v → GrowsOpened g o known site
-grows_unveiled g gv of known tells seen o r entry total_is first_is v site same grown told knows =
-    let one : Grown r.log.end.total r.log.first (gv.files r.log.site) (gv.files v) = grown (tells told knows) in
-    let two = subst (λ k. Grown o.log.end.total k (gv.files r.log.site) (gv.files v)) first_is (subst (λ k. Grown k r.log.first (gv.files r.log.site) (gv.files v)) total_is one) in
-    subst (λ (f : Files). Grown o.log.end.total o.log.first (g.files o.log.site) f) (seen v ∙ ap g.files (sym same)) (subst (λ (f : Files). Grown o.log.end.total o.log.first f (gv.files v)) (seen r.log.site ∙ ap g.files entry) two)
+pub grows_unveiled : {S V : Type 0} (g : Ghosts S) (tells_v : Bool) (files_v : V → Files) (of : V → S) (known : Bool) → (IsTrue g.tells → IsTrue known → IsTrue tells_v) → ((v : V) → files_v v ≡ g.files (of v)) → (o : Opened S) (r : Running V) → of r.log.site ≡ o.log.site
+    → r.log.end.total ≡ o.log.end.total → r.log.first ≡ o.log.first → (v : V) (site : S) → site ≡ of v → (IsTrue tells_v → Grown r.log.end.total r.log.first (files_v r.log.site) (files_v v)) → GrowsOpened g o known site
+grows_unveiled g tells_v files_v of known tells seen o r entry total_is first_is v site same grown told knows =
+    let one : Grown r.log.end.total r.log.first (files_v r.log.site) (files_v v) = grown (tells told knows) in
+    let two = subst (λ k. Grown o.log.end.total k (files_v r.log.site) (files_v v)) first_is (subst (λ k. Grown k r.log.first (files_v r.log.site) (files_v v)) total_is one) in
+    subst (λ (f : Files). Grown o.log.end.total o.log.first (g.files o.log.site) f) (seen v ∙ ap g.files (sym same)) (subst (λ (f : Files). Grown o.log.end.total o.log.first f (files_v v)) (seen r.log.site ∙ ap g.files entry) two)

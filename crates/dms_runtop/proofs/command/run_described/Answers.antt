@@ -64,7 +64,7 @@ returns-in_default-clause-ran g c = runs_left g.S.Site c.args.opened c.site_of.r
 
 pub returns-in-Ok-clause-grown : goal.returns-in-Ok-clause-grown
 returns-in-Ok-clause-grown g c =
-    grows_unveiled g.S.Site _ (λ v. v.site) g.K.Knows.known (both_of g.S.Site.tells g.K.Knows.known) (λ v. refl) c.args.opened c.in-Ok.running (ap (λ v. v.site) c.in-Ok.ensures.log.0) c.in-Ok.ensures.log.2 c.in-Ok.ensures.log.1
+    grows_unveiled g.S.Site _ _ (λ v. v.site) g.K.Knows.known (both_of g.S.Site.tells g.K.Knows.known) (λ v. refl) c.args.opened c.in-Ok.running (ap (λ v. v.site) c.in-Ok.ensures.log.0) c.in-Ok.ensures.log.2 c.in-Ok.ensures.log.1
     c.run_over.result.site _ c.unveil.ensures.1 c.run_over.ensures.grown
 
 pub returns-clause-grown : goal.returns-clause-grown
