@@ -1,5 +1,6 @@
 -- A list of one word.
 use Rattle.std.proofs.Common.{◌≡◌, ℕ, List, [], ◌∷◌, Bool, true, false, sym, ap, ◌∙◌, arith, length, get_or, IsTrue, map}
+use Rattle.std.specs.Prelude.{codes}
 use Rattle.std.specs.Str.{bytes_eq}
 use Rattle.std.proofs.lemmas.Slice.Eq.{bytes_eq-Decides}
 
@@ -32,3 +33,26 @@ two_words f (x ∷ y ∷ []) w v b s t len first second one test =
 pub not_both : (b : Bool) → b ≡ true → b ≡ false → ⊥
 not_both true p q = cc
 not_both false p q = cc
+
+abbrev first_byte : List (List ℕ) → ℕ
+first_byte [] = 0
+first_byte ([] ∷ ws) = 0
+first_byte ((b ∷ bs) ∷ ws) = b
+
+pub try_no_run : (ws : List (List ℕ)) → ws ≡ codes "try" ∷ [] → ws ≡ codes "run" ∷ [] → ⊥
+try_no_run ws one two = apart (ap first_byte (sym one ∙ two))
+  where
+    apart : ◌≡◌ {A = ℕ} 116 114 → ⊥
+    apart e = absurd (omega (arith, e))
+
+pub compile_no_run : (ws : List (List ℕ)) → ws ≡ codes "compile" ∷ [] → ws ≡ codes "run" ∷ [] → ⊥
+compile_no_run ws one two = apart (ap first_byte (sym one ∙ two))
+  where
+    apart : ◌≡◌ {A = ℕ} 99 114 → ⊥
+    apart e = absurd (omega (arith, e))
+
+pub print_no_run : (ws : List (List ℕ)) → ws ≡ codes "print" ∷ codes "audit" ∷ [] → ws ≡ codes "run" ∷ [] → ⊥
+print_no_run ws one two = apart (ap first_byte (sym one ∙ two))
+  where
+    apart : ◌≡◌ {A = ℕ} 112 114 → ⊥
+    apart e = absurd (omega (arith, e))

@@ -3,7 +3,7 @@ use Rattle.dms_creation.specs.Creation.{IsMade, Initializes}
 use Rattle.dms_top.proofs.Digits.{tag_try, tag_compile, tag_print, tag_run, same_tag}
 use Rattle.dms_top.proofs.Stands.{becomes_new}
 use Rattle.dms_top.proofs.Running.{never_untouched}
-use Rattle.dms_top.proofs.Words.{not_both}
+use Rattle.dms_top.proofs.Words.{not_both, try_no_run, compile_no_run, print_no_run}
 use Rattle.dms_top.proofs.top.dms.Goals as goal
 
 pub returns-then-is_compile-clause-limit : goal.returns-then-is_compile-clause-limit
@@ -227,3 +227,18 @@ returns-then-is_run-clause-run_complete_state g c = λ is. c.run_command.ensures
 
 pub returns-then-is_run-clause-run_untaken : goal.returns-then-is_run-clause-run_untaken
 returns-then-is_run-clause-run_untaken g c = λ is. c.run_command.ensures.untaken
+
+pub returns-then-is_try-clause-run : goal.returns-then-is_try-clause-run
+returns-then-is_try-clause-run g c = λ is. absurd (try_no_run _ (c.is_try.ensures.0 c.if-is_try.true) is)
+
+pub returns-then-is_compile-clause-run : goal.returns-then-is_compile-clause-run
+returns-then-is_compile-clause-run g c = λ is. absurd (compile_no_run _ (c.is_compile.ensures.0 c.if-is_compile.true) is)
+
+pub returns-then-is_print_audit-clause-run : goal.returns-then-is_print_audit-clause-run
+returns-then-is_print_audit-clause-run g c = λ is. absurd (print_no_run _ (c.is_print_audit.ensures.0 c.if-is_print_audit.true) is)
+
+pub returns-in-Some-clause-run : goal.returns-in-Some-clause-run
+returns-in-Some-clause-run g c = λ is. absurd (not_both c.is_run.result (c.is_run.ensures.1 is) c.if-is_run.false)
+
+pub returns-in-None-clause-run : goal.returns-in-None-clause-run
+returns-in-None-clause-run g c = λ is. absurd (not_both c.is_run.result (c.is_run.ensures.1 is) c.if-is_run.false)
