@@ -1,68 +1,45 @@
 -- A schema that was read is one of the grammar within the limits.
-use Rattle.std.proofs.Common.{◌+◌, ◌≡◌, ◌≤◌, ◌<◌, ℕ, zero, suc, List, [], ◌∷◌, ◌++◌, map, length, length-append, Bool, true, false, cond, not, ◌&&◌, ◌||◌, refl, sym, ap, ◌∙◌, subst, arith, append_assoc, IsTrue}
+use Rattle.std.proofs.Common.{◌+◌, ◌≡◌, ◌≤◌, ◌<◌, ℕ, suc, List, [], ◌∷◌, ◌++◌, map, length, Bool, true, false, cond, not, ◌&&◌, ◌||◌, refl, sym, ap, ◌∙◌, subst, arith, append_assoc, IsTrue}
 use Rattle.std.proofs.lemmas.Bool.{and_parts, not-true, not-false}
-use Rattle.std.proofs.lemmas.List.{append-nil, map-append}
 use Rattle.std.proofs.lemmas.Bool.Decides.{nat_tests}
-use Rattle.std.specs.Prelude.{codes, nat_le, Some, None}
+use Rattle.std.specs.Prelude.{codes, nat_le}
 use Rattle.std.specs.declared.result.Result.{Result}
-use Rattle.std.specs.declared.result.Result.TheVariants.{Ok, Err}
+use Rattle.std.specs.declared.result.Result.TheVariants.{Ok}
 use Rattle.dms_base.specs.Name.{is_name}
-use Rattle.dms_base.specs.Reserved.{is_reserved}
-use Rattle.dms_base.specs.declared.kind.ItemKind.{ItemKind}
-use Rattle.dasdl_phrases.specs.KindSpelling.{SpellsKind}
-use Rattle.dasdl_phrases.specs.KindSpelling.SpellsKind.{an_alpha, a_number, a_truth, a_field}
 use Rattle.dasdl_parse.specs.ItemSpelling.IsItem.{an_item as whole_item}
 use Rattle.dasdl_phrases.specs.declared.fault.ParseFault.{ParseFault}
-use Rattle.dms_tokens.specs.declared.token.Token.{Token}
-use Rattle.dms_tokens.specs.declared.token.Token.TheVariants.{Word, Sign, End}
+use Rattle.dms_tokens.specs.declared.token.Token.TheVariants.{Word}
 use Rattle.dms_tokens.specs.declared.token.Lexeme.{Lexeme}
 use Rattle.dasdl_parse.specs.declared.schema.Parameters.{Parameters}
 use Rattle.dasdl_parse.specs.declared.schema.Schema.{Schema}
-use Rattle.dasdl_parse.specs.declared.parameters.ParameterPairs.{ParameterPairs}
-use Rattle.dasdl_parse.specs.declared.parameters.AuditPairs.{AuditPairs}
 use Rattle.dasdl_parse.specs.declared.declarations.Declaration.{Declaration}
 use Rattle.dasdl_parse.specs.declared.declarations.Declaration.TheVariants.{DataSet, Item, Group, Link, SetOf, End as EndOf}
 use Rattle.dasdl_parse.specs.declared.declarations.DataSetDecl.{DataSetDecl}
 use Rattle.dasdl_parse.specs.declared.declarations.DataSetEnd.{DataSetEnd}
-use Rattle.dasdl_parse.specs.declared.declarations.ItemDecl.{ItemDecl}
-use Rattle.dasdl_parse.specs.declared.declarations.LinkDecl.{LinkDecl}
-use Rattle.dasdl_parse.specs.declared.declarations.SetDecl.{SetDecl}
 use Rattle.dasdl_parse.specs.declared.within.Open.{Open}
 use Rattle.dasdl_parse.specs.declared.within.Open.TheVariants.{Outside, One, Two, Three}
 use Rattle.dasdl_parse.specs.declared.grammar.Progress.{Progress}
-use Rattle.dasdl_phrases.specs.Reads.{◌>>=◌, Read}
+use Rattle.dasdl_phrases.specs.Reads.{◌>>=◌}
 use Rattle.dms_tokens.specs.Cursors.{place_at, starts, is_word, is_the_sign, is_end}
-use Rattle.dasdl_phrases.specs.Cursors.{fault_at, name_at, turns_at}
+use Rattle.dasdl_phrases.specs.Cursors.{name_at, turns_at}
 use Rattle.dasdl_phrases.specs.Kinds.{starts_kind}
-use Rattle.dasdl_parse.specs.Grammar.{items_of, with_items, opened, closed, is_inside, is_deepest, declared, with_pairs, with_audit_pairs, parameters_turn_at, audit_turn_at, item_turn_at, group_turn_at, counted_with, link_turn_at, starts_set, starts_data_set, structure_turn_at, declared_turn_at, end_turn_at, named_turn_at, schema_turn_at, schema_done, default_parameters, no_progress, schema_at}
-use Rattle.dasdl_parse.specs.Sets.{set_at, or_else}
+use Rattle.dasdl_parse.specs.Grammar.{items_of, with_items, opened, closed, is_inside, is_deepest, declared, with_pairs, with_audit_pairs, parameters_turn_at, audit_turn_at, item_turn_at, group_turn_at, counted_with, link_turn_at, starts_set, starts_data_set, structure_turn_at, declared_turn_at, end_turn_at, named_turn_at, schema_turn_at, schema_done, no_progress, schema_at}
+use Rattle.dasdl_parse.specs.Sets.{set_at}
 use Rattle.dasdl_parse.specs.Items.{item_at, group_at, link_at}
 use Rattle.dasdl_parse.specs.Grammar.{data_set_at, data_set_end_at}
 use Rattle.dasdl_phrases.specs.CondSpelling.{token_of}
-use Rattle.dasdl_parse.specs.ItemSpelling.{IsItem, IsLink}
-use Rattle.dasdl_parse.specs.ItemSpelling.IsLink.{a_link as plain_link, a_counted_link}
-use Rattle.dasdl_grammar.specs.GroupSpelling.{IsGroup}
+use Rattle.dasdl_parse.specs.ItemSpelling.IsLink.{a_link as plain_link}
 use Rattle.dasdl_grammar.specs.GroupSpelling.IsGroup.{a_group as whole_group}
-use Rattle.dasdl_grammar.specs.SetSpelling.{IsSet, IsHead, IsEnd}
+use Rattle.dasdl_grammar.specs.SetSpelling.{IsHead, IsEnd}
 use Rattle.dasdl_grammar.specs.SetSpelling.IsSet.{a_set as whole_set}
-use Rattle.dasdl_grammar.specs.SetSpelling.IsHead.{a_head, a_restart_head}
-use Rattle.dasdl_grammar.specs.SetSpelling.IsEnd.{an_end}
-use Rattle.dasdl_grammar.specs.SchemaSpelling.{IsSchema, structures_of, structures_in, one_if, counted_of, counted_in, Many, Members, Declares}
+use Rattle.dasdl_grammar.specs.SchemaSpelling.{IsSchema, structures_in, counted_in, Many, Members, Declares}
 use Rattle.dasdl_grammar.specs.SchemaSpelling.Many.{Single, Several}
 use Rattle.dasdl_grammar.specs.SchemaSpelling.Declares.{no_declaration, then_parameters, then_audit, then_structure}
-use Rattle.dasdl_grammar.specs.ParameterSpelling.{AreParameters, IsTrail}
 use Rattle.dasdl_grammar.specs.ParameterSpelling.AreParameters.{parameters}
-use Rattle.dasdl_grammar.specs.ParameterSpelling.IsTrail.{trail}
-use Rattle.dasdl_grammar.proofs.ParametersExact.{parameters_complete, audit_complete}
 use Rattle.dasdl_parse.specs.Parameters.{parameters_at, audit_at}
 use Rattle.dasdl_grammar.specs.SchemaSpelling.Members.{a_set, a_data_set, an_item, a_link, a_group, a_first, a_further}
-use Rattle.dasdl_phrases.proofs.CondComplete.{RunsBranches, joins, turns_at-runs, Heads, heads, none_left, name_reads, is_no_keyword}
-use Rattle.dasdl_phrases.proofs.CondComplete.RunsBranches.{here, step}
-use Rattle.dasdl_parse.proofs.ItemExact.{item_complete, link_complete}
-use Rattle.dasdl_grammar.proofs.GroupExact.{group_complete, head_complete, item_first}
-use Rattle.dasdl_grammar.proofs.SetComplete.{set_complete, end_complete}
 use Rattle.dasdl_phrases.proofs.Inverting.{bind_ok, skip_ok, ok_same}
-use Rattle.dasdl_phrases.proofs.SpelledTokens.{StartsToken, name_spelled}
+use Rattle.dasdl_phrases.proofs.SpelledTokens.{name_spelled}
 use Rattle.dasdl_phrases.proofs.CondSound.{pick}
 use Rattle.dasdl_parse.proofs.ItemExact.{item_sound, link_sound}
 use Rattle.dasdl_grammar.proofs.GroupExact.{group_sound, head_sound}
@@ -73,16 +50,13 @@ use Rattle.dasdl_phrases.proofs.TurnsSound.{turns_at-ends}
 use Rattle.dasdl_parse.specs.Grammar.{schema_of}
 use Rattle.dms_tokens.specs.Tokens.{tokens_of}
 use Rattle.std.specs.Prelude.{nat_lt}
-use Rattle.dasdl_grammar.proofs.SchemaComplete.{schema_complete, depth_of, structures-append, counted-append, depth_with, items_with, with_again, depth_opened, none_opened, closed_again, no_more_items, is_within, counted_is}
+use Rattle.dasdl_grammar.proofs.SchemaComplete.{schema_complete, depth_of, structures-append, counted-append, depth_with, items_with, with_again, depth_opened, none_opened, closed_again, no_more_items, counted_is}
 
 -- what has been read, where so many data sets are open
 data StandsOpen (p : Parameters) (b a : Bool) : Open → Bool → List Declaration → List Lexeme → Type 0 where
   outside : (ds : List Declaration) (us : List Lexeme) → Declares p b a ds us → StandsOpen p b a Outside false ds us
   begun : (o : Open) (f : Bool) (ds : List Declaration) (us : List Lexeme) (l : Lexeme) (name : List ℕ) (head : DataSetDecl) (hs : List Lexeme) → StandsOpen p b a o f ds us → depth_of o < 3 → l.token ≡ Word name → IsTrue (is_name name) → IsHead l.place name head (map token_of hs) → StandsOpen p b a (opened o) true (ds ++ (DataSet head ∷ [])) (us ++ (l ∷ hs))
   inside : (o : Open) (f : Bool) (ds : List Declaration) (us : List Lexeme) (l : Lexeme) (name : List ℕ) (head : DataSetDecl) (hs : List Lexeme) (n : ℕ) (es : List Declaration) (vs : List Lexeme) → StandsOpen p b a o f ds us → depth_of o < 3 → l.token ≡ Word name → IsTrue (is_name name) → IsHead l.place name head (map token_of hs) → Members Several (suc (depth_of o)) n es vs → n ≤ 60 → StandsOpen p b a (with_items (opened o) n) false ((ds ++ (DataSet head ∷ [])) ++ es) ((us ++ (l ∷ hs)) ++ vs)
-
-same_open : (o w : Open) (k : ℕ) → o ≡ w → with_items o k ≡ with_items w k
-same_open o w k e = ap (λ (x : Open). with_items x k) e
 
 no_items : (depth : ℕ) (m : ℕ) (es : List Declaration) (vs : List Lexeme) (k : Many) → Members k depth m es vs → k ≡ Single → depth ≡ 0 → m ≡ 0
 no_items _ _ _ _ _ (a_set depth l name set vs shallow e n d) i j = refl

@@ -318,9 +318,6 @@ module _ (total tag first f n : ℕ) (content : List ℕ) (old one two three : F
   pub done_writes : (n + 1 ≢ total → IsWrittenUpTo total tag first f (n + 1) three) × (n + 1 ≡ total → IsWrittenUpTo total tag first (f + 1) 0 three)
   done_writes = gate_done_writes total tag first f n content old two kept r.long r.block r.next r.head r.mark three step whole
 
-  pub done_others : (g : ℕ) → g ≢ f → g ≢ f + 1 → three g ≡ old g
-  done_others = gate_others total tag first f n content old two kept r.long r.block r.next r.head r.mark three step
-
 -- ---- a file that is started
 
 overlaid_none : (head : List ℕ) → overlaid 0 head [] ≡ head

@@ -51,17 +51,9 @@ pub blocks_turn : (k i f : ℕ) (file : List ℕ) → 0 < k → blocks_read k i 
 blocks_turn zero i f file some = absurd (omega arith)
 blocks_turn (suc k) i f file some = let e : k ≡ suc k - 1 = omega arith in ap (λ m. then_read (places_of f i (block_entries (block_at i file))) (blocks_read m (i + 1) f file)) e
 
-pub blocks_none : (k i f : ℕ) (file : List ℕ) → k ≡ 0 → blocks_read k i f file ≡ whole []
-blocks_none zero i f file is = refl
-blocks_none (suc k) i f file is = absurd (omega arith)
-
 pub files_turn : (k total f : ℕ) (files : Files) → 0 < k → files_read k total f files ≡ then_read (file_read total f (files f)) (files_read (k - 1) total (f + 1) files)
 files_turn zero total f files some = absurd (omega arith)
 files_turn (suc k) total f files some = let e : k ≡ suc k - 1 = omega arith in ap (λ m. then_read (file_read total f (files f)) (files_read m total (f + 1) files)) e
-
-pub files_none : (k total f : ℕ) (files : Files) → k ≡ 0 → files_read k total f files ≡ whole []
-files_none zero total f files is = refl
-files_none (suc k) total f files is = absurd (omega arith)
 
 pub found_err : (old mid : Known) (r rest all : TrailRead) (e : AudFault) → NotRead r e → gather mid (then_read r rest) ≡ gather old all → NotRead all e
 found_err old mid r rest all NoDatabase is so_far = absurd is
@@ -109,10 +101,6 @@ open_turn (suc k) total f files some full =
 pub open_stop : (k total f : ℕ) (files : Files) → 0 < k → is_full total (files f) ≡ false → f ≡ first_open k total f files
 open_stop zero total f files some part = absurd (omega arith)
 open_stop (suc k) total f files some part = sym (ap (λ b. cond b (first_open k total (f + 1) files) f) part)
-
-pub open_end : (k total f : ℕ) (files : Files) → k ≡ 0 → f ≡ first_open k total f files
-open_end zero total f files is = refl
-open_end (suc k) total f files is = absurd (omega arith)
 
 -- ---- the entries of a block
 
@@ -337,10 +325,6 @@ foreign_stop zero tag f files some other = absurd (omega arith)
 foreign_stop (suc k) tag f files some other =
     let off : (tag_said (files f) == tag) ≡ false = grind (arith, nat_tests) in
     sym (ap (λ b. cond b (first_foreign k tag (f + 1) files) f) off)
-
-pub foreign_end : (k tag f : ℕ) (files : Files) → k ≡ 0 → f ≡ first_foreign k tag f files
-foreign_end zero tag f files is = refl
-foreign_end (suc k) tag f files is = absurd (omega arith)
 
 pub differs : (said tag real : ℕ) → said ≡ real → said ≢ tag → real ≢ tag
 differs said tag real is other = subst (λ k. k ≢ tag) is other

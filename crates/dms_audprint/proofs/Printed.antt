@@ -1,15 +1,15 @@
 -- What was printed of entries by their places.
-use Rattle.std.proofs.Common.{◌≡◌, ◌≢◌, ℕ, zero, suc, ◌+◌, ◌-◌, ◌<◌, ◌≤◌, List, [], ◌∷◌, ◌++◌, Some, None, refl, sym, ap, ◌∙◌, subst, arith, length, length-append, take, get_or, map, append_assoc, IsTrue, Bool, inr, OnOk, IfErr}
+use Rattle.std.proofs.Common.{◌≡◌, ◌≢◌, ℕ, zero, suc, ◌+◌, ◌-◌, ◌<◌, ◌≤◌, List, [], ◌∷◌, ◌++◌, refl, sym, ap, ◌∙◌, subst, arith, length, length-append, take, get_or, map, append_assoc, IsTrue, Bool, inr, OnOk, IfErr}
 use Rattle.std.proofs.Math.Seq.{take-append-add}
-use Rattle.std.proofs.lemmas.List.{take_all, take-append-le, append-nil}
+use Rattle.std.proofs.lemmas.List.{take_all, append-nil}
 use Rattle.std.specs.declared.option.Option.{Option}
 use Rattle.std.specs.declared.result.Result.{Result}
 use Rattle.std.specs.declared.result.Result.TheVariants.{Ok, Err}
 use Rattle.dms_moments.specs.Moments.{Clock, Steps}
 use Rattle.dms_moments.specs.MomentLaws.{steps_on, steps_weaken, runs_none}
 use Rattle.dms_history.specs.Entries.{Entry}
-use Rattle.dms_site.specs.Files.{Files, Left, Same, PrintsPartOf}
-use Rattle.dms_audfile.specs.AuditTrail.{entry_there, IsThere, AreThere, IsFound, EntriesAreThere}
+use Rattle.dms_site.specs.Files.{Files, Left, Same}
+use Rattle.dms_audfile.specs.AuditTrail.{AreThere, IsFound, EntriesAreThere}
 use Rattle.dms_audfile.specs.Scanning.{Placed, place_in}
 use Rattle.dms_audfile.specs.declared.place.EntryPlace.{EntryPlace}
 use Rattle.dms_audprint.specs.AuditText.{placed_line, audit_text, HasTrail, PrintsAudit, PrintsPart}
@@ -36,9 +36,6 @@ lines_front files (q ∷ qs) (suc k) =
     ap (λ n. take n (line_at files q ++ lines_at files qs)) (length-append (line_at files q) (lines_at files (take k qs)))
     ∙ take-append-add (line_at files q) (lines_at files qs) (length (lines_at files (take k qs)))
     ∙ ap (λ (l : List ℕ). line_at files q ++ l) (lines_front files qs k)
-
-pub lines_all : (files : Files) (ps : List EntryPlace) (k : ℕ) → length ps ≤ k → lines_at files (take k ps) ≡ lines_at files ps
-lines_all files ps k past = ap (lines_at files) (take_all k ps past)
 
 -- a prefix of the lines
 pub record TextPrefix (all bytes : List ℕ) : Type 0 where
@@ -190,9 +187,6 @@ prints_none c = record { follows = λ x now. (x, now, ([], record { files = refl
 
 pub prints_same : (a b : Clock Left) → Steps Same a b → Steps PrintsSome a b
 prints_same a b steps = steps_weaken steps (λ x y here same. ([], record { files = ap (λ (l : Left). l.files) same; some = 0; said = ap (λ (l : Left). l.said) same ∙ sym (append-nil x.said) }))
-
-pub prints_some : (a b : Clock Left) (bytes : List ℕ) → Steps (PrintsPartOf bytes) a b → Steps PrintsSome a b
-prints_some a b bytes steps = steps_weaken steps (λ x y here p. (bytes, p))
 
 both : (x y z : Left) → PrintsSome x y → PrintsSome y z → PrintsSome x z
 both x y z p q =

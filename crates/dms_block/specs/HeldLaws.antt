@@ -27,9 +27,6 @@ unbroken_is (Err (Full n)) p = tt
 unbroken_is (Err (Damaged n d)) p = tt
 unbroken_is (Err Say) p = tt
 
-pub unbroken_ok : {T : Type 0} {P : Type 0} {x : T} (r : Result T BlockFault) → r ≡ Ok x → Unbroken r P → P
-unbroken_ok {P = P} r is h = subst (λ s. Unbroken s P) is h
-
 -- what was told is told, and nothing else is
 pub told_after : {a b : Held} → Lasts a b → IsTrue a.told → IsTrue b.told
 told_after p t = subst (λ b. IsTrue b) (sym p.told) t

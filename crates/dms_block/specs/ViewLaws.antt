@@ -1,7 +1,7 @@
 -- What is seen through an overlay, over one call after another.
 use Rattle.std.proofs.Common.{ℕ, ◌+◌, ◌≤◌, ◌≡◌, ◌∙◌, IsTrue, length, refl}
 use Rattle.std.specs.declared.result.Result.{Result}
-use Rattle.std.specs.declared.result.Result.TheVariants.{Ok, Err}
+use Rattle.std.specs.declared.result.Result.TheVariants.{Ok}
 use Rattle.dms_block.specs.declared.block_fault.BlockFault.{BlockFault}
 use Rattle.dms_block.specs.declared.blocks.Blocks.{Ghosts}
 use Rattle.dms_block.specs.declared.overlay.Overlay.{Overlay}
@@ -9,7 +9,7 @@ use Rattle.dms_block.specs.Changing.{grown_is}
 use Rattle.dms_block.specs.Content.{changed}
 use Rattle.dms_block.specs.Faults.{NotFull}
 use Rattle.dms_block.specs.Held.{BlocksAgree}
-use Rattle.dms_block.specs.HeldLaws.{looks_as, looks_err, looks_more, looks_none, looks_on}
+use Rattle.dms_block.specs.HeldLaws.{looks_as, looks_more, looks_none, looks_on}
 use Rattle.dms_block.specs.View.{ReadsOverlay, seen, seen_counts, under, written}
 
 module _ {B : Type 0} {g : Ghosts B} where
@@ -32,6 +32,3 @@ module _ {B : Type 0} {g : Ghosts B} where
 
   pub reads_as : {T U : Type 0} {n : ℕ} {x : T} (r : Result U BlockFault) {a b : Overlay B g} → NotFull r → ReadsOverlay n (Ok x) a b → ReadsOverlay n r a b
   reads_as r room p = record { written_still = p.written_still; looks = looks_as r room p.looks; same = p.same }
-
-  pub reads_err : {T U : Type 0} {n : ℕ} (e : BlockFault) {a b : Overlay B g} → ReadsOverlay {T = T} n (Err e) a b → ReadsOverlay {T = U} n (Err e) a b
-  reads_err {T = T} e p = record { written_still = p.written_still; looks = looks_err {T = T} e p.looks; same = p.same }

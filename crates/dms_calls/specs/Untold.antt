@@ -1,9 +1,7 @@
 -- What is told of the calls of a real system: nothing.
-use Rattle.std.proofs.Common.{ℕ, List, [], None, inl, refl, arith, length}
+use Rattle.std.proofs.Common.{ℕ, [], None, inl, arith}
 use Rattle.dms_moments.specs.Moments.{Clock, Steps}
-use Rattle.dms_site.specs.Files.{Torn}
-use Rattle.dms_site.specs.Laws.{torn_refl}
-use Rattle.dms_calls.specs.World.{World, OnFile}
+use Rattle.dms_calls.specs.World.{World}
 
 abbrev pub no_world : World
 no_world = record { names = λ m. None; bytes = λ i. []; said = [] }
@@ -18,6 +16,3 @@ untold_steps step = record {
   follows = λ x now. absurd now;
   runs = record { later = omega arith; only = λ t x le left. inl left; keeps = λ t x le left. left };
 }
-
-pub untold_file : (i : ℕ) (step : List ℕ → List ℕ → Type 0) → step [] [] → OnFile i step no_world no_world
-untold_file i step here = record { here = here; others = λ j other. refl; names = λ m. refl; said = refl }

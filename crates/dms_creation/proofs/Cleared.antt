@@ -56,16 +56,5 @@ out_then low top high order one two =
     further : (g : ℕ) → (g < low) ⊎ (high < g) → (g < low) ⊎ (top < g)
     further g out = elim out [ inl before ↦ inl before | inr behind ↦ inr (omega (arith, behind, order)) ]
 
-pub out_same : (low high : ℕ) {a b : Clock Left} → Steps Same a b → Steps (KeepsOutside low high) a b
-out_same low high looks = steps_weaken looks (λ z x now same. record { others = λ g out. ap (λ (l : Left). l.files g) same; said = ap (λ (l : Left). l.said) same })
-
-pub out_cut : (low high f : ℕ) {a b c : Clock Left} {step : List ℕ → List ℕ → Type 0} → low ≤ f → f ≤ high → Steps Same a b → Steps (OnDisk f step) b c → Steps (KeepsOutside low high) a c
-out_cut low high f from upto looks cuts =
-    steps_on looks cuts (λ z y x was now same on. record { others = λ g out. on.files.others g (not_it g out) ∙ ap (λ (l : Left). l.files g) same; said = on.said ∙ ap (λ (l : Left). l.said) same })
-    (λ z x now same. record { others = λ g out. ap (λ (l : Left). l.files g) same; said = ap (λ (l : Left). l.said) same })
-  where
-    not_it : (g : ℕ) → (g < low) ⊎ (high < g) → g ≢ f
-    not_it g out = elim out [ inl before ↦ omega (arith, before, from) | inr behind ↦ omega (arith, behind, upto) ]
-
 pub keeps_out : (low high : ℕ) {a b : Clock Left} → 10001 ≤ low → high ≤ 30200 → (high < 30000) ⊎ (30000 < low) → Steps (KeepsOutside low high) a b → Steps KeepsApart a b
 keeps_out low high from upto gap steps = steps_weaken steps (λ z x now out. record { apart = λ g a. out.others g (apart_out low high g from upto gap a); said = out.said })

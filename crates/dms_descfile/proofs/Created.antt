@@ -5,7 +5,7 @@ use Rattle.std.proofs.lemmas.Bool.{cases_eq}
 use Rattle.std.specs.Int.{w32, to_be_bytes}
 use Rattle.dms_moments.specs.Moments.{Clock, Now, Steps}
 use Rattle.dms_moments.specs.MomentLaws.{steps_on, runs_none, runs_on, runs_weaken}
-use Rattle.dms_site.specs.Files.{Files, Left, Torn, Cut, OnDisk, Only, PrintsPartOf, Same, with_file, overlaid, padded}
+use Rattle.dms_site.specs.Files.{Files, Left, Torn, Cut, OnDisk, Only, Same, with_file, overlaid, padded}
 use Rattle.dms_site.specs.Laws.{with_file_here}
 use Rattle.dms_descfile.specs.DescriptionFile.{description_file, IsUnsealed}
 use Rattle.dms_descfile.specs.Becoming.{Shuts, Becoming, IsCreated, Creates}
@@ -173,34 +173,6 @@ creates_none made files {a} steps = runs_weaken steps.runs (λ x after. inl (sam
 -- what is pending is made stable, and then the description file is made
 pub creates_stable : (made : List ℕ) (files : Files) {a b c : Clock Left} → Steps Same a b → Only files b → Steps (OnDisk 1 (Becoming made)) b c → Creates made files a c
 creates_stable made files {a} {b} first only then = runs_on (creates_none made files first) then.runs (λ x after. created_after made files a b first only after.0 x after.1 after.2)
-
--- a call that changes nothing before one that makes the description file
-pub creates_behind : (made : List ℕ) (files mid : Files) {a b c : Clock Left} → mid ≡ files → Steps Same a b → Creates made mid b c → Creates made files a c
-creates_behind made files mid {a} {b} {c} same first then =
-    runs_on (creates_none made files first) (subst (λ (l : Files). Creates made l b c) same then) (λ x q. elim q [
-      | inl now ↦ let y = first.follows x now in inl (same_as a y.0 x y.1 y.2)
-      | inr other ↦ inr other
-    ])
-
-said_over : (made text : List ℕ) (files : Files) (y x : Left) → IsCreated made files y → PrintsPartOf text y x → IsCreated made files x
-said_over made text files y x is step = record {
-  here = subst (λ (l : Files). IsUnsealed (l 1) ⊎ (l 1 ≡ made)) (sym step.files) is.here;
-  others = λ g ne. ap (λ (l : Files). l g) step.files ∙ is.others g ne;
-}
-
--- a text that is printed once the description file is made
-pub creates_said : (made text : List ℕ) (files mid : Files) {a b c : Clock Left} → Creates made files a b → Only mid b → mid 1 ≡ made → ((g : ℕ) → g ≢ 1 → mid g ≡ files g) → Steps (PrintsPartOf text) b c → Creates made files a c
-creates_said made text files mid first only is others then = runs_on first then.runs (λ x after.
-    let y = after.0 in
-    let same : y.files ≡ mid = only y after.1 in
-    inr (said_over made text files y x (record { here = inr (ap (λ (l : Files). l 1) same ∙ is); others = λ g ne. ap (λ (l : Files). l g) same ∙ others g ne }) after.2))
-
--- what a stop leaves at each moment of the call
-pub each_moment : (made : List ℕ) (files : Files) {a b : Clock Left} → Creates made files a b → (x : Left) → b.left a.now x → Now a x ⊎ IsCreated made files x
-each_moment made files {a} runs x left = elim (runs.only a.now x (omega arith) left) [
-  | inl was ↦ inl was
-  | inr other ↦ other
-]
 
 pub same_becomes : (made : List ℕ) (y x : Left) → x ≡ y → OnDisk 1 (Becoming made) y x
 same_becomes made y x same = subst (λ (z : Left). OnDisk 1 (Becoming made) y z) (sym same) (record { files = record { here = inl refl; others = λ g ne. refl }; said = refl })

@@ -9,7 +9,7 @@ use Rattle.dms_folder.specs.declared.opened.OpenedFile.{OpenedFile}
 use Rattle.dms_calls.specs.Names.{name_of}
 use Rattle.dms_folder.specs.NameLaws.{name_inj}
 use Rattle.dms_folder.specs.Kept.{KeepsFolder, StableAt, Untouched}
-use Rattle.dms_folder.specs.Places.{get_set_same, get_set_other, get_push, get_push_in}
+use Rattle.dms_folder.specs.Places.{get_set_same, get_set_other}
 
 -- equal or not
 pub same_or_not : (m n : ℕ) → (m ≡ n) ⊎ (m ≢ n)
@@ -24,14 +24,6 @@ no_new {a} {b} step w now = let y = step.follows w now in subst (λ (v : World).
 
 pub stable_same : {v w : World} {a b : Clock World} (n : ℕ) → StableAt v a n → w ≡ v → Steps Unchanged a b → StableAt w b n
 stable_same {v} {w} {a} {b} n stable same step = subst (λ (w : World). StableAt w b n) (sym same) (λ i is y now. stable i is y (no_new step y now))
-
--- nothing is open, and nothing known to be stable
-pub kept_begun : {H : Type 0} (file : H → ℕ) (opened : List (OpenedFile H)) (w : World) (c : Clock World) → opened ≡ [] → KeepsFolder file opened true false w c
-kept_begun file opened w c none = record {
-  named = λ k o is. absurd (none-some o (ap (λ (l : List (OpenedFile _)). slice_get l k) (sym none) ∙ is));
-  names = λ known. absurd (false≢true (sym known));
-  bytes = λ known. absurd (false≢true known);
-}
 
 module _ {H : Type 0} {file : H → ℕ} {opened : List (OpenedFile H)} {made synced : Bool} {w : World} {c : Clock World} where
   -- a call that changes nothing
@@ -106,14 +98,6 @@ module _ {H : Type 0} {file : H → ℕ} {opened : List (OpenedFile H)} {made sy
       below : {n : ℕ} → Untouched rest n → Untouched opened n
       below un zero o is number = first o is
       below un (suc k) o is number = un k o (moved k ∙ is) number
-
-  -- one more file is open
-  pub kept_pushed : KeepsFolder file opened made synced w c → (o : OpenedFile H) → w.names (name_of o.number) ≡ Some (file o.file) → KeepsFolder file (opened ++ o ∷ []) made synced w c
-  kept_pushed kept o leads = record {
-    named = λ k p is. ⊎_elim (λ old. kept.named k p old) (λ e. subst (λ (p : OpenedFile H). w.names (name_of p.number) ≡ Some (file p.file)) (sym e) leads) (get_push opened o k p is);
-    names = kept.names;
-    bytes = λ known n low un. kept.bytes known n low (λ k p is number. un k p (get_push_in opened o k p is) number);
-  }
 
   -- a file is made: its name isn't stable
   pub kept_made : {w' : World} {c' : Clock World} → KeepsFolder file opened made synced w c → (f i : ℕ) → f < 2 ^ 32 → w.names (name_of f) ≡ None

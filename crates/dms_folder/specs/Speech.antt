@@ -1,5 +1,5 @@
 -- Printing by parts.
-use Rattle.std.proofs.Common.{ℕ, ◌+◌, ◌-◌, ◌≡◌, List, ◌++◌, length, take, drop, refl, sym, ◌∙◌, ap, subst, Bool, arith, length-drop, None, Some}
+use Rattle.std.proofs.Common.{ℕ, ◌+◌, ◌-◌, ◌≡◌, List, ◌++◌, length, take, drop, refl, sym, ◌∙◌, ap, subst, arith, length-drop, None, Some}
 use Rattle.std.proofs.lemmas.List.{append_assoc, append-nil, take_all}
 use Rattle.std.proofs.Math.Seq.{take-add}
 use Rattle.std.specs.declared.option.Option.{Option}
@@ -8,9 +8,7 @@ use Rattle.dms_moments.specs.MomentLaws.{steps_on}
 use Rattle.dms_site.specs.Files.{PrintsPartOf}
 use Rattle.dms_calls.specs.World.{World, Speaks}
 use Rattle.dms_calls.specs.Seen.{seen, seen_clock, seen_steps, bytes_of, seen_alike}
-use Rattle.dms_folder.specs.declared.opened.OpenedFile.{OpenedFile}
 use Rattle.dms_calls.specs.Names.{name_of}
-use Rattle.dms_folder.specs.Kept.{KeepsFolder}
 
 pub speaks_none : (text : List ℕ) (w : World) → Speaks text w w
 speaks_none text w = record { names = refl; bytes = refl; some = 0; said = sym (append-nil w.said) }
@@ -44,13 +42,3 @@ seen_spoken v w names bytes = seen_alike name_of w v (λ f low. ap (λ (n : List
 
 pub spoken_steps : {a b : Clock World} (text : List ℕ) → Steps (Speaks text) a b → Steps (PrintsPartOf text) (seen_clock name_of a) (seen_clock name_of b)
 spoken_steps text call = seen_steps name_of call (λ v w now s. record { files = seen_spoken v w s.names s.bytes; some = s.some; said = s.said })
-
--- printing keeps what is kept
-pub kept_spoken : {H : Type 0} {file : H → ℕ} {opened : List (OpenedFile H)} {made synced : Bool} {w : World} {c : Clock World} {text : List ℕ} {w' : World} {c' : Clock World}
-    → KeepsFolder file opened made synced w c → Speaks text w w' → Steps (Speaks text) c c' → KeepsFolder file opened made synced w' c'
-kept_spoken kept s step = record {
-  named = λ k o is. ap (λ n. n (name_of o.number)) s.names ∙ kept.named k o is;
-  names = λ none v now m. let y = step.follows v now in ap (λ n. n m) y.2.names ∙ kept.names none y.0 y.1 m ∙ sym (ap (λ n. n m) s.names);
-  bytes = λ known n low un i is v now. let y = step.follows v now in
-      ap (λ b. b i) y.2.bytes ∙ kept.bytes known n low un i (sym (ap (λ m. m (name_of n)) s.names) ∙ is) y.0 y.1 ∙ sym (ap (λ b. b i) s.bytes);
-}

@@ -7,7 +7,7 @@ use Rattle.std.proofs.lemmas.Grind.{common_steps}
 use Rattle.dms_moments.specs.Moments.{Clock, Steps}
 use Rattle.dms_moments.specs.MomentLaws.{steps_on}
 use Rattle.dms_site.specs.Files.{padded, overlaid, Torn}
-use Rattle.dms_site.specs.Laws.{length-overlaid, torn_refl}
+use Rattle.dms_site.specs.Laws.{length-overlaid}
 use Rattle.dms_calls.specs.World.{World, OnFile}
 
 -- a write of a part, and then of the rest
@@ -19,9 +19,6 @@ torn_on at n k m a b c first then room = record {
   above = λ i within high. then.above i (omega (arith, within, first.no_shorter)) (omega (arith, high, room)) ∙ first.above i within high;
 }
 
-pub torn_part : (at n k m : ℕ) (a b : List ℕ) → Torn (at + k) m a b → k + m ≤ n → Torn at n a b
-torn_part at n k m a b part room = torn_on at n k m a a b (torn_refl at n a) part room
-
 pub on_file_refl : (i : ℕ) (step : List ℕ → List ℕ → Type 0) (w : World) → step (w.bytes i) (w.bytes i) → OnFile i step w w
 on_file_refl i step w here = record { here = here; others = λ j other. refl; names = λ m. refl; said = refl }
 
@@ -32,9 +29,6 @@ on_file_on i r s t a b c first then both = record {
   names = λ m. then.names m ∙ first.names m;
   said = then.said ∙ first.said;
 }
-
-pub on_file_weaken : (i : ℕ) (r t : List ℕ → List ℕ → Type 0) (a b : World) → OnFile i r a b → ((x y : List ℕ) → r x y → t x y) → OnFile i t a b
-on_file_weaken i r t a b first one = record { here = one (a.bytes i) (b.bytes i) first.here; others = first.others; names = first.names; said = first.said }
 
 module _ {a b c : Clock World} (i at n k m : ℕ) where
   pub write_on : Steps (OnFile i (Torn at n)) a b → Steps (OnFile i (Torn (at + k) m)) b c → k + m ≤ n → Steps (OnFile i (Torn at n)) a c

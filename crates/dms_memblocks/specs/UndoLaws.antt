@@ -1,5 +1,5 @@
 -- Changes in memory, and how they are taken back.
-use Rattle.std.proofs.Common.{ℕ, zero, suc, ◌+◌, ◌≤◌, ◌<◌, ◌≡◌, ◌≢◌, ◌∙◌, ◌⊎◌, inl, inr, ◌&&◌, if◌then◌else◌, Bool, true, false, IsTrue, nat_lt, nat_le, List, [], ◌∷◌, ◌++◌, length, map, filter, get_or, set, take, drop, Option, Some, None, refl, sym, ap, subst, arith, length-append, length-take, append_assoc, append-nil}
+use Rattle.std.proofs.Common.{ℕ, zero, suc, ◌+◌, ◌≤◌, ◌<◌, ◌≡◌, ◌≢◌, ◌∙◌, ◌⊎◌, inl, inr, ◌&&◌, if◌then◌else◌, Bool, true, false, IsTrue, nat_lt, nat_le, List, [], ◌∷◌, ◌++◌, length, map, filter, get_or, set, take, drop, Option, Some, None, refl, sym, ap, subst, arith, length-append, length-take, append_assoc}
 use Rattle.std.proofs.Props.{props}
 use Rattle.std.specs.Coded.{×_prop, Unit-prop, le_prop}
 use Rattle.std.proofs.lemmas.Bool.{cases_eq, cases_lt}
@@ -271,14 +271,6 @@ put_step made cs items i d r0 r r' l0 l l' u is low fits put point id old now lo
     (subst (λ m. PutAll made (take i cs ++ x ∷ []) r0 l0 m l') (sym now)
     (subst (λ m. PutAll made (take i cs ++ x ∷ []) r0 l0 (put_at (place f) x.id.block x.block r) m) (sym logged)
     (put_one made (take i cs) x r0 r l0 l u put.small put mine.0 (omega (arith, mine.1, put.many)) fit.1 le point id old)))
-
-pub put_none : (made : ℕ) (r : BlockLists) (l : List BlockUndo) → AreSmall r → PutAll made [] r l r l
-put_none made r l small = record { more = []; logged = sym (append-nil l); since = tt; back = refl; content = refl; many = refl; small = small }
-
--- all changes that were logged are taken back
-pub put_taken : (made : ℕ) (cs : List Change) (r0 r : BlockLists) (l0 l : List BlockUndo) → PutAll made cs r0 l0 r l → (undone (drop (length l0) l) r ≡ r0) × (take (length l0) l ≡ l0)
-put_taken made cs r0 r l0 l put =
-    (ap (λ m. undone m r) (ap (λ m. drop (length l0) m) put.logged ∙ drop-length l0 put.more) ∙ put.back, ap (λ m. take (length l0) m) put.logged ∙ take-length l0 put.more)
 
 -- points
 

@@ -8,7 +8,7 @@ use Rattle.dms_memcalls.specs.declared.event.CallEvent.{CallEvent}
 use Rattle.dms_memcalls.specs.declared.event.CallEvent.TheVariants.{Looked, Made, Wrote, Shortened, Lengthened, Synced, SyncedNames, Printed, Found, Recalled}
 use Rattle.dms_memcalls.specs.Names.{leads, is_name}
 use Rattle.dms_memcalls.specs.NameLaws.{name_is, leads_is, leads_same, adds_seen}
-use Rattle.dms_memcalls.specs.Folders.{FolderSeen, nothing, with_made, with_bytes, with_said, world_of}
+use Rattle.dms_memcalls.specs.Folders.{FolderSeen, with_made, with_bytes, with_said, world_of}
 use Rattle.dms_memcalls.specs.Events.{seen_after}
 use Rattle.dms_memcalls.specs.Outcomes.{Adds, EventMakes, IsOutcomeOf, seen_of, WorldMayBeLeft}
 use Rattle.dms_memcalls.specs.Steady.{on_file, speaks_all, speaks_none}
@@ -70,8 +70,6 @@ adds_left : (s left : FolderSeen) (name given bytes : List ℕ) → left.count �
 adds_left s left name given bytes count which = subst (λ (n : ℕ). Adds name bytes n (world_of left) (world_of (with_made left given bytes))) count (adds_seen left name given bytes which)
 
 module _ (past : List CallEvent) (left : FolderSeen) (was : IsLeft past left) where
-  s_count : left.count ≡ (seen_of past).count
-  s_count = was.count
 
   -- a file with a name or none
   made_left : (name given there bytes : List ℕ) (e : CallEvent) (new : FolderSeen) → seen_after e (seen_of past) ≡ with_made (seen_of past) there bytes → ((v w : World) → Adds name bytes (seen_of past).count v w → EventMakes (seen_of past) e v w)
@@ -143,6 +141,3 @@ module _ (past : List CallEvent) (left : FolderSeen) (was : IsLeft past left) wh
   struck_left (Printed text false) new struck = same_left (Printed text false) new refl (speaks_none text.items (world_of left)) struck
   struck_left (Found name bytes) new struck = made_left name.items name.items name.items bytes.items (Found name bytes) new refl (λ v w adds. adds) (inl refl) (inr (inr refl)) struck
   struck_left (Recalled text) new struck = spoken_left text.items (Recalled text) new refl (λ v w speaks. speaks) struck
-
-pub nothing_left : IsLeft [] nothing
-nothing_left = record { count = refl; said = refl; owners = λ k low. inl refl; may = refl }

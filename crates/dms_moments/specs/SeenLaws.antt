@@ -1,6 +1,6 @@
 -- What the moments of a clock say of the clock of a layer above, and what a call leaves that only looks.
 use Rattle.std.proofs.Common.{ℕ, ◌≤◌, ◌≡◌, inl, inr, ⊎_elim, refl, sym, ◌∙◌, subst}
-use Rattle.dms_moments.specs.Moments.{Clock, Now, Runs, After, Steps, seen_by, seen_as}
+use Rattle.dms_moments.specs.Moments.{Clock, Now, Runs, Steps, seen_by, seen_as}
 use Rattle.dms_moments.specs.MomentLaws.{runs_weaken}
 
 module _ {X Y : Type 0} (sees : X → Y → Type 0) where
@@ -11,21 +11,6 @@ module _ {X Y : Type 0} (sees : X → Y → Type 0) where
     only = λ t y le left. ⊎_elim (λ was. inl (left.0, was, left.2)) (λ now. inr (leads left.0 y now left.2)) (run.only t left.0 le left.1);
     keeps = λ t y le left. (left.0, run.keeps t left.0 le left.1, left.2);
   }
-
-  -- What each outcome of now has, as it is seen.
-  pub now_seen : (clock : Clock X) (Q : Y → Type 0) → ((x : X) (y : Y) → Now clock x → sees x y → Q y) → (y : Y) → Now (seen_by sees clock) y → Q y
-  now_seen clock Q leads y now = leads now.0 y now.1 now.2
-
-  -- A step is a step of the layer above.
-  pub steps_seen : {old new : Clock X} {step : X → X → Type 0} {shown : Y → Y → Type 0} → Steps step old new
-      → ((x later : X) (seen : Y) → Now old x → step x later → sees later seen → (y : Y) × sees x y × shown y seen) → Steps shown (seen_by sees old) (seen_by sees new)
-  steps_seen {old} {new} {step} {shown} call shows = record {
-    follows = λ y now. above y now.0 now.2 (call.follows now.0 now.1);
-    runs = runs_seen call.runs (λ x y after sees. above y x sees after);
-  }
-    where
-      above : (y : Y) (x : X) → sees x y → After old step x → After (seen_by sees old) shown y
-      above y x seen after = let z = shows after.0 x y after.1 after.2 seen in (z.0, (after.0, after.1, z.1), z.2)
 
   -- And down again, where each outcome is seen and none is seen as another.
   pub runs_below : {old new : Clock X} {Q : Y → Type 0} → ((x : X) → (y : Y) × sees x y) → ((x other : X) (y : Y) → sees x y → sees other y → other ≡ x)
@@ -44,11 +29,6 @@ module _ {X Y : Type 0} (f : X → Y) where
 
   pub now_seen_as : (clock : Clock X) (Q : Y → Type 0) → ((x : X) → Now clock x → Q (f x)) → (y : Y) → Now (seen_as f clock) y → Q y
   now_seen_as clock Q leads y now = subst (λ (z : Y). Q z) (sym now.2) (leads now.0 now.1)
-
-  pub steps_seen_as : {old new : Clock X} {step : X → X → Type 0} {shown : Y → Y → Type 0} → Steps step old new
-      → ((x later : X) → Now old x → step x later → shown (f x) (f later)) → Steps shown (seen_as f old) (seen_as f new)
-  steps_seen_as {shown = shown} call shows = steps_seen (λ x y. y ≡ f x) call
-      (λ x later seen now step is. (f x, refl, subst (λ (z : Y). shown (f x) z) (sym is) (shows x later now step)))
 
   pub runs_below_as : {old new : Clock X} {Q : Y → Type 0} → ((x other : X) → f other ≡ f x → other ≡ x) → Runs (seen_as f old) (seen_as f new) Q → Runs old new (λ x. Q (f x))
   runs_below_as {Q = Q} one run = runs_weaken (runs_below (λ x y. y ≡ f x) (λ x. (f x, refl)) (λ x other y is_x is_other. one x other (sym is_other ∙ is_x)) run)

@@ -15,9 +15,6 @@ times_own n = grind (arith, nat_tests)
 pub times_other : (n x : ℕ) → (x ≡ n → ⊥) → times n (x ∷ []) ≡ 0
 times_other n x off = grind (arith, nat_tests)
 
-times_head : (n x : ℕ) (xs : List ℕ) → times n (x ∷ xs) ≡ times n (x ∷ []) + times n xs
-times_head n x xs = omega arith
-
 -- a number that stands nowhere is none of these
 pub times_apart : (n x : ℕ) (xs : List ℕ) → times n (x ∷ xs) ≡ 0 → (x ≡ n → ⊥) × (times n xs ≡ 0)
 times_apart n x xs none = ((λ e. absurd (omega (arith, none, times_own n, ap (λ k. times n (k ∷ [])) e))), omega (arith, none))

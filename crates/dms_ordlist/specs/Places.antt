@@ -63,8 +63,6 @@ pub entries_one : (l : Leaf) → entries_of (l ∷ []) ≡ l.1
 entries_one l = append-nil l.1
 
 module _ (c : List ℕ) (ls : List Leaf) where
-  pub walked_none : (at : ℕ) → front ls 0 ≡ at → Walked c ls None 0 at
-  walked_none at head = record { ahead = []; behind = ls; is = refl; head = head; before = refl; low = refl; long = refl }
 
   module _ (width : ℕ) (look : ℕ → Option (List ℕ)) (chain : BlockChain (leaf_in width) look ls 0) where
     -- what the chain says of the block that was reached
@@ -148,10 +146,3 @@ module _ (c : List ℕ) (ls : List Leaf) where
           low = ap (lead c) whole ∙ lead_past c (entries_of walked.ahead) es walked.low ∙ ap (λ n. length (entries_of walked.ahead) + n) all ∙ sym (length-append (entries_of walked.ahead) es) ∙ sym (ap length whole);
           long = omega (arith, length-append walked.ahead ((at, es) ∷ []), walked.long);
         }
-
-  more_left : (behind : List Leaf) (at : ℕ) → front behind 0 ≡ at → (at ≡ 0 → ⊥) → 1 ≤ length behind
-  more_left [] at head some = absurd (some (sym head))
-  more_left (l ∷ behind) at head some = omega arith
-
-  pub walked_long : (before : Option NumberedLeaf) (turn at : ℕ) → Walked c ls before turn at → (at ≡ 0 → ⊥) → turn < length ls
-  walked_long before turn at walked some = omega (arith, ap length walked.is, length-append walked.ahead walked.behind, walked.long, more_left walked.behind at walked.head some)

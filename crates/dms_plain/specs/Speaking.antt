@@ -1,9 +1,9 @@
 -- A site of which nothing but the text changes.
-use Rattle.std.proofs.Common.{◌≡◌, ℕ, List, [], ◌++◌, refl, sym, ap, ◌∙◌, append_assoc, take}
+use Rattle.std.proofs.Common.{◌≡◌, ℕ, List, [], ◌++◌, refl, sym, ap, ◌∙◌, append_assoc}
 use Rattle.std.proofs.lemmas.List.{append-nil}
 use Rattle.dms_moments.specs.Moments.{Clock, Steps}
-use Rattle.dms_moments.specs.MomentLaws.{steps_on, steps_weaken, runs_none}
-use Rattle.dms_site.specs.Files.{Left, PrintsPartOf}
+use Rattle.dms_moments.specs.MomentLaws.{steps_on, runs_none}
+use Rattle.dms_site.specs.Files.{Left}
 
 -- the files stay, and more was printed, or nothing
 pub record SpeaksOnly (old new : Left) : Type 0 where
@@ -23,6 +23,3 @@ speaks_on x y z p q = record { files = q.files ∙ p.files; more = p.more ++ q.m
 
 pub only_on : (a b c : Clock Left) → OnlySpeaks a b → OnlySpeaks b c → OnlySpeaks a c
 only_on a b c first next = steps_on first next (λ x y z here there p q. speaks_on x y z p q) (λ x y here p. p)
-
-pub only_prints : (a b : Clock Left) (bytes : List ℕ) → Steps (PrintsPartOf bytes) a b → OnlySpeaks a b
-only_prints a b bytes steps = steps_weaken steps (λ x y here p. record { files = p.files; more = take p.some bytes; said = p.said })

@@ -1,5 +1,5 @@
 -- What holds of every pool.
-use Rattle.std.proofs.Common.{◌≡◌, ◌≤◌, ◌++◌, List, [], ◌∷◌, Bool, true, false, cond, Some, refl, sym, ap, ◌∙◌, subst, length}
+use Rattle.std.proofs.Common.{◌≡◌, ◌≤◌, ◌++◌, List, [], ◌∷◌, Bool, true, false, cond, Some, refl, sym, ap, ◌∙◌, subst}
 use Rattle.std.specs.Prelude.{◌||◌, is_some, reverse}
 use Rattle.std.specs.declared.option.Option.{Option}
 use Rattle.std.specs.List.{AllByRecursion, IsDistinct, list_any}
@@ -9,9 +9,8 @@ use Rattle.dms_pool.specs.declared.frame.BufferFrame.{BufferFrame}
 use Rattle.dms_pool.specs.declared.frame.FrameKey.{FrameKey}
 use Rattle.dms_pool.specs.declared.pool.Pool.{Pool}
 use Rattle.dms_pool.specs.Entries.{Entries, id_of, ids_of, is_id, is_key, same_key}
-use Rattle.dms_pool.specs.Held.{frame_of, most, order}
+use Rattle.dms_pool.specs.Held.{frame_of, order}
 use Rattle.dms_pool.proofs.Lasts.{flip}
-use Rattle.dms_pool.proofs.Leaving.{order_length}
 use Rattle.dms_pool.proofs.Same.{reverse_front}
 
 all_push : (P : BlockId → Type 0) (xs : List BlockId) (x : BlockId) → AllByRecursion P xs → P x → AllByRecursion P (xs ++ x ∷ [])
@@ -63,14 +62,6 @@ any_held : (id : BlockId) (es : Entries) → is_some (lookup (is_key id) es) ≡
 any_held id [] = refl
 any_held id (e ∷ es) = some_turn (is_key id e.0) e.1 (lookup (is_key id) es) (list_any (is_id id) (ids_of es)) (any_held id es)
 
--- no block stands twice in the order
-pub order_distinct : (pool : Pool) → IsDistinct is_id (order pool)
-order_distinct pool = distinct_reverse (ids_of pool.frames.entries) (distinct_ids pool.frames.entries pool.sound.0)
-
 -- the order has the blocks that are held, and no others
 pub order_held : (id : BlockId) (pool : Pool) → is_some (frame_of id pool) ≡ list_any (is_id id) (order pool)
 order_held id pool = any_held id pool.frames.entries ∙ sym (any_reverse (is_id id) (ids_of pool.frames.entries))
-
--- no more blocks are held than may be
-pub order_within : (pool : Pool) → length (order pool) ≤ most pool
-order_within pool = subst (λ n. n ≤ most pool) (sym (order_length pool.frames.entries)) pool.sound.1

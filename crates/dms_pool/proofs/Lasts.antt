@@ -83,9 +83,3 @@ is_last es e distinct last = split_last es (take (length es - 1) es) e (last_spl
 none_left : (e : FrameKey × BufferFrame) (xs : Entries) → slice_get (e ∷ xs) (length xs) ≡ None → e ∷ xs ≡ []
 none_left e [] is = absurd (cc is)
 none_left e (x ∷ xs) is = absurd (cc (none_left x xs is))
-
-pub no_last : (es : Entries) → None ≡ last_entry es → es ≡ []
-no_last [] is = refl
-no_last (e ∷ xs) is =
-    let behind : length (e ∷ xs) - 1 ≡ length xs = omega arith in
-    none_left e xs (ap (slice_get (e ∷ xs)) (sym behind) ∙ sym is)

@@ -1,5 +1,5 @@
 -- What each call leaves, from what the cache's call leaves.
-use Rattle.std.proofs.Common.{◌≡◌, ◌-◌, [], ◌∷◌, true, Some, None, sym, ap, ◌∙◌, length, take, refl}
+use Rattle.std.proofs.Common.{◌≡◌, ◌-◌, [], ◌∷◌, true, Some, sym, ap, ◌∙◌, length, take, refl}
 use Rattle.std.specs.Prelude.{◌||◌, nat_lt, is_some, reverse}
 use Rattle.std.specs.Map.{lookup, set_value}
 use Rattle.std.proofs.lemmas.List.{length-map, length-reverse}
@@ -13,7 +13,7 @@ use Rattle.dms_pool.specs.Calls.{IsEmpty, Cleans, GivesUp, HasFrameFor, FrameUse
 use Rattle.dms_pool.specs.Held.{washed}
 use Rattle.dms_pool.proofs.Lasts.{IsLastFrame, is_last}
 use Rattle.dms_pool.proofs.Same.{after, after_lookup, after_order, front, front_lookup, front_order, promoted_same, put_same}
-use Rattle.dms_pool.proofs.Washed.{none_clean, set_clean, set_ids}
+use Rattle.dms_pool.proofs.Washed.{set_clean, set_ids}
 
 pub looked : (id : BlockId) (old new : Pool) → new.frames ≡ lru_cache (promoted (is_key id) old.frames.entries) old.frames.cap → FrameUsed id old new
 looked id old new is =
@@ -67,15 +67,5 @@ cleans id f old new found is =
     record {
       holds = λ x. ap (lookup (is_key x)) all ∙ set_clean x id es f found;
       uses = ap (λ (l : Entries). reverse (ids_of l)) all ∙ ap reverse (set_ids id es (washed f));
-      bound = ap (λ c. c.cap) is;
-    }
-
-pub cleans_none : (id : BlockId) (old new : Pool) → lookup (is_key id) old.frames.entries ≡ None → new.frames ≡ old.frames → Cleans id old new
-cleans_none id old new none is =
-    let es = old.frames.entries in
-    let all : new.frames.entries ≡ es = ap (λ c. c.entries) is in
-    record {
-      holds = λ x. ap (lookup (is_key x)) all ∙ none_clean x id es none;
-      uses = ap (λ (l : Entries). reverse (ids_of l)) all;
       bound = ap (λ c. c.cap) is;
     }

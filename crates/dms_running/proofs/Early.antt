@@ -24,8 +24,7 @@ use Rattle.dms_history.proofs.Listed.{points_stay}
 use Rattle.dms_running.specs.Telling.{Telling, IsTelling}
 use Rattle.dms_running.specs.Standing.{MayRun}
 use Rattle.dms_running.specs.Points.{DescribedPoint, described_in, points_told, LeavesPointsPrefix}
-use Rattle.dms_running.specs.Sealing.{AreSealed}
-use Rattle.dms_running.specs.Running.{State, entries_now, next_now, points_now, durable_now, content_now, count_live, IsRunning, IsAnOutcome, LeavesPoints, IsLogged, IsChanged, AllPlain}
+use Rattle.dms_running.specs.Running.{State, entries_now, next_now, points_now, durable_now, content_now, count_live, IsRunning, IsAnOutcome, LeavesPoints, IsLogged, AllPlain}
 use Rattle.dms_running.proofs.MayRun.{sound, has_one, points_are, content_sized, may_write, other_dumps}
 use Rattle.dms_running.proofs.Plain.{plain_grows, plain_take}
 use Rattle.dms_running.proofs.Stopped.{front_left, old_read, count_told}
@@ -149,15 +148,6 @@ module _ (t : Telling) (telling : IsTelling t) (a : State) (r : IsRunning t a) (
             let two = old_read t telling c c.waiting early_runs.base early_runs.settled early_runs.found early_runs.each early_runs.plain early_runs.counted reads in
             count_told t.first (t.entries c.files) (t.dumps c.files) early_runs.base (stored_of c.files) two ∙ ap (λ (l : List Entry). count_live l) later_entries
             ∙ sym (count_told t.first (t.entries a.files) (t.dumps a.files) r.base (stored_of a.files) one)
-
--- what was changed before the entries were sealed
-pub changed_sealed : (t : Telling) (a b : State) (f k : ℕ) → AreSealed t a.waiting a.files b.files → IsChanged t a f k → IsLogged t b.files f k
-changed_sealed t a b f k sealed changed none = changed (ap (λ (l : List Entry). last_after f k (after_last is_control (live_of l))) (sym sealed.sealed) ∙ none)
-
--- where nothing waits a change is sealed
-pub changed_logged : (t : Telling) (a : State) (f k : ℕ) → a.waiting ≡ [] → IsChanged t a f k → IsLogged t a.files f k
-changed_logged t a f k nothing changed none =
-    changed (ap (λ (l : List Entry). last_after f k (after_last is_control (live_of l))) (ap (λ (l : List Entry). t.entries a.files ++ l) nothing ∙ append_none (t.entries a.files)) ∙ none)
 
 -- a prefix of points of which more are durable, with a next number that is no lower
 pub leaves_less : (t : Telling) (points later : List DescribedPoint) (durable more next up : ℕ) (x : Left) → later ≡ points → durable ≤ more → next ≤ up → LeavesPointsPrefix t later more up x → LeavesPointsPrefix t points durable next x

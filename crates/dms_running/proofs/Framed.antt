@@ -3,7 +3,7 @@ use Rattle.std.proofs.Common.{ℕ, ◌+◌, ◌*◌, ◌≤◌, ◌<◌, ◌≡�
 use Rattle.std.proofs.lemmas.Bool.{cases_eq}
 use Rattle.dms_site.specs.Files.{Files, with_file, overlaid, InFile, Torn, stored_of}
 use Rattle.dms_site.specs.Laws.{torn_overlaid, in_file_with}
-use Rattle.dms_site.specs.StoredLaws.{stored_whole, stored_apart, stored_written}
+use Rattle.dms_site.specs.StoredLaws.{stored_whole, stored_apart}
 use Rattle.dms_history.specs.Events.{BlockBytes, AllBlocks, Stored, Event, change, block_in}
 use Rattle.dms_history.specs.Replay.{TellsBefore, with_block}
 use Rattle.dms_history.specs.Lists.{after_last}
@@ -141,9 +141,6 @@ module _ (t : Telling) (a later : State) (frames : Frames) (h : FramesHold t a f
   len : length x.block ≡ 1024
   len = let r = (h f b).held x is in ap length r.1 ∙ sized f b r.0
 
-  now_there : stored_of later.files f b ≡ x.block
-  now_there = ap (λ (l : Files). stored_of l f b) written ∙ stored_written a.files f b x.block structure len
-
   torn : InFile f (Torn (1024 * b) 1024) a.files later.files
   torn = subst (λ (l : Files). InFile f (Torn (1024 * b) 1024) a.files l) (sym written)
       (in_file_with f (Torn (1024 * b) 1024) a.files (overlaid (1024 * b) x.block (a.files f)) (subst (λ k. Torn (1024 * b) k (a.files f) (overlaid (1024 * b) x.block (a.files f))) len (torn_overlaid (1024 * b) x.block (a.files f))))
@@ -162,26 +159,6 @@ module _ (t : Telling) (a later : State) (frames : Frames) (h : FramesHold t a f
         still g c off (ap length at ∙ sized g c old) ∙ at ∙ ap (λ (k : AllBlocks). block_in k g c) (sym same);
     changed = λ y at dirty none. (h g c).changed y at dirty (subst (λ (l : List Entry). last_after g c (after_last is_control (live_of l)) ≡ None) entries none);
   }
-
-  at_content : stored_of later.files f b ≡ block_in (content_now t later) f b
-  at_content = now_there ∙ ((h f b).held x is).1 ∙ ap (λ (k : AllBlocks). block_in k f b) (sym same)
-
-  pub holds_written : FramesHold t later (with_frame frames f b (Some (record { block = x.block; dirty = false })))
-  holds_written =
-      let z : Frame = record { block = x.block; dirty = false } in
-      holds_with t later frames f b (Some z) (record {
-        held = λ y at. let own : z ≡ y = some_is z y at in let r = (h f b).held x is in
-            (subst (λ (k : AllBlocks). b < length (k f)) (sym same) r.0, ap (λ (w : Frame). w.block) (sym own) ∙ r.1 ∙ ap (λ (k : AllBlocks). block_in k f b) (sym same));
-        stands = λ low clean. at_content;
-        changed = λ y at dirty. let own : z ≡ y = some_is z y at in absurd (true_not_false (sym dirty ∙ ap (λ (w : Frame). w.dirty) (sym own)));
-      }) others
-
-  pub holds_evicted : FramesHold t later (with_frame frames f b None)
-  holds_evicted = holds_with t later frames f b None (record {
-    held = λ y at. absurd (none_not_some y at);
-    stands = λ low clean. at_content;
-    changed = λ y at dirty. absurd (none_not_some y at);
-  }) others
 
 -- where no frame is to be written, all blocks are
 pub all_written : (t : Telling) (s : State) (frames : Frames) → FramesHold t s frames → ((f b : ℕ) (x : Frame) → frames f b ≡ Some x → x.dirty ≡ false) → AllWritten t s

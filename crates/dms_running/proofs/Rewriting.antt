@@ -7,13 +7,13 @@ use Rattle.std.proofs.lemmas.Bool.{cases_eq}
 use Rattle.std.proofs.lemmas.Bool.Decides.{nat_tests}
 use Rattle.dms_moments.specs.Moments.{Clock, After, Steps}
 use Rattle.dms_moments.specs.MomentLaws.{runs_none, steps_on, steps_weaken}
-use Rattle.dms_site.specs.Files.{Files, Left, range, with_file, overlaid, InFile, Torn, OnDisk, stored_of}
-use Rattle.dms_site.specs.StoredLaws.{stored_whole, stored_apart, stored_range, stored_written}
+use Rattle.dms_site.specs.Files.{Files, Left, with_file, overlaid, InFile, Torn, OnDisk, stored_of}
+use Rattle.dms_site.specs.StoredLaws.{stored_apart, stored_written}
 use Rattle.dms_history.specs.Events.{BlockBytes, Event}
 use Rattle.dms_history.specs.Told.{told_block}
 use Rattle.dms_history.specs.declared.event.FileCount.{FileCount}
 use Rattle.dms_history.specs.Entries.{counts_in}
-use Rattle.dms_running.specs.Restoring.{IsKept, Rewritten, Rewrites, StandsAsTold, RestoredTo, Rising, AllRestored}
+use Rattle.dms_running.specs.Restoring.{IsKept, Rewritten, Rewrites, Rising}
 
 some_not_none : {A : Type 0} (x : A) → Some x ≡ None → ⊥
 some_not_none x e = absurd cc
@@ -65,19 +65,6 @@ told_free live m f b x is kept = some_not_none x (sym is ∙ kept.1)
 pub stands_written : (f b : ℕ) (files later : Files) (x : BlockBytes) → 30000 < f → length x ≡ 1024 → later ≡ with_file files f (overlaid (1024 * b) x (files f)) → stored_of later f b ≡ x
 stands_written f b files later x structure len is = ap (λ (l : Files). stored_of l f b) is ∙ stored_written files f b x structure len
 
--- one more block stands: the write of it left those below it
-pub restored_more : (live : List Event) (m f k : ℕ) (files later : Files) → RestoredTo live m files f k → InFile f (Torn (1024 * k) 1024) files later → StandsAsTold live m later f k → RestoredTo live m later f (k + 1)
-restored_more live m f k files later done step one b low x is len = elim (cases_eq b k) [
-  | inl same ↦ subst (λ j. stored_of later f j ≡ x) (sym same) (one x (ap (λ j. told_block live m f j) (sym same) ∙ is) len)
-  | inr other ↦
-      let was : stored_of files f b ≡ x = done b (omega (arith, low, other)) x is len in
-      stored_apart files later f k f b step (λ same. other) (λ same less. (stored_whole files f b (ap length was ∙ len)).1) ∙ was
-]
-
--- a file that is the same
-pub restored_same : (live : List Event) (m f k : ℕ) (files later : Files) → later f ≡ files f → RestoredTo live m files f k → RestoredTo live m later f k
-restored_same live m f k files later same done b low x is len = stored_range later files f b (λ structure. ap (λ (l : List ℕ). range (1024 * b) 1024 l) same) ∙ done b low x is len
-
 -- ---- rising lists of counts
 
 -- the parts of a list at an index
@@ -105,17 +92,3 @@ counts_new (x ∷ xs) ys c low rising =
 counts_others : (xs : List FileCount) (c : FileCount) (f : ℕ) → f ≢ c.file → counts_in (xs ++ c ∷ []) f ≡ counts_in xs f
 counts_others [] c f other = ap (λ k. cond k c.blocks 0) (other_test c.file f (λ e. other (sym e)))
 counts_others (x ∷ xs) c f other = ap (λ n. cond (nat_eq x.file f) x.blocks n) (counts_others xs c f other)
-
-pub more_restored : (live : List Event) (m low i : ℕ) (cs : List FileCount) (d : FileCount) (files later : Files) → Rising low cs → i < length cs → AllRestored live m files (take i cs)
-    → ((g : ℕ) → g ≢ (get_or cs i d).file → later g ≡ files g) → RestoredTo live m later (get_or cs i d).file (get_or cs i d).blocks → AllRestored live m later (take (i + 1) cs)
-more_restored live m low i cs d files later rising within done others one f =
-    let c = get_or cs i d in
-    let cut = cut_at cs i d within in
-    elim (cases_eq f c.file) [
-      | inl same ↦
-          let count : counts_in (take (i + 1) cs) f ≡ c.blocks = (λ k. counts_in (cut.0 k) (same k)) ∙ counts_new (take i cs) (drop (suc i) cs) c low (subst (Rising low) cut.1 rising) in
-          subst (λ n. RestoredTo live m later f n) (sym count) (subst (λ g. RestoredTo live m later g c.blocks) (sym same) one)
-      | inr other ↦
-          let count : counts_in (take (i + 1) cs) f ≡ counts_in (take i cs) f = ap (λ (l : List FileCount). counts_in l f) cut.0 ∙ counts_others (take i cs) c f other in
-          subst (λ n. RestoredTo live m later f n) (sym count) (restored_same live m f (counts_in (take i cs) f) files later (others f other) (done f))
-    ]

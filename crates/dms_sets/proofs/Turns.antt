@@ -34,6 +34,3 @@ three_more k = omega arith
 
 pub three_all : (k n : ℕ) → k + 1 ≤ n → (3 * k + 3) + (3 * n - (3 * k + 3)) ≡ 3 * n
 three_all k n le = omega (arith, le)
-
-pub three_rest : (k n : ℕ) → k ≤ n → 3 * k + (3 * n - 3 * k) ≡ 3 * n
-three_rest k n le = omega (arith, le)

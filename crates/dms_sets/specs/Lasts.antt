@@ -131,11 +131,6 @@ module _ (owner : ℕ) (p : List ℕ → Bool) (upto : (x : List ℕ) → p x �
   pub owner_last : (xs : List (List ℕ)) → AreInByteOrder xs → last p (of_owner owner xs) ≡ that_passes (is_of owner) (last p xs)
   owner_last xs rise = last_filter (is_of owner) p xs ∙ narrow_last xs rise
 
-gt_not_lt : (o : Ordering) → is_gt o ≡ true → is_lt o ≡ false
-gt_not_lt Less h = absurd (cc)
-gt_not_lt Equal h = refl
-gt_not_lt Greater h = refl
-
 -- what is above a prefix is above all strings that have it
 front_above : (p r q : List ℕ) → front_cmp p q ≡ Less → front_cmp (p ++ r) q ≡ Less
 front_above [] r q h = absurd (cc)

@@ -1,15 +1,15 @@
 -- The entries of a set or automatic subset, and what one put makes of them.
 use Rattle.std.proofs.Common.{◌≡◌, ℕ, ◌-◌, ◌^◌, ◌<◌, List, [], ◌∷◌, ◌++◌, Bool, true, false, cond, Some, None, refl, sym, ap, ◌∙◌, subst, drop, take, length, arith, append_assoc, length-append}
 use Rattle.std.specs.Ordering.{eq_by_cmp}
-use Rattle.std.specs.Prelude.{is_some, not, ◌&&◌, ◌==◌, if◌then◌else◌}
+use Rattle.std.specs.Prelude.{not, ◌&&◌, ◌==◌, if◌then◌else◌}
 use Rattle.std.specs.declared.option.Option.{Option}
-use Rattle.std.specs.FinMap.{contains_key-keys, remove, get, insert, put, entries, keys, entries-insert}
+use Rattle.std.specs.FinMap.{remove, get, insert, put, entries, keys, entries-insert}
 use Rattle.std.specs.FinMap.Entries.{where_key, by_order}
 use Rattle.std.specs.declared.cmp.Ordering.{Ordering}
 use Rattle.std.specs.declared.cmp.Ordering.TheVariants.{Less, Equal, Greater}
 use Rattle.std.specs.Int.{w32, to_be_bytes, from_be_bytes}
 use Rattle.std.proofs.lemmas.Nat.{from_be_bytes-to_be_bytes_4}
-use Rattle.std.proofs.lemmas.List.{drop_at, take_at}
+use Rattle.std.proofs.lemmas.List.{drop_at}
 use Rattle.std.proofs.lemmas.Bool.Decides.{nat_tests}
 use Rattle.dms_base.specs.declared.value.Value.{Value}
 use Rattle.dms_base.specs.declared.kind.ItemKind.{ItemKind}
@@ -23,11 +23,11 @@ use Rattle.dms_desc.specs.Keys.{key_of}
 use Rattle.dms_desc.specs.Kinds.{takes, over}
 use Rattle.dms_desc.specs.Lookups.{structure_of, items_of}
 use Rattle.dms_model.specs.Stores.{put_after, stored}
-use Rattle.dms_sets.specs.Listing.{left, still, stands, is_new, places_same, with_opt, without_opt, listing_of, member_opt, AllPlaces, changed, places_total}
+use Rattle.dms_sets.specs.Listing.{left, still, places_same, with_opt, without_opt, listing_of, member_opt, AllPlaces, changed, places_total}
 use Rattle.dms_key.specs.ByteOrder.{high_first_length}
 use Rattle.dms_key.specs.KeyBytes.{key_bytes}
 use Rattle.dms_sets.specs.Entries.{entry_bytes, kinds_of}
-use Rattle.dms_ordlist.specs.Lists.{has_entry, ByteSet, entries_removed, keys_with, keys_without, with_in, without_in}
+use Rattle.dms_ordlist.specs.Lists.{ByteSet, entries_removed, keys_with, keys_without, with_in, without_in}
 
 -- the entry of a record in a set or automatic subset, where it belongs there
 abbrev pub entry_of : List ItemKind → Shape → Place → Record → Option (List ℕ)
@@ -68,10 +68,6 @@ pub entry_number : (kinds : List ItemKind) (ps : List KeyPart) (owner : ℕ) (ke
 entry_number kinds ps owner key n small =
     ap number_in (sym (append_assoc (to_be_bytes w32 owner) (key_bytes kinds ps key) (to_be_bytes w32 n)))
     ∙ number_again (to_be_bytes w32 owner ++ key_bytes kinds ps key) n small
-
-pub entry_owner : (kinds : List ItemKind) (ps : List KeyPart) (owner : ℕ) (key : List Value) (n : ℕ) → owner < 2 ^ 32 → owner_in (entry_bytes kinds ps owner key n) ≡ owner
-entry_owner kinds ps owner key n small =
-    ap (from_be_bytes w32) (take_at (to_be_bytes w32 owner) (key_bytes kinds ps key ++ to_be_bytes w32 n) 4 refl) ∙ from_be_bytes-to_be_bytes_4 owner small
 
 some_same : (x q : List ℕ) → ◌≡◌ {A = Option (List ℕ)} (Some x) (Some q) → x ≡ q
 some_same x q h = cc
@@ -125,9 +121,6 @@ pub entries_put : (desc : Described) (db : Db) (s : Shape) (set n : ℕ) (rec : 
     ≡ with_in (entry_of (kinds_over desc s) s (set, n) (stored desc db set (Some n) rec)) (without_in (member_opt (entry_of (kinds_over desc s) s) (set, n) (get db.records (set, n))) (entries_of desc db s))
 entries_put desc db s set n rec all small = entries_changed (kinds_over desc s) s db.records (set, n) (stored desc db set (Some n) rec) all small
 
-has_key : (m : ByteSet) (q : List ℕ) → is_some (get m q) ≡ has_entry q (keys m)
-has_key m q = contains_key-keys m q
-
 small_where : (p : Place → Bool) (es : List (Place × Record)) → AllPlaces IsSmall es → AllPlaces IsSmall (where_key place_cmp p es)
 small_where p [] all = tt
 small_where p (e ∷ es) all =
@@ -147,15 +140,3 @@ module _ (kinds : List ItemKind) (s : Shape) (m : Records) (k : Place) (all : Al
   -- a put that changes no entry of the set
   pub entries_still : (v : Record) → entry_of kinds s k v ≡ member_opt (entry_of kinds s) k (get m k) → keys (listed_in kinds s (insert m k v)) ≡ keys (listed_in kinds s m)
   entries_still v same = ap (λ (n : ByteSet). keys n) (still (entry_of kinds s) (place_in_entry s) IsSmall (own_entry kinds s) m k v all (small_insert m k v here all) same)
-
-  -- the entry of a record that stands is there
-  pub entry_stands : (r : Record) (q : List ℕ) → get m k ≡ Some r → entry_of kinds s k r ≡ Some q → has_entry q (keys (listed_in kinds s m)) ≡ true
-  entry_stands r q at is =
-      sym (has_key (listed_in kinds s m) q) ∙ ap is_some (stands (entry_of kinds s) (place_in_entry s) IsSmall (own_entry kinds s) m k r q all here at is)
-
-  -- and the new record's isn't, once that of the old one is taken out
-  pub entry_new : (v : Record) (q : List ℕ) → entry_of kinds s k v ≡ Some q → has_entry q (without_in (member_opt (entry_of kinds s) k (get m k)) (keys (listed_in kinds s m))) ≡ false
-  entry_new v q is =
-      ap (has_entry q) (sym (keys_without_opt (member_opt (entry_of kinds s) k (get m k)) (listed_in kinds s m)))
-      ∙ sym (has_key (without_opt (member_opt (entry_of kinds s) k (get m k)) (listed_in kinds s m)) q)
-      ∙ ap is_some (is_new (entry_of kinds s) (place_in_entry s) IsSmall (own_entry kinds s) m k v q all here is)

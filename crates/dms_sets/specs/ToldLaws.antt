@@ -29,7 +29,7 @@ use Rattle.dms_sets.specs.Puts.{all_small}
 use Rattle.dms_sets.specs.Sets.{IsSmall, entry_of, entries_of, items_over, kinds_over, entries_changed, entries_left}
 use Rattle.dms_sets.specs.Spots.{ValuesFit, all_fit, key_fits}
 use Rattle.dms_sets.specs.Tests.{both_of}
-use Rattle.dms_sets.specs.Told.{AreListed, ChangeStands, KeepsSets, Upto, answer_of, clash_opt, db_with, is_kept, is_refused}
+use Rattle.dms_sets.specs.Told.{ChangeStands, KeepsSets, Upto, answer_of, clash_opt, db_with, is_kept, is_refused}
 
 -- ---- what is over the data set
 
@@ -159,8 +159,6 @@ some_one : (x y : Shape) → ◌≡◌ {A = Option Shape} (Some x) (Some y) → 
 some_one x y h = cc
 
 module _ (desc : Described) (db : Db) (set number : ℕ) (old new : Option Record) (judged : ChangeStands desc db set number old new) where
-  pub upto_none : (a : ListsOf) → AreListed desc db a → Upto desc db set number old new 0 a
-  upto_none a are = record { done = λ j s lt at kept. absurd (omega (arith, lt)); left = λ j s le at kept. are j s at kept; none = λ j s lt at. absurd (omega (arith, lt)) }
 
   same_at : (j k : ℕ) (t s : Shape) → j ≡ k → slice_get desc.structures j ≡ Some t → slice_get desc.structures k ≡ Some s → s ≡ t
   same_at j k t s e p q = some_one s t (sym q ∙ ap (slice_get desc.structures) (sym e) ∙ p)

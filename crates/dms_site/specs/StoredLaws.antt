@@ -26,13 +26,6 @@ stored_range x y f b same = elim (cases_lt 30000 f) [
 pub stored_same : (x y : Files) → ((f : ℕ) → 30000 < f → x f ≡ y f) → stored_of x ≡ stored_of y
 stored_same x y same = λ i f b. stored_range x y f b (λ structure. ap (λ (l : List ℕ). range (1024 * b) 1024 l) (same f structure)) i
 
--- a block has at most 1,024 bytes
-pub stored_bound : (files : Files) (f b : ℕ) → length (stored_of files f b) ≤ 1024
-stored_bound files f b = elim (cases_lt 30000 f) [
-  | inl structure ↦ omega (arith, length-range (1024 * b) 1024 (files f), ap length (stored_at files f b structure))
-  | inr other ↦ omega (arith, ap length (stored_none files f b other))
-]
-
 -- A block of 1,024 bytes stands whole in its file.
 pub stored_whole : (files : Files) (f b : ℕ) → length (stored_of files f b) ≡ 1024 → (30000 < f) × (1024 * b + 1024 ≤ length (files f))
 stored_whole files f b is = elim (cases_lt 30000 f) [

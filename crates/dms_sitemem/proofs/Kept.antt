@@ -1,17 +1,17 @@
 -- What is kept after one more event, or after none.
 use Rattle.std.proofs.Common.{ℕ, ◌+◌, ◌≤◌, ◌≡◌, ◌⊎◌, inl, inr, Bool, true, false, IsTrue, List, [], ◌∷◌, ◌++◌, if◌then◌else◌, ◌==◌, ◌∙◌, ap, sym, subst, refl, take, length, Vec, arith}
 use Rattle.std.specs.declared.alloc.Global.{Global}
-use Rattle.std.proofs.lemmas.List.{take_all, append-nil}
+use Rattle.std.proofs.lemmas.List.{append-nil}
 use Rattle.std.proofs.lemmas.Bool.{false≢true}
 use Rattle.std.proofs.lemmas.Bool.Decides.{nat_tests}
 use Rattle.dms_moments.specs.Moments.{Steps}
 use Rattle.dms_site.specs.Files.{Files, Left, with_file, overlaid, InFile, Torn, Cut, OnDisk, PrintsPartOf, Only}
 use Rattle.dms_site.specs.Laws.{torn_overlaid, torn_refl, in_file_with, in_file_same}
 use Rattle.dms_sitemem.specs.declared.event.SiteEvent.{SiteEvent}
-use Rattle.dms_sitemem.specs.declared.event.SiteEvent.TheVariants.{Looked, Wrote, Shortened, Synced, Said, Replaced, Recalled}
+use Rattle.dms_sitemem.specs.declared.event.SiteEvent.TheVariants.{Wrote, Shortened, Synced, Said}
 use Rattle.dms_sitemem.specs.Events.{files_after, said_after, is_call, calls_in}
 use Rattle.dms_sitemem.specs.Replay.{Replayed, MayLeave, after, state_of, clock_of}
-use Rattle.dms_sitemem.specs.Honest.{state_push, pushed, still, write_leads, say_leads, synced_only}
+use Rattle.dms_sitemem.specs.Honest.{state_push, pushed, write_leads, say_leads, synced_only}
 
 pub kept_file : (old new : Files) (f : ℕ) (next bytes : List ℕ) → ((g : ℕ) → new g ≡ (if g == f then next else old g)) → next ≡ bytes → new ≡ with_file old f bytes
 unfolding with_file
@@ -58,12 +58,6 @@ calls_few (e ∷ events) = omega (arith, calls_few events, at_most_one (is_call 
 pub more_steps : (events all : List SiteEvent) (event : SiteEvent) (step : Left → Left → Type 0) → More events event all → ((x : Left) → MayLeave (after event (state_of events)) x → (y : Left) × MayLeave (state_of events) y × step y x) → Steps step (clock_of events) (clock_of all)
 more_steps events all event step more leads = subst (λ l. Steps step (clock_of events) (clock_of l)) (sym more) (pushed events event step leads)
 
-pub same_steps : (events all : List SiteEvent) (step : Left → Left → Type 0) → all ≡ events → ((x : Left) → step x x) → Steps step (clock_of events) (clock_of all)
-same_steps events all step is refls = subst (λ l. Steps step (clock_of events) (clock_of l)) (sym is) (still events step refls)
-
-pub disk_same : (f : ℕ) (step : List ℕ → List ℕ → Type 0) → ((l : List ℕ) → step l l) → (x : Left) → OnDisk f step x x
-disk_same f step refls x = record { files = in_file_same f step x.files (refls (x.files f)); said = refl }
-
 pub prints_none : (bytes : List ℕ) (x : Left) → PrintsPartOf bytes x x
 prints_none bytes x = record { files = refl; some = 0; said = sym (append-nil x.said) }
 
@@ -79,10 +73,6 @@ write_torn_by false f at bytes old new is = subst (λ (l : Files). InFile f (Tor
 pub write_torn : (ok : Bool) (f at : ℕ) (v : Vec ℕ Global) (bytes : List ℕ) (old new : Files) → v.items ≡ bytes → new ≡ files_after (Wrote f at v ok) old → InFile f (Torn at (length bytes)) old new
 write_torn ok f at v bytes old new same is = subst (λ (l : List ℕ). InFile f (Torn at (length l)) old new) same (write_torn_by ok f at v.items old new is)
 
-pub write_written : (ok : Bool) (f at : ℕ) (v : Vec ℕ Global) (bytes : List ℕ) (old new : Files) → v.items ≡ bytes → new ≡ files_after (Wrote f at v ok) old → IsTrue ok → new ≡ with_file old f (overlaid at bytes (old f))
-write_written true f at v bytes old new same is yes' = is ∙ ap (λ (l : List ℕ). with_file old f (overlaid at l (old f))) same
-write_written false f at v bytes old new same is yes' = absurd (false≢true yes')
-
 pub cut_torn : (ok : Bool) (f len : ℕ) (old new : Files) → new ≡ files_after (Shortened f len ok) old → InFile f (Cut len) old new
 cut_torn true f len old new is = subst (λ (l : Files). InFile f (Cut len) old l) (sym is) (in_file_with f _ old _ (inr refl))
 cut_torn false f len old new is = subst (λ (l : Files). InFile f (Cut len) old l) (sym is) (in_file_same f _ old (inl refl))
@@ -90,17 +80,6 @@ cut_torn false f len old new is = subst (λ (l : Files). InFile f (Cut len) old 
 pub cut_done : (ok : Bool) (f len : ℕ) (old new : Files) → new ≡ files_after (Shortened f len ok) old → IsTrue ok → new ≡ with_file old f (take len (old f))
 cut_done true f len old new is yes' = is
 cut_done false f len old new is yes' = absurd (false≢true yes')
-
-pub say_done : (ok : Bool) (v : Vec ℕ Global) (bytes old new : List ℕ) → v.items ≡ bytes → new ≡ said_after (Said v ok) old → IsTrue ok → new ≡ old ++ bytes
-say_done true v bytes old new same is yes' = is ∙ ap (λ (l : List ℕ). old ++ l) same
-say_done false v bytes old new same is yes' = absurd (false≢true yes')
-
-pub say_some : (ok : Bool) (v : Vec ℕ Global) (bytes old new : List ℕ) → v.items ≡ bytes → new ≡ said_after (Said v ok) old → (k : ℕ) × (new ≡ old ++ take k bytes)
-say_some true v bytes old new same is = (length bytes, is ∙ ap (λ (l : List ℕ). old ++ l) (same ∙ sym (take_all (length bytes) bytes (omega arith))))
-say_some false v bytes old new same is = (0, is ∙ sym (append-nil old))
-
-pub say_none : (bytes old new : List ℕ) → new ≡ old → (k : ℕ) × (new ≡ old ++ take k bytes)
-say_none bytes old new is = (0, is ∙ sym (append-nil old))
 
 pub say_steps : (events all : List SiteEvent) (v : Vec ℕ Global) (ok : Bool) (bytes : List ℕ) → v.items ≡ bytes → More events (Said v ok) all → Steps (PrintsPartOf bytes) (clock_of events) (clock_of all)
 say_steps events all v ok bytes is more = subst (λ (l : List ℕ). Steps (PrintsPartOf l) (clock_of events) (clock_of all)) is (more_steps events all _ _ more (say_leads (state_of events) v ok))

@@ -1,16 +1,16 @@
 -- What a stop may leave after one more event, and that a pick leaves nothing else.
-use Rattle.std.proofs.Common.{ℕ, zero, suc, ◌+◌, ◌-◌, ◌<◌, ◌≤◌, min, max, ◌≡◌, ◌≢◌, ◌⊎◌, inl, inr, ⊎_elim, List, [], ◌∷◌, ◌++◌, length, take, replicate, refl, sym, ◌∙◌, ap, subst, arith, length-append, Bool, true, false, Vec}
+use Rattle.std.proofs.Common.{ℕ, zero, suc, ◌+◌, ◌-◌, ◌<◌, ◌≤◌, ◌≡◌, ◌≢◌, ◌⊎◌, inl, inr, ⊎_elim, List, [], ◌∷◌, ◌++◌, length, take, refl, sym, ◌∙◌, ap, subst, arith, length-append, Bool, true, false, Vec}
 use Rattle.std.specs.declared.alloc.Global.{Global}
 use Rattle.std.proofs.lemmas.List.{take_all, take-append-le, append-nil, length-replicate}
 use Rattle.std.proofs.lemmas.Bool.{cases_lt}
-use Rattle.dms_moments.specs.Moments.{Clock, Now, Runs, After, Steps}
-use Rattle.dms_site.specs.Files.{Files, Left, with_file, overlaid, InFile, Torn, Cut, OnDisk, PrintsPartOf, Same, Only}
+use Rattle.dms_moments.specs.Moments.{Now, After, Steps}
+use Rattle.dms_site.specs.Files.{Files, Left, overlaid, InFile, Torn, Cut, OnDisk, PrintsPartOf, Same, Only}
 use Rattle.dms_site.specs.Laws.{torn_overlaid, torn_refl, in_file_with, in_file_same}
 use Rattle.dms_sitemem.specs.declared.event.SiteEvent.{SiteEvent}
 use Rattle.dms_sitemem.specs.declared.event.SiteEvent.TheVariants.{Looked, Wrote, Shortened, Synced, Said, Replaced, Recalled}
 use Rattle.dms_sitemem.specs.declared.pick.Fill.{Fill}
 use Rattle.dms_sitemem.specs.declared.pick.Fill.TheVariants.{Old, New, Sevens, Drawn}
-use Rattle.dms_sitemem.specs.Replay.{EventMayMake, Reaches, Replayed, empty, MayLeave, after, run, state_of, LeftSince, clock_of}
+use Rattle.dms_sitemem.specs.Replay.{EventMayMake, Reaches, Replayed, empty, MayLeave, after, run, state_of, clock_of}
 use Rattle.dms_sitemem.specs.Picks.{drawn, start_of, count_of, marked, Struck, struck, fill_of, cuts_of, picked}
 
 run_push : (events : List SiteEvent) (event : SiteEvent) (s : Replayed) → run (events ++ event ∷ []) s ≡ after event (run events s)
@@ -70,8 +70,6 @@ still events step refls = record {
 
 -- the events, one by one
 module _ (s : Replayed) where
-  as_read : Left
-  as_read = record { files = s.files; said = s.said }
 
   passed : (files : Files) → ((before : Files) × Reaches s.stable s.pending before × (files ≡ before)) → Reaches s.stable s.pending files
   passed files from = subst (λ (l : Files). Reaches s.stable s.pending l) (sym from.2) from.1

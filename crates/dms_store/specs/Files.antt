@@ -110,14 +110,6 @@ whole_at desc c file b spelt is low =
     let e : file_of (file - 30000) ≡ file = omega (arith, is.low) in
     whole_in (c file) b (ap (λ f. list_all is_whole (c f)) (sym e) ∙ fits.whole) low
 
--- and no file of a structure has more than 1,048,576
-pub few_at : (desc : Described) (c : Content) (file : ℕ) → is_spelled desc c ≡ true → IsStructureFile file → length (c file) ≤ 1048576
-few_at desc c file spelt is =
-    let fits = fits_at desc c file spelt is in
-    let e : file_of (file - 30000) ≡ file = omega (arith, is.low) in
-    let t : nat_le (length (c file)) 1048576 ≡ true = ap (λ f. nat_le (length (c f)) 1048576) (sym e) ∙ fits.few in
-    grind (arith, nat_tests, t)
-
 pub all_of : (p : List ℕ → Bool) (bs : List (List ℕ)) (b : ℕ) → list_all p bs ≡ true → b < length bs → p (get_or bs b []) ≡ true
 all_of p [] b all low = absurd (omega (arith, low))
 all_of p (x ∷ bs) zero all low = (both_of (p x) (list_all p bs) all).0

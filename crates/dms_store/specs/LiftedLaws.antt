@@ -114,29 +114,11 @@ module _ (desc : Described) (sound sound' : Type 0) (found found' : ℕ) (a b : 
   pub keeps_points_lifted : sound' → Lasts a b → held.Stays a b → store.KeepsPoints old new
   keeps_points_lifted sound lasts stays = record { sound = sound; mark = db_same desc a.told b.told a.mark b.mark lasts.told stays.mark; points = points_lifted stays.points }
 
-  pub quiet_lifted : held.BlocksAgree a → sound' → Lasts a b → held.MadeQuiet a b → store.QuietMade old new
-  quiet_lifted agrees sound lasts made = record {
-    sound = sound;
-    next = made.next;
-    db = λ room. db_same desc a.told b.told a.content b.content lasts.told (made.same room).content;
-    mark = λ room. db_same desc a.told b.told a.content b.mark lasts.told (made.mark room);
-    points = λ tells room. let s = made.points tells room in (ap (map (point_of desc)) s.0 ∙ quiet_points desc a (agrees.here tells room), s.1);
-  }
-
   pub quiet_leaves : held.BlocksAgree a → held.IfTold a (held.Leaves a b (a.points ++ a.here ∷ []) (a.next + 1))
       → store.IfPointsTold old (StoreLeaves a.whole (lifted desc a.clock) (lifted desc b.clock) a.durable (map (point_of desc) a.points ++ point_of desc (here_of desc a) ∷ []) (a.next + 1) a.said)
   quiet_leaves agrees leaves tells room =
       subst (λ (ps : List Point). StoreLeaves a.whole (lifted desc a.clock) (lifted desc b.clock) a.durable ps (a.next + 1) a.said) (quiet_points desc a (agrees.here tells room))
       (leaves_lifted desc a b (a.points ++ a.here ∷ []) (a.next + 1) (leaves tells room))
-
-  pub durable_lifted : sound' → Lasts a b → held.MadeDurable a b → store.PointsDurable old new
-  durable_lifted sound lasts made = record {
-    sound = sound;
-    db = db_same desc a.told b.told a.content b.content lasts.told made.same.content;
-    mark = db_same desc a.told b.told a.mark b.mark lasts.told made.mark;
-    points = λ tells room. ap (map (point_of desc)) (made.points tells room);
-    durable = λ tells room. made.durable tells room ∙ sym (length-map a.points (point_of desc));
-  }
 
 -- ---- what is told hangs together
 

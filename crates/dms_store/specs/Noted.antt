@@ -6,7 +6,7 @@ use Rattle.dms_block.specs.declared.block_fault.BlockFault.{BlockFault}
 use Rattle.dms_block.specs.declared.block_fault.BlockFault.TheVariants.{Disk, Memory, Full, Damaged, Say}
 use Rattle.dms_block.specs.Content.{Content}
 use Rattle.dms_block.specs.Counts.{CausedBy, Faults, Raised, RoseOnce}
-use Rattle.dms_block.specs.Held.{Caused, CausedOr, HasCauses, HasCausesOr, Held}
+use Rattle.dms_block.specs.Held.{CausedOr, HasCausesOr, Held}
 use Rattle.dms_desc.specs.Shape.{Described}
 use Rattle.dms_model.specs.Db.{Db}
 use Rattle.dms_model.specs.Stores.{TellsOf}
@@ -40,13 +40,6 @@ module _ (a b : Held) (n m : ℕ) (small : n < 2 ^ 64) where
   raised_noted (Damaged f k) is h = (one_up n m small is, with_count a.faults b.faults m h.1)
   raised_noted Say is h = (h.0, (λ i. record { disk = (ap (λ (x : Faults). x.disk) h.1) i; say = b.faults.say; full = (ap (λ (x : Faults). x.full) h.1) i; damaged = is i }))
 
-  raised_of : (e : BlockFault) → Caused e a b → Raised e a.faults b.faults
-  raised_of Disk h = h
-  raised_of Memory h = h
-  raised_of (Full f) h = h
-  raised_of (Damaged f k) h = h.0
-  raised_of Say h = h
-
   caused_noted : (P : ℕ → ℕ → Type 0) (e : BlockFault) → m ≡ noted e n → CausedOr P e a b → Raised e (faults_with a.faults n) (faults_with b.faults m)
   caused_noted P Disk is h = raised_noted Disk is h
   caused_noted P Memory is h = raised_noted Memory is h
@@ -59,11 +52,6 @@ module _ (a b : Held) (n m : ℕ) (small : n < 2 ^ 64) where
   pub causes_noted : {T : Type 0} (P : ℕ → ℕ → Type 0) (r : Result T BlockFault) → m ≡ noted_by r n → HasCausesOr P r a b → CausedBy r (faults_with a.faults n) (faults_with b.faults m)
   causes_noted P (Ok x) is h = λ i. faults_with (h i) (is i)
   causes_noted P (Err e) is h = caused_noted P e is h
-
-  -- a call on the blocks below
-  pub causes_below : {T : Type 0} (r : Result T BlockFault) → m ≡ noted_by r n → HasCauses r a b → CausedBy r (faults_with a.faults n) (faults_with b.faults m)
-  causes_below (Ok x) is h = λ i. faults_with (h i) (is i)
-  causes_below (Err e) is h = raised_noted e is (raised_of e h)
 
 -- ---- where a database is told
 

@@ -73,9 +73,6 @@ IfOwned set P = set ≢ 0 → P
 some_shape : (x y : Shape) → ◌≡◌ {A = Option Shape} (Some x) (Some y) → x ≡ y
 some_shape x y h = cc
 
-pub stands_slots : (desc : Described) (db : Db) (own : ℕ → ℕ → ℕ) (c : Content) → StandsFiles desc db own c → AreSlots desc c
-stands_slots desc db own c files = record { each = λ n s at is_set. (files.slots.each n s at is_set).blocks }
-
 -- they stay so where a slot changes
 pub slots_changed : (desc : Described) (s : Shape) (number : ℕ) (slot : Slot) (c d : Content) → IsServed desc → structure_of desc s.number ≡ Some s → SlotChanged s number slot c d → AreSlots desc c → AreSlots desc d
 slots_changed desc s number slot c d served at change slots = record {

@@ -12,7 +12,7 @@ use Rattle.dms_block.specs.Held.{Alters, HasCauses, HasCausesOr, Stays}
 use Rattle.dms_block.specs.HeldLaws.{alters_as, alters_more, alters_on, causes_or, causes_or_on, lasts_none, looks_alters, looks_as, looks_err, looks_none, looks_on, same_none}
 use Rattle.dms_block.specs.View.{ReadsOverlay, WritesOverlay, under, written}
 use Rattle.dms_ordlist.specs.SeenLaws.{causes_err}
-use Rattle.dms_sets.specs.Keeping.{Calm, EndsInFault}
+use Rattle.dms_sets.specs.Keeping.{Calm}
 
 -- A call reads what stands below, and writes at most m blocks over it.
 pub record WritesAtMost {B : Type 0} {g : Ghosts B} {T : Type 0} (m : ℕ) (result : Result T BlockFault) (a b : Overlay B g) : Type 0 where
@@ -50,21 +50,6 @@ module _ {B : Type 0} {g : Ghosts B} where
     reads = n + next.reads;
     writes = record { looks = looks_on r reads.looks next.writes.looks; more = omega (arith, ap length reads.written_still, next.writes.more); same = onward a.below b.below c.below reads.same next.writes.same };
     causes = causes_or_on (λ f k. ⊤) (λ f k. ⊤) r (under a) (under b) (under c) (λ f k h. h) same reads.looks.passes.lasts reads.looks.same next.causes;
-  }
-
-  -- a change of the sets, and what comes after it
-  pub enters_calm : {T : Type 0} (p : ℕ → Bool) (n m : ℕ) (x : T) (a b : Overlay B g) → (under a).sound → 3 * n ≤ m → Calm p n a b → WritesAtMost m (Ok x) a b
-  enters_calm p n m x a b sound le calm = record {
-    reads = calm.reads;
-    writes = record { looks = looks_as (Ok x) tt (calm.looks sound); more = omega (arith, calm.more, le); same = calm.same };
-    causes = calm.faults;
-  }
-
-  pub enters_fails : {T : Type 0} (n m : ℕ) (e : BlockFault) (a b : Overlay B g) → (under a).sound → 3 * n ≤ m → EndsInFault e n a b → WritesAtMost {T = T} m (Err e) a b
-  enters_fails {T = T} n m e a b sound le fails = record {
-    reads = fails.reads;
-    writes = record { looks = looks_err e (fails.looks sound); more = omega (arith, fails.more, le); same = fails.same };
-    causes = causes_err (Unit {0}) T (λ f k. Unit {0}) (λ f k. ⊤) e (under a) (under b) (λ f k h. tt) (fails.causes sound);
   }
 
   pub enters_write : {U : Type 0} {k : ℕ} (p : ℕ → Bool) (n m w : ℕ) (P : ℕ → ℕ → Type 0) (r : Result U BlockFault) (a b c : Overlay B g) → ((x y z : B) → g.same_blocks x y → g.same_blocks y z → g.same_blocks x z) → (under a).sound → 3 * n + w ≤ m
@@ -131,17 +116,6 @@ module _ {B : Type 0} {g : Ghosts B} where
     causes = subst (λ (x : B). HasCausesOr (λ f k. ⊤) r (under a) (g.held x)) (sym same) enters.causes;
     same = subst (λ (x : B). g.same_blocks a.below x) (sym same) enters.writes.same;
   }
-
-  pub drops_causes : {T : Type 0} (P : ℕ → ℕ → Type 0) (r : Result T BlockFault) (a b c : Overlay B g) → HasCausesOr P r (under a) (under b) → c.below ≡ b.below → HasCausesOr P r (under a) (under c)
-  drops_causes P r a b c causes same = subst (λ (x : B). HasCausesOr P r (under a) (g.held x)) (sym same) causes
-
-  -- the causes of a call that hands down, after one that wrote over the blocks
-  pub hands_causes : {T U : Type 0} {x : T} (m : ℕ) (r : Result U BlockFault) (a b c : Overlay B g) → WritesAtMost m (Ok x) a b → HasCauses r (under b) (under c) → (IsErrOf r Say → ⊥) → HasCausesOr (λ f k. ⊥) r (under a) (under c)
-  hands_causes m r a b c enters causes silent = causes_or_on (λ f k. ⊥) (λ f k. ⊥) r (under a) (under b) (under c) (λ f k h. h) enters.causes enters.writes.looks.passes.lasts enters.writes.looks.same (causes_or (λ f k. ⊥) r (under b) (under c) causes silent)
-
-  -- what stands below is as it was
-  pub drops_content : {T : Type 0} {x : T} (m : ℕ) (a b c : Overlay B g) → WritesAtMost m (Ok x) a b → c.below ≡ b.below → IsTrue (under a).told → (under c).content ≡ (under a).content
-  drops_content m a b c enters same told = ap (λ (x : B). (g.held x).content) same ∙ enters.writes.looks.same.content told
 
   pub enters_told : {T : Type 0} {x : T} (m : ℕ) (a b : Overlay B g) → WritesAtMost m (Ok x) a b → IsTrue (under a).told → IsTrue (under b).told
   enters_told m a b enters told = enters.writes.looks.passes.lasts.told ∙ told

@@ -136,9 +136,6 @@ lists_usable desc a set usable k s at over =
     let number = number_at desc (suc k) s usable.serves.served there in
     subst (λ n. Usable a n) (sym number) (owned_if desc a (suc k) s usable there)
 
-pub file_owned : {B : Type 0} {g : Ghosts B} (desc : Described) (a : Overlay B g) (n : ℕ) (s : Shape) → IsUsable desc a → structure_of desc n ≡ Some s → IsTrue ((under a).owns (file_of n))
-file_owned desc a n s usable at = (owned_if desc a n s usable at).1
-
 -- ---- the database that is seen
 
 -- the owner that a record of a data set may have

@@ -3,7 +3,7 @@ use Rattle.std.proofs.Common.{◌≡◌, ◌<◌, ◌∙◌, ℕ, zero, suc, Lis
 use Rattle.std.specs.Prelude.{slice_set, OnErr, OnOk}
 use Rattle.std.specs.declared.result.Result.{Result}
 use Rattle.std.specs.declared.result.Result.TheVariants.{Ok, Err}
-use Rattle.std.specs.List.{AllByRecursion, remove}
+use Rattle.std.specs.List.{AllByRecursion}
 use Rattle.dms_base.specs.declared.Memory.{Memory}
 use Rattle.dms_base.specs.declared.value.Value.{Value}
 use Rattle.dms_desc.specs.declared.record.Record.{Record}
@@ -20,9 +20,8 @@ use Rattle.dms_model.specs.Fitting.{IsNumber, RecordFits, SpotFits}
 use Rattle.dms_model.specs.Session.{area_values, backed_out, carried, filled, found_program, idle, let_go, new_program, owner_for, Values', with_values, with_work, area_of, current_of}
 use Rattle.dms_model.specs.Spoken.{IsOuter, IsPlainLiteral}
 use Rattle.dms_model.specs.Verbs.{IsSettingOf}
-use Rattle.dms_laws.proofs.Lists.{all_mapped, all_pushed, all_set, all_without}
+use Rattle.dms_laws.proofs.Lists.{all_mapped, all_pushed, all_set}
 use Rattle.dms_storeverbs.specs.Storing.{with_stored}
-use Rattle.dms_storeverbs.proofs.Closed.{removed}
 
 -- the program that stands at a place
 pub one_fits : (desc : Described) (ps : List Program) (i : ℕ) (x : Program) → i < length ps → x ≡ get_or ps i x → ProgramsFit desc ps → WorksFit desc x
@@ -36,9 +35,6 @@ changed_fit desc ps i q own all = all_set (WorksFit desc) ps i q all own
 
 pub pushed_fit : (desc : Described) (ps new : List Program) (q : Program) → new ≡ ps ++ q ∷ [] → WorksFit desc q → ProgramsFit desc ps → ProgramsFit desc new
 pushed_fit desc ps new q is own all = subst (ProgramsFit desc) (sym is) (all_pushed (WorksFit desc) ps q all own)
-
-pub removed_fit : (desc : Described) (ps new : List Program) (i : ℕ) → i < length ps → new ≡ remove ps i → ProgramsFit desc ps → ProgramsFit desc new
-removed_fit desc ps new i low is all = subst (ProgramsFit desc) (sym (is ∙ removed i ps low)) (all_without (WorksFit desc) ps i all)
 
 pub idle_fit : (desc : Described) (ps new : List Program) → new ≡ map idle ps → ProgramsFit desc ps → ProgramsFit desc new
 idle_fit desc ps new is all = subst (ProgramsFit desc) (sym is) (all_mapped (WorksFit desc) idle ps (λ x h. h) all)

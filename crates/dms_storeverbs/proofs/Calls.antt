@@ -54,9 +54,6 @@ module _ {db mark : Option Db} {next since : ℕ} {programs new : List Program} 
 pub nothing : (W : StopFiles → Type 0) (c : Clock Stop) (durable : ℕ) (points : List Point) (next : ℕ) (said : Option (List ℕ)) (quiets : List Quiet) → Runs c c (λ stop. LeavesQuiets W durable points next quiets stop × StopTextIs said stop)
 nothing W c durable points next said quiets = runs_none c _
 
-pub no_time : (W : StopFiles → Type 0) (c : Clock Stop) (durable : ℕ) (points : List Point) (next : ℕ) (said : Option (List ℕ)) → StoreLeaves W c c durable points next said
-no_time W c durable points next said = runs_none c _
-
 -- one quiet point was made, or was not
 pub one : {W : StopFiles → Type 0} {durable next : ℕ} {points : List Point} {stop : Stop} (p : Point) (q : Quiet) → told p ≡ known q → LeavesPrefix W durable (points ++ p ∷ []) (next + 1) stop → LeavesQuiets W durable points next (q ∷ []) stop
 one {points = points} p q same front = record { made = q ∷ []; rest = []; all = points ++ p ∷ []; front_of = refl; grew = record { more = p ∷ []; is = refl; spells = ap (λ (x : ℕ × Option Db). x ∷ []) same }; front = front }

@@ -24,16 +24,6 @@ module _ {St : Type 0} {g : Ghosts St} where
   pub lasts_none : ((s : St) → g.same_store s s) → (e : Engine St g) → (seen e).sound → Lasted e e
   lasts_none same e sound = record { sound = sound; description = refl; same = same e.store; causes = record { tells = λ t. t; desc = refl; whole = λ files w. w; whole_on = λ files w. w; cause = refl; reads = omega arith } }
 
-  -- one call more, which may have failed
-  pub lasts_then : {T : Type 0} {r : Result T BlockFault} {a b c : Engine St g} → ((x y z : St) → g.same_store x y → g.same_store y z → g.same_store x z)
-      → Lasted a b → EngineLasts r b c → EngineLasts r a c
-  lasts_then {r = r} {a = a} {b = b} {c = c} then_ p q = record {
-    sound = q.sound;
-    description = q.description ∙ p.description;
-    same = then_ a.store b.store c.store p.same q.same;
-    causes = causes_on r (seen a) (seen b) (seen c) p.causes q.causes;
-  }
-
   -- one that answered
   pub lasts_on : {T : Type 0} {x : T} {a b c : Engine St g} → ((x y z : St) → g.same_store x y → g.same_store y z → g.same_store x z)
       → Lasted a b → EngineLasts (Ok x) b c → Lasted a c

@@ -19,9 +19,6 @@ stopped place (b ∷ bs) = stopped (place + 1) bs
 alnum : (h : Bool) (b : ℕ) (bs : List ℕ) → is_letter b || is_digit b ≡ true → goes_on h (b ∷ bs) ≡ goes_on false bs
 alnum h b bs e = rw e refl
 
-dash : (h : Bool) (b : ℕ) (bs : List ℕ) → is_letter b || is_digit b ≡ false → b == 45 ≡ true → goes_on h (b ∷ bs) ≡ goes_on true bs
-dash h b bs e f = rw (e, f) refl
-
 other : (h : Bool) (b : ℕ) (bs : List ℕ) → is_letter b || is_digit b ≡ false → b == 45 ≡ false → goes_on h (b ∷ bs) ≡ false
 other h b bs e f = rw (e, f) refl
 
