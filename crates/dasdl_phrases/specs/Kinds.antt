@@ -13,9 +13,10 @@ use Rattle.dms_tokens.specs.declared.token.Token.{Token}
 use Rattle.dms_tokens.specs.declared.token.Token.TheVariants.{Word, Number, Decimal, Long, Quoted}
 use Rattle.dms_tokens.specs.declared.token.Lexeme.{Lexeme}
 use Rattle.dasdl_phrases.specs.Reads.{Read, ◌>>=◌}
-use Rattle.dms_tokens.specs.Lexing.{is_digit, with_digit}
+use Rattle.dms_tokens.specs.Lexing.{with_digit}
 use Rattle.dms_tokens.specs.Cursors.{starts, is_word, is_the_sign, constant}
 use Rattle.dasdl_phrases.specs.Cursors.{fault_of, word_at, sign_at, number_at}
+use Rattle.dms_base.specs.Words.{is_digit}
 
 abbrev pub constant_of : Option Literal → ℕ → List Lexeme → Read Literal
 constant_of (Some literal) place ls = Ok (literal, ls)

@@ -24,7 +24,7 @@ use Rattle.dms_model.specs.declared.spot.Spot.{Spot}
 use Rattle.dms_model.specs.Db.{Db, Place}
 use Rattle.dms_desc.specs.Lookups.{structure_of, items_of, set_of}
 use Rattle.dms_model.specs.Stores.{put_answer, put_after, linked}
-use Rattle.dms_model.specs.Session.{Session, Outcome, StoreResult, Refused, Keeps, Filled, Misfit, Values', refuse, done, shows, settle, keep, store_step, after_store, begin_step, after_begin, begun, current_of, holds, replies, end_step, after_end, abort_step, find_step, find_for, after_find, found_by, create_step, create_for, owner_for, put_step, put_area, after_put, filled, get_step, get_area, close_step, open_as, open_in, open_step, verb_step, step_at, answered, carried_out, step, with_program, with_work, with_lock, restart_of, someone_works, is_inquiry, opens, changes, path_of, new_program, place_of, carried, entered, left, without, idle, backed_out, found_program, stored_program, let_go, is_lock, is_elsewhere, area_values, record_of, one_more, with_values, area_of}
+use Rattle.dms_model.specs.Session.{Session, Outcome, StoreResult, Refused, Keeps, Filled, Misfit, Values', refuse, done, shows, settle, keep, store_step, after_store, begin_step, after_begin, begun, current_of, holds, replies, end_step, after_end, abort_step, find_step, find_for, after_find, found_by, create_step, create_for, owner_for, put_step, put_area, after_put, filled, get_step, get_area, close_step, open_as, open_in, open_step, verb_step, step_at, answered, carried_out, step, with_program, with_work, with_lock, restart_of, someone_works, is_inquiry, opens, changes, path_of, new_program, place_of, carried, entered, left, without, idle, backed_out, found_program, stored_program, let_go, is_lock, is_elsewhere, area_values, record_of, with_values, area_of}
 use Rattle.dms_laws.specs.Exclusive.{ShareNoLock, AllShareNoLock, AreSafe, AreExclusive, IsExclusive, locks_it, is_locked_for, backs_out, is_done, LocksStayExclusive, LosesNoUpdate, LeavesLocks, BacksOut, locks_left}
 use Rattle.dms_model.specs.Traits.{traits}
 use Rattle.dms_laws.specs.Runs.{after}
@@ -32,6 +32,7 @@ use Rattle.dms_model.specs.Places.{get_other, stands_still, stands_there}
 use Rattle.dms_model.specs.Founds.{all_both}
 use Rattle.dms_model.specs.Fresh.{fresh_free}
 use Rattle.dms_laws.proofs.Lists.{all_at, all_changed, all_mapped, all_pushed, all_without, apart_changed, apart_pushed, apart_mapped, apart_without, named_so, none_named, any_changed, any_pushed, any_without, any_mapped, of_lock}
+use Rattle.dms_block.specs.Held.{one_more}
 
 -- tests of locks
 

@@ -17,7 +17,7 @@ use Rattle.dms_model.specs.Fitting.{AreFitting, IsNumber, SpotFits, is_number}
 use Rattle.dms_model.specs.FitLaws.{filled_fits, FilledFits, get_set_other}
 use Rattle.dms_model.specs.Session.{area_values, backed_out, filled, Filled, Values', found_program, is_lock, let_go, new_program, no_work, or_none, with_lock, with_values, with_work, work_of, created, owner_for, owner_in, area_of, current_of}
 use Rattle.dms_model.specs.Spoken.{IsOuter, IsPlainLiteral}
-use Rattle.dms_model.specs.Valid.{owner_of}
+use Rattle.dms_desc_bytes.specs.Finding.{owner_in as owner_of}
 
 -- ---- one work
 

@@ -19,7 +19,8 @@ use Rattle.dms_desc.specs.Keys.{key_of}
 use Rattle.dms_desc.specs.Lookups.{items_of, structure_of, parts_of, set_of}
 use Rattle.dms_model.specs.Session.{missing_from, verified}
 use Rattle.dms_model.specs.Stores.{put_answer, put_after}
-use Rattle.dms_model.specs.Valid.{OfItems, is_data_set, owner_of, owner_stands}
+use Rattle.dms_model.specs.Valid.{OfItems, is_data_set, owner_stands}
+use Rattle.dms_desc_bytes.specs.Finding.{owner_in as owner_of}
 
 -- ---- structures and numbers
 

@@ -6,7 +6,7 @@ use Rattle.std.specs.declared.result.Result.{Result}
 use Rattle.dms_moments.specs.Moments.{Clock, Now}
 use Rattle.dms_block.specs.declared.block_fault.BlockFault.{BlockFault}
 use Rattle.dms_block.specs.Counts.{Faults, CausedBy}
-use Rattle.dms_block.specs.Held.{IsUpToOne}
+use Rattle.dms_block.specs.Held.{IsUpToOne, one_more}
 use Rattle.dms_desc.specs.Shape.{Described}
 use Rattle.dms_model.specs.Db.{Db}
 use Rattle.dms_model.specs.Points.{StopFiles, Point, Stop, LeavesPrefix, StopTextIs, StoreLeaves, StoreLeavesText, PointsStayDurable, IsUnder}
@@ -17,10 +17,6 @@ pub record Effort : Type 0 where
   pub spent : ℕ
   pub syncs : ℕ
   pub outs : ℕ
-
--- one more; a count stands still at the end of its type
-abbrev pub one_up : ℕ → ℕ
-one_up n = min (n + 1) (2 ^ 64 - 1)
 
 abbrev pub no_effort : Effort
 no_effort = record { spent = 0; syncs = 0; outs = 0 }
@@ -36,14 +32,14 @@ pub record Spends (blocks : ℕ) (old new : Effort) : Type 0 where
 pub record Syncs {T : Type 0} (result : Result T BlockFault) (old new : Effort) : Type 0 where
   pub spent : new.spent ≡ old.spent
   pub outs : new.outs ≡ old.outs
-  pub done : OnOk result (new.syncs ≡ one_up old.syncs)
+  pub done : OnOk result (new.syncs ≡ one_more old.syncs)
   pub few : IsUpToOne old.syncs new.syncs
 
 -- the store went back once, or the call failed
 pub record GoesBack {T : Type 0} (result : Result T BlockFault) (old new : Effort) : Type 0 where
   pub spent : new.spent ≡ old.spent
   pub syncs : new.syncs ≡ old.syncs
-  pub done : OnOk result (new.outs ≡ one_up old.outs)
+  pub done : OnOk result (new.outs ≡ one_more old.outs)
   pub few : IsUpToOne old.outs new.outs
 
 pub record Seen : Type 1 where

@@ -34,7 +34,8 @@ use Rattle.dms_desc.specs.Lookups.{structure_of, name_of, items_of, parts_of, se
 use Rattle.dms_model.specs.Members.{first_member, last_member, at_member}
 use Rattle.dms_model.specs.Stores.{put_answer, put_after}
 use Rattle.dms_model.specs.Traits.{traits}
-use Rattle.dms_model.specs.Valid.{owner_of}
+use Rattle.dms_block.specs.Held.{one_more}
+use Rattle.dms_desc_bytes.specs.Finding.{owner_in as owner_of}
 
 -- what the verbs change: the database, that of the last quiet point or else of the beginning, the number of the next quiet
 -- point, the open programs in the order of their opening (each with its locks), whether a syncpoint is pending, the
@@ -329,10 +330,6 @@ begin_step desc i p s audit = if p.in_transaction then refuse s AuditError p.nam
 -- transaction state is left, and all locks are freed
 abbrev pub left : Program → Program
 left p = carried (record p { in_transaction = false; locks = [] })
-
--- one more transaction since the last syncpoint; the count stands still at its type's end
-abbrev pub one_more : ℕ → ℕ
-one_more n = min (n + 1) (2 ^ 64 - 1)
 
 abbrev pub after_end : StoreResult → Described → ℕ → Session → Bool → Outcome
 after_end (Refused reply) desc i s sync = replies s reply

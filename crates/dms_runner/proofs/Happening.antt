@@ -10,7 +10,7 @@ use Rattle.dms_model.specs.Programs.{Program, Wait}
 use Rattle.dms_model.specs.BackOut.{asks_back_out}
 use Rattle.dms_model.specs.declared.reply.Reply.{Reply}
 use Rattle.dms_model.specs.Seen.{Effort, GoesBack, Seen, IsMute, IsSilent, Keeps, SaysPart, StaysDurable}
-use Rattle.dms_storeverbs.specs.Costs.{Costs, block_limit, is_done, limit_if, stores, up_if}
+use Rattle.dms_storeverbs.specs.Costs.{Costs, block_limit, limit_if, stores, up_if}
 use Rattle.std.proofs.Common.{ℕ, ◌≡◌, ◌≤◌, ◌+◌, List, [], ◌∷◌, ◌++◌, length, take, map, Some, None, refl, sym, ◌∙◌, ap, subst, arith, append_assoc, length-append, Bool, true, false}
 use Rattle.std.specs.declared.option.Option.{Option}
 use Rattle.std.proofs.lemmas.List.{append-nil, map-append, length-map, take-append-le, take_all}
@@ -30,6 +30,7 @@ use Rattle.dms_storeverbs.specs.View.{View, PerformsCall, PointsGrow, LeavesQuie
 use Rattle.dms_storeverbs.proofs.Calls.{lower, stays}
 use Rattle.dms_runner.specs.Events.{IsTold, RunEvent, calls, says, goes_back, text_of, quiets_of, durable_by, durable_after, CrashesFrom, IsCutShort, SaidWhole, Performs, PerformsPrefix, SaidAtLeast, TakesEvents, TookPart, blocks_of, syncs_of, backs_of, may_store, one_if}
 use Rattle.dms_runner.proofs.Texts.{prints_none, prints_on, front_none, front_all, front_of_first, front_on}
+use Rattle.dms_laws.specs.Exclusive.{is_done}
 
 pub text_on : (x y : List RunEvent) → text_of (x ++ y) ≡ text_of x ++ text_of y
 text_on [] y = refl

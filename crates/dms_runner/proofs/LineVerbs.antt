@@ -27,7 +27,6 @@ use Rattle.dms_script.specs.declared.line.Line.{Line}
 use Rattle.dms_script.specs.declared.line.Line.TheVariants.{Verb as Spoken}
 use Rattle.dms_script.specs.declared.look.Wanted.TheVariants.{DataSet, Path as AnyPath, Restart}
 use Rattle.dms_script.specs.Lines.{line_of}
-use Rattle.dms_script.specs.Looks.{has_kind as is_of_kind}
 use Rattle.dms_script.specs.Spoken.{HasOrder, HasRestart, IsWay, is_such, MaySetTo, NamesWhatIsThere, SpeaksWell, TakeKey, TakesAt}
 use Rattle.dms_script.proofs.Spoken.{lines_speak_well}
 
@@ -41,17 +40,9 @@ and_so false b h k = absurd (cc)
 
 -- ---- literals
 
-kind_so : (k : ItemKind) (l : Literal) → is_of_kind k l ≡ true → has_kind k l ≡ true
-kind_so k Null h = refl
-kind_so (Alpha n) (Text bytes) h = refl
-kind_so (Decimal n m s) (Digits minus digits places) h = refl
-kind_so (Field n) (Digits minus digits places) h = refl
-kind_so OneBit (Truth b) h = refl
-kind_so k l h = h
-
 takes_so : (o : Option Item) (l : Literal) → MaySetTo o l → TakesLiteral o l
 takes_so None l h = absurd h
-takes_so (Some i) l h = record { kind = and_so (not (is_link i.kind)) (has_kind i.kind l) (ap not h.0) (kind_so i.kind l h.1.0); plain = h.1.1 }
+takes_so (Some i) l h = record { kind = and_so (not (is_link i.kind)) (has_kind i.kind l) (ap not h.0) h.1.0; plain = h.1.1 }
 
 settings_so : (items : List Item) (ts : List Setting) → AllByRecursion (λ (t : Setting). MaySetTo (slice_get items (t.item - 1)) t.literal) ts → AllByRecursion (IsSettingOf items) ts
 settings_so items [] h = tt

@@ -15,8 +15,9 @@ use Rattle.dms_model.specs.declared.reply.Reply.{Reply}
 use Rattle.dms_model.specs.declared.verb.Verb.{Verb}
 use Rattle.dms_model.specs.Seen.{Effort, Seen}
 use Rattle.dms_model.specs.Session.{Outcome, is_waits}
-use Rattle.dms_storeverbs.specs.Costs.{is_done, limit_if, stores}
+use Rattle.dms_storeverbs.specs.Costs.{limit_if, stores}
 use Rattle.dms_storeverbs.specs.View.{PointsGrow, LeavesQuiets}
+use Rattle.dms_laws.specs.Exclusive.{is_done}
 
 -- an event: the quiet points that are made in it, the syncpoint that it takes, and the bytes that are said; whether a record may be stored
 -- in it, and whether the database goes back to the last quiet point

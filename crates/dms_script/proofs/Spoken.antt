@@ -31,7 +31,7 @@ use Rattle.dms_model.specs.declared.verb.Path.TheVariants.{At}
 use Rattle.dms_desc.specs.Kinds.{is_link, over}
 use Rattle.dms_desc.specs.Lookups.{structure_of, structure_named as first_named, items_of, after_item, item_named, group_named}
 use Rattle.dms_model.specs.Spoken.{IsPlainLiteral}
-use Rattle.dms_model.specs.Verbs.{IsItemOf}
+use Rattle.dms_model.specs.Verbs.{IsItemOf, has_kind}
 use Rattle.dms_script.specs.declared.line.Line.{Line}
 use Rattle.dms_script.specs.declared.line.Line.TheVariants.{Empty, Verb as Spoken, Bad}
 use Rattle.dms_script.specs.declared.look.Wanted.{Wanted}
@@ -39,7 +39,7 @@ use Rattle.dms_script.specs.declared.look.Wanted.TheVariants.{DataSet, Path as A
 use Rattle.dms_script.specs.declared.look.ItemRange.{ItemRange}
 use Rattle.dms_script.specs.Cursors.{word_at, equal_at, name_at, name_in, literal_at, literal_in, text_literal, if_kind, structure_at, target_at, key_item_at, run_at}
 use Rattle.dms_script.specs.Lines.{line_of, sound_line, sound_len, bad_by, line_from, spoken_at, program_at, whole_verb_at, colon_at}
-use Rattle.dms_script.specs.Looks.{is_wanted, if_wanted, structure_named, has_kind, counted, if_settable, target_named, key_item_of, key_item, kind_named, run_of, run_named, whole_run, upward, numbers}
+use Rattle.dms_script.specs.Looks.{is_wanted, if_wanted, structure_named, counted, if_settable, target_named, key_item_of, key_item, kind_named, run_of, run_named, whole_run, upward, numbers}
 use Rattle.dms_script.specs.Reads.{LineRead, or_bad, ◌>>=◌}
 use Rattle.dms_script.specs.Spoken.{HasOrder, is_such, MaySetTo, TakeKey, TakesAt, IsWay, HasRestart, NamesWhatIsThere, SpeaksWell, LinesSpeakWell}
 use Rattle.dms_script.specs.Verbs.{close_line_at, word_then, open_at, close_at, first_at, last_at, member_at, path_at, find_at, create_at, store_at, list_of, list_at, setting_at, put_at, shown_at, is_over, all_shown_at, get_at, mode_at, begin_at, sync_at, finish_at, abort_at, transaction_at, area_at, verb_at}

@@ -37,15 +37,6 @@ structure_named wanted name desc = if_wanted wanted (first_named name desc.struc
 
 -- Items
 
--- a literal has the kind of an item; NULL is of each kind
-abbrev pub has_kind : ItemKind → Literal → Bool
-has_kind kind Null = true
-has_kind (Alpha n) (Text bytes) = true
-has_kind (Decimal n m s) (Digits minus digits places) = true
-has_kind (Field n) (Digits minus digits places) = true
-has_kind OneBit (Truth b) = true
-has_kind kind literal = false
-
 -- a data set has at most 60 items and links
 unfoldable pub counted : List Item → List Item
 counted items = take 60 items

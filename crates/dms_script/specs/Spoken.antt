@@ -15,13 +15,13 @@ use Rattle.dms_model.specs.declared.verb.Path.TheVariants.{First, Last, At}
 use Rattle.dms_desc.specs.Kinds.{is_link, over}
 use Rattle.dms_desc.specs.Lookups.{structure_of, items_of}
 use Rattle.dms_model.specs.Spoken.{IsPlainLiteral}
-use Rattle.dms_model.specs.Verbs.{IsItemOf}
+use Rattle.dms_model.specs.Verbs.{IsItemOf, has_kind}
 use Rattle.dms_script.specs.declared.line.Line.{Line}
 use Rattle.dms_script.specs.declared.line.Line.TheVariants.{Empty, Verb as Spoken, Bad}
 use Rattle.dms_script.specs.declared.look.Wanted.{Wanted}
 use Rattle.dms_script.specs.declared.look.Wanted.TheVariants.{DataSet, Path as AnyPath, Restart}
 use Rattle.dms_script.specs.Lines.{line_of}
-use Rattle.dms_script.specs.Looks.{is_wanted, has_kind}
+use Rattle.dms_script.specs.Looks.{is_wanted}
 
 -- structures are numbered in their order, and groups have items
 pub record HasOrder (desc : Described) : Type 0 where

@@ -3,7 +3,8 @@ ghost use Rattle.std.specs.Option.{option_copied};
 ghost use Rattle.std.specs.List.{list_any};
 ghost use Rattle.dms_desc.specs.Shape.{shape_of, described};
 ghost use Rattle.dms_model.specs.declared.verb.Setting.{Setting};
-ghost use Rattle.dms_script.specs.Looks.{is_wanted, structure_named, has_kind, counted, target_named, key_item_of, key_item, kind_named, run_of, run_named, whole_run, numbers};
+ghost use Rattle.dms_script.specs.Looks.{is_wanted, structure_named, counted, target_named, key_item_of, key_item, kind_named, run_of, run_named, whole_run, numbers};
+ghost use Rattle.dms_model.specs.Verbs.{has_kind};
 
 use dms_base::{ItemKind, Literal, Memory, Name};
 use dms_desc::{

@@ -25,14 +25,15 @@ use Rattle.dms_model.specs.declared.put.Put.{Put}
 use Rattle.dms_model.specs.declared.spot.Spot.{Spot}
 use Rattle.dms_model.specs.Db.{Db}
 use Rattle.dms_desc.specs.Lookups.{name_of, structure_of, items_of, set_of}
-use Rattle.dms_model.specs.Session.{Session, Outcome, StoreResult, Refused, Keeps, Filled, Misfit, Values', refuse, done, shows, settle, keep, store_step, after_store, begin_step, after_begin, begun, begin_refusals, area_answer, area_of, area_refusals, duplicate_of, or_no_area, or_unknown, replies, stored_program, awaited, workers, end_step, after_end, abort_step, find_step, find_for, after_find, found_by, create_step, create_for, owner_for, refuse_unowned, put_step, put_area, after_put, filled, item_name, setting_value, get_step, get_area, get_text, more_text, item_text, close_step, open_as, open_step, verb_step, step_at, answered, carried_out, step, with_program, with_work, restart_of, someone_works, is_inquiry, opens, changes, path_of, new_program, place_of, carried, left, without, idle, backed_out, found_program, let_go, with_lock, missing_from, area_values, one_more, open_in}
+use Rattle.dms_model.specs.Session.{Session, Outcome, StoreResult, Refused, Keeps, Filled, Misfit, Values', refuse, done, shows, settle, keep, store_step, after_store, begin_step, after_begin, begun, begin_refusals, area_answer, area_of, area_refusals, duplicate_of, or_no_area, or_unknown, replies, stored_program, awaited, workers, end_step, after_end, abort_step, find_step, find_for, after_find, found_by, create_step, create_for, owner_for, refuse_unowned, put_step, put_area, after_put, filled, item_name, setting_value, get_step, get_area, get_text, more_text, item_text, close_step, open_as, open_step, verb_step, step_at, answered, carried_out, step, with_program, with_work, restart_of, someone_works, is_inquiry, opens, changes, path_of, new_program, place_of, carried, left, without, idle, backed_out, found_program, let_go, with_lock, missing_from, area_values, open_in}
 use Rattle.dms_model.specs.Traits.{traits}
 use Rattle.dms_model.specs.Areas.{AreaFits, AreasFit}
-use Rattle.dms_model.specs.Valid.{owner_of}
 use Rattle.dms_laws.proofs.Lists.{all_at, all_set, all_mapped, all_pushed, all_without}
 use Rattle.dms_scriptlaws.specs.Truths.{HasNames}
 use Rattle.dms_scriptlaws.proofs.Digits.{NoFeed}
 use Rattle.dms_scriptlaws.proofs.Feeds.{IsClean, feed_on, feed_of, name_feed, unknown_feed, text_feed}
+use Rattle.dms_block.specs.Held.{one_more}
+use Rattle.dms_desc_bytes.specs.Finding.{owner_in as owner_of}
 
 -- a program has a name
 abbrev pub Named : Program → Type 0

@@ -23,7 +23,7 @@ use Rattle.dms_desc.specs.Kinds.{takes, over}
 use Rattle.dms_desc.specs.Sorted.{first, that_passes}
 use Rattle.dms_model.specs.Members.{names, belongs}
 use Rattle.dms_model.specs.Stores.{has_equal, is_other}
-use Rattle.dms_sets.specs.Listing.{listing, member_opt, AllPlaces, left, places_total, places_same}
+use Rattle.dms_sets.specs.Listing.{listing, member_opt, AllPlaces, left}
 use Rattle.dms_sets.specs.Prefixes.{starts, reaches, front_append, first_starts, any_first}
 use Rattle.dms_sets.specs.Sets.{entry_of, listed_in, number_in, entry_number, own_entry, place_in_entry, IsSmall, keys_with_opt, keys_without_opt}
 use Rattle.dms_sets.specs.Owners.{EntryFits, EntriesFit, belongs_is}
@@ -32,6 +32,7 @@ use Rattle.dms_key.specs.KeyOrder.{four_cmp}
 use Rattle.dms_sets.specs.Entries.{entry_bytes, IsSetKey, whole_order, whole_width}
 use Rattle.dms_ordlist.specs.Lists.{ByteSet, any_with, bytes_cmp, empty_keys, entries_removed, keys_rise, with_in, without_in}
 use Rattle.dms_sets.specs.Tests.{and_true, then_nothing, tied}
+use Rattle.dms_model.specs.Places.{places_same, places_total}
 
 -- the prefix that the entries of an owner with a key have
 abbrev pub key_front : List ItemKind → List KeyPart → ℕ → List Value → List ℕ

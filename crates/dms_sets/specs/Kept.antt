@@ -22,6 +22,7 @@ use Rattle.dms_sets.specs.Spots.{ValuesFit, RecordHasSpot, RecordsHaveSpots, put
 use Rattle.std.specs.List.{AllByRecursion}
 use Rattle.dms_sets.specs.Answers.{IsFoundNumber, clash_seen, answer_is}
 use Rattle.dms_sets.specs.Puts.{IsNamed, MayCome, all_judged}
+use Rattle.dms_model.specs.FitLaws.{null_fits}
 
 kept_has : (P : Value → Type 0) (o : Option Item) (item : Item) (old v : Value) → o ≡ Some item → P v → P old → P (kept_value o old v)
 kept_has P o item old v is new was =
@@ -35,13 +36,6 @@ linked_has P i items olds (v ∷ vs) zero item is new was =
 linked_has P i items olds (v ∷ vs) (suc j) item is new was =
     let next : i + suc j ≡ (i + 1) + j = omega arith in
     linked_has P (i + 1) items olds vs j item (ap (slice_get items) (sym next) ∙ is) new (subst (λ n. P (or_null (slice_get olds n))) next was)
-
-null_fits : (k : ItemKind) → fits k Null ≡ true
-null_fits (Alpha n) = refl
-null_fits (Decimal n m s) = refl
-null_fits OneBit = refl
-null_fits (Field n) = refl
-null_fits (Link to counted) = refl
 
 null_kind : (k : ItemKind) (v : Value) → FitsKind k v → FitsKind k Null
 null_kind k v f = record { kind = f.kind; fits = null_fits k; plain = tt }

@@ -15,6 +15,7 @@ use Rattle.dms_model.specs.Db.{Records, Place, place_cmp}
 use Rattle.dms_desc.specs.Sorted.{or_else}
 use Rattle.dms_ordlist.specs.Lists.{bytes_cmp, ByteSet, bytes_same}
 use Rattle.dms_sets.specs.Tests.{first_true, second_true, tied}
+use Rattle.dms_model.specs.Places.{places_same, places_total}
 
 abbrev pub with_opt : Option (List ℕ) → ByteSet → ByteSet
 with_opt None m = m
@@ -23,21 +24,6 @@ with_opt (Some x) m = insert m x tt
 abbrev pub without_opt : Option (List ℕ) → ByteSet → ByteSet
 without_opt None m = m
 without_opt (Some x) m = remove m x
-
-pub places_total : IsTotalOrder place_cmp
-places_total = then_total (on_total (λ (p : Place). p.0) nat_cmp_total) (on_total (λ (p : Place). p.1) nat_cmp_total)
-
-then_equal : (o p : Ordering) → ordering_then o p ≡ Equal → (o ≡ Equal) × (p ≡ Equal)
-then_equal Less p h = absurd (cc)
-then_equal Equal p h = (refl, h)
-then_equal Greater p h = absurd (cc)
-
-pub places_same : IsAntisymmetric place_cmp
-places_same a b h =
-    let parts = then_equal (nat_cmp a.0 b.0) (nat_cmp a.1 b.1) h in
-    let p = nat_cmp-IsAntisymmetric a.0 b.0 parts.0 in
-    let q = nat_cmp-IsAntisymmetric a.1 b.1 parts.1 in
-    λ i. (p i, q i)
 
 -- what a listing has at q by one member
 abbrev pub test_of : List ℕ → Option (List ℕ) → Option (Unit {0})

@@ -22,7 +22,7 @@ use Rattle.dms_desc.specs.Keys.{key_of}
 use Rattle.dms_desc.specs.Kinds.{takes, over}
 use Rattle.dms_desc.specs.Sorted.{first, last, or_else, that_passes}
 use Rattle.dms_sets.specs.Listing.{listing}
-use Rattle.dms_sets.specs.Clashes.{look}
+use Rattle.dms_sets.specs.Clashes.{look, key_front}
 use Rattle.dms_key.specs.ByteOrder.{append_cmp, high_first_length, less_is, equal_is}
 use Rattle.dms_sets.specs.Prefixes.{front_cmp, starts, reaches, front_whole, gt_then}
 use Rattle.dms_sets.specs.Sets.{entry_of, entries_of, kinds_over, keys_with_opt}
@@ -104,22 +104,19 @@ pad_gt k (a ∷ p) (b ∷ q) h = gt_then (nat_cmp a b) (bytes_cmp (p ++ replicat
 pub padded_gt : (w : ℕ) (p q : List ℕ) → length q ≡ w → length p ≤ w → is_gt (bytes_cmp (padded w p) q) ≡ is_gt (front_cmp p q)
 padded_gt w p q h le = pad_gt (w - length p) p q (h ∙ omega (arith, le))
 
-abbrev front_of : List ItemKind → List KeyPart → ℕ → List Value → List ℕ
-front_of kinds ps owner key = to_be_bytes w32 owner ++ (key_bytes kinds ps key ++ [])
-
 -- what the first entry behind a bound isn't below; none where there is no such entry
 abbrev pub from_bytes : List ItemKind → List KeyPart → ℕ → Bound → Option (List ℕ)
 from_bytes kinds ps owner Start = Some (padded (entry_width kinds ps) (to_be_bytes w32 owner))
 from_bytes kinds ps owner End = None
 from_bytes kinds ps owner (At key n) = Some (entry_bytes kinds ps owner key (n + 1))
-from_bytes kinds ps owner (From key) = Some (padded (entry_width kinds ps) (front_of kinds ps owner key))
+from_bytes kinds ps owner (From key) = Some (padded (entry_width kinds ps) (key_front kinds ps owner key))
 
 -- what the last entry before a bound is below
 abbrev pub to_bytes : List ItemKind → List KeyPart → ℕ → Bound → Option (List ℕ)
 to_bytes kinds ps owner Start = None
 to_bytes kinds ps owner End = Some (padded (entry_width kinds ps) (to_be_bytes w32 (owner + 1)))
 to_bytes kinds ps owner (At key n) = Some (entry_bytes kinds ps owner key n)
-to_bytes kinds ps owner (From key) = Some (padded (entry_width kinds ps) (front_of kinds ps owner key))
+to_bytes kinds ps owner (From key) = Some (padded (entry_width kinds ps) (key_front kinds ps owner key))
 
 -- the numbers of a bound have a successor, and a prefix isn't longer than an entry
 abbrev pub BoundSmall : List ItemKind → List KeyPart → Bound → Type 0
@@ -150,10 +147,10 @@ entry_order kinds ps owner key n q f small own e =
     ∙ (λ i. ordering_then (four_cmp owner e.owner own e.small_owner i) (append_cmp (key_bytes kinds ps key) e.key (to_be_bytes w32 n) (to_be_bytes w32 e.number) (whole_width kinds ps key f ∙ sym e.long) i))
     ∙ ap (λ o. ordering_then (nat_cmp owner e.owner) (ordering_then (bytes_cmp (key_bytes kinds ps key) e.key) o)) (four_cmp n e.number small e.small)
 
-front_short : (kinds : List ItemKind) (ps : List KeyPart) (owner : ℕ) (key : List Value) → KeyHasKinds kinds ps key → length (front_of kinds ps owner key) ≤ entry_width kinds ps
+front_short : (kinds : List ItemKind) (ps : List KeyPart) (owner : ℕ) (key : List Value) → KeyHasKinds kinds ps key → length (key_front kinds ps owner key) ≤ entry_width kinds ps
 front_short kinds ps owner key f =
     let inner : length (key_bytes kinds ps key ++ []) ≡ length (key_bytes kinds ps key) + 0 = length-append (key_bytes kinds ps key) [] in
-    let whole : length (front_of kinds ps owner key) ≡ 4 + length (key_bytes kinds ps key ++ []) = length-append (to_be_bytes w32 owner) (key_bytes kinds ps key ++ []) in
+    let whole : length (key_front kinds ps owner key) ≡ 4 + length (key_bytes kinds ps key ++ []) = length-append (to_be_bytes w32 owner) (key_bytes kinds ps key ++ []) in
     omega (arith, whole, inner, key_most kinds ps key f)
 
 none_pass : (xs : List (List ℕ)) → first (λ q. false) xs ≡ None
@@ -197,8 +194,8 @@ module _ (kinds : List ItemKind) (ps : List KeyPart) (owner : ℕ) (own : owner 
       ∙ next_then (nat_cmp owner e.owner) (bytes_cmp (key_bytes kinds ps key) e.key) n e.number
       ∙ sym (ap (λ o. not (is_gt o)) (entry_order kinds ps owner key (n + 1) q f.0 g small_owner e))) all
   first_is (From key) xs f g all =
-      first_same (IsSetEntry (key_width kinds ps)) (passes kinds ps owner (From key)) (not_below (padded (entry_width kinds ps) (front_of kinds ps owner key))) xs
-      (λ q e. sym (ap not (padded_gt (entry_width kinds ps) (front_of kinds ps owner key) q (entry_long (key_width kinds ps) q e) (front_short kinds ps owner key f)))) all
+      first_same (IsSetEntry (key_width kinds ps)) (passes kinds ps owner (From key)) (not_below (padded (entry_width kinds ps) (key_front kinds ps owner key))) xs
+      (λ q e. sym (ap not (padded_gt (entry_width kinds ps) (key_front kinds ps owner key) q (entry_long (key_width kinds ps) q e) (front_short kinds ps owner key f)))) all
 
   owner_order : (n : ℕ) (q : List ℕ) → n < 2 ^ 32 → (e : IsSetEntry (key_width kinds ps) q) → front_cmp (to_be_bytes w32 n) q ≡ nat_cmp n e.owner
   owner_order n q small e =
@@ -214,8 +211,8 @@ module _ (kinds : List ItemKind) (ps : List KeyPart) (owner : ℕ) (own : owner 
       ∙ sym (padded_gt (entry_width kinds ps) (to_be_bytes w32 (owner + 1)) q (entry_long (key_width kinds ps) q e) (four_short (owner + 1)))) all
   last_is (At key n) xs f all = last_same (IsSetEntry (key_width kinds ps)) (precedes kinds ps owner (At key n)) (is_under (entry_bytes kinds ps owner key n)) xs (λ q e. refl) all
   last_is (From key) xs f all =
-      last_same (IsSetEntry (key_width kinds ps)) (precedes kinds ps owner (From key)) (is_under (padded (entry_width kinds ps) (front_of kinds ps owner key))) xs
-      (λ q e. sym (padded_gt (entry_width kinds ps) (front_of kinds ps owner key) q (entry_long (key_width kinds ps) q e) (front_short kinds ps owner key f))) all
+      last_same (IsSetEntry (key_width kinds ps)) (precedes kinds ps owner (From key)) (is_under (padded (entry_width kinds ps) (key_front kinds ps owner key))) xs
+      (λ q e. sym (padded_gt (entry_width kinds ps) (key_front kinds ps owner key) q (entry_long (key_width kinds ps) q e) (front_short kinds ps owner key f))) all
 
 -- the look for a duplicate, by a bound of the entries' width
 pub look_is : (w : ℕ) (p : List ℕ) (xs : List (List ℕ)) → length p ≤ 4 + (w + 4) → AllByRecursion (IsSetEntry w) xs → look p xs ≡ that_passes (starts p) (first_from (Some (padded (4 + (w + 4)) p)) xs)

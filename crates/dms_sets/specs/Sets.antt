@@ -23,11 +23,12 @@ use Rattle.dms_desc.specs.Keys.{key_of}
 use Rattle.dms_desc.specs.Kinds.{takes, over}
 use Rattle.dms_desc.specs.Lookups.{structure_of, items_of}
 use Rattle.dms_model.specs.Stores.{put_after, stored}
-use Rattle.dms_sets.specs.Listing.{left, still, places_same, with_opt, without_opt, listing_of, member_opt, AllPlaces, changed, places_total}
+use Rattle.dms_sets.specs.Listing.{left, still, with_opt, without_opt, listing_of, member_opt, AllPlaces, changed}
 use Rattle.dms_key.specs.ByteOrder.{high_first_length}
 use Rattle.dms_key.specs.KeyBytes.{key_bytes}
 use Rattle.dms_sets.specs.Entries.{entry_bytes, kinds_of}
 use Rattle.dms_ordlist.specs.Lists.{ByteSet, entries_removed, keys_with, keys_without, with_in, without_in}
+use Rattle.dms_model.specs.Places.{places_same, places_total}
 
 -- the entry of a record in a set or automatic subset, where it belongs there
 abbrev pub entry_of : List ItemKind → Shape → Place → Record → Option (List ℕ)

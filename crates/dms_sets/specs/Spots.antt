@@ -25,7 +25,6 @@ use Rattle.dms_desc.specs.Kinds.{over}
 use Rattle.dms_desc.specs.Lookups.{items_of, structure_of}
 use Rattle.dms_desc.specs.Sorted.{first, last, or_else, that_passes}
 use Rattle.dms_model.specs.Members.{belongs, spot_of, spots_of, is_before, members, is_after_bound, is_before_bound, first_of, last_of, first_member, last_member}
-use Rattle.dms_sets.specs.Listing.{places_total, places_same}
 use Rattle.dms_base.specs.declared.kind.ItemKind.{ItemKind}
 use Rattle.dms_desc.specs.Plain.{FitsKind}
 use Rattle.dms_key.specs.KeyBytes.{FitsPart, KeyHasKinds}
@@ -35,6 +34,7 @@ use Rattle.dms_sets.specs.Owners.{is_of, spot_bytes, EntryFits, EntriesFit, all_
 use Rattle.dms_sets.specs.Bounds.{passes, BoundKeyFits, first_member_is}
 use Rattle.dms_sets.specs.Lasts.{precedes, last_member_is}
 use Rattle.dms_sets.specs.Tests.{both_of, first_true, second_true, tied}
+use Rattle.dms_model.specs.Places.{places_same, places_total}
 
 abbrev pub and_then : {A B : Type 0} → Option A → (A → Option B) → Option B
 and_then None f = None

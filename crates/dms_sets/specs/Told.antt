@@ -15,15 +15,12 @@ use Rattle.dms_desc.specs.Lookups.{structure_of, items_of}
 use Rattle.dms_sets.specs.Puts.{MayCome}
 use Rattle.dms_sets.specs.Sets.{entries_of, items_over, kinds_over}
 use Rattle.dms_sets.specs.Spots.{RecordsHaveSpots, NameItems}
+use Rattle.dms_desc.specs.Kinds.{is_set_or_automatic}
 
 -- the records with one more, or without one
 abbrev pub db_with : Db → ℕ → ℕ → Option Record → Db
 db_with db set number None = record db { records = remove db.records (set, number) }
 db_with db set number (Some rec) = record db { records = insert db.records (set, number) rec }
-
--- a set or an automatic subset
-abbrev pub is_kept : Shape → Bool
-is_kept s = nat_lt 2 s.kind && nat_lt s.kind 5
 
 -- it holds of each structure
 abbrev pub OfStructures : Described → (Shape → Type 0) → Type 0
@@ -31,7 +28,7 @@ OfStructures desc P = (k : ℕ) (s : Shape) → slice_get desc.structures k ≡ 
 
 -- The lists are those of a database.
 abbrev pub AreListed : Described → Db → ListsOf → Type 0
-AreListed desc db ls = OfStructures desc (λ s. is_kept s ≡ true → kept ls (kinds_over desc s) s ≡ Some (entries_of desc db s))
+AreListed desc db ls = OfStructures desc (λ s. is_set_or_automatic s ≡ true → kept ls (kinds_over desc s) s ≡ Some (entries_of desc db s))
 
 abbrev pub OptMayCome : Described → ℕ → Option Record → Type 0
 OptMayCome desc set None = Unit {0}
@@ -45,7 +42,7 @@ HaveOwnNumbers desc = (j k : ℕ) (s t : Shape) → slice_get desc.structures j 
 -- over the data set has room for its entry.
 pub record ChangeStands (desc : Described) (db : Db) (set number : ℕ) (old new : Option Record) : Type 0 where
   pub apart : HaveOwnNumbers desc
-  pub named : OfStructures desc (λ s. is_kept s ≡ true → NameItems (items_over desc s) s.parts)
+  pub named : OfStructures desc (λ s. is_set_or_automatic s ≡ true → NameItems (items_over desc s) s.parts)
   pub old_is : get db.records (set, number) ≡ old
   pub small : number < 2 ^ 32
   pub records : RecordsHaveSpots desc db
@@ -76,8 +73,8 @@ is_refused desc db set number old new s = is_over s set && refuses (kinds_over d
 
 -- the first k structures are changed, and none of them refused
 pub record Upto (desc : Described) (db : Db) (set number : ℕ) (old new : Option Record) (k : ℕ) (now : ListsOf) : Type 0 where
-  pub done : (j : ℕ) (s : Shape) → j < k → slice_get desc.structures j ≡ Some s → is_kept s ≡ true → kept now (kinds_over desc s) s ≡ Some (entries_of desc (db_with db set number new) s)
-  pub left : (j : ℕ) (s : Shape) → k ≤ j → slice_get desc.structures j ≡ Some s → is_kept s ≡ true → kept now (kinds_over desc s) s ≡ Some (entries_of desc db s)
+  pub done : (j : ℕ) (s : Shape) → j < k → slice_get desc.structures j ≡ Some s → is_set_or_automatic s ≡ true → kept now (kinds_over desc s) s ≡ Some (entries_of desc (db_with db set number new) s)
+  pub left : (j : ℕ) (s : Shape) → k ≤ j → slice_get desc.structures j ≡ Some s → is_set_or_automatic s ≡ true → kept now (kinds_over desc s) s ≡ Some (entries_of desc db s)
   pub none : (j : ℕ) (s : Shape) → j < k → slice_get desc.structures j ≡ Some s → is_refused desc db set number old new s ≡ false
 
 -- a record may have an entry in each set over the data set

@@ -12,7 +12,7 @@ use Rattle.dms_desc.specs.Shape.{Shape, Described}
 use Rattle.dms_key.specs.KeyBytes.{key_bytes, key_width}
 use Rattle.dms_model.specs.Db.{Db}
 use Rattle.dms_desc.specs.Keys.{key_of}
-use Rattle.dms_desc.specs.Kinds.{takes, over}
+use Rattle.dms_desc.specs.Kinds.{takes, over, is_set_or_automatic}
 use Rattle.dms_desc.specs.Lookups.{structure_of, items_of}
 use Rattle.dms_desc.specs.Sorted.{that_passes}
 use Rattle.dms_model.specs.Stores.{is_closed}
@@ -29,21 +29,21 @@ use Rattle.dms_sets.specs.Puts.{all_small}
 use Rattle.dms_sets.specs.Sets.{IsSmall, entry_of, entries_of, items_over, kinds_over, entries_changed, entries_left}
 use Rattle.dms_sets.specs.Spots.{ValuesFit, all_fit, key_fits}
 use Rattle.dms_sets.specs.Tests.{both_of}
-use Rattle.dms_sets.specs.Told.{ChangeStands, KeepsSets, Upto, answer_of, clash_opt, db_with, is_kept, is_refused}
+use Rattle.dms_sets.specs.Told.{ChangeStands, KeepsSets, Upto, answer_of, clash_opt, db_with, is_refused}
 
 -- ---- what is over the data set
 
 over_set : (s : Shape) (set : ℕ) → is_over s set ≡ true → over s ≡ set
 over_set s set h = (closed_is s set true true (ap (λ b. (b && true) && true) h)).over
 
-pub over_kept : (s : Shape) (set : ℕ) → is_over s set ≡ true → is_kept s ≡ true
-over_kept s set h = (both_of (is_kept s) (s.set == set) h).0
+pub over_kept : (s : Shape) (set : ℕ) → is_over s set ≡ true → is_set_or_automatic s ≡ true
+over_kept s set h = (both_of (is_set_or_automatic s) (s.set == set) h).0
 
 over_at : (b : Bool) (s : Shape) → nat_lt s.kind 3 ≡ b → nat_lt 2 s.kind ≡ true → cond b s.number s.set ≡ s.set
 over_at true s e h = absurd (grind (arith, nat_tests, e, h))
 over_at false s e h = refl
 
-elsewhere : (s : Shape) (set : ℕ) → is_kept s ≡ true → is_over s set ≡ false → (over s == set) ≡ false
+elsewhere : (s : Shape) (set : ℕ) → is_set_or_automatic s ≡ true → is_over s set ≡ false → (over s == set) ≡ false
 elsewhere s set kept off =
     let own : over s ≡ s.set = over_at (nat_lt s.kind 3) s refl (both_of (nat_lt 2 s.kind) (nat_lt s.kind 5) kept).0 in
     ap (λ n. n == set) own ∙ sym (ap (λ b. b && (s.set == set)) kept) ∙ off
@@ -66,7 +66,7 @@ entries_with desc db s set n None all small = entries_left (kinds_over desc s) s
 entries_with desc db s set n (Some rec) all small = entries_changed (kinds_over desc s) s db.records (set, n) rec all small
 
 module _ (desc : Described) (db : Db) (set number : ℕ) (old new : Option Record) (judged : ChangeStands desc db set number old new) where
-  places : (k : ℕ) (s : Shape) → slice_get desc.structures k ≡ Some s → is_kept s ≡ true → AllPlaces IsSmall (entries db.records)
+  places : (k : ℕ) (s : Shape) → slice_get desc.structures k ≡ Some s → is_set_or_automatic s ≡ true → AllPlaces IsSmall (entries db.records)
   places k s at kept = all_small (kinds_over desc s) s (entries db.records) (all_fit desc db s (judged.named k s at kept) judged.records)
 
   entries_here : (k : ℕ) (s : Shape) → slice_get desc.structures k ≡ Some s → is_over s set ≡ true
@@ -76,7 +76,7 @@ module _ (desc : Described) (db : Db) (set number : ℕ) (old new : Option Recor
       entries_with desc db s set number new (places k s at (over_kept s set h)) judged.small
       ∙ (λ i. with_in (member_here (kinds_over desc s) s set number new same i) (without_in ((ap (member_opt (entry_of (kinds_over desc s) s) (set, number)) judged.old_is ∙ member_here (kinds_over desc s) s set number old same) i) (entries_of desc db s)))
 
-  entries_off : (k : ℕ) (s : Shape) → slice_get desc.structures k ≡ Some s → is_kept s ≡ true → is_over s set ≡ false → entries_of desc (db_with db set number new) s ≡ entries_of desc db s
+  entries_off : (k : ℕ) (s : Shape) → slice_get desc.structures k ≡ Some s → is_set_or_automatic s ≡ true → is_over s set ≡ false → entries_of desc (db_with db set number new) s ≡ entries_of desc db s
   entries_off k s at kept h =
       let off = elsewhere s set kept h in
       entries_with desc db s set number new (places k s at kept) judged.small

@@ -13,7 +13,7 @@ use Rattle.dms_block.specs.View.{seen_counts}
 use Rattle.dms_desc.specs.declared.bound.Bound.{Bound}
 use Rattle.dms_desc.specs.declared.record.Record.{Record}
 use Rattle.dms_desc.specs.Kinds as kinds
-use Rattle.dms_desc.specs.Kinds.{over}
+use Rattle.dms_desc.specs.Kinds.{over, is_set_or_automatic}
 use Rattle.dms_desc.specs.Lookups.{structure_of}
 use Rattle.dms_desc.specs.Shape.{Shape, Described, shape_of}
 use Rattle.dms_desc.specs.declared.structure.Structure.{Structure}
@@ -30,7 +30,7 @@ use Rattle.dms_store.specs.Lifted.{IsUsable, db_of}
 use Rattle.dms_store.specs.Listed.{BadPath, most_reads}
 use Rattle.dms_store.specs.Noted.{tells_if}
 use Rattle.dms_store.specs.Serving.{IsServed}
-use Rattle.dms_store.specs.Spelled.{db_in, is_kept}
+use Rattle.dms_store.specs.Spelled.{db_in}
 use Rattle.dms_store.specs.Undamaged.{no_bad_slot}
 
 -- the shape of a structure that was looked up
@@ -93,7 +93,7 @@ module _ {desc : Described} (path : ℕ) {s : Shape} (served : IsServed desc) (a
       let low = (served_at desc path s served at).low in
       ap is_data_set at ∙ both_true (nat_lt 0 s.kind) (nat_lt s.kind 3) (grind (arith, nat_tests, low)) h
 
-  pub kept_here : kinds.is_data_set s ≡ false → kinds.is_manual s ≡ false → is_kept s ≡ true
+  pub kept_here : kinds.is_data_set s ≡ false → kinds.is_manual s ≡ false → is_set_or_automatic s ≡ true
   kept_here off apart =
       let most = (served_at desc path s served at).most in
       let more : 2 < s.kind = grind (arith, nat_tests, off) in

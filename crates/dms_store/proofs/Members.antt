@@ -42,10 +42,11 @@ use Rattle.dms_store.specs.Listed.{BadEntry, BadPath, MayLook}
 use Rattle.dms_store.specs.Noted.{tells_if}
 use Rattle.dms_store.specs.Serving.{IsServed}
 use Rattle.dms_store.specs.SetPaths.{first_look, formed, last_look, may_look, set_at}
-use Rattle.dms_store.specs.Spelled.{db_in, file_in, is_kept, is_spelled, some_if, spelled}
+use Rattle.dms_store.specs.Spelled.{db_in, file_in, is_spelled, some_if, spelled}
 use Rattle.dms_store.specs.SpelledLaws.{spelled_fits, spells}
 use Rattle.dms_store.specs.Undamaged.{no_bad_slot, told_spelled}
 use Rattle.dms_store.proofs.Standing.{over_set, stands_for}
+use Rattle.dms_desc.specs.Kinds.{is_set_or_automatic}
 
 -- ---- what is told
 
@@ -67,7 +68,7 @@ db_told : (told : Bool) (desc : Described) (c : Content) (d : Db) → db_of desc
 db_told true desc c d h = h
 db_told false desc c d h = absurd (cc)
 
-no_data_set : (s : Shape) → is_kept s ≡ true → is_data_set (Some s) ≡ false
+no_data_set : (s : Shape) → is_set_or_automatic s ≡ true → is_data_set (Some s) ≡ false
 no_data_set s kept =
     let two = both_of (nat_lt 2 s.kind) (nat_lt s.kind 5) kept in
     let off : nat_lt s.kind 3 ≡ false = grind (arith, nat_tests, two.0) in
@@ -77,7 +78,7 @@ no_data_set s kept =
     and_off true b h = h
     and_off false b h = refl
 
-module _ (desc : Described) (s : Shape) (served : IsServed desc) (at : structure_of desc s.number ≡ Some s) (kept : is_kept s ≡ true) where
+module _ (desc : Described) (s : Shape) (served : IsServed desc) (at : structure_of desc s.number ≡ Some s) (kept : is_set_or_automatic s ≡ true) where
   abbrev width : ℕ
   width = entry_width (kinds_over desc s) s.parts
 

@@ -32,7 +32,7 @@ use Rattle.dms_sets.specs.Tests.{both_of, not_true}
 use Rattle.dms_store.specs.Rows.{AreNumbered}
 use Rattle.dms_store.specs.Serving.{IsServed, IsServedSet, IsServedShape}
 use Rattle.dms_store.specs.SetPaths.{kind_there}
-use Rattle.dms_store.specs.Spelled.{is_kept}
+use Rattle.dms_desc.specs.Kinds.{is_set_or_automatic}
 
 -- ---- numbers and lists
 
@@ -215,7 +215,7 @@ set_over desc s is k = record { data_set = is; named = record { items = k.names;
 module _ (desc : Described) (s : Shape) (low : 1 ≤ s.kind) (most : s.kind ≤ 5) where
   -- what a structure has to be
   abbrev IsFit : Type 0
-  IsFit = IsServedShape s × (is_kept s ≡ true → IsServedSet desc s)
+  IsFit = IsServedShape s × (is_set_or_automatic s ≡ true → IsServedSet desc s)
 
   data_set_served : is_set_kind s.kind ≡ true → is_data_set_sound desc.structures s ≡ true → IsFit
   unfolding is_data_set_sound has_sound_items lacks_set_fields
@@ -287,7 +287,7 @@ module _ (desc : Described) (s : Shape) (low : 1 ≤ s.kind) (most : s.kind ≤ 
   by_kind true is h = data_set_served is h
   by_kind false is h = set_served is h
 
-shape_served : (desc : Described) (s : Shape) → is_sound desc.structures s ≡ true → IsServedShape s × (is_kept s ≡ true → IsServedSet desc s)
+shape_served : (desc : Described) (s : Shape) → is_sound desc.structures s ≡ true → IsServedShape s × (is_set_or_automatic s ≡ true → IsServedSet desc s)
 unfolding is_sound
 shape_served desc s h =
     let a = both_of _ _ h in
@@ -305,7 +305,7 @@ module _ (desc : Described) where
       let two = both_of (is_sound desc.structures s) (list_all (is_sound desc.structures) ss) h in
       ((shape_served desc s two.0).0, each_served ss two.1)
 
-  sets_served : (ss : List Shape) → list_all (is_sound desc.structures) ss ≡ true → AllByRecursion (λ s. is_kept s ≡ true → IsServedSet desc s) ss
+  sets_served : (ss : List Shape) → list_all (is_sound desc.structures) ss ≡ true → AllByRecursion (λ s. is_set_or_automatic s ≡ true → IsServedSet desc s) ss
   sets_served [] h = tt
   sets_served (s ∷ ss) h =
       let two = both_of (is_sound desc.structures s) (list_all (is_sound desc.structures) ss) h in

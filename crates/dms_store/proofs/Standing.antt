@@ -12,7 +12,7 @@ use Rattle.std.proofs.lemmas.Slice.Eq.{bytes_eq-Decides}
 use Rattle.dms_base.specs.declared.kind.ItemKind.{ItemKind}
 use Rattle.dms_desc.specs.declared.record.Record.{Record}
 use Rattle.dms_desc.specs.Keys.{key_of}
-use Rattle.dms_desc.specs.Kinds.{over, takes}
+use Rattle.dms_desc.specs.Kinds.{over, takes, is_set_or_automatic}
 use Rattle.dms_desc.specs.Lookups.{over_of, parts_of, set_of, structure_of}
 use Rattle.dms_desc.specs.Shape.{Shape, Described}
 use Rattle.dms_key.specs.KeyBytes.{key_bytes}
@@ -33,13 +33,12 @@ use Rattle.dms_sets.specs.Tests.{both_of, tied}
 use Rattle.dms_store.specs.Listed.{IsEntryOfRecord, is_entry}
 use Rattle.dms_store.specs.Finding.{served_at}
 use Rattle.dms_store.specs.Serving.{IsServed}
-use Rattle.dms_store.specs.Spelled.{is_kept}
 
 some_bytes : (x y : List ℕ) → ◌≡◌ {A = Option (List ℕ)} (Some x) (Some y) → x ≡ y
 some_bytes x y h = cc
 
 -- the records of a set are those of another structure
-pub over_set : (s : Shape) → is_kept s ≡ true → over s ≡ s.set
+pub over_set : (s : Shape) → is_set_or_automatic s ≡ true → over s ≡ s.set
 over_set s kept =
     let two = both_of (nat_lt 2 s.kind) (nat_lt s.kind 5) kept in
     let off : nat_lt s.kind 3 ≡ false = grind (arith, nat_tests, two.0) in
@@ -130,7 +129,7 @@ module _ (kinds : List ItemKind) (s : Shape) (db : Db) (owner n : ℕ) (rec : Re
   own_spot h = ap (λ b. and_then (cond b (Some q) None) (spot_at s db)) (owner_is ∙ h) ∙ spot_is
 
 -- a member of a set fits
-pub member_fits : (desc : Described) (path : ℕ) (s : Shape) (n : ℕ) (rec : Record) → structure_of desc path ≡ Some s → is_kept s ≡ true → IsNumber desc s.set n → RecordFits desc s.set rec
+pub member_fits : (desc : Described) (path : ℕ) (s : Shape) (n : ℕ) (rec : Record) → structure_of desc path ≡ Some s → is_set_or_automatic s ≡ true → IsNumber desc s.set n → RecordFits desc s.set rec
     → SpotFits desc path (spot_of s.parts ((0, n), rec))
 member_fits desc path s n rec at kept number fits =
     let set : set_of desc path ≡ s.set = ap over_of at ∙ over_set s kept in
@@ -146,7 +145,7 @@ member_fits desc path s n rec at kept number fits =
 pub told_of : {A : Type 0} (o : Option Db) (d : Db) (f : Db → A) (x : A) → o ≡ Some d → TellsOf o f x → x ≡ f d
 told_of o d f x is h = subst (λ (p : Option Db). TellsOf p f x) is h
 
-module _ (desc : Described) (s : Shape) (kept : is_kept s ≡ true) (q : List ℕ) (n : ℕ) (same : 4 ≤ length q → n ≡ number_in q) (d : Db) where
+module _ (desc : Described) (s : Shape) (kept : is_set_or_automatic s ≡ true) (q : List ℕ) (n : ℕ) (same : 4 ≤ length q → n ≡ number_in q) (d : Db) where
   found_there : (stands : IsEntryOfRecord desc s d q) → get d.records (s.set, n) ≡ Some stands.0
   found_there stands =
       let number : n ≡ number_in q = same (entry_long (kinds_over desc s) s (number_in q) stands.0 q (in_set (kinds_over desc s) s (number_in q) stands.0 q stands.2)) in
@@ -185,7 +184,7 @@ small_number desc set n served h = by (structure_of desc set) refl h
         let few = (served_at desc set t served at).population in
         omega (arith, most, few)
 
-module _ (ks : List ItemKind) (s : Shape) (kept : is_kept s ≡ true) (o : Option Db) (owner n : ℕ) (rec : Record) (q : List ℕ) (at : TellsOf {T = Option Record} o (λ d. get d.records (s.set, n)) (Some rec))
+module _ (ks : List ItemKind) (s : Shape) (kept : is_set_or_automatic s ≡ true) (o : Option Db) (owner n : ℕ) (rec : Record) (q : List ℕ) (at : TellsOf {T = Option Record} o (λ d. get d.records (s.set, n)) (Some rec))
     (is : is_entry (entry_in ks s n rec) q ≡ true) (small : n < 2 ^ 32) (own : owner < 2 ^ 32) (rec_own : rec.owner < 2 ^ 32) where
   there : (d : Db) → o ≡ Some d → get d.records (over s, n) ≡ Some rec
   there d told = ap (λ m. get d.records (m, n)) (over_set s kept) ∙ sym (told_of o d (λ d. get d.records (s.set, n)) (Some rec) told at)

@@ -17,7 +17,8 @@ use Rattle.dms_sets.specs.Tests.{both_of}
 use Rattle.dms_slots.specs.SlotBlocks.{file_of, is_block, slots_of}
 use Rattle.dms_store.specs.Finding.{structure_there}
 use Rattle.dms_store.specs.Lifted.{IsStructureFile}
-use Rattle.dms_store.specs.Spelled.{db_in, file_in, file_spells, files_fit, files_spell, has_none, is_kept, is_list_of, is_spelled, is_whole, lists_eq, slots_stand}
+use Rattle.dms_store.specs.Spelled.{db_in, file_in, file_spells, files_fit, files_spell, has_none, is_list_of, is_spelled, is_whole, lists_eq, slots_stand}
+use Rattle.dms_desc.specs.Kinds.{is_set_or_automatic}
 
 -- ---- each structure's file
 
@@ -45,7 +46,7 @@ slots_at desc c n s spelt at is_set =
     let bs = file_in c s in
     let db = db_in desc c in
     both_of (list_all (is_block s) bs) (slots_stand desc db s 1 (slots_of s bs))
-    (sym (ap (λ b. cond b (list_all (is_block s) bs && slots_stand desc db s 1 (slots_of s bs)) (cond (is_kept s) (is_list_of (list_in (entry_width (kinds_over desc s) s.parts) bs) (entries_of desc db s)) (has_none bs))) is_set)
+    (sym (ap (λ b. cond b (list_all (is_block s) bs && slots_stand desc db s 1 (slots_of s bs)) (cond (is_set_or_automatic s) (is_list_of (list_in (entry_width (kinds_over desc s) s.parts) bs) (entries_of desc db s)) (has_none bs))) is_set)
     ∙ file_at desc c n s spelt at)
 
 lists_same : (xs ys : List (List ℕ)) → lists_eq xs ys ≡ true → xs ≡ ys
@@ -61,13 +62,13 @@ list_same None ys h = absurd (cc)
 list_same (Some xs) ys h = ap (λ (zs : List (List ℕ)). Some zs) (lists_same xs ys h)
 
 -- that of a set or automatic subset is the list of its entries
-pub list_at : (desc : Described) (c : Content) (n : ℕ) (s : Shape) → is_spelled desc c ≡ true → structure_of desc n ≡ Some s → is_data_set (Some s) ≡ false → is_kept s ≡ true
+pub list_at : (desc : Described) (c : Content) (n : ℕ) (s : Shape) → is_spelled desc c ≡ true → structure_of desc n ≡ Some s → is_data_set (Some s) ≡ false → is_set_or_automatic s ≡ true
     → list_in (entry_width (kinds_over desc s) s.parts) (file_in c s) ≡ Some (entries_of desc (db_in desc c) s)
 list_at desc c n s spelt at no_set kept =
     let bs = file_in c s in
     let db = db_in desc c in
     list_same (list_in (entry_width (kinds_over desc s) s.parts) bs) (entries_of desc db s)
-    (sym (ap (λ b. cond b (list_all (is_block s) bs && slots_stand desc db s 1 (slots_of s bs)) (cond (is_kept s) (is_list_of (list_in (entry_width (kinds_over desc s) s.parts) bs) (entries_of desc db s)) (has_none bs))) no_set
+    (sym (ap (λ b. cond b (list_all (is_block s) bs && slots_stand desc db s 1 (slots_of s bs)) (cond (is_set_or_automatic s) (is_list_of (list_in (entry_width (kinds_over desc s) s.parts) bs) (entries_of desc db s)) (has_none bs))) no_set
     ∙ ap (λ b. cond b (is_list_of (list_in (entry_width (kinds_over desc s) s.parts) bs) (entries_of desc db s)) (has_none bs)) kept)
     ∙ file_at desc c n s spelt at)
 

@@ -10,8 +10,9 @@ use Rattle.dms_model.specs.declared.put.Put.{Put}
 use Rattle.dms_model.specs.declared.put.Put.TheVariants.{Stored, Duplicate, Full}
 use Rattle.dms_model.specs.Db.{Db}
 use Rattle.dms_model.specs.Stores.{put_after, put_answer}
-use Rattle.dms_model.specs.Valid.{owner_of, owner_stands}
+use Rattle.dms_model.specs.Valid.{owner_stands}
 use Rattle.dms_store.specs.Spelled.{spelled}
+use Rattle.dms_desc_bytes.specs.Finding.{owner_in as owner_of}
 
 -- This record may be stored: where it is a new one its owner's record is there, or it has no owner where its data set is disjoint; and
 -- where a number is named its record is there. That one keeps its owner.

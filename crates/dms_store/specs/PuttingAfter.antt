@@ -16,14 +16,15 @@ use Rattle.dms_desc.specs.declared.structure.Item.{Item}
 use Rattle.dms_layout.specs.declared.slot.Slot.{Slot}
 use Rattle.dms_model.specs.Db.{Db, Place, Records, SubsetEntry, place_cmp}
 use Rattle.dms_model.specs.Stores.{linked, linked_from, values_of}
-use Rattle.dms_model.specs.Valid.{link_stands, owner_of, owner_stands, refers}
-use Rattle.dms_sets.specs.Listing.{places_total}
+use Rattle.dms_model.specs.Valid.{link_stands, owner_stands, refers}
 use Rattle.dms_sets.specs.Tests.{both_of}
 use Rattle.dms_slots.specs.SlotBlocks.{slot_opt}
 use Rattle.dms_store.specs.PuttingCounts.{insert_sum, links_linked, links_none, of_opt, sum_none}
 use Rattle.dms_store.specs.PuttingMoved.{owed}
 use Rattle.dms_store.specs.Rows.{rec_opt}
 use Rattle.dms_store.specs.Spelled.{counted_in, is_counted_to, is_number, links_stand, links_to, owned_in}
+use Rattle.dms_model.specs.Places.{places_total}
+use Rattle.dms_desc_bytes.specs.Finding.{owner_in as owner_of}
 
 -- the database with this record under the number
 abbrev pub with_record : Db → ℕ → ℕ → Record → Db

@@ -7,7 +7,7 @@ use Rattle.std.specs.FinMap.{get}
 use Rattle.dms_base.specs.Fits.{fits}
 use Rattle.dms_base.specs.declared.value.Value.{Value}
 use Rattle.dms_block.specs.Content.{Content}
-use Rattle.dms_desc.specs.Kinds.{over, takes}
+use Rattle.dms_desc.specs.Kinds.{over, takes, is_set_or_automatic}
 use Rattle.dms_desc.specs.Lookups.{items_of, structure_of}
 use Rattle.dms_desc.specs.Shape.{Shape, Described}
 use Rattle.dms_desc.specs.declared.record.Record.{Record}
@@ -33,7 +33,7 @@ use Rattle.dms_store.specs.Finding.{number_at, served_at}
 use Rattle.dms_store.specs.PuttingSlots.{structure_here}
 use Rattle.dms_store.specs.Serving.{IsServed, IsServedSet}
 use Rattle.dms_store.specs.SetPaths.{formed, set_at}
-use Rattle.dms_store.specs.Spelled.{is_kept, spelled}
+use Rattle.dms_store.specs.Spelled.{spelled}
 use Rattle.dms_store.specs.SpelledLaws.{spelled_fits, spelled_stands, value_fits}
 
 -- ---- what is stored fits
@@ -64,7 +64,7 @@ own_numbers desc served j k s t p q same =
     let b = number_at desc (suc k) t served (structure_here desc.structures k t q) in
     omega (arith, a, b, same)
 
-named_at : (desc : Described) → IsServed desc → OfStructures desc (λ s. is_kept s ≡ true → NameItems (items_over desc s) s.parts)
+named_at : (desc : Described) → IsServed desc → OfStructures desc (λ s. is_set_or_automatic s ≡ true → NameItems (items_over desc s) s.parts)
 named_at desc served k s at kept = (set_at desc (suc k) s served (structure_here desc.structures k s at) kept).named.items
 
 room_at : (desc : Described) (c : Content) (db : Db) (number : ℕ) (old : Option Record) → IsServed desc → spelled desc c ≡ Some db → (s : Shape) → HasRoom (without_in (entry_opt (kinds_over desc s) s number old) (entries_of desc db s))
@@ -88,11 +88,11 @@ change_stands desc c db set number s old made served spelt at small was fits = r
 
 -- ---- the answer
 
-closed_kept : (s : Shape) (set : ℕ) (values : List Value) → is_closed s set values ≡ true → is_kept s ≡ true
+closed_kept : (s : Shape) (set : ℕ) (values : List Value) → is_closed s set values ≡ true → is_set_or_automatic s ≡ true
 closed_kept s set values h =
-    let four = both_of (is_kept s && (s.set == set) && not s.duplicates) (takes s values) h in
-    let three = both_of (is_kept s && (s.set == set)) (not s.duplicates) four.0 in
-    (both_of (is_kept s) (s.set == set) three.0).0
+    let four = both_of (is_set_or_automatic s && (s.set == set) && not s.duplicates) (takes s values) h in
+    let three = both_of (is_set_or_automatic s && (s.set == set)) (not s.duplicates) four.0 in
+    (both_of (is_set_or_automatic s) (s.set == set) three.0).0
 
 one_judged : (desc : Described) (db : Db) (set : ℕ) (made : Record) (s : Shape) → IsServedSet desc s → RecordsHaveSpots desc db → MayCome desc set made → is_closed s set made.values ≡ true → AreJudged desc db made s
 one_judged desc db set made s served fits may closed =
@@ -102,7 +102,7 @@ one_judged desc db set made s served fits may closed =
       key = key_fits (items_over desc s) s.parts made.values (subst (λ n. ValuesFit (items_of (structure_of desc n)) made.values) (sym able.over) may.values) served.named.items;
     }
 
-all_judged : (desc : Described) (db : Db) (set : ℕ) (made : Record) (ss : List Shape) → AllByRecursion (λ s. is_kept s ≡ true → IsServedSet desc s) ss → RecordsHaveSpots desc db → MayCome desc set made → AllByRecursion (λ s. is_closed s set made.values ≡ true → AreJudged desc db made s) ss
+all_judged : (desc : Described) (db : Db) (set : ℕ) (made : Record) (ss : List Shape) → AllByRecursion (λ s. is_set_or_automatic s ≡ true → IsServedSet desc s) ss → RecordsHaveSpots desc db → MayCome desc set made → AllByRecursion (λ s. is_closed s set made.values ≡ true → AreJudged desc db made s) ss
 all_judged desc db set made [] sets fits may = tt
 all_judged desc db set made (s ∷ ss) sets fits may = ((λ h. one_judged desc db set made s (sets.0 (closed_kept s set made.values h)) fits may h), all_judged desc db set made ss sets.1 fits may)
 

@@ -20,10 +20,10 @@ use Rattle.dms_desc.specs.declared.structure.Item.{Item}
 use Rattle.dms_model.specs.Db.{Place, Records, place_cmp}
 use Rattle.dms_model.specs.Stores.{kept_value, linked_from}
 use Rattle.dms_model.specs.Valid.{link_stands}
-use Rattle.dms_sets.specs.Listing.{places_same, places_total}
 use Rattle.dms_sets.specs.Spots.{StandsAmong, all_found}
 use Rattle.dms_sets.specs.Tests.{first_true, second_true}
 use Rattle.dms_store.specs.Spelled.{is_counted_to, links_stand, links_to}
+use Rattle.dms_model.specs.Places.{places_same, places_total}
 
 -- ---- a sum over all records, after one of them is put
 

@@ -14,7 +14,7 @@ use Rattle.dms_block.specs.Held.{BlocksAgree}
 use Rattle.dms_block.specs.View.{seen, seen_counts, under, written}
 use Rattle.dms_block.specs.ViewLaws.{counts_seen}
 use Rattle.dms_desc.specs.Keys.{key_of}
-use Rattle.dms_desc.specs.Kinds.{over}
+use Rattle.dms_desc.specs.Kinds.{over, is_set_or_automatic}
 use Rattle.dms_desc.specs.Plain.{ArePlain}
 use Rattle.dms_desc.specs.Lookups.{items_of, structure_of}
 use Rattle.dms_desc.specs.Shape.{Shape, Described}
@@ -51,7 +51,7 @@ use Rattle.dms_store.specs.PuttingSteps.{SlotChanged, slot_written}
 use Rattle.dms_store.specs.Rows.{rec_opt}
 use Rattle.dms_store.specs.Serving.{IsServed}
 use Rattle.dms_store.specs.SetPaths.{set_at}
-use Rattle.dms_store.specs.Spelled.{is_kept, is_whole, owned_in, spelled}
+use Rattle.dms_store.specs.Spelled.{is_whole, owned_in, spelled}
 
 -- What is left where a database was told: the record stands under its number, or a set refuses it.
 abbrev pub IsEntered : Described → Db → ℕ → ℕ → Record → Content → Put → Type 0
@@ -170,7 +170,7 @@ some_shape x y h = cc
 
 -- a data set is no set over one
 pub set_off : (desc : Described) (set n : ℕ) (s : Shape) → IsServed desc → structure_of desc n ≡ Some s → is_data_set (Some s) ≡ true → has_number desc.structures set s.number ≡ false
-set_off desc set n s served at is_set = not_over desc set s.number served (λ t there. ap is_kept (some_shape t s (sym there ∙ ap (structure_of desc) (number_at desc n s served at) ∙ at)) ∙ no_kept s is_set)
+set_off desc set n s served at is_set = not_over desc set s.number served (λ t there. ap is_set_or_automatic (some_shape t s (sym there ∙ ap (structure_of desc) (number_at desc n s served at) ∙ at)) ∙ no_kept s is_set)
 
 module _ {B : Type 0} {g : Ghosts B} (desc : Described) (served : IsServed desc) (s : Shape) (set number : ℕ) (o : Option Slot) (rec : Record) (db : Db) (a : Overlay B g) (told : IsTrue (under a).told) (agrees : BlocksAgree (under a)) (none : written a ≡ [])
     (spelt : spelled desc (under a).content ≡ Some db) (may : MayStand desc set number s rec) (was : slot_at s (seen a (file_of s.number)) number ≡ slot_opt o) (fits : RecordFits desc set (linked s.items (rec_opt (slot_opt o)) rec)) where

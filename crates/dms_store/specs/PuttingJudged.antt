@@ -15,7 +15,7 @@ use Rattle.dms_layout.specs.declared.slot.SlotRead.TheVariants.{Free, Used}
 use Rattle.dms_model.specs.Db.{Db}
 use Rattle.dms_model.specs.Fitting.{RecordFits}
 use Rattle.dms_model.specs.Stores.{linked, put_after, put_answer, put_number, put_unless, stored}
-use Rattle.dms_model.specs.Valid.{is_data_set, owner_of, owner_stands}
+use Rattle.dms_model.specs.Valid.{is_data_set, owner_stands}
 use Rattle.dms_slots.specs.SlotBlocks.{least_free, slot_at}
 use Rattle.dms_sets.specs.Answers.{IsFoundNumber, clash_seen}
 use Rattle.dms_sets.specs.ToldLaws.{clash_new}
@@ -28,6 +28,7 @@ use Rattle.dms_store.specs.PuttingPlaced.{made_fits}
 use Rattle.dms_store.specs.Rows.{rec_opt}
 use Rattle.dms_store.specs.Serving.{IsServed}
 use Rattle.dms_store.specs.Spelled.{file_in, spelled}
+use Rattle.dms_desc_bytes.specs.Finding.{owner_in as owner_of}
 
 module _ (desc : Described) (served : IsServed desc) (db : Db) (c d : Content) (set : ℕ) (s : Shape) (name : Option ℕ) (number : ℕ) (rec made : Record) (spelt : spelled desc c ≡ Some db) (at : structure_of desc set ≡ Some s) (small : IsFoundNumber name)
     (made_is : stored desc db set name rec ≡ made) (fits : RecordFits desc set made) (clash_same : clash_seen desc desc.structures db set name made ≡ clash_seen desc desc.structures db set (Some number) made) where

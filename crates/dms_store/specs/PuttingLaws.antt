@@ -16,7 +16,7 @@ use Rattle.dms_desc.specs.declared.structure.Item.{Item}
 use Rattle.dms_layout.specs.declared.slot.Slot.{Slot}
 use Rattle.dms_model.specs.Db.{Db, Place, place_cmp}
 use Rattle.dms_model.specs.Stores.{linked, linked_from, values_of, kept_owner}
-use Rattle.dms_model.specs.Valid.{is_data_set, owner_of, owner_stands}
+use Rattle.dms_model.specs.Valid.{is_data_set, owner_stands}
 use Rattle.dms_ordlist.specs.ListIn.{list_in}
 use Rattle.dms_sets.specs.Changes.{has_number, is_over}
 use Rattle.dms_sets.specs.Padded.{entry_width}
@@ -31,24 +31,26 @@ use Rattle.dms_store.specs.PuttingSteps.{SlotChanged, step}
 use Rattle.dms_store.specs.Rows.{AreNumbered, rec_in, rec_opt}
 use Rattle.dms_store.specs.Serving.{IsServed}
 use Rattle.dms_store.specs.SetPaths.{formed}
-use Rattle.dms_store.specs.Spelled.{counted_in, file_in, has_none, is_kept, is_whole, links_stand, owned_in, spelled}
+use Rattle.dms_store.specs.Spelled.{counted_in, file_in, has_none, is_whole, links_stand, owned_in, spelled}
 use Rattle.dms_store.specs.SpelledLaws.{RecordStands, links_still, spelled_stands}
+use Rattle.dms_desc.specs.Kinds.{is_set_or_automatic}
+use Rattle.dms_desc_bytes.specs.Finding.{owner_in as owner_of}
 
 -- The files of the sets and automatic subsets of a data set are the lists of this database, and all other files are as they were.
 pub record ListsPut (desc : Described) (db : Db) (set : ℕ) (c d : Content) : Type 0 where
-  pub kept : (n : ℕ) (s : Shape) → structure_of desc n ≡ Some s → is_kept s ≡ true → (list_in (entry_width (kinds_over desc s) s.parts) (file_in d s) ≡ Some (entries_of desc db s)) × (length (file_in d s) ≤ 1048576)
+  pub kept : (n : ℕ) (s : Shape) → structure_of desc n ≡ Some s → is_set_or_automatic s ≡ true → (list_in (entry_width (kinds_over desc s) s.parts) (file_in d s) ≡ Some (entries_of desc db s)) × (length (file_in d s) ≤ 1048576)
   pub still : (n : ℕ) → has_number desc.structures set n ≡ false → d (file_of n) ≡ c (file_of n)
 
 -- ---- structures that are over no data set
 
 -- one of these structures is a set or automatic subset, and has this number
 abbrev IsKeptList : List Shape → ℕ → ℕ → Type 0
-IsKeptList ss k m = (i : ℕ) × (t : Shape) × (slice_get ss i ≡ Some t) × (is_kept t ≡ true) × (m ≡ k + i)
+IsKeptList ss k m = (i : ℕ) × (t : Shape) × (slice_get ss i ≡ Some t) × (is_set_or_automatic t ≡ true) × (m ≡ k + i)
 
 there_turn : (b : Bool) (s : Shape) (ss : List Shape) (k set m : ℕ) → s.number ≡ k → (is_over s set && (m == s.number)) ≡ b → (b || has_number ss set m) ≡ true → (has_number ss set m ≡ true → IsKeptList ss (k + 1) m) → IsKeptList (s ∷ ss) k m
 there_turn true s ss k set m number is h rest =
     let both = both_of (is_over s set) (m == s.number) is in
-    let kept = both_of (is_kept s) (s.set == set) both.0 in
+    let kept = both_of (is_set_or_automatic s) (s.set == set) both.0 in
     let same : m ≡ s.number = grind (arith, nat_tests, both.1) in
     (0, s, refl, kept.0, omega (arith, same, number))
 there_turn false s ss k set m number is h rest = let r = rest h in (suc r.0, r.1, r.2, r.3, omega (arith, r.4))
@@ -57,7 +59,7 @@ over_there : (ss : List Shape) (k set m : ℕ) → AreNumbered k ss → has_numb
 over_there [] k set m numbered h = absurd (cc)
 over_there (s ∷ ss) k set m numbered h = there_turn (is_over s set && (m == s.number)) s ss k set m numbered.0 refl h (λ g. over_there ss (k + 1) set m numbered.1 g)
 
-pub not_over : (desc : Described) (set n : ℕ) → IsServed desc → ((t : Shape) → structure_of desc n ≡ Some t → is_kept t ≡ false) → has_number desc.structures set n ≡ false
+pub not_over : (desc : Described) (set n : ℕ) → IsServed desc → ((t : Shape) → structure_of desc n ≡ Some t → is_set_or_automatic t ≡ false) → has_number desc.structures set n ≡ false
 not_over desc set n served off = by (has_number desc.structures set n) refl
   where
     by : (b : Bool) → has_number desc.structures set n ≡ b → b ≡ false
@@ -68,13 +70,13 @@ not_over desc set n served off = by (has_number desc.structures set n) refl
         sym r.3 ∙ off r.1 at
     by false h = refl
 
-pub no_kept : (s : Shape) → is_data_set (Some s) ≡ true → is_kept s ≡ false
+pub no_kept : (s : Shape) → is_data_set (Some s) ≡ true → is_set_or_automatic s ≡ false
 no_kept s h =
     let low : nat_lt s.kind 3 ≡ true = (both_of (nat_lt 0 s.kind) (nat_lt s.kind 3) h).1 in
     let off : nat_lt 2 s.kind ≡ false = grind (arith, nat_tests, low) in
     ap (λ b. b && nat_lt s.kind 5) off
 
-pub no_set : (s : Shape) → is_kept s ≡ true → is_data_set (Some s) ≡ false
+pub no_set : (s : Shape) → is_set_or_automatic s ≡ true → is_data_set (Some s) ≡ false
 no_set s h =
     let high : nat_lt 2 s.kind ≡ true = (both_of (nat_lt 2 s.kind) (nat_lt s.kind 5) h).0 in
     let off : nat_lt s.kind 3 ≡ false = grind (arith, nat_tests, high) in
@@ -88,10 +90,10 @@ some_shape : (x y : Shape) → ◌≡◌ {A = Option Shape} (Some x) (Some y) �
 some_shape x y h = cc
 
 -- a structure that is no set has the file that it had
-pub file_still : (desc : Described) (db : Db) (set : ℕ) (c d : Content) (n : ℕ) (s : Shape) → IsServed desc → ListsPut desc db set c d → structure_of desc n ≡ Some s → is_kept s ≡ false → file_in d s ≡ file_in c s
+pub file_still : (desc : Described) (db : Db) (set : ℕ) (c d : Content) (n : ℕ) (s : Shape) → IsServed desc → ListsPut desc db set c d → structure_of desc n ≡ Some s → is_set_or_automatic s ≡ false → file_in d s ≡ file_in c s
 file_still desc db set c d n s served lists at off =
     let number = number_at desc n s served at in
-    lists.still s.number (not_over desc set s.number served (λ t there. ap is_kept (some_shape t s (sym there ∙ ap (structure_of desc) number ∙ at)) ∙ off))
+    lists.still s.number (not_over desc set s.number served (λ t there. ap is_set_or_automatic (some_shape t s (sym there ∙ ap (structure_of desc) number ∙ at)) ∙ off))
 
 -- ---- the slots after the lists
 
@@ -252,7 +254,7 @@ module _ (desc : Described) (served : IsServed desc) (db : Db) (c e d : Content)
         omega (arith, nat.div-le_self (number - 1) (per_block s.items), may.most, p)
 
     few_after : (n : ℕ) (t : Shape) → 1 ≤ n → n ≤ 200 → structure_of desc n ≡ Some t → length (d (file_of n)) ≤ 1048576
-    few_after n t low high at = by (is_data_set (Some t)) (is_kept t) refl refl
+    few_after n t low high at = by (is_data_set (Some t)) (is_set_or_automatic t) refl refl
       where
         number_t : t.number ≡ n
         number_t = number_at desc n t served at
@@ -263,7 +265,7 @@ module _ (desc : Described) (served : IsServed desc) (db : Db) (c e d : Content)
         of_old : length (d (file_of t.number)) ≡ length (c (file_of t.number)) → length (d (file_of n)) ≤ 1048576
         of_old h = omega (arith, ap (λ f. length (d f)) same_file, ap (λ f. length (c f)) same_file, h, (files.fit n low high).few)
 
-        by : (b k : Bool) → is_data_set (Some t) ≡ b → is_kept t ≡ k → length (d (file_of n)) ≤ 1048576
+        by : (b k : Bool) → is_data_set (Some t) ≡ b → is_set_or_automatic t ≡ k → length (d (file_of n)) ≤ 1048576
         by true k is g = elim (cases_eq n set) [
           | inl same ↦
               let here : n ≡ s.number = omega (arith, same, number_is) in

@@ -18,9 +18,8 @@ use Rattle.dms_layout.specs.declared.slot.SlotRead.{SlotRead}
 use Rattle.dms_layout.specs.declared.slot.SlotRead.TheVariants.{Free, Used, Bad}
 use Rattle.dms_model.specs.Db.{Db, Place, place_cmp}
 use Rattle.dms_model.specs.Stores.{kept_owner, linked}
-use Rattle.dms_model.specs.Valid.{is_data_set, owner_of, owner_stands}
+use Rattle.dms_model.specs.Valid.{is_data_set, owner_stands}
 use Rattle.dms_ordlist.specs.ListIn.{list_in}
-use Rattle.dms_sets.specs.Listing.{places_same}
 use Rattle.dms_sets.specs.Padded.{entry_width}
 use Rattle.dms_sets.specs.Sets.{kinds_over}
 use Rattle.dms_sets.specs.Tests.{both_of, tied}
@@ -36,6 +35,8 @@ use Rattle.dms_store.specs.PuttingSteps.{SlotChanged, slot_written, step}
 use Rattle.dms_store.specs.Rows.{rec_in, rec_opt}
 use Rattle.dms_store.specs.Serving.{IsServed}
 use Rattle.dms_store.specs.Spelled.{file_in, has_none, is_whole, owned_in, spelled}
+use Rattle.dms_model.specs.Places.{places_same}
+use Rattle.dms_desc_bytes.specs.Finding.{owner_in as owner_of}
 
 -- ---- definitions
 

@@ -18,7 +18,6 @@ use Rattle.dms_layout.specs.declared.slot.SlotRead.TheVariants.{Free, Used, Bad}
 use Rattle.dms_model.specs.Db.{Db, Place, place_cmp}
 use Rattle.dms_model.specs.Valid.{is_data_set, owner_stands}
 use Rattle.dms_ordlist.specs.ListIn.{list_in}
-use Rattle.dms_sets.specs.Listing.{places_same, places_total}
 use Rattle.dms_sets.specs.Padded.{entry_width}
 use Rattle.dms_sets.specs.Sets.{entries_of, kinds_over}
 use Rattle.dms_sets.specs.Tests.{both_of}
@@ -28,8 +27,10 @@ use Rattle.dms_store.specs.Files.{file_at, list_at, slots_at}
 use Rattle.dms_store.specs.Finding.{number_at, served_at}
 use Rattle.dms_store.specs.Rows.{get_in, rec_in}
 use Rattle.dms_store.specs.Serving.{IsServed}
-use Rattle.dms_store.specs.Spelled.{counted_in, db_in, file_in, file_spells, files_fit, files_spell, has_none, is_kept, is_list_of, is_spelled, is_whole, links_stand, lists_eq, owned_in, rows_from, rows_in, slot_stands, slots_stand, some_if, spelled}
+use Rattle.dms_store.specs.Spelled.{counted_in, db_in, file_in, file_spells, files_fit, files_spell, has_none, is_list_of, is_spelled, is_whole, links_stand, lists_eq, owned_in, rows_from, rows_in, slot_stands, slots_stand, some_if, spelled}
 use Rattle.dms_store.specs.SpelledLaws.{spells}
+use Rattle.dms_desc.specs.Kinds.{is_set_or_automatic}
+use Rattle.dms_model.specs.Places.{places_same, places_total}
 
 -- ---- definitions
 
@@ -54,8 +55,8 @@ pub record RecordsStand (desc : Described) (db : Db) (own : ℕ → ℕ → ℕ)
 
 -- the files of all other structures have its entries
 pub record ListsSpell (desc : Described) (db : Db) (c : Content) : Type 0 where
-  pub kept : (n : ℕ) (s : Shape) → structure_of desc n ≡ Some s → is_data_set (Some s) ≡ false → is_kept s ≡ true → list_in (entry_width (kinds_over desc s) s.parts) (file_in c s) ≡ Some (entries_of desc db s)
-  pub manual : (n : ℕ) (s : Shape) → structure_of desc n ≡ Some s → is_data_set (Some s) ≡ false → is_kept s ≡ false → has_none (file_in c s) ≡ true
+  pub kept : (n : ℕ) (s : Shape) → structure_of desc n ≡ Some s → is_data_set (Some s) ≡ false → is_set_or_automatic s ≡ true → list_in (entry_width (kinds_over desc s) s.parts) (file_in c s) ≡ Some (entries_of desc db s)
+  pub manual : (n : ℕ) (s : Shape) → structure_of desc n ≡ Some s → is_data_set (Some s) ≡ false → is_set_or_automatic s ≡ false → has_none (file_in c s) ≡ true
 
 -- whole blocks, not too many of them, and none where there is no structure
 pub record OneFits (desc : Described) (c : Content) (n : ℕ) : Type 0 where
@@ -167,10 +168,10 @@ files_stand desc c served spelt = record {
   none = λ set. none_in desc c set;
 }
 
-manual_by : (desc : Described) (db : Db) (s : Shape) (bs : List (List ℕ)) → is_data_set (Some s) ≡ false → is_kept s ≡ false → file_spells desc db s bs ≡ true → has_none bs ≡ true
+manual_by : (desc : Described) (db : Db) (s : Shape) (bs : List (List ℕ)) → is_data_set (Some s) ≡ false → is_set_or_automatic s ≡ false → file_spells desc db s bs ≡ true → has_none bs ≡ true
 manual_by desc db s bs no_set no_list h =
     let list = is_list_of (list_in (entry_width (kinds_over desc s) s.parts) bs) (entries_of desc db s) in
-    sym (ap (λ b. cond b (list_all (is_block s) bs && slots_stand desc db s 1 (slots_of s bs)) (cond (is_kept s) list (has_none bs))) no_set ∙ ap (λ b. cond b list (has_none bs)) no_list) ∙ h
+    sym (ap (λ b. cond b (list_all (is_block s) bs && slots_stand desc db s 1 (slots_of s bs)) (cond (is_set_or_automatic s) list (has_none bs))) no_set ∙ ap (λ b. cond b list (has_none bs)) no_list) ∙ h
 
 lists_spell : (desc : Described) (c : Content) → is_spelled desc c ≡ true → ListsSpell desc (db_in desc c) c
 lists_spell desc c spelt = record {
@@ -247,22 +248,22 @@ module _ (desc : Described) (db : Db) (own : ℕ → ℕ → ℕ) (c : Content) 
       ∙ read_stands desc db s own (1 + i) (slot_at s (file_in c s) (1 + i)) (all_good s (file_in c s) (1 + i) (some_slots desc n s served at) file.blocks)
       (λ slot is. file.slots (1 + i) slot (omega arith) is) (owned (1 + i)))
 
-  file_again : (b k : Bool) (n : ℕ) (s : Shape) → is_data_set (Some s) ≡ b → is_kept s ≡ k → structure_of desc n ≡ Some s → RecordsStand desc db own c → ListsSpell desc db c → ((m : ℕ) → own s.number m ≡ owned_in desc db s.number m) → file_spells desc db s (file_in c s) ≡ true
+  file_again : (b k : Bool) (n : ℕ) (s : Shape) → is_data_set (Some s) ≡ b → is_set_or_automatic s ≡ k → structure_of desc n ≡ Some s → RecordsStand desc db own c → ListsSpell desc db c → ((m : ℕ) → own s.number m ≡ owned_in desc db s.number m) → file_spells desc db s (file_in c s) ≡ true
   file_again true k n s is_set is at slots lists owned =
       let bs = file_in c s in
       let list = is_list_of (list_in (entry_width (kinds_over desc s) s.parts) bs) (entries_of desc db s) in
       let file = slots.each n s at is_set in
       let all = slots_again n s at file owned in
-      ap (λ b. cond b (list_all (is_block s) bs && slots_stand desc db s 1 (slots_of s bs)) (cond (is_kept s) list (has_none bs))) is_set ∙ (λ i. file.blocks i && all i)
+      ap (λ b. cond b (list_all (is_block s) bs && slots_stand desc db s 1 (slots_of s bs)) (cond (is_set_or_automatic s) list (has_none bs))) is_set ∙ (λ i. file.blocks i && all i)
   file_again false true n s no_set kept at slots lists owned =
       let bs = file_in c s in
       let list = is_list_of (list_in (entry_width (kinds_over desc s) s.parts) bs) (entries_of desc db s) in
-      ap (λ b. cond b (list_all (is_block s) bs && slots_stand desc db s 1 (slots_of s bs)) (cond (is_kept s) list (has_none bs))) no_set ∙ ap (λ b. cond b list (has_none bs)) kept
+      ap (λ b. cond b (list_all (is_block s) bs && slots_stand desc db s 1 (slots_of s bs)) (cond (is_set_or_automatic s) list (has_none bs))) no_set ∙ ap (λ b. cond b list (has_none bs)) kept
       ∙ ap (λ o. is_list_of o (entries_of desc db s)) (lists.kept n s at no_set kept) ∙ lists_itself (entries_of desc db s)
   file_again false false n s no_set no_list at slots lists owned =
       let bs = file_in c s in
       let list = is_list_of (list_in (entry_width (kinds_over desc s) s.parts) bs) (entries_of desc db s) in
-      ap (λ b. cond b (list_all (is_block s) bs && slots_stand desc db s 1 (slots_of s bs)) (cond (is_kept s) list (has_none bs))) no_set ∙ ap (λ b. cond b list (has_none bs)) no_list
+      ap (λ b. cond b (list_all (is_block s) bs && slots_stand desc db s 1 (slots_of s bs)) (cond (is_set_or_automatic s) list (has_none bs))) no_set ∙ ap (λ b. cond b list (has_none bs)) no_list
       ∙ lists.manual n s at no_set no_list
 
   records_again : RecordsStand desc db own c → (db_in desc c).records ≡ db.records
@@ -299,7 +300,7 @@ spelled_again desc db own c served slots owned none lists fit =
     let is = db_again desc db own c served slots none in
     let files = files_all desc db c desc.structures (λ i s at.
     let there = structure_here desc.structures i s at in
-    file_again desc db own c served (is_data_set (Some s)) (is_kept s) (suc i) s refl refl there slots lists (λ m. owned s.number m (omega (arith, number_at desc (suc i) s served there)))) in
+    file_again desc db own c served (is_data_set (Some s)) (is_set_or_automatic s) (suc i) s refl refl there slots lists (λ m. owned s.number m (omega (arith, number_at desc (suc i) s served there)))) in
     let fits = fits_again desc db own c served 200 1 (omega arith) (omega arith) fit in
     let test : is_spelled desc c ≡ true = ap (λ d. files_spell desc d c desc.structures && files_fit desc c 200 1) is ∙ (λ i. files i && fits i) in
     λ i. some_if (test i) (is i)

@@ -14,9 +14,9 @@ use Rattle.dms_layout.specs.declared.slot.SlotRead.{SlotRead}
 use Rattle.dms_layout.specs.declared.slot.SlotRead.TheVariants.{Free, Used, Bad}
 use Rattle.dms_model.specs.Db.{Place, place_cmp}
 use Rattle.dms_model.specs.Valid.{is_data_set}
-use Rattle.dms_sets.specs.Listing.{places_total, places_same}
 use Rattle.dms_slots.specs.SlotBlocks.{or_free, slot_at, slots_of}
 use Rattle.dms_store.specs.Spelled.{rows_from, file_in, rows_in, db_in}
+use Rattle.dms_model.specs.Places.{places_same, places_total}
 
 -- the record of a slot
 abbrev pub rec_opt : SlotRead → Option Record

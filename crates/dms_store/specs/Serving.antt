@@ -9,7 +9,7 @@ use Rattle.dms_sets.specs.Padded.{entry_width}
 use Rattle.dms_sets.specs.Puts.{IsNamed}
 use Rattle.dms_sets.specs.Sets.{kinds_over}
 use Rattle.dms_store.specs.Rows.{AreNumbered}
-use Rattle.dms_store.specs.Spelled.{is_kept}
+use Rattle.dms_desc.specs.Kinds.{is_set_or_automatic}
 
 -- one structure: its kind is one of five, a block holds a slot of it, and a data set has no key
 pub record IsServedShape (s : Shape) : Type 0 where
@@ -34,4 +34,4 @@ pub record IsServed (desc : Described) : Type 0 where
   pub count : length desc.structures ≤ 200
   pub numbered : AreNumbered 1 desc.structures
   pub each : AllByRecursion IsServedShape desc.structures
-  pub sets : AllByRecursion (λ s. is_kept s ≡ true → IsServedSet desc s) desc.structures
+  pub sets : AllByRecursion (λ s. is_set_or_automatic s ≡ true → IsServedSet desc s) desc.structures

@@ -13,7 +13,7 @@ use Rattle.dms_desc.specs.declared.bound.Bound.TheVariants.{Start, End, At, From
 use Rattle.dms_desc.specs.declared.structure.Item.{Item}
 use Rattle.dms_desc.specs.declared.structure.KeyPart.{KeyPart}
 use Rattle.dms_desc.specs.Lookups.{items_of, over_of, parts_of, structure_at, structure_of}
-use Rattle.dms_desc.specs.Kinds.{over}
+use Rattle.dms_desc.specs.Kinds.{over, is_set_or_automatic}
 use Rattle.dms_desc.specs.Plain.{ArePlain, IsPlain}
 use Rattle.dms_desc.specs.Shape.{Shape, Described}
 use Rattle.dms_key.specs.KeyBytes as bytes
@@ -31,7 +31,7 @@ use Rattle.dms_sets.specs.Tests.{both_of}
 use Rattle.dms_store.specs.Finding.{served_at, structure_there}
 use Rattle.dms_store.specs.Rows.{AreNumbered}
 use Rattle.dms_store.specs.Serving.{IsServed, IsServedSet, IsServedShape}
-use Rattle.dms_store.specs.Spelled.{db_in, is_kept, is_spelled, spelled, some_if}
+use Rattle.dms_store.specs.Spelled.{db_in, is_spelled, spelled, some_if}
 use Rattle.dms_store.specs.SpelledLaws.{IsFormed, spelled_fits}
 
 -- ---- a description that is served is formed
@@ -68,15 +68,15 @@ formed desc served = record {
   populations = populations_all desc.structures served.each;
 }
 
-set_in : (desc : Described) (ss : List Shape) (i : ℕ) (s : Shape) → AllByRecursion (λ t. is_kept t ≡ true → IsServedSet desc t) ss → slice_get ss i ≡ Some s → is_kept s ≡ true → IsServedSet desc s
+set_in : (desc : Described) (ss : List Shape) (i : ℕ) (s : Shape) → AllByRecursion (λ t. is_set_or_automatic t ≡ true → IsServedSet desc t) ss → slice_get ss i ≡ Some s → is_set_or_automatic s ≡ true → IsServedSet desc s
 set_in desc [] i s all at kept = absurd (cc)
-set_in desc (t ∷ ss) zero s all at kept = subst (λ (x : Shape). is_kept x ≡ true → IsServedSet desc x) (some_shape t s at) all.0 kept
+set_in desc (t ∷ ss) zero s all at kept = subst (λ (x : Shape). is_set_or_automatic x ≡ true → IsServedSet desc x) (some_shape t s at) all.0 kept
   where
     some_shape : (x y : Shape) → ◌≡◌ {A = Option Shape} (Some x) (Some y) → x ≡ y
     some_shape x y h = cc
 set_in desc (t ∷ ss) (suc i) s all at kept = set_in desc ss i s all.1 at kept
 
-pub set_at : (desc : Described) (n : ℕ) (s : Shape) → IsServed desc → structure_of desc n ≡ Some s → is_kept s ≡ true → IsServedSet desc s
+pub set_at : (desc : Described) (n : ℕ) (s : Shape) → IsServed desc → structure_of desc n ≡ Some s → is_set_or_automatic s ≡ true → IsServedSet desc s
 set_at desc n s served at kept = set_in desc desc.structures (n - 1) s served.sets (structure_there desc.structures n s at) kept
 
 -- ---- the key of a bound
@@ -123,7 +123,7 @@ kinds_at : (desc : Described) (o : Option Shape) (n : ℕ) → IsServed desc →
 kinds_at desc None n served at = tt
 kinds_at desc (Some s) n served at = (served_at desc n s served at).kinds
 
-kept_apart : (s : Shape) → is_kept s ≡ true → (s.kind == 5) ≡ false
+kept_apart : (s : Shape) → is_set_or_automatic s ≡ true → (s.kind == 5) ≡ false
 kept_apart s h = let both = both_of (nat_lt 2 s.kind) (nat_lt s.kind 5) h in grind (arith, nat_tests, both.1)
 
 -- what may be looked for in a path may be looked for in its list
@@ -135,7 +135,7 @@ may_look desc path s served at owner bound may =
 
 -- The first member of a set or automatic subset behind a bound, and the last one before it, are those of one look at the list
 -- of its file.
-module _ (desc : Described) (path : ℕ) (s : Shape) (c : Content) (served : IsServed desc) (at : structure_of desc path ≡ Some s) (kept : is_kept s ≡ true) (spelt : is_spelled desc c ≡ true) (owner : ℕ) (bound : Bound) (may : MayStart desc path owner bound) where
+module _ (desc : Described) (path : ℕ) (s : Shape) (c : Content) (served : IsServed desc) (at : structure_of desc path ≡ Some s) (kept : is_set_or_automatic s ≡ true) (spelt : is_spelled desc c ≡ true) (owner : ℕ) (bound : Bound) (may : MayStart desc path owner bound) where
   fitted : bounds.BoundKeyFits (kinds_over desc s) s.parts bound × BoundSmall (kinds_over desc s) s.parts bound
   fitted = may_look desc path s served at owner bound may
 

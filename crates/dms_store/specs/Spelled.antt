@@ -14,13 +14,15 @@ use Rattle.dms_desc.specs.declared.record.Record.{Record}
 use Rattle.dms_desc.specs.Shape.{Shape, Described}
 use Rattle.dms_layout.specs.declared.slot.SlotRead.{SlotRead}
 use Rattle.dms_layout.specs.declared.slot.SlotRead.TheVariants.{Free, Used, Bad}
-use Rattle.dms_model.specs.Valid.{is_data_set, link_stands, owner_of, owner_stands}
+use Rattle.dms_model.specs.Valid.{is_data_set, link_stands, owner_stands}
 use Rattle.dms_model.specs.Db.{Db, SubsetEntry, Place, Records}
 use Rattle.dms_desc.specs.Lookups.{structure_of, items_of}
 use Rattle.dms_ordlist.specs.ListIn.{list_in}
 use Rattle.dms_sets.specs.Padded.{entry_width}
 use Rattle.dms_sets.specs.Sets.{entries_of, kinds_over}
 use Rattle.dms_slots.specs.SlotBlocks.{file_of, slots_of, is_block}
+use Rattle.dms_desc.specs.Kinds.{is_set_or_automatic}
+use Rattle.dms_desc_bytes.specs.Finding.{owner_in as owner_of}
 
 -- ---- the records
 
@@ -117,15 +119,11 @@ abbrev pub has_none : List (List ℕ) → Bool
 has_none [] = true
 has_none (b ∷ bs) = false
 
--- a set or an automatic subset
-abbrev pub is_kept : Shape → Bool
-is_kept s = nat_lt 2 s.kind && nat_lt s.kind 5
-
 -- The file of a structure: one of slots that stand, the ordered list of the entries of a set or automatic subset, or no block for a manual subset.
 abbrev pub file_spells : Described → Db → Shape → List (List ℕ) → Bool
 file_spells desc db s bs =
     if is_data_set (Some s) then list_all (is_block s) bs && slots_stand desc db s 1 (slots_of s bs)
-    else (if is_kept s then is_list_of (list_in (entry_width (kinds_over desc s) s.parts) bs) (entries_of desc db s) else has_none bs)
+    else (if is_set_or_automatic s then is_list_of (list_in (entry_width (kinds_over desc s) s.parts) bs) (entries_of desc db s) else has_none bs)
 
 abbrev pub files_spell : Described → Db → Content → List Shape → Bool
 files_spell desc db c [] = true

@@ -29,13 +29,15 @@ use Rattle.dms_model.specs.Db.{Db, Place, Records, place_cmp, empty_db}
 use Rattle.dms_desc.specs.Lookups.{structure_of, items_of}
 use Rattle.dms_ordlist.specs.ListIn.{list_in}
 use Rattle.dms_ordlist.specs.Lists.{empty_keys}
-use Rattle.dms_sets.specs.Listing.{places_total, places_same, listing}
+use Rattle.dms_sets.specs.Listing.{listing}
 use Rattle.dms_sets.specs.Padded.{entry_width}
 use Rattle.dms_sets.specs.Sets.{entries_of, kinds_over, entry_of}
 use Rattle.dms_sets.specs.Spots.{some_item, ValuesFit, RecordHasSpot, RecordsHaveSpots}
 use Rattle.dms_slots.specs.SlotBlocks.{file_of, slots_of, slots_in, slots_by, cut, is_block, per_block}
-use Rattle.dms_store.specs.Spelled.{rows_from, file_in, rows_in, db_in, counted_in, owned_in, links_stand, slot_stands, slots_stand, is_list_of, has_none, is_kept, file_spells, files_spell, is_whole, files_fit, is_spelled, some_if, spelled}
+use Rattle.dms_store.specs.Spelled.{rows_from, file_in, rows_in, db_in, counted_in, owned_in, links_stand, slot_stands, slots_stand, is_list_of, has_none, file_spells, files_spell, is_whole, files_fit, is_spelled, some_if, spelled}
 use Rattle.dms_sets.specs.Tests.{both_of, tied}
+use Rattle.dms_desc.specs.Kinds.{is_set_or_automatic}
+use Rattle.dms_model.specs.Places.{places_same, places_total}
 
 -- ---- a content without blocks
 
@@ -71,9 +73,9 @@ nothing_listed w = refl
 
 file_empty : (desc : Described) (s : Shape) → file_spells desc empty_db s [] ≡ true
 file_empty desc s =
-    elim (is_data_set (Some s)) as (λ b. cond b true (cond (is_kept s) (is_list_of (list_in (entry_width (kinds_over desc s) s.parts) []) (entries_of desc empty_db s)) true) ≡ true) [
+    elim (is_data_set (Some s)) as (λ b. cond b true (cond (is_set_or_automatic s) (is_list_of (list_in (entry_width (kinds_over desc s) s.parts) []) (entries_of desc empty_db s)) true) ≡ true) [
       | true ↦ refl
-      | false ↦ elim (is_kept s) as (λ b. cond b (is_list_of (list_in (entry_width (kinds_over desc s) s.parts) []) (entries_of desc empty_db s)) true ≡ true) [
+      | false ↦ elim (is_set_or_automatic s) as (λ b. cond b (is_list_of (list_in (entry_width (kinds_over desc s) s.parts) []) (entries_of desc empty_db s)) true ≡ true) [
         | true ↦ (λ i. is_list_of (nothing_listed (entry_width (kinds_over desc s) s.parts) i) (no_entries desc s i))
         | false ↦ refl
       ]
@@ -224,7 +226,7 @@ turn_stands : (b : Bool) (desc : Described) (db : Db) (c : Content) (s : Shape) 
 turn_stands true desc db c s rest data_set is kinds small h all =
     let bs = file_in c s in
     let file : (list_all (is_block s) bs && slots_stand desc db s 1 (slots_of s bs)) ≡ true =
-    sym (ap (λ b. cond b (list_all (is_block s) bs && slots_stand desc db s 1 (slots_of s bs)) (cond (is_kept s) (is_list_of (list_in (entry_width (kinds_over desc s) s.parts) bs) (entries_of desc db s)) (has_none bs))) data_set) ∙ h in
+    sym (ap (λ b. cond b (list_all (is_block s) bs && slots_stand desc db s 1 (slots_of s bs)) (cond (is_set_or_automatic s) (is_list_of (list_in (entry_width (kinds_over desc s) s.parts) bs) (entries_of desc db s)) (has_none bs))) data_set) ∙ h in
     all_append (StandsAt desc db) (rows_from s.number 1 (slots_of s bs)) rest
     (rows_stand desc db s is data_set kinds small 1 (slots_of s bs) (omega arith) (file_fits s bs) (both_of (list_all (is_block s) bs) (slots_stand desc db s 1 (slots_of s bs)) file).1) all
 turn_stands false desc db c s rest data_set is kinds small h all = all

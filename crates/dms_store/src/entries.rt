@@ -11,7 +11,7 @@ ghost use Rattle.dms_sets.specs.Finds.{spot_by};
 ghost use Rattle.dms_sets.specs.Sets.{kinds_over, number_in};
 ghost use Rattle.dms_store.specs.Lifted.{IsUsable, db_of};
 ghost use Rattle.dms_store.specs.Listed.{BadEntry, is_entry};
-ghost use Rattle.dms_store.specs.Spelled.{is_kept};
+ghost use Rattle.dms_desc.specs.Kinds.{is_set_or_automatic};
 
 use crate::getting::get;
 use dms_base::{Bytes, ItemKind, Memory};
@@ -70,7 +70,7 @@ pub fn member_at<B: Blocks>(
     found: &[u8],
 ) -> Result<Option<Spot>, BlockFault>
     requires usable { IsUsable (described desc.now) over.old }
-    requires kept { is_kept (shape_of s.now) ≡ true }
+    requires kept { is_set_or_automatic (shape_of s.now) ≡ true }
     requires there { structure_of (described desc.now) s.now.number ≡ Some (shape_of s.now) }
     requires kinds { kinds.now ≡ kinds_over (described desc.now) (shape_of s.now) }
     requires owner { owner < 2 ^ 32 }

@@ -10,7 +10,7 @@ ghost use Rattle.dms_sets.specs.Sets.{kinds_over};
 ghost use Rattle.dms_slots.specs.SlotBlocks.{file_of};
 ghost use Rattle.dms_store.specs.Lifted.{IsUsable, db_of};
 ghost use Rattle.dms_store.specs.Listed.{BadPath, most_reads};
-ghost use Rattle.dms_store.specs.Spelled.{is_kept};
+ghost use Rattle.dms_desc.specs.Kinds.{is_set_or_automatic};
 
 use crate::entries::member_at;
 use crate::finding::{first_record, last_record};
@@ -24,7 +24,7 @@ use std::alloc::Global;
 
 // The kinds of the items of a set's data set.
 fn kinds_over(alloc: Global, desc: &Description, s: &Structure) -> Result<Vec<ItemKind>, Memory>
-    requires kept { is_kept (shape_of s.now) ≡ true }
+    requires kept { is_set_or_automatic (shape_of s.now) ≡ true }
     ensures { IfOk result (λ v. v.items ≡ kinds_over (described desc.now) (shape_of s.now)) }
 {
     match desc.structure(s.set) {
@@ -43,7 +43,7 @@ fn first_listed<B: Blocks>(
     from: &Bound,
 ) -> Result<Option<Spot>, BlockFault>
     requires usable { IsUsable (described desc.now) over.old }
-    requires kept { is_kept (shape_of s.now) ≡ true }
+    requires kept { is_set_or_automatic (shape_of s.now) ≡ true }
     requires there { structure_of (described desc.now) s.now.number ≡ Some (shape_of s.now) }
     requires owner { owner < 2 ^ 32 }
     ensures found { MayStart (described desc.now) s.now.number owner from.now → Tells (db_of (described desc.now) (under over.old).told (under over.old).content) result
@@ -80,7 +80,7 @@ fn last_listed<B: Blocks>(
     to: &Bound,
 ) -> Result<Option<Spot>, BlockFault>
     requires usable { IsUsable (described desc.now) over.old }
-    requires kept { is_kept (shape_of s.now) ≡ true }
+    requires kept { is_set_or_automatic (shape_of s.now) ≡ true }
     requires there { structure_of (described desc.now) s.now.number ≡ Some (shape_of s.now) }
     requires owner { owner < 2 ^ 32 }
     ensures found { MayStart (described desc.now) s.now.number owner to.now → Tells (db_of (described desc.now) (under over.old).told (under over.old).content) result

@@ -8,8 +8,9 @@ use Rattle.dms_block.specs.declared.block_fault.BlockFault.{BlockFault}
 use Rattle.dms_model.specs.declared.reply.Answer.{Answer}
 use Rattle.dms_block.specs.Held.{IsUpToOne}
 use Rattle.dms_model.specs.Seen.{Effort, GoesBack, Spends, Syncs}
-use Rattle.dms_storeverbs.specs.Costs.{Costs, is_done, up_if}
+use Rattle.dms_storeverbs.specs.Costs.{Costs, up_if}
 use Rattle.dms_storeverbs.proofs.Calls.{if_err}
+use Rattle.dms_laws.specs.Exclusive.{is_done}
 
 pub spends_none : (n : ℕ) (a : Effort) → Spends n a a
 spends_none n a = record { least = omega arith; spent = omega arith; syncs = refl; outs = refl }

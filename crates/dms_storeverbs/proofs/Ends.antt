@@ -8,11 +8,12 @@ use Rattle.dms_model.specs.declared.reply.Answer.{Answer}
 use Rattle.dms_model.specs.declared.reply.Reply.{Reply}
 use Rattle.dms_model.specs.declared.reply.Reply.TheVariants.{Done, Exception}
 use Rattle.dms_model.specs.Db.{Db}
-use Rattle.dms_model.specs.Session.{Session, Outcome, StoreResult, Refused, Keeps, replies, done, after_store, after_begin, after_end, settle, carried, entered, left, one_more}
+use Rattle.dms_model.specs.Session.{Session, Outcome, StoreResult, Refused, Keeps, replies, done, after_store, after_begin, after_end, settle, carried, entered, left}
 use Rattle.dms_storeverbs.specs.declared.refusal.Refusal.{Refusal}
 use Rattle.dms_storeverbs.specs.Keeping.{KeptIs, kept_if, reply_of}
 use Rattle.dms_storeverbs.specs.View.{View, StandsFor, MatchesOutcome, view_of}
 use Rattle.dms_storeverbs.proofs.Places.{set_twice, set_back, read_back}
+use Rattle.dms_block.specs.Held.{one_more}
 
 pub kept_as_it_was : (audit : Bool) (desc : Described) (p : Program) (s : Session) (i : ℕ) {db mark : Option Db} {next since : ℕ} {programs : List Program} {pending : Bool} {waits : List Wait} → audit ≡ false → slice_get programs i ≡ Some p → StandsFor (view_of db mark next programs pending since waits) s → KeptIs (kept_if audit desc p s.db) i s None (view_of db mark next programs pending since waits)
 kept_as_it_was audit desc p s i {programs = programs} not at stands =

@@ -19,8 +19,8 @@ use Rattle.dms_desc.specs.Sorted.{that_passes}
 use Rattle.dms_model.specs.Stores.{TellsOf}
 use Rattle.dms_model.specs.Session.{at_values, owner_for, path_of}
 use Rattle.dms_model.specs.AreaLaws.{no_owner}
-use Rattle.dms_model.specs.Valid.{owner_of}
 use Rattle.dms_model.specs.Verbs.{IsPathOf, is_outer_path}
+use Rattle.dms_desc_bytes.specs.Finding.{owner_in as owner_of}
 
 -- a path that a line can name stands in no data set
 outer_is : (o : Option Shape) → IsTrue (is_outer_path o) → owner_of o ≡ 0

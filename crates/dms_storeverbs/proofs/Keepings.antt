@@ -16,7 +16,7 @@ use Rattle.dms_desc.specs.Lookups.{structure_of, name_of}
 use Rattle.dms_model.specs.Stores.{put_answer, put_after}
 use Rattle.dms_model.specs.Fitting.{HasRecord, MayPut, Puts}
 use Rattle.dms_model.specs.Spoken.{IsOuter}
-use Rattle.dms_model.specs.Valid.{owner_of, owner_stands}
+use Rattle.dms_model.specs.Valid.{owner_stands}
 use Rattle.dms_laws.specs.Exclusive.{AreSafe, IsExclusive, locks_it}
 use Rattle.dms_laws.proofs.Lists.{all_at}
 use Rattle.dms_model.specs.Session.{Session, StoreResult, Refused}
@@ -24,6 +24,7 @@ use Rattle.dms_storeverbs.specs.declared.refusal.Refusal.{Refusal}
 use Rattle.dms_storeverbs.specs.Keeping.{KeptIs}
 use Rattle.dms_storeverbs.specs.Storing.{IsReady, put_record, with_stored}
 use Rattle.dms_storeverbs.specs.View.{View, StandsFor, view_of}
+use Rattle.dms_desc_bytes.specs.Finding.{owner_in as owner_of}
 
 pub kept_refused : (k : StoreResult) (r : Refusal) (i : ℕ) (s : Session) (v : View) → k ≡ Refused (Exception r.category r.name) → StandsFor v s → KeptIs k i s (Some r) v
 kept_refused k r i s v is stands = subst (λ (x : StoreResult). KeptIs x i s (Some r) v) (sym is) (refl, stands)

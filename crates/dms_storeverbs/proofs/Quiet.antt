@@ -19,10 +19,11 @@ use Rattle.dms_desc.specs.Lookups.{structure_of, items_of, set_of}
 use Rattle.dms_model.specs.Stores.{put_after}
 use Rattle.dms_model.specs.StoreLaws.{keep_any}
 use Rattle.dms_model.specs.declared.reply.Reply.{Reply}
-use Rattle.dms_model.specs.Session.{Session, Outcome, StoreResult, Refused, Keeps, Filled, Misfit, Values', refuse, done, shows, settle, keep, store_step, after_store, begin_step, after_begin, begun, replies, stored_program, end_step, after_end, abort_step, find_step, find_for, after_find, found_by, create_step, create_for, owner_for, put_step, put_area, after_put, filled, get_step, get_area, close_step, open_as, open_in, open_step, verb_step, step_at, answered, carried_out, step, with_program, restart_of, someone_works, is_inquiry, opens, changes, path_of, new_program, place_of, carried, entered, left, without, idle, found_program, let_go, area_values, record_of, one_more, area_of}
+use Rattle.dms_model.specs.Session.{Session, Outcome, StoreResult, Refused, Keeps, Filled, Misfit, Values', refuse, done, shows, settle, keep, store_step, after_store, begin_step, after_begin, begun, replies, stored_program, end_step, after_end, abort_step, find_step, find_for, after_find, found_by, create_step, create_for, owner_for, put_step, put_area, after_put, filled, get_step, get_area, close_step, open_as, open_in, open_step, verb_step, step_at, answered, carried_out, step, with_program, restart_of, someone_works, is_inquiry, opens, changes, path_of, new_program, place_of, carried, entered, left, without, idle, found_program, let_go, area_values, record_of, area_of}
 use Rattle.dms_model.specs.BackOut.{asks_back_out}
 use Rattle.dms_model.specs.Traits.{traits}
 use Rattle.dms_storeverbs.specs.Laws.{MakesNone, MakesWhereQuiet, falls_quiet, QuietRule}
+use Rattle.dms_block.specs.Held.{one_more}
 
 -- no quiet point was made, and someone who worked still works
 pub record Steady (s : Session) (o : Outcome) : Type 0 where

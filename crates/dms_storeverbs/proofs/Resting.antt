@@ -11,11 +11,12 @@ use Rattle.dms_model.specs.declared.spot.Spot.{Spot}
 use Rattle.dms_model.specs.declared.verb.Path.{Path}
 use Rattle.dms_model.specs.declared.verb.Setting.{Setting}
 use Rattle.dms_desc.specs.Lookups.{structure_of, items_of}
-use Rattle.dms_model.specs.Session.{Session, Outcome, StoreResult, Refused, Keeps, Filled, Misfit, Values', refuse, done, settle, keep, store_step, after_store, begin_step, after_begin, begun, end_step, after_end, abort_step, find_step, find_for, after_find, found_by, create_step, create_for, owner_for, put_step, put_area, after_put, filled, get_step, get_area, close_step, open_in, open_step, verb_step, step_at, carried_out, step, restart_of, someone_works, is_inquiry, opens, changes, path_of, place_of, carried, entered, left, without, one_more, area_values, area_of}
+use Rattle.dms_model.specs.Session.{Session, Outcome, StoreResult, Refused, Keeps, Filled, Misfit, Values', refuse, done, settle, keep, store_step, after_store, begin_step, after_begin, begun, end_step, after_end, abort_step, find_step, find_for, after_find, found_by, create_step, create_for, owner_for, put_step, put_area, after_put, filled, get_step, get_area, close_step, open_in, open_step, verb_step, step_at, carried_out, step, restart_of, someone_works, is_inquiry, opens, changes, path_of, place_of, carried, entered, left, without, area_values, area_of}
 use Rattle.dms_model.specs.declared.program.Mode.{Mode}
 use Rattle.dms_model.specs.Traits.{traits}
 use Rattle.dms_storeverbs.specs.Laws.{Rests, RestRule}
 use Rattle.dms_storeverbs.proofs.Quiet.{Steady, set_enters, SameWork, keep_same, find_steady, get_steady, close_steady, steady_at, create_for_steady, open_steady, due_outcome, set_works}
+use Rattle.dms_block.specs.Held.{one_more}
 
 -- what an outcome makes of it
 abbrev Resting : Session → Outcome → Type 0

@@ -7,14 +7,10 @@ use Rattle.dms_model.specs.declared.reply.Answer.{Answer}
 use Rattle.dms_model.specs.declared.reply.Reply.{Reply}
 use Rattle.dms_model.specs.declared.reply.Reply.TheVariants.{Done, Exception, Waits}
 use Rattle.dms_model.specs.declared.verb.Verb.{Verb}
-use Rattle.dms_block.specs.Held.{IsUpToOne}
-use Rattle.dms_model.specs.Seen.{Effort, one_up}
+use Rattle.dms_block.specs.Held.{IsUpToOne, one_more}
+use Rattle.dms_model.specs.Seen.{Effort}
 use Rattle.dms_model.specs.Traits.{traits}
-
-abbrev pub is_done : Reply → Bool
-is_done (Done text) = true
-is_done (Exception category name) = false
-is_done (Waits names) = false
+use Rattle.dms_laws.specs.Exclusive.{is_done}
 
 -- the verbs that may store a record: STORE, and BEGIN and END with AUDIT
 abbrev pub stores : Verb → Bool
@@ -33,7 +29,7 @@ block_limit desc verb = limit_if (stores verb) desc
 
 -- one more where it is so
 abbrev pub up_if : Bool → ℕ → ℕ
-up_if true n = one_up n
+up_if true n = one_more n
 up_if false n = n
 
 -- At most so many blocks are changed. Quiet points are made durable exactly where a syncpoint is answered, once; and the store

@@ -10,7 +10,8 @@ ghost use Rattle.dms_model.specs.Traits.{traits};
 ghost use Rattle.dms_model.specs.Spoken.{IsOuter};
 ghost use Rattle.dms_model.specs.Verbs.{IsSettingOf};
 ghost use Rattle.dms_storeverbs.specs.Apart.{Apart, Admits};
-ghost use Rattle.dms_storeverbs.specs.Costs.{is_done, takes_none};
+ghost use Rattle.dms_storeverbs.specs.Costs.{takes_none};
+ghost use Rattle.dms_laws.specs.Exclusive.{is_done};
 
 use crate::areas;
 use crate::filling::{fill, get_text, initial_values, with_values};

@@ -1,7 +1,8 @@
 ghost use Rattle.std.specs.Prelude.{◌≡◌, false, ◌≤◌, ◌<◌, length, map, replicate, List, ℕ, IfOk, [], if◌then◌else◌, ◌||◌, nat_le};
 ghost use Rattle.dms_desc.specs.Shape.{described};
-ghost use Rattle.dms_model.specs.Session.{place_of, someone_works, workers, idle, backed_out, no_work, new_program, one_more};
+ghost use Rattle.dms_model.specs.Session.{place_of, someone_works, workers, idle, backed_out, no_work, new_program};
 ghost use Rattle.dms_storeverbs.specs.Keeping.{Awaits};
+ghost use Rattle.dms_block.specs.Held.{one_more};
 
 use dms_base::{Memory, Name, Names};
 use dms_desc::Description;

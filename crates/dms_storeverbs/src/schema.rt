@@ -2,7 +2,7 @@ ghost use Rattle.std.specs.Prelude.{◌≡◌};
 ghost use Rattle.dms_desc.specs.Shape.{described};
 ghost use Rattle.dms_desc.specs.Lookups.{structure_of};
 ghost use Rattle.dms_model.specs.Session.{verified, restart_of};
-ghost use Rattle.dms_model.specs.Valid.{owner_of};
+ghost use Rattle.dms_desc_bytes.specs.Finding.{owner_in as owner_of};
 
 use dms_base::Value;
 use dms_desc::{Description, meets};

@@ -9,7 +9,7 @@ use Rattle.dms_tokens.specs.declared.token.Token.{Token}
 use Rattle.dms_tokens.specs.declared.token.Token.TheVariants.{Quoted, Bad, End}
 use Rattle.dms_tokens.specs.declared.token.Lexeme.{Lexeme}
 use Rattle.dms_tokens.specs.declared.reading.Reading.TheVariants.{Between, Comment}
-use Rattle.dms_tokens.specs.Lexing.{is_blank, is_plain, is_letter, is_digit, is_sign}
+use Rattle.dms_tokens.specs.Lexing.{is_blank, is_plain, is_letter, is_sign}
 use Rattle.dms_tokens.specs.Tokens.{lexeme, tokens_from, fresh_byte, comment_byte, byte_turn, end_turn}
 use Rattle.dms_tokens.specs.Spelling.{behind_point, number_of, SpellsToken, IsLongest, is_past_comment, AreTokens}
 use Rattle.dms_tokens.specs.Spelling.AreTokens.{the_end, a_blank, a_comment, a_token, unreadable}
@@ -17,6 +17,7 @@ use Rattle.dms_tokens.proofs.WordScan.{stopped, never, is_byte}
 use Rattle.dms_tokens.proofs.Shapes.{class_of, letter_above, letter_below, sign_class, blank_class, TokenShape, shape_of, nothing_spelled, shape_class, word_is, Tail, number_shape_is, Signs, plus_is, minus_is, string_is, sign_is, equal_is, less_is, greater_is}
 use Rattle.dms_tokens.proofs.Shapes.TokenShape.{word_shape, number_shape, plus_shape, minus_shape, string_shape, sign_shape, equal_shape, less_shape, less_equal_shape, not_equal_shape, greater_shape, greater_equal_shape}
 use Rattle.dms_tokens.proofs.Longest.{FirstToken, first_token, closed_pair, nil_closed}
+use Rattle.dms_base.specs.Words.{is_digit}
 
 -- Bytes have the form of one token
 

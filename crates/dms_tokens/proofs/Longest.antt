@@ -8,15 +8,17 @@ use Rattle.dms_base.specs.declared.op.Op.TheVariants.{Equal, NotEqual, Less, Les
 use Rattle.dms_tokens.specs.declared.token.Token.{Token}
 use Rattle.dms_tokens.specs.declared.token.Token.TheVariants.{Word, Quoted, Sign, Compare, Bad}
 use Rattle.dms_tokens.specs.declared.reading.Reading.TheVariants.{Between, Word as InWord, Whole, Quoted as InQuotes}
-use Rattle.dms_tokens.specs.Lexing.{is_blank, upper, is_letter, is_digit, is_sign}
+use Rattle.dms_tokens.specs.Lexing.{is_blank, upper, is_letter, is_sign}
 use Rattle.dms_tokens.specs.Tokens.{lexeme, tokens_from, first_digit, fresh_byte, byte_turn, signed_byte, less_byte, greater_byte, end_turn}
-use Rattle.dms_tokens.specs.Spelling.{goes_on, behind_point, number_of, doubled, IsSigned, SpellsToken, IsLongest}
+use Rattle.dms_tokens.specs.Spelling.{goes_on, behind_point, number_of, IsSigned, SpellsToken, IsLongest}
 use Rattle.dms_tokens.specs.Spelling.IsSigned.{no_sign, with_plus, with_minus}
 use Rattle.dms_tokens.specs.Spelling.SpellsToken.{a_word, a_number, a_string, a_sign, a_comparison}
 use Rattle.dms_tokens.proofs.WordScan.{stopped, never, scans, is_byte}
 use Rattle.dms_tokens.proofs.NumberScan.{NoDigit, NumberScan, number_scan, number_is, nil_digit, no_digit}
 use Rattle.dms_tokens.proofs.StringScan.{ClosesString, Breaks, StringScan, string_scan, doubled_plain, doubled_quote, no_quote}
 use Rattle.dms_tokens.proofs.Shapes.{class_of, letter_class, digit_class, sign_class, TokenShape, shape_of, nothing_spelled, shape_class, word_is, Tail, number_shape_is, Signs, plus_is, minus_is, string_is, sign_is, equal_is, less_with, less_is, greater_with, greater_is}
+use Rattle.dms_base.specs.Texts.{doubled}
+use Rattle.dms_base.specs.Words.{is_digit}
 
 -- a text's first token
 pub record TakenToken (place : ℕ) (text : List ℕ) : Type 0 where

@@ -9,10 +9,11 @@ use Rattle.dms_tokens.specs.declared.token.Token.TheVariants.{Number, Decimal, L
 use Rattle.dms_tokens.specs.declared.token.Token.{Token}
 use Rattle.dms_tokens.specs.declared.reading.Digits.{Digits}
 use Rattle.dms_tokens.specs.declared.reading.Reading.TheVariants.{Between, Whole, Fraction}
-use Rattle.dms_tokens.specs.Lexing.{is_digit, with_digit, counted_on}
+use Rattle.dms_tokens.specs.Lexing.{with_digit, counted_on}
 use Rattle.dms_tokens.specs.Tokens.{lexeme, tokens_from, first_digit, whole_digit, point_digit, number_token, fresh_byte, byte_turn, whole_byte, point_byte, fraction_byte, end_turn}
 use Rattle.dms_tokens.specs.Spelling.{value_from, behind_point, number_of}
 use Rattle.dms_tokens.proofs.WordScan.{stopped, one_more, never, is_byte}
+use Rattle.dms_base.specs.Words.{is_digit}
 
 -- digits that were read before a point, and behind it
 abbrev pub wholes : Digits → List ℕ → Digits

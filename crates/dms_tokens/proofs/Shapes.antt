@@ -8,11 +8,14 @@ use Rattle.dms_base.specs.declared.op.Op.{Op}
 use Rattle.dms_base.specs.declared.op.Op.TheVariants.{Equal, NotEqual, Less, LessEqual, Greater, GreaterEqual}
 use Rattle.dms_tokens.specs.declared.token.Token.{Token}
 use Rattle.dms_tokens.specs.declared.token.Token.TheVariants.{Word, Quoted, Sign, Compare}
-use Rattle.dms_tokens.specs.Lexing.{is_blank, is_printable, upper, is_letter, is_digit, is_sign}
-use Rattle.dms_tokens.specs.Spelling.{goes_on, behind_point, number_of, doubled, op_text, IsSigned, SpellsToken}
+use Rattle.dms_tokens.specs.Lexing.{is_blank, upper, is_letter, is_sign}
+use Rattle.dms_tokens.specs.Spelling.{goes_on, behind_point, number_of, op_text, IsSigned, SpellsToken}
 use Rattle.dms_tokens.specs.Spelling.IsSigned.{no_sign, with_plus, with_minus}
 use Rattle.dms_tokens.specs.Spelling.SpellsToken.{a_word, a_number, a_string, a_sign, a_comparison}
 use Rattle.dms_tokens.proofs.WordScan.{is_byte}
+use Rattle.dms_base.specs.Texts.{doubled}
+use Rattle.dms_base.specs.Words.{is_digit}
+use Rattle.dms_base.specs.Text.{is_printable}
 
 -- what may begin with a byte: 1 a word, 2 to 4 a number, 5 a string, 6 a sign, 7 to 9 a comparison, 0 nothing; 10 is a
 -- blank's and 11 that of a comment

@@ -7,10 +7,10 @@ use Rattle.std.proofs.lemmas.Bool.Decides.{nat_tests}
 use Rattle.std.specs.List.{list_all}
 use Rattle.dms_tokens.specs.declared.token.Token.TheVariants.{Quoted, Bad}
 use Rattle.dms_tokens.specs.declared.reading.Reading.TheVariants.{Between, Quoted as InQuotes}
-use Rattle.dms_tokens.specs.Lexing.{is_printable}
 use Rattle.dms_tokens.specs.Tokens.{lexeme, tokens_from, byte_turn, quoted_byte, quote_byte, character, end_turn}
-use Rattle.dms_tokens.specs.Spelling.{doubled}
 use Rattle.dms_tokens.proofs.WordScan.{stopped, never, is_byte}
+use Rattle.dms_base.specs.Texts.{doubled}
+use Rattle.dms_base.specs.Text.{is_printable}
 
 pub doubled_plain : (b : ℕ) (bs : List ℕ) → b == 34 ≡ false → doubled (b ∷ bs) ≡ b ∷ doubled bs
 doubled_plain b bs f = rw f refl

@@ -5,9 +5,10 @@ use Rattle.std.proofs.lemmas.Bool.Decides.{Decides-eqb}
 use Rattle.std.proofs.lemmas.List.{append-nil}
 use Rattle.dms_tokens.specs.declared.token.Token.TheVariants.{Word, Bad}
 use Rattle.dms_tokens.specs.declared.reading.Reading.TheVariants.{Between, Word as InWord, Dashes, Stopped}
-use Rattle.dms_tokens.specs.Lexing.{upper, is_letter, is_digit}
+use Rattle.dms_tokens.specs.Lexing.{upper, is_letter}
 use Rattle.dms_tokens.specs.Tokens.{lexeme, tokens_from, fresh_byte, byte_turn, word_byte, dashes_byte, signed_byte, end_turn}
 use Rattle.dms_tokens.specs.Spelling.{goes_on}
+use Rattle.dms_base.specs.Words.{is_digit}
 
 -- nothing is read behind a byte that can't be
 pub stopped : (place : ℕ) (text : List ℕ) → tokens_from Stopped place text ≡ []

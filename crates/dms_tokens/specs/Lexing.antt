@@ -9,19 +9,12 @@ is_blank b = b == 32 || b == 9 || b == 13 || b == 10
 abbrev pub is_plain : ℕ → Bool
 is_plain b = is_blank b || (nat_le 33 b && nat_le b 126)
 
--- what a string may hold
-abbrev pub is_printable : ℕ → Bool
-is_printable b = nat_le 32 b && nat_le b 126
-
 -- a lower-case letter counts as its upper case
 abbrev pub upper : ℕ → ℕ
 upper b = if nat_le 97 b && nat_le b 122 then b - 32 else b
 
 abbrev pub is_letter : ℕ → Bool
 is_letter b = nat_le 65 (upper b) && nat_le (upper b) 90
-
-abbrev pub is_digit : ℕ → Bool
-is_digit b = nat_le 48 b && nat_le b 57
 
 -- a bracket, a comma or a semicolon
 abbrev pub is_sign : ℕ → Bool

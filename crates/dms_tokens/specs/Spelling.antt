@@ -6,8 +6,11 @@ use Rattle.dms_base.specs.declared.op.Op.TheVariants.{Equal, NotEqual, Less, Les
 use Rattle.dms_tokens.specs.declared.token.Token.{Token}
 use Rattle.dms_tokens.specs.declared.token.Token.TheVariants.{Word, Number, Decimal, Long, Quoted, Sign, Compare, Bad, End}
 use Rattle.dms_tokens.specs.declared.token.Lexeme.{Lexeme}
-use Rattle.dms_tokens.specs.Lexing.{is_blank, is_plain, is_printable, upper, is_letter, is_digit, is_sign}
+use Rattle.dms_tokens.specs.Lexing.{is_blank, is_plain, upper, is_letter, is_sign}
 use Rattle.dms_tokens.specs.Tokens.{lexeme}
+use Rattle.dms_base.specs.Texts.{doubled}
+use Rattle.dms_base.specs.Words.{is_digit}
+use Rattle.dms_base.specs.Text.{is_printable}
 
 -- letters, digits and hyphens, the last of which is no hyphen; the first stands behind a hyphen, or not
 abbrev pub goes_on : Bool → List ℕ → Bool
@@ -36,11 +39,6 @@ number_of signed minus whole fraction =
     if nat_lt 18 (length whole + length fraction) then Long
     else (if signed || nat_lt 0 (length fraction) then Decimal minus (value_from 0 (whole ++ fraction)) (length fraction)
     else Number (value_from 0 (whole ++ fraction)))
-
--- the characters of a string as they stand in a text: a quote stands there twice
-abbrev pub doubled : List ℕ → List ℕ
-doubled [] = []
-doubled (b ∷ bs) = if b == 34 then 34 ∷ 34 ∷ doubled bs else b ∷ doubled bs
 
 abbrev pub op_text : Op → List ℕ
 op_text Equal = codes "="

@@ -7,7 +7,9 @@ use Rattle.dms_tokens.specs.declared.token.Lexeme.{Lexeme}
 use Rattle.dms_tokens.specs.declared.reading.Digits.{Digits}
 use Rattle.dms_tokens.specs.declared.reading.Reading.{Reading}
 use Rattle.dms_tokens.specs.declared.reading.Reading.TheVariants.{Between, Comment, Word as InWord, Dashes, Signed, Whole, Point, Fraction, Quoted as InQuotes, Quote, Less, Greater, Stopped}
-use Rattle.dms_tokens.specs.Lexing.{is_blank, is_plain, is_printable, upper, is_letter, is_digit, is_sign, with_digit, counted_on}
+use Rattle.dms_tokens.specs.Lexing.{is_blank, is_plain, upper, is_letter, is_sign, with_digit, counted_on}
+use Rattle.dms_base.specs.Words.{is_digit}
+use Rattle.dms_base.specs.Text.{is_printable}
 
 abbrev pub lexeme : Token → ℕ → Lexeme
 lexeme token place = record { token = token; place = place }

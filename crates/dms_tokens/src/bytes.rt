@@ -1,5 +1,7 @@
 ghost use Rattle.std.specs.Prelude.{◌≡◌, true};
-ghost use Rattle.dms_tokens.specs.Lexing.{is_blank, is_plain, is_printable, upper, is_letter, is_digit, is_sign, with_digit, counted_on};
+ghost use Rattle.dms_tokens.specs.Lexing.{is_blank, is_plain, upper, is_letter, is_sign, with_digit, counted_on};
+ghost use Rattle.dms_base.specs.Words.{is_digit};
+ghost use Rattle.dms_base.specs.Text.{is_printable};
 
 /// Whether a byte is a space, a tab, a CR or an LF.
 pub fn is_blank(b: u8) -> bool

@@ -7,10 +7,10 @@ use Rattle.dms_model.specs.Programs.{Program}
 use Rattle.dms_storeverbs.proofs.Calls.{failed, silently, unchanged}
 use Rattle.dms_block.specs.Faults.{Undamaged}
 use Rattle.dms_storeverbs.proofs.Costing.{answered_costs, backed_costs, spends_none, unbacked_costs}
-use Rattle.dms_storeverbs.specs.Costs.{is_done}
 use Rattle.dms_desc.specs.Shape.{described}
 use Rattle.dms_storeverbs.proofs.AtHand.{backed_fit}
 use Rattle.dms_storeverbs.proofs.engine.Engine.abort.Goals as goal
+use Rattle.dms_laws.specs.Exclusive.{is_done}
 
 pub invariant_of-self-2-clause-fit : goal.invariant_of-self-2-clause-fit
 invariant_of-self-2-clause-fit g c =

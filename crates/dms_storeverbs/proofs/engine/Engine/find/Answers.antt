@@ -8,7 +8,6 @@ use Rattle.dms_base.specs.declared.category.Category.TheVariants.{NotFound, NoRe
 use Rattle.dms_model.specs.declared.reply.Reply.TheVariants.{Exception}
 use Rattle.dms_desc.specs.Lookups.{name_of, structure_of, set_of}
 use Rattle.dms_model.specs.Session.{found_program, carried, owner_for, path_of}
-use Rattle.dms_model.specs.Valid.{owner_of}
 use Rattle.std.proofs.lemmas.Grind.{common_steps}
 use Rattle.dms_storeverbs.proofs.FoundAt.{owner_low}
 use Rattle.dms_storeverbs.proofs.Unfolds.{find_none, find_some, find_unowned}
@@ -19,6 +18,7 @@ use Rattle.dms_desc.specs.Shape.{Described}
 use Rattle.dms_model.specs.Fitting.{SpotFits}
 use Rattle.dms_storeverbs.proofs.AtHand.{found_as, one_changed}
 use Rattle.dms_storeverbs.proofs.engine.Engine.find.Goals as goal
+use Rattle.dms_desc_bytes.specs.Finding.{owner_in as owner_of}
 
 pub invariant_of-self-4-clause-fit : goal.invariant_of-self-4-clause-fit
 invariant_of-self-4-clause-fit g c =
