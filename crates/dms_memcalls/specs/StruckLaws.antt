@@ -70,7 +70,6 @@ adds_left : (s left : FolderSeen) (name given bytes : List ℕ) → left.count �
 adds_left s left name given bytes count which = subst (λ (n : ℕ). Adds name bytes n (world_of left) (world_of (with_made left given bytes))) count (adds_seen left name given bytes which)
 
 module _ (past : List CallEvent) (left : FolderSeen) (was : IsLeft past left) where
-
   -- a file with a name or none
   made_left : (name given there bytes : List ℕ) (e : CallEvent) (new : FolderSeen) → seen_after e (seen_of past) ≡ with_made (seen_of past) there bytes → ((v w : World) → Adds name bytes (seen_of past).count v w → EventMakes (seen_of past) e v w)
       → (given ≡ name) ⊎ (given ≡ []) → NamesAgree given there → new ≡ with_made left given bytes → IsLeft (e ∷ past) new

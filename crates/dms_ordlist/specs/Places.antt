@@ -63,7 +63,6 @@ pub entries_one : (l : Leaf) → entries_of (l ∷ []) ≡ l.1
 entries_one l = append-nil l.1
 
 module _ (c : List ℕ) (ls : List Leaf) where
-
   module _ (width : ℕ) (look : ℕ → Option (List ℕ)) (chain : BlockChain (leaf_in width) look ls 0) where
     -- what the chain says of the block that was reached
     record Here (ahead behind : List Leaf) (at next : ℕ) (es : List (List ℕ)) : Type 0 where

@@ -159,7 +159,6 @@ some_one : (x y : Shape) → ◌≡◌ {A = Option Shape} (Some x) (Some y) → 
 some_one x y h = cc
 
 module _ (desc : Described) (db : Db) (set number : ℕ) (old new : Option Record) (judged : ChangeStands desc db set number old new) where
-
   same_at : (j k : ℕ) (t s : Shape) → j ≡ k → slice_get desc.structures j ≡ Some t → slice_get desc.structures k ≡ Some s → s ≡ t
   same_at j k t s e p q = some_one s t (sym q ∙ ap (slice_get desc.structures) (sym e) ∙ p)
 

@@ -70,7 +70,6 @@ still events step refls = record {
 
 -- the events, one by one
 module _ (s : Replayed) where
-
   passed : (files : Files) → ((before : Files) × Reaches s.stable s.pending before × (files ≡ before)) → Reaches s.stable s.pending files
   passed files from = subst (λ (l : Files). Reaches s.stable s.pending l) (sym from.2) from.1
 
