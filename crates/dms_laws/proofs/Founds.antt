@@ -25,28 +25,28 @@ members_stand s db owner =
     let all = members_are s db owner in
     all_both {P = IsSpotOf db.records s db.entries owner} {Q = IsSpotOf db.records s db.entries owner} (IsRecordOf db.records (over s)) (members s db owner) (λ x h k. h.stand) all all
 
-abbrev pub Stands : Db → ℕ → Option Spot → Type 0
-Stands db set o = IfSome o (IsRecordOf db.records set)
+abbrev pub SpotStands : Db → ℕ → Option Spot → Type 0
+SpotStands db set o = IfSome o (IsRecordOf db.records set)
 
-first_stands : (o : Option Shape) (db : Db) (owner : ℕ) (from : Bound) → Stands db (over_of o) (first_of o db owner from)
+first_stands : (o : Option Shape) (db : Db) (owner : ℕ) (from : Bound) → SpotStands db (over_of o) (first_of o db owner from)
 first_stands None db owner from = tt
 first_stands (Some s) db owner from = first_there (IsRecordOf db.records (over s)) (is_after_bound s.parts from) (members s db owner) (members_stand s db owner)
 
-last_stands : (o : Option Shape) (db : Db) (owner : ℕ) (upto : Bound) → Stands db (over_of o) (last_of o db owner upto)
+last_stands : (o : Option Shape) (db : Db) (owner : ℕ) (upto : Bound) → SpotStands db (over_of o) (last_of o db owner upto)
 last_stands None db owner upto = tt
 last_stands (Some s) db owner upto = last_there (IsRecordOf db.records (over s)) (is_before_bound s.parts upto) (members s db owner) (members_stand s db owner)
 
-at_stands : (o : Option Shape) (db : Db) (owner : ℕ) (key : List Value) → Stands db (over_of o) (at_of o db owner key)
+at_stands : (o : Option Shape) (db : Db) (owner : ℕ) (key : List Value) → SpotStands db (over_of o) (at_of o db owner key)
 at_stands None db owner key = tt
 at_stands (Some s) db owner key = first_there (IsRecordOf db.records (over s)) (agrees s.parts key) (members s db owner) (members_stand s db owner)
 
-key_stands : (key : Option (List Value)) (desc : Described) (db : Db) (x owner : ℕ) → Stands db (set_of desc x) (at_values key desc db x owner)
+key_stands : (key : Option (List Value)) (desc : Described) (db : Db) (x owner : ℕ) → SpotStands db (set_of desc x) (at_values key desc db x owner)
 unfolding at_member
 key_stands None desc db x owner = tt
 key_stands (Some key) desc db x owner = at_stands (structure_of desc x) db owner key
 
 -- what a path finds is a record of its data set
-pub found_stands : (desc : Described) (db : Db) (owner : ℕ) (path : Path) → Stands db (set_of desc (path_of path)) (found_by desc db owner path)
+pub found_stands : (desc : Described) (db : Db) (owner : ℕ) (path : Path) → SpotStands db (set_of desc (path_of path)) (found_by desc db owner path)
 unfolding found_by first_member last_member
 found_stands desc db owner (First x) = first_stands (structure_of desc x) db owner Start
 found_stands desc db owner (Last x) = last_stands (structure_of desc x) db owner Behind

@@ -36,12 +36,12 @@ use Rattle.dms_laws.specs.Made.{IsWellMade, items_under, compares_no_link}
 use Rattle.dms_laws.specs.Runs.{after}
 use Rattle.dms_laws.specs.Sound.{AllNameOuter, IsSound, NamesOuter, IsFlat, StaysSound}
 use Rattle.dms_laws.proofs.Counts.{count_insert, count_replace}
-use Rattle.dms_laws.proofs.Founds.{Stands, found_stands}
+use Rattle.dms_laws.proofs.Founds.{SpotStands, found_stands}
 use Rattle.dms_model.specs.Fresh.{fresh_below, fresh_free, fresh_from_one}
 use Rattle.dms_laws.proofs.Lists.{all_at, all_set, all_mapped, all_pushed, all_without}
 use Rattle.dms_laws.proofs.Locks.{locks_stay_exclusive}
 use Rattle.dms_laws.proofs.Points.{step_points}
-use Rattle.dms_laws.proofs.Stored.{MayStand, put_valid, put_flat, own_key}
+use Rattle.dms_laws.proofs.Stored.{RecordMayStand, put_valid, put_flat, own_key}
 use Rattle.dms_model.specs.Areas.{AreaFits, AreasFit}
 use Rattle.dms_model.specs.AreaLaws.{backed_works, let_go_works, new_works, no_owner, values_fit, with_new, works_if, works_with}
 use Rattle.dms_model.specs.Fitting.{AreFitting}
@@ -75,28 +75,28 @@ record Sane (desc : Described) (db mark : Db) (programs : List Program) : Type 0
   flat_mark : IsFlat desc mark
   areas : AllByRecursion (AreasFit desc) programs
 
-abbrev Leaves : Described → Outcome → Type 0
-Leaves desc o = Sane desc o.session.db o.session.mark o.session.programs
+abbrev LeavesSound : Described → Outcome → Type 0
+LeavesSound desc o = Sane desc o.session.db o.session.mark o.session.programs
 
-leaves_if : (desc : Described) (b : Bool) (x y : Outcome) → Leaves desc x → Leaves desc y → Leaves desc (cond b x y)
+leaves_if : (desc : Described) (b : Bool) (x y : Outcome) → LeavesSound desc x → LeavesSound desc y → LeavesSound desc (cond b x y)
 leaves_if desc true x y h k = h
 leaves_if desc false x y h k = k
 
-settle_leaves : (desc : Described) (t : Session) → Sane desc t.db t.mark t.programs → Leaves desc (settle t)
+settle_leaves : (desc : Described) (t : Session) → Sane desc t.db t.mark t.programs → LeavesSound desc (settle t)
 unfolding settle
 settle_leaves desc t h =
     let quiet : Sane desc t.db t.db (map idle t.programs) = record { valid = h.valid; valid_mark = h.valid; flat = h.flat; flat_mark = h.flat; areas = all_mapped (AreasFit desc) idle t.programs (λ x a. a) h.areas } in
     leaves_if desc (someone_works t.programs) _ _ h (leaves_if desc t.pending _ _ quiet quiet)
 
 -- what storing leaves
-record Holds (desc : Described) (q : Program) (db : Db) : Type 0 where
+record HoldsSound (desc : Described) (q : Program) (db : Db) : Type 0 where
   valid : IsValid desc db
   flat : IsFlat desc db
   areas : AreasFit desc q
 
 abbrev KeptSane : Described → StoreResult → Type 0
 KeptSane desc (Refused r) = Unit {0}
-KeptSane desc (Keeps q db) = Holds desc q db
+KeptSane desc (Keeps q db) = HoldsSound desc q db
 
 kept_if : (desc : Described) (b : Bool) (x y : StoreResult) → (b ≡ true → KeptSane desc x) → KeptSane desc y → KeptSane desc (cond b x y)
 kept_if desc true x y h k = h refl
@@ -155,7 +155,7 @@ module _ (desc : Described) (made : IsWellMade desc) (s : Session) (i : ℕ) (p 
   abbrev put_record : ℕ → ℕ → Area → Shape → Record
   put_record set n a shape = linked shape.items (get s.db.records (set, n)) (record_of a)
 
-  stored_sane : (set n : ℕ) (a : Area) (shape : Shape) → AreFitting shape.items (area_values a) → MayStand desc s.db (set, n) (put_record set n a shape) shape → Holds desc (stored_program p set n a) (put_after (Stored n) desc s.db set (record_of a))
+  stored_sane : (set n : ℕ) (a : Area) (shape : Shape) → AreFitting shape.items (area_values a) → RecordMayStand desc s.db (set, n) (put_record set n a shape) shape → HoldsSound desc (stored_program p set n a) (put_after (Stored n) desc s.db set (record_of a))
   stored_sane set n a shape values may =
       let k : Place = (set, n) in
       let is : linked (items_of (structure_of desc set)) (get s.db.records k) (record_of a) ≡ put_record set n a shape = ap (λ (o : Option Shape). linked (items_of o) (get s.db.records k) (record_of a)) may.here in
@@ -189,7 +189,7 @@ module _ (desc : Described) (made : IsWellMade desc) (s : Session) (i : ℕ) (p 
       → missing_from 0 (items_of (structure_of desc set)) (area_values a) ≡ None → verified (structure_of desc set) (area_values a) ≡ true
       → clash desc.structures s.db set number (put_record set n a shape) ≡ None → ((q : Place) → q ≢ (set, n) → q.0 ≡ set → is_other number q.1 ≡ true)
       → (1 ≤ n) × (n ≤ shape.population) → length (records_of (insert s.db.records (set, n) (put_record set n a shape)) set) ≤ shape.population
-      → MayStand desc s.db (set, n) (put_record set n a shape) shape
+      → RecordMayStand desc s.db (set, n) (put_record set n a shape) shape
   may_stand set n a shape number here outer owner values none met clear other within count =
       let k : Place = (set, n) in
       let old = get s.db.records k in
@@ -219,7 +219,7 @@ module _ (desc : Described) (made : IsWellMade desc) (s : Session) (i : ℕ) (p 
 
     -- a new record, in a data set that has room
     new_sane : (n : ℕ) (shape : Shape) → structure_of desc set ≡ Some shape → IsOuter (Some shape) → area_owner a ≡ 0 → AreFitting shape.items (area_values a) → HasNewNumber desc s.db set n (record_of a)
-        → Holds desc (stored_program p set n a) (put_after (Stored n) desc s.db set (record_of a))
+        → HoldsSound desc (stored_program p set n a) (put_after (Stored n) desc s.db set (record_of a))
     new_sane n shape here outer owner values new =
         let m = fresh s.db.records set in
         let full : nat_le shape.population (length (records_of s.db.records set)) ≡ false = ap (λ (o : Option Shape). is_full o (length (records_of s.db.records set))) (sym here) ∙ new.room in
@@ -228,7 +228,7 @@ module _ (desc : Described) (made : IsWellMade desc) (s : Session) (i : ℕ) (p 
         let high = fresh_below s.db.records set in
         let more = one_at_most (set == set) (length (records_of (insert s.db.records (set, m) (put_record set m a shape)) set)) (length (records_of s.db.records set)) (count_insert s.db.records set (set, m) (put_record set m a shape)) in
         let free = ap (λ (r : Record). clash desc.structures s.db set None r) (sym (as_stored None m a shape here (sym (fresh_free s.db.records set)))) ∙ new.clear in
-        subst (λ (k : ℕ). Holds desc (stored_program p set k a) (put_after (Stored k) desc s.db set (record_of a))) new.number
+        subst (λ (k : ℕ). HoldsSound desc (stored_program p set k a) (put_after (Stored k) desc s.db set (record_of a))) new.number
         (stored_sane set m a shape values (may_stand set m a shape None here outer owner values none met free (λ q apart same. refl) (low, omega (arith, few, high)) (omega (arith, few, more))))
 
     -- a record that is replaced
@@ -240,14 +240,14 @@ module _ (desc : Described) (made : IsWellMade desc) (s : Session) (i : ℕ) (p 
         by false e = refl
 
     old_sane : (m n : ℕ) (shape : Shape) (old : Record) → structure_of desc set ≡ Some shape → area_owner a ≡ 0 → AreFitting shape.items (area_values a) → get s.db.records (set, m) ≡ Some old → KeepsNumber desc s.db set m n (record_of a)
-        → Holds desc (stored_program p set n a) (put_after (Stored n) desc s.db set (record_of a))
+        → HoldsSound desc (stored_program p set n a) (put_after (Stored n) desc s.db set (record_of a))
     old_sane m n shape old here owner values was keeps =
         let kind = ap is_data_set (sym here) ∙ sane.valid.sets (set, m) old was in
         let outer : IsOuter (Some shape) = record { data_set = kind; disjoint = sane.flat.disjoint (set, m) old shape was here } in
         let same = count_replace s.db.records set (set, m) (put_record set m a shape) (ap is_some was) in
         let few = sane.valid.populations set shape here kind in
         let free = ap (λ (r : Record). clash desc.structures s.db set (Some m) r) (sym (as_stored (Some m) m a shape here refl)) ∙ keeps.clear in
-        subst (λ (k : ℕ). Holds desc (stored_program p set k a) (put_after (Stored k) desc s.db set (record_of a))) keeps.number
+        subst (λ (k : ℕ). HoldsSound desc (stored_program p set k a) (put_after (Stored k) desc s.db set (record_of a))) keeps.number
         (stored_sane set m a shape values (may_stand set m a shape (Some m) here outer owner values none met free (other_number m) (sane.valid.numbers (set, m) old shape was here) (omega (arith, same, few))))
 
   -- a locked record stands
@@ -266,19 +266,19 @@ module _ (desc : Described) (made : IsWellMade desc) (s : Session) (i : ℕ) (p 
   area_fits set shape o here is = subst (AreaFits shape) is (mine set shape here)
 
   old_kept : (set : ℕ) (values : List Value) (c : Option ℕ) (n : ℕ) → area_of p set ≡ Some (Old values) → holds p set c ≡ true → missing_from 0 (items_of (structure_of desc set)) values ≡ None
-      → verified (structure_of desc set) values ≡ true → put_answer desc s.db set c (record_of (Old values)) ≡ Stored n → Holds desc (stored_program p set n (Old values)) (put_after (Stored n) desc s.db set (record_of (Old values)))
+      → verified (structure_of desc set) values ≡ true → put_answer desc s.db set c (record_of (Old values)) ≡ Stored n → HoldsSound desc (stored_program p set n (Old values)) (put_after (Stored n) desc s.db set (record_of (Old values)))
   old_kept set values None n has free none met is = absurd (cc)
   old_kept set values (Some m) n has free none met is =
-      locked_old set m free (Holds desc (stored_program p set n (Old values)) (put_after (Stored n) desc s.db set (record_of (Old values))))
+      locked_old set m free (HoldsSound desc (stored_program p set n (Old values)) (put_after (Stored n) desc s.db set (record_of (Old values))))
       (λ old shape was here. old_sane set (Old values) none met m n shape old here refl (area_fits set shape (Some (Old values)) here has) was (old_stored desc s.db set m n (record_of (Old values)) is))
 
-  kept_sane : (set : ℕ) (a : Area) (n : ℕ) → IsStorable desc p s.db set a n → Holds desc (stored_program p set n a) (put_after (Stored n) desc s.db set (record_of a))
+  kept_sane : (set : ℕ) (a : Area) (n : ℕ) → IsStorable desc p s.db set a n → HoldsSound desc (stored_program p set n a) (put_after (Stored n) desc s.db set (record_of a))
   kept_sane set (New values owner) n may = by (structure_of desc set) refl
     where
       new : HasNewNumber desc s.db set n (record_of (New values owner))
       new = new_stored desc s.db set n (record_of (New values owner)) may.answer
 
-      by : (o : Option Shape) → structure_of desc set ≡ o → Holds desc (stored_program p set n (New values owner)) (put_after (Stored n) desc s.db set (record_of (New values owner)))
+      by : (o : Option Shape) → structure_of desc set ≡ o → HoldsSound desc (stored_program p set n (New values owner)) (put_after (Stored n) desc s.db set (record_of (New values owner)))
       by None here = absurd (let no : true ≡ false = ap (λ (o : Option Shape). is_full o (length (records_of s.db.records set))) (sym here) ∙ new.room in cc)
       by (Some shape) here =
           let fits = area_fits set shape (Some (New values owner)) here may.area in
@@ -294,15 +294,15 @@ module _ (desc : Described) (made : IsWellMade desc) (s : Session) (i : ℕ) (p 
   begun_sane : (audit : Bool) → KeptSane desc (begun desc p s audit)
   begun_sane audit = begun_any (KeptSane desc) desc p s audit (λ is. kept_sane (restart_of desc)) (record { valid = sane.valid; flat = sane.flat; areas = mine }) (λ r. tt)
 
-  store_leaves : (k : StoreResult) → KeptSane desc k → Leaves desc (after_store k i s)
+  store_leaves : (k : StoreResult) → KeptSane desc k → LeavesSound desc (after_store k i s)
   store_leaves (Refused r) h = sane
   store_leaves (Keeps q db) h = sane_with (carried q) db h.valid h.flat h.areas
 
-  begun_leaves : (k : StoreResult) → KeptSane desc k → Leaves desc (after_begin k i s)
+  begun_leaves : (k : StoreResult) → KeptSane desc k → LeavesSound desc (after_begin k i s)
   begun_leaves (Refused r) h = sane
   begun_leaves (Keeps q db) h = sane_with (entered q) db h.valid h.flat h.areas
 
-  end_leaves : (k : StoreResult) (sync : Bool) → KeptSane desc k → Leaves desc (after_end k desc i s sync)
+  end_leaves : (k : StoreResult) (sync : Bool) → KeptSane desc k → LeavesSound desc (after_end k desc i s sync)
   end_leaves (Refused r) sync h = sane
   end_leaves (Keeps q db) sync h =
       settle_leaves desc (record s { db = db; programs = slice_set s.programs i (left q); pending = s.pending || sync || nat_le desc.syncpoint (one_more s.since); since = one_more s.since })
@@ -321,15 +321,15 @@ module _ (desc : Described) (made : IsWellMade desc) (s : Session) (i : ℕ) (p 
         plain = sane.valid.plain (set, r.number) r.rec shape stands h;
       })
 
-  find_leaves : (r : Option Spot) (x : ℕ) → Stands s.db (set_of desc x) r → Leaves desc (after_find r desc i p s x)
+  find_leaves : (r : Option Spot) (x : ℕ) → SpotStands s.db (set_of desc x) r → LeavesSound desc (after_find r desc i p s x)
   find_leaves None x stands = sane
   find_leaves (Some r) x stands =
-      found_fits (set_of desc x) r stands (Leaves desc (after_find (Some r) desc i p s x))
+      found_fits (set_of desc x) r stands (LeavesSound desc (after_find (Some r) desc i p s x))
       (λ shape here fits.
       let w : Work = record { current = Some r.number; area = Some (Old r.rec.values) } in
       sane_at (carried (found_program p (set_of desc x) r)) (let_go_areas desc (with_work p (set_of desc x) w) (set_of desc x) (areas_with desc p (set_of desc x) shape w here fits mine)))
 
-  find_for_leaves : (o : Option ℕ) (path : Path) → Leaves desc (find_for o desc i p s path)
+  find_for_leaves : (o : Option ℕ) (path : Path) → LeavesSound desc (find_for o desc i p s path)
   find_for_leaves None path = sane
   find_for_leaves (Some owner) path = find_leaves (found_by desc s.db owner path) (path_of path) (found_stands desc s.db owner path)
 
@@ -342,45 +342,45 @@ module _ (desc : Described) (made : IsWellMade desc) (s : Session) (i : ℕ) (p 
       by None h = let kind = ap is_data_set (sym h) ∙ outer.data_set in absurd (cc)
       by (Some shape) h = with_shape shape h (subst IsOuter h outer)
 
-  create_leaves : (set owner : ℕ) → IsOuter (structure_of desc set) → owner ≡ 0 → Leaves desc (done (with_program s i (carried (created desc p set owner))))
+  create_leaves : (set owner : ℕ) → IsOuter (structure_of desc set) → owner ≡ 0 → LeavesSound desc (done (with_program s i (carried (created desc p set owner))))
   create_leaves set owner outer none =
       let w : Work = record { current = None; area = Some (New (map (λ (t : Item). t.initial) (items_of (structure_of desc set))) owner) } in
-      outer_shape set outer (Leaves desc (done (with_program s i (carried (let_go (with_work p set w) set)))))
+      outer_shape set outer (LeavesSound desc (done (with_program s i (carried (let_go (with_work p set w) set)))))
       (λ shape here out.
       let fits : AreFitting shape.items (map (λ (t : Item). t.initial) (items_of (structure_of desc set))) =
       subst (λ (o : Option Shape). AreFitting shape.items (map (λ (t : Item). t.initial) (items_of o))) (sym here) (initial_fits shape.items (made.initial set shape here) (made.plain set shape here)) in
       sane_at (carried (let_go (with_work p set w) set)) (let_go_areas desc (with_work p set w) set (areas_with desc p set shape w here (out, (none, fits)) mine)))
 
-  create_for_leaves : (o : Option ℕ) (set : ℕ) → owner_for desc p set ≡ o → IsOuter (structure_of desc set) → Leaves desc (create_for o desc i p s set)
+  create_for_leaves : (o : Option ℕ) (set : ℕ) → owner_for desc p set ≡ o → IsOuter (structure_of desc set) → LeavesSound desc (create_for o desc i p s set)
   create_for_leaves None set is outer = sane
   create_for_leaves (Some owner) set is outer = create_leaves set owner outer (no_owner desc p set owner outer.disjoint is)
 
-  after_put_leaves : (f : Filled) (set : ℕ) (a : Area) (shape : Shape) → structure_of desc set ≡ Some shape → AreaFits shape (Some a) → FilledFits shape.items f → Leaves desc (after_put f i p s set a)
+  after_put_leaves : (f : Filled) (set : ℕ) (a : Area) (shape : Shape) → structure_of desc set ≡ Some shape → AreaFits shape (Some a) → FilledFits shape.items f → LeavesSound desc (after_put f i p s set a)
   after_put_leaves (Misfit item) set a shape here old fits = sane
   after_put_leaves (Values' values) set a shape here old fits =
       let w : Work = record { current = current_of p set; area = Some (with_values a values) } in
       sane_at (carried (with_work p set w)) (areas_with desc p set shape w here (with_new shape a values old fits) mine)
 
-  put_leaves : (o : Option Area) (set : ℕ) (settings : List Setting) → IsOuter (structure_of desc set) → AllByRecursion (λ t. IsPlainLiteral t.literal) settings → area_of p set ≡ o → Leaves desc (put_area o desc i p s set settings)
+  put_leaves : (o : Option Area) (set : ℕ) (settings : List Setting) → IsOuter (structure_of desc set) → AllByRecursion (λ t. IsPlainLiteral t.literal) settings → area_of p set ≡ o → LeavesSound desc (put_area o desc i p s set settings)
   put_leaves None set settings outer plain has = sane
   put_leaves (Some a) set settings outer plain has =
       let f = filled (items_of (structure_of desc set)) settings (area_values a) in
-      outer_shape set outer (Leaves desc (after_put f i p s set a))
+      outer_shape set outer (LeavesSound desc (after_put f i p s set a))
       (λ shape here out.
       let old = area_fits set shape (Some a) here has in
       let fits : FilledFits shape.items f = subst (λ (o : Option Shape). FilledFits shape.items (filled (items_of o) settings (area_values a))) (sym here) (filled_fits shape.items settings (area_values a) plain (values_fit shape a old)) in
       after_put_leaves f set a shape here old fits)
 
-  get_leaves : (o : Option Area) (set : ℕ) (numbers : List ℕ) → Leaves desc (get_area o desc i p s set numbers)
+  get_leaves : (o : Option Area) (set : ℕ) (numbers : List ℕ) → LeavesSound desc (get_area o desc i p s set numbers)
   get_leaves None set numbers = sane
   get_leaves (Some a) set numbers = sane_at (carried p) mine
 
-  close_leaves : Leaves desc (done (record s { programs = without i s.programs }))
+  close_leaves : LeavesSound desc (done (record s { programs = without i s.programs }))
   close_leaves = record { valid = sane.valid; valid_mark = sane.valid_mark; flat = sane.flat; flat_mark = sane.flat_mark; areas = all_without (AreasFit desc) s.programs i sane.areas }
 
 -- every verb
 
-back_leaves : (desc : Described) (s : Session) (name : List ℕ) → Sane desc s.db s.mark s.programs → Leaves desc (done (record s { db = s.mark; programs = map (backed_out name) s.programs; pending = false; since = 0 }))
+back_leaves : (desc : Described) (s : Session) (name : List ℕ) → Sane desc s.db s.mark s.programs → LeavesSound desc (done (record s { db = s.mark; programs = map (backed_out name) s.programs; pending = false; since = 0 }))
 back_leaves desc s name sane = record {
   valid = sane.valid_mark;
   valid_mark = sane.valid_mark;
@@ -389,7 +389,7 @@ back_leaves desc s name sane = record {
   areas = all_mapped (AreasFit desc) (backed_out name) s.programs (λ x a. backed_areas desc name x a) sane.areas;
 }
 
-verb_leaves : (desc : Described) → IsWellMade desc → (i : ℕ) (p : Program) (s : Session) (v : Verb) → NamesOuter desc v → slice_get s.programs i ≡ Some p → IsExclusive s → Sane desc s.db s.mark s.programs → Leaves desc (verb_step desc i p s v)
+verb_leaves : (desc : Described) → IsWellMade desc → (i : ℕ) (p : Program) (s : Session) (v : Verb) → NamesOuter desc v → slice_get s.programs i ≡ Some p → IsExclusive s → Sane desc s.db s.mark s.programs → LeavesSound desc (verb_step desc i p s v)
 unfolding verb_step store_step begin_step end_step abort_step find_step create_step put_step get_step close_step
 verb_leaves desc made i p s OpenUpdate outer at ex sane = sane
 verb_leaves desc made i p s OpenInquiry outer at ex sane = sane
@@ -408,21 +408,21 @@ verb_leaves desc made i p s (End audit sync) outer at ex sane =
     (end_leaves desc made s i p at ex sane (cond audit (keep desc p s.db (restart_of desc)) (Keeps p s.db)) sync (if_sane desc made s i p at ex sane audit)) sane
 verb_leaves desc made i p s Abort outer at ex sane = leaves_if desc p.in_transaction _ (refuse s AuditError p.name) (back_leaves desc s p.name sane) sane
 
-open_as_leaves : (desc : Described) (s : Session) (name : List ℕ) (mode : Mode) → Sane desc s.db s.mark s.programs → Leaves desc (open_as desc s name mode)
+open_as_leaves : (desc : Described) (s : Session) (name : List ℕ) (mode : Mode) → Sane desc s.db s.mark s.programs → LeavesSound desc (open_as desc s name mode)
 open_as_leaves desc s name mode sane =
     let opened : Session = record s { programs = s.programs ++ new_program desc name mode ∷ [] } in
     leaves_if desc (nat_le 64 (length s.programs)) (refuse s LimitError name) (done opened) sane
     (record { valid = sane.valid; valid_mark = sane.valid_mark; flat = sane.flat; flat_mark = sane.flat_mark; areas = all_pushed (AreasFit desc) s.programs (new_program desc name mode) sane.areas (new_areas desc name mode) })
 
-open_in_leaves : (o : Option Mode) (desc : Described) (s : Session) (name : List ℕ) → Sane desc s.db s.mark s.programs → Leaves desc (open_in o desc s name)
+open_in_leaves : (o : Option Mode) (desc : Described) (s : Session) (name : List ℕ) → Sane desc s.db s.mark s.programs → LeavesSound desc (open_in o desc s name)
 open_in_leaves None desc s name sane = sane
 open_in_leaves (Some mode) desc s name sane = open_as_leaves desc s name mode sane
 
-open_leaves : (desc : Described) (s : Session) (name : List ℕ) (v : Verb) → Sane desc s.db s.mark s.programs → Leaves desc (open_step desc s name v)
+open_leaves : (desc : Described) (s : Session) (name : List ℕ) (v : Verb) → Sane desc s.db s.mark s.programs → LeavesSound desc (open_step desc s name v)
 unfolding open_step
 open_leaves desc s name v sane = open_in_leaves (traits v).opens desc s name sane
 
-step_at_leaves : (desc : Described) → IsWellMade desc → (o : Option Program) (i : ℕ) (s : Session) (name : List ℕ) (v : Verb) → NamesOuter desc v → slice_get s.programs i ≡ o → IsExclusive s → Sane desc s.db s.mark s.programs → Leaves desc (step_at desc o i s name v)
+step_at_leaves : (desc : Described) → IsWellMade desc → (o : Option Program) (i : ℕ) (s : Session) (name : List ℕ) (v : Verb) → NamesOuter desc v → slice_get s.programs i ≡ o → IsExclusive s → Sane desc s.db s.mark s.programs → LeavesSound desc (step_at desc o i s name v)
 step_at_leaves desc made None i s name v outer at ex sane = open_leaves desc s name v sane
 step_at_leaves desc made (Some p) i s name v outer at ex sane =
     let due : Program = record p { owes_abort = false } in
@@ -430,7 +430,7 @@ step_at_leaves desc made (Some p) i s name v outer at ex sane =
     (leaves_if desc p.owes_abort (record { session = with_program s i due; reply = Exception AbortDue name; sync = None; quiets = [] }) _ (sane_at desc made s i p at ex sane due (mine desc made s i p at ex sane))
     (leaves_if desc (is_inquiry p.mode && changes v) (refuse s _ name) _ sane (verb_leaves desc made i p s v outer at ex sane)))
 
-step_leaves : (desc : Described) → IsWellMade desc → (s : Session) (name : List ℕ) (v : Verb) → NamesOuter desc v → IsExclusive s → Sane desc s.db s.mark s.programs → Leaves desc (step desc s name v)
+step_leaves : (desc : Described) → IsWellMade desc → (s : Session) (name : List ℕ) (v : Verb) → NamesOuter desc v → IsExclusive s → Sane desc s.db s.mark s.programs → LeavesSound desc (step desc s name v)
 unfolding step carried_out
 step_leaves desc made s name v outer ex sane = step_at_leaves desc made (slice_get s.programs (place_of name s.programs)) (place_of name s.programs) s name v outer refl ex sane
 

@@ -35,7 +35,7 @@ HasOwnKey s db k rec =
     → (q : Place) (b : Record) → q ≢ k → get db.records q ≡ Some b → belongs s db.entries rec.owner (q, b) ≡ true → equal_keys s b rec ≡ true → ⊥
 
 -- a record may stand at a place of a data set of the outer level
-pub record MayStand (desc : Described) (db : Db) (k : Place) (rec : Record) (shape : Shape) : Type 0 where
+pub record RecordMayStand (desc : Described) (db : Db) (k : Place) (rec : Record) (shape : Shape) : Type 0 where
   pub here : structure_of desc k.0 ≡ Some shape
   pub outer : IsOuter (Some shape)
   pub owner : rec.owner ≡ 0
@@ -103,7 +103,7 @@ own_clash db k rec s owner none set nodup key p q a b pk same apart was mine the
     (ap (λ (n : ℕ). belongs s db.entries n (q, b)) (ap (λ (x : Record). x.owner) same ∙ sym m.owned) ∙ theirs)
     (ap (equal_keys s b) same ∙ equal)
 
-module _ (desc : Described) (db : Db) (k : Place) (rec : Record) (shape : Shape) (may : MayStand desc db k rec shape) (valid : IsValid desc db) (flat : IsFlat desc db) where
+module _ (desc : Described) (db : Db) (k : Place) (rec : Record) (shape : Shape) (may : RecordMayStand desc db k rec shape) (valid : IsValid desc db) (flat : IsFlat desc db) where
   abbrev after : Db
   after = record db { records = insert db.records k rec }
 

@@ -136,12 +136,12 @@ abbrev HasItems : Shape → Type 0
 HasItems s = AllByRecursion (λ (g : Group). (1 ≤ g.first) × (g.first + g.count ≤ length s.items + 1)) s.groups
 
 -- a structure that was named
-record IsThere (desc : Described) (wanted : Wanted) (s : Shape) : Type 0 where
+record IsNamedThere (desc : Described) (wanted : Wanted) (s : Shape) : Type 0 where
   here : structure_of desc s.number ≡ Some s
   such : is_wanted wanted s ≡ true
   items : HasItems s
 
-there_such : (desc : Described) (wanted : Wanted) (s : Shape) → IsThere desc wanted s → is_such wanted (structure_of desc s.number) ≡ true
+there_such : (desc : Described) (wanted : Wanted) (s : Shape) → IsNamedThere desc wanted s → is_such wanted (structure_of desc s.number) ≡ true
 there_such desc wanted s h = ap (is_such wanted) h.here ∙ h.such
 
 module _ (desc : Described) (order : HasOrder desc) where
@@ -151,15 +151,15 @@ module _ (desc : Described) (order : HasOrder desc) where
       let e : suc h.place - 1 ≡ h.place = omega arith in
       ap (structure_of desc) (order.numbers h.place s h.at) ∙ ap (λ (b : Bool). cond b None (slice_get desc.structures (suc h.place - 1))) some ∙ ap (slice_get desc.structures) e ∙ h.at
 
-  wanted_there : (wanted : Wanted) (o : Option Shape) → IfSome o (StandsIn desc.structures) → IfSome (if_wanted wanted o) (IsThere desc wanted)
+  wanted_there : (wanted : Wanted) (o : Option Shape) → IfSome o (StandsIn desc.structures) → IfSome (if_wanted wanted o) (IsNamedThere desc wanted)
   wanted_there wanted None h = tt
-  wanted_there wanted (Some s) h = if_some (is_wanted wanted s) s (IsThere desc wanted) (λ e. record { here = number_here s h; such = e; items = order.groups h.place s h.at })
+  wanted_there wanted (Some s) h = if_some (is_wanted wanted s) s (IsNamedThere desc wanted) (λ e. record { here = number_here s h; such = e; items = order.groups h.place s h.at })
 
-  structure_gives : (wanted : Wanted) (ts : List Lexeme) → IfOk (structure_at wanted desc ts) (λ r. IsThere desc wanted r.0)
+  structure_gives : (wanted : Wanted) (ts : List Lexeme) → IfOk (structure_at wanted desc ts) (λ r. IsNamedThere desc wanted r.0)
   unfolding structure_at structure_named
   structure_gives wanted ts =
-      then_any (name_at ts) _ (λ r. IsThere desc wanted r.0)
-      (λ name. or_gives (structure_named wanted name.0 desc) (place_at ts) name.1 (IsThere desc wanted) (wanted_there wanted (first_named name.0 desc.structures) (named_stands desc.structures name.0)))
+      then_any (name_at ts) _ (λ r. IsNamedThere desc wanted r.0)
+      (λ name. or_gives (structure_named wanted name.0 desc) (place_at ts) name.1 (IsNamedThere desc wanted) (wanted_there wanted (first_named name.0 desc.structures) (named_stands desc.structures name.0)))
 
   -- FIND
 
@@ -170,13 +170,13 @@ module _ (desc : Described) (order : HasOrder desc) where
   unfolding first_at
   first_gives ts =
       then_any (word_at (codes "FIRST") ts) _ (λ r. IsWay desc r.0)
-      (λ t1. then_gives (structure_at AnyPath desc t1) _ (λ r. IsThere desc AnyPath r.0) (λ r. IsWay desc r.0) (structure_gives AnyPath t1) (λ x h. there_such desc AnyPath x.0 h))
+      (λ t1. then_gives (structure_at AnyPath desc t1) _ (λ r. IsNamedThere desc AnyPath r.0) (λ r. IsWay desc r.0) (structure_gives AnyPath t1) (λ x h. there_such desc AnyPath x.0 h))
 
   last_gives : (ts : List Lexeme) → IfOk (last_at desc ts) (λ r. IsWay desc r.0)
   unfolding last_at
   last_gives ts =
       then_any (word_at (codes "LAST") ts) _ (λ r. IsWay desc r.0)
-      (λ t1. then_gives (structure_at AnyPath desc t1) _ (λ r. IsThere desc AnyPath r.0) (λ r. IsWay desc r.0) (structure_gives AnyPath t1) (λ x h. there_such desc AnyPath x.0 h))
+      (λ t1. then_gives (structure_at AnyPath desc t1) _ (λ r. IsNamedThere desc AnyPath r.0) (λ r. IsWay desc r.0) (structure_gives AnyPath t1) (λ x h. there_such desc AnyPath x.0 h))
 
   -- an item with its kind that is no link
   abbrev HasKindOf : Option Item → ItemKind → Type 0
@@ -203,7 +203,7 @@ module _ (desc : Described) (order : HasOrder desc) where
   takes_key [] items kind l h k = absurd h
   takes_key (p ∷ ps) items kind l h k = (takes_kind (slice_get items (p.item - 1)) kind l h k, tt)
 
-  member_way : (s : Shape) (kind : ItemKind) (l : Literal) → IsThere desc AnyPath s → HasKindOf (key_item desc s) kind → OfKind kind l → IsWay desc (At s.number (l ∷ []))
+  member_way : (s : Shape) (kind : ItemKind) (l : Literal) → IsNamedThere desc AnyPath s → HasKindOf (key_item desc s) kind → OfKind kind l → IsWay desc (At s.number (l ∷ []))
   unfolding key_item
   member_way s kind l h has k =
       (there_such desc AnyPath s h, subst (λ (o : Option Shape). TakesAt desc o (l ∷ [])) (sym h.here) (takes_key s.parts (items_of (structure_of desc (over s))) kind l has k))
@@ -211,7 +211,7 @@ module _ (desc : Described) (order : HasOrder desc) where
   member_gives : (ts : List Lexeme) → IfOk (member_at desc ts) (λ r. IsWay desc r.0)
   unfolding member_at
   member_gives ts =
-      then_gives (structure_at AnyPath desc ts) _ (λ r. IsThere desc AnyPath r.0) (λ r. IsWay desc r.0) (structure_gives AnyPath ts)
+      then_gives (structure_at AnyPath desc ts) _ (λ r. IsNamedThere desc AnyPath r.0) (λ r. IsWay desc r.0) (structure_gives AnyPath ts)
       (λ x h. then_any (word_at (codes "AT") x.1) _ (λ r. IsWay desc r.0)
       (λ t1. then_gives (key_item_at (key_item desc x.0) t1) _ (λ r. HasKindOf (key_item desc x.0) r.0) (λ r. IsWay desc r.0) (key_gives (key_item desc x.0) t1)
       (λ kind has. then_any (equal_at kind.1) _ (λ r. IsWay desc r.0)
@@ -235,13 +235,13 @@ module _ (desc : Described) (order : HasOrder desc) where
   unfolding create_at
   create_gives ts =
       then_any (word_at (codes "CREATE") ts) _ (λ r. NamesWhatIsThere desc r.0)
-      (λ t1. then_gives (structure_at DataSet desc t1) _ (λ r. IsThere desc DataSet r.0) (λ r. NamesWhatIsThere desc r.0) (structure_gives DataSet t1) (λ d h. there_such desc DataSet d.0 h))
+      (λ t1. then_gives (structure_at DataSet desc t1) _ (λ r. IsNamedThere desc DataSet r.0) (λ r. NamesWhatIsThere desc r.0) (structure_gives DataSet t1) (λ d h. there_such desc DataSet d.0 h))
 
   store_gives : (ts : List Lexeme) → Verbs (store_at desc ts)
   unfolding store_at
   store_gives ts =
       then_any (word_at (codes "STORE") ts) _ (λ r. NamesWhatIsThere desc r.0)
-      (λ t1. then_gives (structure_at DataSet desc t1) _ (λ r. IsThere desc DataSet r.0) (λ r. NamesWhatIsThere desc r.0) (structure_gives DataSet t1) (λ d h. there_such desc DataSet d.0 h))
+      (λ t1. then_gives (structure_at DataSet desc t1) _ (λ r. IsNamedThere desc DataSet r.0) (λ r. NamesWhatIsThere desc r.0) (structure_gives DataSet t1) (λ d h. there_such desc DataSet d.0 h))
 
   -- lists
 
@@ -343,7 +343,7 @@ module _ (desc : Described) (order : HasOrder desc) where
   unfolding put_at
   put_gives ts =
       then_any (word_at (codes "PUT") ts) _ (λ r. NamesWhatIsThere desc r.0)
-      (λ t1. then_gives (structure_at DataSet desc t1) _ (λ r. IsThere desc DataSet r.0) (λ r. NamesWhatIsThere desc r.0) (structure_gives DataSet t1)
+      (λ t1. then_gives (structure_at DataSet desc t1) _ (λ r. IsNamedThere desc DataSet r.0) (λ r. NamesWhatIsThere desc r.0) (structure_gives DataSet t1)
       (λ d h. then_gives (list_at (setting_at d.0.items) d.1) _ (λ r. AllByRecursion (SetsWell d.0.items) r.0) (λ r. NamesWhatIsThere desc r.0)
       (all_gives (setting_at d.0.items) (AllByRecursion (SetsWell d.0.items)) (setting_gives d.0.items) d.1 tt)
       (λ r all. (there_such desc DataSet d.0 h, of_items (λ (items : List Item). AllByRecursion (SetsWell items) r.0) d.0 h.here all))))
@@ -412,13 +412,13 @@ module _ (desc : Described) (order : HasOrder desc) where
   unfolding get_at
   get_gives ts =
       then_any (word_at (codes "GET") ts) _ (λ r. NamesWhatIsThere desc r.0)
-      (λ t1. then_gives (structure_at DataSet desc t1) _ (λ r. IsThere desc DataSet r.0) (λ r. NamesWhatIsThere desc r.0) (structure_gives DataSet t1)
+      (λ t1. then_gives (structure_at DataSet desc t1) _ (λ r. IsNamedThere desc DataSet r.0) (λ r. NamesWhatIsThere desc r.0) (structure_gives DataSet t1)
       (λ d h. then_gives (all_shown_at d.0 d.1) _ (λ r. AllByRecursion (IsItemOf d.0.items) r.0) (λ r. NamesWhatIsThere desc r.0) (all_shown_gives d.0 d.1 h.items)
       (λ r all. (there_such desc DataSet d.0 h, of_items (λ (items : List Item). AllByRecursion (IsItemOf items) r.0) d.0 h.here all))))
 
   -- transactions
 
-  restart_there : (s : Shape) → IsThere desc Restart s → HasRestart desc
+  restart_there : (s : Shape) → IsNamedThere desc Restart s → HasRestart desc
   restart_there s h = record { number = s.number; is = there_such desc Restart s h }
 
   begin_gives : (ts : List Lexeme) → Verbs (begin_at desc ts)
@@ -426,21 +426,21 @@ module _ (desc : Described) (order : HasOrder desc) where
   begin_gives ts =
       then_any (word_at (codes "BEGIN-TRANSACTION") ts) _ (λ r. NamesWhatIsThere desc r.0)
       (λ t1. then_any (mode_at t1) _ (λ r. NamesWhatIsThere desc r.0)
-      (λ mode. then_gives (structure_at Restart desc mode.1) _ (λ r. IsThere desc Restart r.0) (λ r. NamesWhatIsThere desc r.0) (structure_gives Restart mode.1) (λ r h. restart_there r.0 h)))
+      (λ mode. then_gives (structure_at Restart desc mode.1) _ (λ r. IsNamedThere desc Restart r.0) (λ r. NamesWhatIsThere desc r.0) (structure_gives Restart mode.1) (λ r h. restart_there r.0 h)))
 
   finish_gives : (ts : List Lexeme) → Verbs (finish_at desc ts)
   unfolding finish_at
   finish_gives ts =
       then_any (word_at (codes "END-TRANSACTION") ts) _ (λ r. NamesWhatIsThere desc r.0)
       (λ t1. then_any (mode_at t1) _ (λ r. NamesWhatIsThere desc r.0)
-      (λ mode. then_gives (structure_at Restart desc mode.1) _ (λ r. IsThere desc Restart r.0) (λ r. NamesWhatIsThere desc r.0) (structure_gives Restart mode.1)
+      (λ mode. then_gives (structure_at Restart desc mode.1) _ (λ r. IsNamedThere desc Restart r.0) (λ r. NamesWhatIsThere desc r.0) (structure_gives Restart mode.1)
       (λ r h. then_any (sync_at r.1) _ (λ r. NamesWhatIsThere desc r.0) (λ sync. restart_there r.0 h))))
 
   abort_gives : (ts : List Lexeme) → Verbs (abort_at desc ts)
   unfolding abort_at
   abort_gives ts =
       then_any (word_at (codes "ABORT-TRANSACTION") ts) _ (λ r. NamesWhatIsThere desc r.0)
-      (λ t1. then_gives (structure_at Restart desc t1) _ (λ r. IsThere desc Restart r.0) (λ r. NamesWhatIsThere desc r.0) (structure_gives Restart t1) (λ r h. restart_there r.0 h))
+      (λ t1. then_gives (structure_at Restart desc t1) _ (λ r. IsNamedThere desc Restart r.0) (λ r. NamesWhatIsThere desc r.0) (structure_gives Restart t1) (λ r h. restart_there r.0 h))
 
   open_gives : (ts : List Lexeme) → Verbs (open_at ts)
   unfolding open_at

@@ -12,7 +12,7 @@ use Rattle.dms_runner.specs.Events.{RunEvent, calls, says, quiets_of, durable_by
 use Rattle.dms_runner.specs.Waiting.{sync_text}
 use Rattle.dms_scriptlaws.specs.Told.{told_line, number_in}
 use Rattle.dms_scriptlaws.proofs.Digits.{NoFeed, decimal_feed, decimal_same}
-use Rattle.dms_scriptlaws.proofs.Telling.{IsSafe, Either, Safe, Closed, Honest, Numbered, safe_on, closed_on}
+use Rattle.dms_scriptlaws.proofs.Telling.{IsSafe, Either, Safe, Closed, Honest, AreNumberedFrom, safe_on, closed_on}
 
 second : (t : Bool) (A : Type 0) {B : Type 0} → t ≡ false → B → Either t A B
 second true A e b = absurd (cc)
@@ -76,9 +76,9 @@ point_line first durable n safe =
     let same : n ≡ v = decimal_same n v small (front_same (codes "SYNCPOINT ") (decimal n) (decimal v) texts) in
     subst (IsSafe first durable) same safe)
 
-pub numbered_on : (n : ℕ) (x y : List Quiet) → Numbered n x → Numbered (n + length x) y → Numbered n (x ++ y)
-numbered_on n [] y p q = subst (λ (k : ℕ). Numbered k y) (omega arith) q
-numbered_on n (a ∷ x) y p q = (p.0, numbered_on (n + 1) x y p.1 (subst (λ (k : ℕ). Numbered k y) (omega arith) q))
+pub numbered_on : (n : ℕ) (x y : List Quiet) → AreNumberedFrom n x → AreNumberedFrom (n + length x) y → AreNumberedFrom n (x ++ y)
+numbered_on n [] y p q = subst (λ (k : ℕ). AreNumberedFrom k y) (omega arith) q
+numbered_on n (a ∷ x) y p q = (p.0, numbered_on (n + 1) x y p.1 (subst (λ (k : ℕ). AreNumberedFrom k y) (omega arith) q))
 
 pub length_on : (x y : List Quiet) → length (x ++ y) ≡ length x + length y
 length_on [] y = omega arith

@@ -8,17 +8,17 @@ use Rattle.dms_runner.specs.Events.{RunEvent, text_of, quiets_of, durable_after,
 use Rattle.dms_runner.proofs.Happening.{quiets_on}
 use Rattle.dms_scriptlaws.specs.Told.{told}
 use Rattle.dms_scriptlaws.specs.Truths.{is_quiet_in, is_point_in, IsTruthful, LeavesTold, RiseFrom}
-use Rattle.dms_scriptlaws.proofs.Telling.{IsSafe, Honest, Numbered, told_stopped, told_safe}
+use Rattle.dms_scriptlaws.proofs.Telling.{IsSafe, Honest, AreNumberedFrom, told_stopped, told_safe}
 use Rattle.dms_scriptlaws.proofs.Speaking.{IsTrueRun, durable_within}
 
-pub numbered_rise : (n : ℕ) (qs : List Quiet) → Numbered n qs → RiseFrom n qs
+pub numbered_rise : (n : ℕ) (qs : List Quiet) → AreNumberedFrom n qs → RiseFrom n qs
 numbered_rise n [] h = refl
 numbered_rise n (q ∷ qs) h =
     let here = h.0 in
     let rest = numbered_rise (n + 1) qs h.1 in
     λ i. here i ∷ rest i
 
-numbered_front : (n : ℕ) (x y : List Quiet) → Numbered n (x ++ y) → Numbered n x
+numbered_front : (n : ℕ) (x y : List Quiet) → AreNumberedFrom n (x ++ y) → AreNumberedFrom n x
 numbered_front n [] y h = tt
 numbered_front n (q ∷ x) y h = (h.0, numbered_front (n + 1) x y h.1)
 
@@ -26,7 +26,7 @@ or_has : (b c : Bool) → (b ≡ false → c ≡ true) → (b || c) ≡ true
 or_has true c h = refl
 or_has false c h = h refl
 
-numbered_has : (f n k : ℕ) (qs : List Quiet) → Numbered f qs → f ≤ n → n < f + k → k ≤ length qs → is_quiet_in (take k qs) n ≡ true
+numbered_has : (f n k : ℕ) (qs : List Quiet) → AreNumberedFrom f qs → f ≤ n → n < f + k → k ≤ length qs → is_quiet_in (take k qs) n ≡ true
 numbered_has f n zero qs h low high few = absurd (omega (arith, low, high))
 numbered_has f n (suc k) [] h low high few = absurd (omega (arith, few))
 numbered_has f n (suc k) (q ∷ qs) h low high few =
@@ -34,8 +34,8 @@ numbered_has f n (suc k) (q ∷ qs) h low high few =
     or_has (q.0 == n) (is_quiet_in (take k qs) n) (λ e. let apart : f + 1 ≤ n = grind (arith, nat_tests, e, is, low) in numbered_has (f + 1) n k qs h.1 apart (omega (arith, high)) (omega (arith, few)))
 
 module _ (first : ℕ) (Q : Quiet → Type 0) (events : List RunEvent) (r : IsTrueRun first Q events) where
-  before_numbered : (before : List RunEvent) (at : RunEvent) (rest : List RunEvent) → before ++ at ∷ rest ≡ events → Numbered first (quiets_of before ++ (at.quiets ++ quiets_of rest))
-  before_numbered before at rest split = subst (Numbered first) (ap quiets_of (sym split) ∙ quiets_on before (at ∷ rest)) r.numbered
+  before_numbered : (before : List RunEvent) (at : RunEvent) (rest : List RunEvent) → before ++ at ∷ rest ≡ events → AreNumberedFrom first (quiets_of before ++ (at.quiets ++ quiets_of rest))
+  before_numbered before at rest split = subst (AreNumberedFrom first) (ap quiets_of (sym split) ∙ quiets_on before (at ∷ rest)) r.numbered
 
   told_so : (before : List RunEvent) (at : RunEvent) (rest : List RunEvent) (n : ℕ) → before ++ at ∷ rest ≡ events → IsSafe first (durable_after 0 0 before) (told (text_of before ++ take n at.text))
   told_so before at rest n split =
@@ -106,8 +106,8 @@ module _ (first : ℕ) (Q : Quiet → Type 0) (events : List RunEvent) (r : IsTr
       let enough : c + durable_after 0 0 s.before ≤ f.count = omega (arith, shift, f.enough) in
       let within : f.count ≤ c + length l.made = omega (arith, f.within, all, lengths) in
       let whole = before_numbered s.before s.at s.rest s.all in
-      let numbered : Numbered first (quiets_of s.before ++ s.at.quiets) = numbered_front first (quiets_of s.before ++ s.at.quiets) (quiets_of s.rest) (subst (Numbered first) (sym (append_assoc (quiets_of s.before) s.at.quiets (quiets_of s.rest))) whole) in
-      let made : Numbered first l.made = numbered_front first l.made l.rest (subst (Numbered first) (sym l.front_of) numbered) in
+      let numbered : AreNumberedFrom first (quiets_of s.before ++ s.at.quiets) = numbered_front first (quiets_of s.before ++ s.at.quiets) (quiets_of s.rest) (subst (AreNumberedFrom first) (sym (append_assoc (quiets_of s.before) s.at.quiets (quiets_of s.rest))) whole) in
+      let made : AreNumberedFrom first l.made = numbered_front first l.made l.rest (subst (AreNumberedFrom first) (sym l.front_of) numbered) in
       ⊎_elim (λ h. inl h)
       (λ h.
       let k = f.count - c in

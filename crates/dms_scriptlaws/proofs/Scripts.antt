@@ -29,7 +29,7 @@ use Rattle.dms_scriptlaws.specs.Truths.{IsRunnable, IsStart, TellsTrue, StopsTol
 use Rattle.dms_scriptlaws.proofs.Feeds.{name_feed, reply_none, bad_none, unanswered_none}
 use Rattle.dms_scriptlaws.proofs.Prefixes.{truthful, leaves_told, numbered_rise}
 use Rattle.dms_scriptlaws.proofs.Named.{AreNamed, step_named}
-use Rattle.dms_scriptlaws.proofs.Speaking.{Speaks, IsTrueRun, true_run, run_next}
+use Rattle.dms_scriptlaws.proofs.Speaking.{LinesSpeak, IsTrueRun, true_run, run_next}
 
 texts_of : (o : Option Item) (l : Literal) → MaySetTo o l → IsPlainLiteral l
 texts_of None l h = absurd h
@@ -78,7 +78,7 @@ module _ (desc : Described) (run : IsRunnable desc) where
   abbrev StartQuiet : Quiet → Type 0
   StartQuiet q = IsStart desc q.1
 
-  speaks : Speaks desc Runs MaySay StartQuiet
+  speaks : LinesSpeak desc Runs MaySay StartQuiet
   speaks = record {
     keeps = λ s name verb v k. record {
       sound = (stays_sound desc run.made).keeps s name verb v.outer k.sound;

@@ -23,12 +23,12 @@ use Rattle.dms_runner.specs.Waiting.{has_line, answer_text, tries, said_to_wait,
 use Rattle.dms_runner.specs.Answers.{RunState, LineEffect, put_to_wait, first_line, first_try_effect, line_effect, one_line_more, line_step, lines_run, lines_before, first_state, unanswered_events, script_run, script_events}
 use Rattle.dms_runner.proofs.Happening.{quiets_on, step_numbers}
 use Rattle.dms_runner.proofs.Passes.{retry_skips, retry_waits, retry_answers, retry_ends, retries_again, retries_end}
-use Rattle.dms_scriptlaws.proofs.Telling.{Honest, Numbered, covered_within}
+use Rattle.dms_scriptlaws.proofs.Telling.{Honest, AreNumberedFrom, covered_within}
 use Rattle.dms_scriptlaws.proofs.Lined.{TellsNone, TakesOwn, try_honest, honest_on, numbered_on, length_on}
 
 -- Of one step: it keeps K, its quiet points are Q, and its reply is a line that tells nothing, where V holds of the program and
 -- the verb; V holds of each line that can be read, and the other lines that are said tell nothing.
-pub record Speaks (desc : Described) (K : Session → Type 0) (V : List ℕ → Verb → Type 0) (Q : Quiet → Type 0) : Type 0 where
+pub record LinesSpeak (desc : Described) (K : Session → Type 0) (V : List ℕ → Verb → Type 0) (Q : Quiet → Type 0) : Type 0 where
   pub keeps : (s : Session) (name : List ℕ) (verb : Verb) → V name verb → K s → K (step desc s name verb).session
   pub points : (s : Session) (name : List ℕ) (verb : Verb) → V name verb → K s → AllByRecursion Q (step desc s name verb).quiets
   pub reply : (line : ℕ) (s : Session) (name : List ℕ) (verb : Verb) → V name verb → K s → TellsNone (reply_text line name (step desc s name verb).reply)
@@ -42,9 +42,9 @@ durable_within count durable (e ∷ x) le =
     let c = count + length e.quiets in
     omega (arith, length_on e.quiets (quiets_of x), durable_within c (durable_by e.sync durable c) x (covered_within e.sync durable c (omega (arith, le))))
 
-numbered_one : (b : Bool) (s : Session) (o : Outcome) → MakesWhereQuiet b s o → Numbered s.next o.quiets
-numbered_one true s o m = subst (Numbered s.next) (sym m.quiets) (refl, tt)
-numbered_one false s o m = subst (Numbered s.next) (sym m.quiets) tt
+numbered_one : (b : Bool) (s : Session) (o : Outcome) → MakesWhereQuiet b s o → AreNumberedFrom s.next o.quiets
+numbered_one true s o m = subst (AreNumberedFrom s.next) (sym m.quiets) (refl, tt)
+numbered_one false s o m = subst (AreNumberedFrom s.next) (sym m.quiets) tt
 
 own_at : (b : Bool) (s : Session) (o : Outcome) → MakesWhereQuiet b s o → TakesOwn s o
 own_at true s o m n is = (m.own n is, ap length m.quiets)
@@ -57,14 +57,14 @@ all_on Q (q ∷ x) y f g = (f.0, all_on Q x y f.1 g)
 -- what a script says and makes is true
 pub record IsTrueRun (first : ℕ) (Q : Quiet → Type 0) (events : List RunEvent) : Type 0 where
   pub honest : Honest first 0 0 events
-  pub numbered : Numbered first (quiets_of events)
+  pub numbered : AreNumberedFrom first (quiets_of events)
   pub points : AllByRecursion Q (quiets_of events)
 
-module _ (desc : Described) (K : Session → Type 0) (V : List ℕ → Verb → Type 0) (Q : Quiet → Type 0) (p : Speaks desc K V Q) where
+module _ (desc : Described) (K : Session → Type 0) (V : List ℕ → Verb → Type 0) (Q : Quiet → Type 0) (p : LinesSpeak desc K V Q) where
   record Tells (s t : Session) (events : List RunEvent) : Type 0 where
     clean : K t
     next : t.next ≡ s.next + length (quiets_of events)
-    numbered : Numbered s.next (quiets_of events)
+    numbered : AreNumberedFrom s.next (quiets_of events)
     points : AllByRecursion Q (quiets_of events)
     honest : (first count durable : ℕ) → s.next ≡ first + count → durable ≤ count → Honest first count durable events
 
@@ -78,7 +78,7 @@ module _ (desc : Described) (K : Session → Type 0) (V : List ℕ → Verb → 
       record {
         clean = g.clean;
         next = omega (arith, f.next, g.next, len);
-        numbered = subst (Numbered s.next) (sym q) (numbered_on s.next (quiets_of x) (quiets_of y) f.numbered (subst (λ (k : ℕ). Numbered k (quiets_of y)) f.next g.numbered));
+        numbered = subst (AreNumberedFrom s.next) (sym q) (numbered_on s.next (quiets_of x) (quiets_of y) f.numbered (subst (λ (k : ℕ). AreNumberedFrom k (quiets_of y)) f.next g.numbered));
         points = subst (AllByRecursion Q) (sym q) (all_on Q (quiets_of x) (quiets_of y) f.points g.points);
         honest = λ first count durable at within.
             honest_on first count durable x y (f.honest first count durable at within)
@@ -94,7 +94,7 @@ module _ (desc : Described) (K : Session → Type 0) (V : List ℕ → Verb → 
       record {
         clean = p.keeps s name verb v k;
         next = step_numbers desc s name verb ∙ ap (λ (l : List Quiet). s.next + length l) (sym (append-nil o.quiets));
-        numbered = subst (Numbered s.next) (sym (append-nil o.quiets)) (numbered_one _ s o (quiet_rule desc s name verb));
+        numbered = subst (AreNumberedFrom s.next) (sym (append-nil o.quiets)) (numbered_one _ s o (quiet_rule desc s name verb));
         points = subst (AllByRecursion Q) (sym (append-nil o.quiets)) (p.points s name verb v k);
         honest = λ first count durable at within. (refl, (tt, tt));
       }

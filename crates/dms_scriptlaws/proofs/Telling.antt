@@ -31,9 +31,9 @@ Honest first count durable [] = ⊤
 Honest first count durable (e ∷ es) = Closed [] e.text × (Safe first durable [] e.text × Honest first (count + length e.quiets) (durable_by e.sync durable (count + length e.quiets)) es)
 
 -- numbers without a gap
-abbrev pub Numbered : ℕ → List Quiet → Type 0
-Numbered n [] = ⊤
-Numbered n (q ∷ qs) = (q.0 ≡ n) × Numbered (n + 1) qs
+abbrev pub AreNumberedFrom : ℕ → List Quiet → Type 0
+AreNumberedFrom n [] = ⊤
+AreNumberedFrom n (q ∷ qs) = (q.0 ≡ n) × AreNumberedFrom (n + 1) qs
 
 safe_max : (first durable n m : ℕ) → IsSafe first durable n → IsSafe first durable m → IsSafe first durable (max n m)
 safe_max first durable n m p q = grind arith

@@ -84,19 +84,19 @@ item_from items n i h = by (n == 0) h
     by false h = h
 
 -- what a part of a key names
-record Names (items : List Item) (n : ℕ) : Type 0 where
+record NamesItem (items : List Item) (n : ℕ) : Type 0 where
   item : Item
   is : item_at items n ≡ Some item
   there : slice_get items (n - 1) ≡ Some item
   no_link : NamesNoLink items n
 
-key_item : (o : Option Item) (items : List Item) (n : ℕ) → item_at items n ≡ o → is_key_item o ≡ true → Names items n
+key_item : (o : Option Item) (items : List Item) (n : ℕ) → item_at items n ≡ o → is_key_item o ≡ true → NamesItem items n
 key_item None items n at h = absurd (cc)
 key_item (Some i) items n at h =
     let there = item_from items n i at in
     record { item = i; is = at; there = there; no_link = ap is_link_at there ∙ not_true _ h }
 
-part_named : (items : List Item) (p : KeyPart) → is_part_sound items p ≡ true → Names items p.item
+part_named : (items : List Item) (p : KeyPart) → is_part_sound items p ≡ true → NamesItem items p.item
 part_named items p h = key_item (item_at items p.item) items p.item refl h
 
 -- ---- keys and conditions
@@ -153,12 +153,12 @@ module _ (items : List Item) where
   where_unlinked false t h = nothing_unlinked t h
 
 -- a key
-record IsKey (items : List Item) (ps : List KeyPart) : Type 0 where
+record IsPartsKey (items : List Item) (ps : List KeyPart) : Type 0 where
   few : length ps ≤ 16
   parts : list_all (is_part_sound items) ps ≡ true
   wide : total (well.part_width items) ps ≤ 96
 
-key_sound : (items : List Item) (ps : List KeyPart) → is_key_sound items ps ≡ true → IsKey items ps
+key_sound : (items : List Item) (ps : List KeyPart) → is_key_sound items ps ≡ true → IsPartsKey items ps
 unfolding is_key_sound
 key_sound items ps h =
     let a = both_of _ _ h in
@@ -264,7 +264,7 @@ module _ (desc : Described) (s : Shape) (low : 1 ≤ s.kind) (most : s.kind ≤ 
       let none : s.items ≡ [] = nothing_in s.items b.1 in
       let is = over_set more in
       let items = items_at desc.structures s.set in
-      let key : IsKey items s.parts = key_sound items s.parts f.1 in
+      let key : IsPartsKey items s.parts = key_sound items s.parts f.1 in
       let wide = parts_wide items s.parts key.parts in (
         record {
           low = low;

@@ -26,7 +26,7 @@ use Rattle.dms_storeverbs.specs.Laws.{MakesNone, MakesWhereQuiet, falls_quiet, Q
 use Rattle.dms_block.specs.Held.{one_more}
 
 -- no quiet point was made, and someone who worked still works
-pub record Steady (s : Session) (o : Outcome) : Type 0 where
+pub record StaysSteady (s : Session) (o : Outcome) : Type 0 where
   pub none : MakesNone s o
   pub works : someone_works s.programs ≡ true → someone_works o.session.programs ≡ true
 
@@ -35,7 +35,7 @@ still_at true w w' h = refl
 still_at false false w' h = refl
 still_at false true w' h = rw (h refl) refl
 
-by_steady : (verb : Verb) (s : Session) (o : Outcome) → Steady s o → MakesWhereQuiet (falls_quiet verb s o.session) s o
+by_steady : (verb : Verb) (s : Session) (o : Outcome) → StaysSteady s o → MakesWhereQuiet (falls_quiet verb s o.session) s o
 by_steady verb s o steady = subst (λ (b : Bool). MakesWhereQuiet b s o) (sym (still_at (asks_back_out verb) (someone_works s.programs) (someone_works o.session.programs) steady.works)) steady.none
 
 -- programs that work
@@ -86,7 +86,7 @@ cond_works false t p q x y = y
 
 -- outcomes
 
-steady_if : (s : Session) (b : Bool) (x y : Outcome) → Steady s x → Steady s y → Steady s (cond b x y)
+steady_if : (s : Session) (b : Bool) (x y : Outcome) → StaysSteady s x → StaysSteady s y → StaysSteady s (cond b x y)
 steady_if s true x y p q = p
 steady_if s false x y p q = q
 
@@ -94,18 +94,18 @@ makes_if : (verb : Verb) (s : Session) (b : Bool) (x y : Outcome) → MakesWhere
 makes_if verb s true x y p q = p
 makes_if verb s false x y p q = q
 
-pub steady_replies : (s : Session) (r : Reply) → Steady s (replies s r)
+pub steady_replies : (s : Session) (r : Reply) → StaysSteady s (replies s r)
 steady_replies s r = record { none = record { quiets = refl; next = refl; mark = refl; unsynced = refl }; works = λ h. h }
 
-pub steady_refuse : (s : Session) (c : Category) (n : List ℕ) → Steady s (refuse s c n)
+pub steady_refuse : (s : Session) (c : Category) (n : List ℕ) → StaysSteady s (refuse s c n)
 steady_refuse s c n = record { none = record { quiets = refl; next = refl; mark = refl; unsynced = refl }; works = λ h. h }
 
-pub steady_shows : (s t : Session) (text : List ℕ) → t.next ≡ s.next → t.mark ≡ s.mark → (someone_works s.programs ≡ true → someone_works t.programs ≡ true) → Steady s (shows t text)
+pub steady_shows : (s t : Session) (text : List ℕ) → t.next ≡ s.next → t.mark ≡ s.mark → (someone_works s.programs ≡ true → someone_works t.programs ≡ true) → StaysSteady s (shows t text)
 steady_shows s t text number mark works = record { none = record { quiets = refl; next = number; mark = mark; unsynced = refl }; works = works }
 
 module _ (s : Session) (i : ℕ) (p : Program) (at : slice_get s.programs i ≡ Some p) where
   -- the program changed, and works as before
-  pub steady_at : (q : Program) (text : List ℕ) → q.in_transaction ≡ p.in_transaction → Steady s (shows (with_program s i q) text)
+  pub steady_at : (q : Program) (text : List ℕ) → q.in_transaction ≡ p.in_transaction → StaysSteady s (shows (with_program s i q) text)
   steady_at q text same = steady_shows s (with_program s i q) text refl refl (λ w. set_works s.programs i p q at same ∙ w)
 
   -- storing leaves the program at work as it was
@@ -126,46 +126,46 @@ module _ (s : Session) (i : ℕ) (p : Program) (at : slice_get s.programs i ≡ 
   pub if_same : (audit : Bool) (desc : Described) → SameWork (cond audit (keep desc p s.db (restart_of desc)) (Keeps p s.db))
   if_same audit desc = same_if audit (keep desc p s.db (restart_of desc)) (Keeps p s.db) (keep_same desc s.db (restart_of desc)) refl
 
-  store_steady : (k : StoreResult) → SameWork k → Steady s (after_store k i s)
+  store_steady : (k : StoreResult) → SameWork k → StaysSteady s (after_store k i s)
   store_steady (Refused r) same = steady_replies s r
   store_steady (Keeps q db) same = steady_shows s _ [] refl refl (λ w. set_works s.programs i p (carried q) at same ∙ w)
 
-  after_begin_steady : (k : StoreResult) → Steady s (after_begin k i s)
+  after_begin_steady : (k : StoreResult) → StaysSteady s (after_begin k i s)
   after_begin_steady (Refused r) = steady_replies s r
   after_begin_steady (Keeps q db) = steady_shows s _ [] refl refl (λ w. set_enters s.programs i p (entered q) at refl)
 
   pub let_go_works : (q : Program) (set : ℕ) → (let_go q set).in_transaction ≡ q.in_transaction
   let_go_works q set = cond_works q.in_transaction q.in_transaction _ _ refl refl
 
-  pub find_steady : (r : Option Spot) (desc : Described) (x : ℕ) → Steady s (after_find r desc i p s x)
+  pub find_steady : (r : Option Spot) (desc : Described) (x : ℕ) → StaysSteady s (after_find r desc i p s x)
   find_steady None desc x = steady_refuse s _ _
   find_steady (Some r) desc x = steady_at (carried (found_program p (set_of desc x) r)) [] (let_go_works _ (set_of desc x))
 
-  pub find_for_steady : (o : Option ℕ) (desc : Described) (path : Path) → Steady s (find_for o desc i p s path)
+  pub find_for_steady : (o : Option ℕ) (desc : Described) (path : Path) → StaysSteady s (find_for o desc i p s path)
   find_for_steady None desc path = steady_refuse s _ _
   find_for_steady (Some owner) desc path = find_steady (found_by desc s.db owner path) desc (path_of path)
 
-  pub create_for_steady : (o : Option ℕ) (desc : Described) (set : ℕ) → Steady s (create_for o desc i p s set)
+  pub create_for_steady : (o : Option ℕ) (desc : Described) (set : ℕ) → StaysSteady s (create_for o desc i p s set)
   create_for_steady None desc set = steady_refuse s _ _
   create_for_steady (Some owner) desc set = steady_at _ [] (let_go_works _ set)
 
-  after_put_steady : (f : Filled) (set : ℕ) (a : Area) → Steady s (after_put f i p s set a)
+  after_put_steady : (f : Filled) (set : ℕ) (a : Area) → StaysSteady s (after_put f i p s set a)
   after_put_steady (Misfit item) set a = steady_refuse s _ _
   after_put_steady (Values' values) set a = steady_at _ [] refl
 
-  pub put_steady : (a : Option Area) (desc : Described) (set : ℕ) (settings : List Setting) → Steady s (put_area a desc i p s set settings)
+  pub put_steady : (a : Option Area) (desc : Described) (set : ℕ) (settings : List Setting) → StaysSteady s (put_area a desc i p s set settings)
   put_steady None desc set settings = steady_refuse s _ _
   put_steady (Some a) desc set settings = after_put_steady (filled (items_of (structure_of desc set)) settings (area_values a)) set a
 
-  pub get_steady : (a : Option Area) (desc : Described) (set : ℕ) (numbers : List ℕ) → Steady s (get_area a desc i p s set numbers)
+  pub get_steady : (a : Option Area) (desc : Described) (set : ℕ) (numbers : List ℕ) → StaysSteady s (get_area a desc i p s set numbers)
   get_steady None desc set numbers = steady_refuse s _ _
   get_steady (Some a) desc set numbers = steady_at (carried p) _ refl
 
-  pub close_steady : (b : Bool) → p.in_transaction ≡ b → Steady s (cond b (refuse s AuditError p.name) (done (record s { programs = without i s.programs })))
+  pub close_steady : (b : Bool) → p.in_transaction ≡ b → StaysSteady s (cond b (refuse s AuditError p.name) (done (record s { programs = without i s.programs })))
   close_steady true is = steady_refuse s _ _
   close_steady false is = steady_shows s _ [] refl refl (λ w. without_works s.programs i p at is ∙ w)
 
-  store_rule : (b : Bool) (desc : Described) (set : ℕ) → Steady s (cond b (after_store (keep desc p s.db set) i s) (refuse s AuditError p.name))
+  store_rule : (b : Bool) (desc : Described) (set : ℕ) → StaysSteady s (cond b (after_store (keep desc p s.db set) i s) (refuse s AuditError p.name))
   store_rule b desc set = steady_if s b _ _ (store_steady (keep desc p s.db set) (keep_same desc s.db set)) (steady_refuse s AuditError p.name)
 
 settle_at : (verb : Verb) (s t : Session) (w b : Bool) → asks_back_out verb ≡ false → someone_works s.programs ≡ true → t.next ≡ s.next → t.mark ≡ s.mark → (s.pending ≡ true → t.pending ≡ true) → someone_works t.programs ≡ w → t.pending ≡ b → MakesWhereQuiet (falls_quiet verb s (settle t).session) s (settle t)
@@ -208,16 +208,16 @@ verb_rule desc i p s (Begin audit) at = by_steady (Begin audit) s _ (steady_if s
 verb_rule desc i p s (End audit sync) at = end_at desc s i p at p.in_transaction audit sync refl
 verb_rule desc i p s Abort at = none_if s p.in_transaction _ _ (record { quiets = refl; next = refl; mark = refl; unsynced = refl }) (record { quiets = refl; next = refl; mark = refl; unsynced = refl })
 
-open_as_steady : (desc : Described) (s : Session) (name : List ℕ) (mode : Mode) → Steady s (open_as desc s name mode)
+open_as_steady : (desc : Described) (s : Session) (name : List ℕ) (mode : Mode) → StaysSteady s (open_as desc s name mode)
 open_as_steady desc s name mode =
     let opened : Session = record s { programs = s.programs ++ new_program desc name mode ∷ [] } in
     steady_if s (nat_le 64 (length s.programs)) (refuse s LimitError name) (done opened) (steady_refuse s LimitError name) (steady_shows s opened [] refl refl (push_works s.programs (new_program desc name mode)))
 
-open_in_steady : (o : Option Mode) (desc : Described) (s : Session) (name : List ℕ) → Steady s (open_in o desc s name)
+open_in_steady : (o : Option Mode) (desc : Described) (s : Session) (name : List ℕ) → StaysSteady s (open_in o desc s name)
 open_in_steady None desc s name = steady_refuse s _ _
 open_in_steady (Some mode) desc s name = open_as_steady desc s name mode
 
-pub open_steady : (desc : Described) (s : Session) (name : List ℕ) (v : Verb) → Steady s (open_step desc s name v)
+pub open_steady : (desc : Described) (s : Session) (name : List ℕ) (v : Verb) → StaysSteady s (open_step desc s name v)
 unfolding open_step
 open_steady desc s name v = open_in_steady (traits v).opens desc s name
 

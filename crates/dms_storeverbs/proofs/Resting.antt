@@ -15,7 +15,7 @@ use Rattle.dms_model.specs.Session.{Session, Outcome, StoreResult, Refused, Keep
 use Rattle.dms_model.specs.declared.program.Mode.{Mode}
 use Rattle.dms_model.specs.Traits.{traits}
 use Rattle.dms_storeverbs.specs.Laws.{Rests, RestRule}
-use Rattle.dms_storeverbs.proofs.Quiet.{Steady, set_enters, SameWork, keep_same, find_steady, get_steady, close_steady, steady_at, create_for_steady, open_steady, due_outcome, set_works}
+use Rattle.dms_storeverbs.proofs.Quiet.{StaysSteady, set_enters, SameWork, keep_same, find_steady, get_steady, close_steady, steady_at, create_for_steady, open_steady, due_outcome, set_works}
 use Rattle.dms_block.specs.Held.{one_more}
 
 -- what an outcome makes of it
@@ -27,7 +27,7 @@ not_works true b f e = absurd (let y = f refl in cc)
 not_works false b f e = refl
 
 -- neither database changed, and who worked still works
-resting : (s : Session) (o : Outcome) → Steady s o → o.session.db ≡ s.db → Resting s o
+resting : (s : Session) (o : Outcome) → StaysSteady s o → o.session.db ≡ s.db → Resting s o
 resting s o steady same is idle = same ∙ is (not_works (someone_works s.programs) (someone_works o.session.programs) steady.works idle) ∙ sym steady.none.mark
 
 working : (s : Session) (o : Outcome) → someone_works o.session.programs ≡ true → Resting s o
