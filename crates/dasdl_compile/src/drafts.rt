@@ -78,7 +78,7 @@ impl Drafts {
         }
     }
 
-    /// Adds one at the end.
+    /// Adds one at the end. Answers Err where memory is refused, and then nothing changes.
     pub fn push(&mut self, draft: Draft) -> Result<(), Memory>
         ensures ok { OnOk result (self.new ≡ self.old ++ draft ∷ []) }
         ensures err { OnErr result (self.new ≡ self.old) }

@@ -1,23 +1,20 @@
 -- A group is read exactly.
-use Rattle.std.proofs.Common.{◌+◌, ◌≡◌, ◌≤◌, ◌<◌, ℕ, zero, suc, List, [], ◌∷◌, ◌++◌, map, length, length-append, Bool, true, false, cond, not, ◌&&◌, ◌||◌, refl, sym, ap, ◌∙◌, subst, arith, append_assoc, IsTrue}
-use Rattle.std.proofs.lemmas.List.{append-nil, map-append}
+use Rattle.std.proofs.Common.{◌+◌, ◌≡◌, ◌≤◌, ◌<◌, ℕ, List, [], ◌∷◌, ◌++◌, map, length, length-append, Bool, true, false, cond, not, ◌&&◌, ◌||◌, refl, sym, ap, ◌∙◌, subst, arith, append_assoc}
+use Rattle.std.proofs.lemmas.List.{map-append}
 use Rattle.std.proofs.lemmas.Bool.Decides.{nat_tests}
-use Rattle.std.specs.Prelude.{codes, nat_le, Some, None}
-use Rattle.std.specs.declared.result.Result.{Result}
-use Rattle.std.specs.declared.result.Result.TheVariants.{Ok, Err}
+use Rattle.std.specs.Prelude.{codes, nat_le}
+use Rattle.std.specs.declared.result.Result.TheVariants.{Ok}
 use Rattle.dms_base.specs.Name.{is_name}
 use Rattle.dms_base.specs.declared.kind.ItemKind.{ItemKind}
-use Rattle.dasdl_phrases.specs.declared.fault.ParseFault.{ParseFault}
 use Rattle.dms_tokens.specs.declared.token.Token.{Token}
 use Rattle.dms_tokens.specs.declared.token.Token.TheVariants.{Word, Sign}
 use Rattle.dms_tokens.specs.declared.token.Lexeme.{Lexeme}
 use Rattle.dasdl_parse.specs.declared.declarations.ItemDecl.{ItemDecl}
 use Rattle.dasdl_parse.specs.declared.declarations.DataSetDecl.{DataSetDecl}
-use Rattle.dasdl_parse.specs.declared.items.ItemOptions.{ItemOptions}
 use Rattle.dasdl_parse.specs.declared.items.GroupItems.{GroupItems}
-use Rattle.dasdl_phrases.specs.Reads.{◌>>=◌, Read}
-use Rattle.dms_tokens.specs.Cursors.{place_at, starts, is_word, is_the_sign}
-use Rattle.dasdl_phrases.specs.Cursors.{fault_at, word_at, sign_at, name_at, turns_at, until_close}
+use Rattle.dasdl_phrases.specs.Reads.{◌>>=◌}
+use Rattle.dms_tokens.specs.Cursors.{place_at, starts, is_word}
+use Rattle.dasdl_phrases.specs.Cursors.{word_at, sign_at, name_at, turns_at, until_close}
 use Rattle.dasdl_phrases.specs.Kinds.{starts_kind}
 use Rattle.dasdl_parse.specs.Items.{item_at, group_item_at, next_group_item_at, group_at}
 use Rattle.dasdl_parse.specs.Grammar.{restart_at, data_set_at}
@@ -33,9 +30,9 @@ use Rattle.dasdl_grammar.specs.GroupSpelling.IsGroup.{a_group}
 use Rattle.dasdl_grammar.specs.SetSpelling.{IsHead}
 use Rattle.dasdl_grammar.specs.SetSpelling.IsHead.{a_head, a_restart_head}
 use Rattle.dasdl_phrases.proofs.Inverting.{bind_ok, skip_ok, ok_same}
-use Rattle.dasdl_phrases.proofs.SpelledTokens.{StartsToken, word_spelled, sign_spelled, name_spelled}
+use Rattle.dasdl_phrases.proofs.SpelledTokens.{word_spelled, sign_spelled, name_spelled}
 use Rattle.dasdl_phrases.proofs.CondSound.{pick}
-use Rattle.dasdl_phrases.proofs.CondComplete.{RunsBranches, joins, turns_at-runs, Heads, heads, none_left, word_reads, sign_reads, name_reads}
+use Rattle.dasdl_phrases.proofs.CondComplete.{RunsBranches, joins, turns_at-runs, heads, none_left, word_reads, sign_reads, name_reads}
 use Rattle.dasdl_phrases.proofs.CondComplete.RunsBranches.{here, step}
 use Rattle.dasdl_parse.proofs.ItemExact.{item_sound, item_complete}
 use Rattle.dasdl_grammar.proofs.SaidExact.{Went, turns_at-went}

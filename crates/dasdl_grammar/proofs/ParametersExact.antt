@@ -1,20 +1,18 @@
 -- PARAMETERS and AUDIT TRAIL are read exactly.
-use Rattle.std.proofs.Common.{◌+◌, ◌≡◌, ◌≤◌, ◌<◌, ℕ, zero, suc, List, [], ◌∷◌, ◌++◌, map, length, length-append, Bool, true, false, cond, not, ◌&&◌, refl, sym, ap, ◌∙◌, subst, arith, append_assoc}
+use Rattle.std.proofs.Common.{◌+◌, ◌≡◌, ◌≤◌, ◌<◌, ℕ, List, [], ◌∷◌, ◌++◌, map, length-append, Bool, true, false, ◌&&◌, refl, sym, ap, ◌∙◌, subst, arith, append_assoc}
 use Rattle.std.proofs.lemmas.List.{map-append}
 use Rattle.std.specs.Prelude.{codes, Some, None, is_none}
 use Rattle.std.specs.declared.option.Option.{Option}
-use Rattle.std.specs.declared.result.Result.{Result}
-use Rattle.std.specs.declared.result.Result.TheVariants.{Ok, Err}
+use Rattle.std.specs.declared.result.Result.TheVariants.{Ok}
 use Rattle.dms_base.specs.declared.op.Op.TheVariants.{Equal}
-use Rattle.dasdl_phrases.specs.declared.fault.ParseFault.{ParseFault}
 use Rattle.dms_tokens.specs.declared.token.Token.{Token}
 use Rattle.dms_tokens.specs.declared.token.Token.TheVariants.{Word, Number, Sign, Compare}
 use Rattle.dms_tokens.specs.declared.token.Lexeme.{Lexeme}
 use Rattle.dasdl_parse.specs.declared.parameters.ParameterPairs.{ParameterPairs}
 use Rattle.dasdl_parse.specs.declared.parameters.AuditPairs.{AuditPairs}
 use Rattle.dasdl_phrases.specs.Reads.{◌>>=◌, Read}
-use Rattle.dms_tokens.specs.Cursors.{starts, is_word, is_the_sign}
-use Rattle.dasdl_phrases.specs.Cursors.{fault_at, word_at, sign_at, equal_at, number_at, turns_at, until_close}
+use Rattle.dms_tokens.specs.Cursors.{starts, is_word}
+use Rattle.dasdl_phrases.specs.Cursors.{word_at, sign_at, equal_at, turns_at, until_close}
 use Rattle.dasdl_parse.specs.Parameters.{no_pairs, no_audit_pairs, setting_at, measure_at, pair_at, next_pair_at, parameters_at, audit_pair_at, next_audit_pair_at, audit_at}
 use Rattle.dasdl_phrases.specs.CondSpelling.{token_of, Reads}
 use Rattle.dasdl_grammar.specs.ParameterSpelling.{ArePairs, measure, setting, IsPair, IsAuditPair, AreParameters, IsTrail}
@@ -24,11 +22,11 @@ use Rattle.dasdl_grammar.specs.ParameterSpelling.IsAuditPair.{says_blocks, says_
 use Rattle.dasdl_grammar.specs.ParameterSpelling.AreParameters.{parameters}
 use Rattle.dasdl_grammar.specs.ParameterSpelling.IsTrail.{trail}
 use Rattle.dasdl_phrases.proofs.Inverting.{bind_ok, ok_same}
-use Rattle.dasdl_phrases.proofs.SpelledTokens.{StartsToken, word_spelled, sign_spelled, equal_spelled}
+use Rattle.dasdl_phrases.proofs.SpelledTokens.{word_spelled, sign_spelled, equal_spelled}
 use Rattle.dasdl_phrases.proofs.TurnsSound.{GoesTurn, turns_at-goes}
-use Rattle.dasdl_phrases.proofs.CondComplete.{RunsBranches, joins, turns_at-runs, Splits, splits, Heads, heads, none_left, word_reads, sign_reads}
+use Rattle.dasdl_phrases.proofs.CondComplete.{RunsBranches, joins, turns_at-runs, splits, heads, none_left, word_reads, sign_reads}
 use Rattle.dasdl_phrases.proofs.CondComplete.RunsBranches.{here, step}
-use Rattle.dasdl_phrases.proofs.KindExact.{InRange, number_spelled, number_reads}
+use Rattle.dasdl_phrases.proofs.KindExact.{number_spelled, number_reads}
 use Rattle.dasdl_parse.proofs.ItemOptionsExact.{both_pick, none_is}
 
 -- a number in its range behind a word

@@ -1,17 +1,13 @@
 -- Options with places are read exactly where they are some, and for what they say together.
-use Rattle.std.proofs.Common.{◌+◌, ◌≡◌, ◌<◌, ℕ, zero, suc, List, [], ◌∷◌, ◌++◌, map, length, length-append, Bool, true, false, cond, not, ◌&&◌, ◌⊎◌, inl, inr, refl, sym, ap, ◌∙◌, subst, arith, append_assoc}
+use Rattle.std.proofs.Common.{◌+◌, ◌≡◌, ◌<◌, ℕ, zero, suc, List, [], ◌∷◌, ◌++◌, length, length-append, Bool, true, false, ◌&&◌, ◌⊎◌, inl, inr, refl, sym, ap, ◌∙◌, subst, arith, append_assoc}
 use Rattle.std.proofs.lemmas.List.{append-nil}
 use Rattle.std.specs.Prelude.{codes}
-use Rattle.std.specs.declared.result.Result.{Result}
 use Rattle.std.specs.declared.result.Result.TheVariants.{Ok, Err}
-use Rattle.dasdl_phrases.specs.declared.fault.ParseFault.{ParseFault}
-use Rattle.dms_tokens.specs.declared.token.Token.{Token}
 use Rattle.dms_tokens.specs.declared.token.Token.TheVariants.{Word, Sign}
 use Rattle.dms_tokens.specs.declared.token.Lexeme.{Lexeme}
-use Rattle.dasdl_phrases.specs.Reads.{◌>>=◌, Read, Pass}
+use Rattle.dasdl_phrases.specs.Reads.{◌>>=◌, Read}
 use Rattle.dms_tokens.specs.Cursors.{starts, is_word, is_the_sign}
 use Rattle.dasdl_phrases.specs.Cursors.{turns, turns_at, fault_at, comma_at, until_semicolon}
-use Rattle.dasdl_phrases.specs.CondSpelling.{token_of}
 use Rattle.dasdl_grammar.specs.SaidSpelling.{Said}
 use Rattle.dasdl_grammar.specs.SaidSpelling.Said.{nothing_said, said_more, said_behind_comma}
 use Rattle.dasdl_phrases.proofs.Inverting.{bind_ok, ok_same}

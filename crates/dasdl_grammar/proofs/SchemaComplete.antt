@@ -1,19 +1,16 @@
 -- Each schema of the grammar within the limits is read.
-use Rattle.std.proofs.Common.{◌+◌, ◌≡◌, ◌≤◌, ◌<◌, ℕ, zero, suc, List, [], ◌∷◌, ◌++◌, map, length, length-append, Bool, true, false, cond, not, ◌&&◌, ◌||◌, refl, sym, ap, ◌∙◌, subst, arith, append_assoc, IsTrue}
-use Rattle.std.proofs.lemmas.List.{append-nil, map-append}
+use Rattle.std.proofs.Common.{◌+◌, ◌≡◌, ◌≤◌, ◌<◌, ℕ, suc, List, [], ◌∷◌, ◌++◌, map, length, length-append, Bool, true, false, ◌&&◌, ◌||◌, refl, sym, ap, ◌∙◌, subst, arith, append_assoc}
 use Rattle.std.proofs.lemmas.Bool.Decides.{nat_tests}
-use Rattle.std.specs.Prelude.{codes, nat_le, Some, None}
-use Rattle.std.specs.declared.result.Result.{Result}
-use Rattle.std.specs.declared.result.Result.TheVariants.{Ok, Err}
+use Rattle.std.specs.Prelude.{codes, nat_le}
+use Rattle.std.specs.declared.result.Result.TheVariants.{Ok}
 use Rattle.dms_base.specs.Name.{is_name}
 use Rattle.dms_base.specs.Reserved.{is_reserved}
 use Rattle.dms_base.specs.declared.kind.ItemKind.{ItemKind}
 use Rattle.dasdl_phrases.specs.KindSpelling.{SpellsKind}
 use Rattle.dasdl_phrases.specs.KindSpelling.SpellsKind.{an_alpha, a_number, a_truth, a_field}
 use Rattle.dasdl_parse.specs.ItemSpelling.IsItem.{an_item as whole_item}
-use Rattle.dasdl_phrases.specs.declared.fault.ParseFault.{ParseFault}
 use Rattle.dms_tokens.specs.declared.token.Token.{Token}
-use Rattle.dms_tokens.specs.declared.token.Token.TheVariants.{Word, Sign, End}
+use Rattle.dms_tokens.specs.declared.token.Token.TheVariants.{Word, Sign}
 use Rattle.dms_tokens.specs.declared.token.Lexeme.{Lexeme}
 use Rattle.dasdl_parse.specs.declared.schema.Parameters.{Parameters}
 use Rattle.dasdl_parse.specs.declared.schema.Schema.{Schema}
@@ -29,11 +26,10 @@ use Rattle.dasdl_parse.specs.declared.declarations.SetDecl.{SetDecl}
 use Rattle.dasdl_parse.specs.declared.within.Open.{Open}
 use Rattle.dasdl_parse.specs.declared.within.Open.TheVariants.{Outside, One, Two, Three}
 use Rattle.dasdl_parse.specs.declared.grammar.Progress.{Progress}
-use Rattle.dasdl_phrases.specs.Reads.{◌>>=◌, Read}
-use Rattle.dms_tokens.specs.Cursors.{place_at, starts, is_word, is_the_sign, is_end}
-use Rattle.dasdl_phrases.specs.Cursors.{fault_at, name_at, turns_at}
+use Rattle.dasdl_phrases.specs.Reads.{◌>>=◌}
+use Rattle.dms_tokens.specs.Cursors.{starts, is_word, is_the_sign, is_end}
 use Rattle.dasdl_phrases.specs.Kinds.{starts_kind}
-use Rattle.dasdl_parse.specs.Grammar.{items_of, with_items, opened, closed, is_inside, is_deepest, declared, with_pairs, with_audit_pairs, parameters_turn_at, audit_turn_at, item_turn_at, group_turn_at, counted_with, link_turn_at, starts_set, starts_data_set, structure_turn_at, declared_turn_at, end_turn_at, named_turn_at, schema_turn_at, schema_done, default_parameters, no_progress, schema_at}
+use Rattle.dasdl_parse.specs.Grammar.{items_of, with_items, opened, closed, is_inside, is_deepest, declared, with_pairs, with_audit_pairs, parameters_turn_at, audit_turn_at, item_turn_at, group_turn_at, counted_with, link_turn_at, starts_set, starts_data_set, structure_turn_at, declared_turn_at, end_turn_at, named_turn_at, schema_turn_at, schema_done, no_progress, schema_at}
 use Rattle.dasdl_parse.specs.Sets.{set_at, or_else}
 use Rattle.dasdl_parse.specs.Items.{item_at, group_at, link_at}
 use Rattle.dasdl_parse.specs.Grammar.{data_set_at, data_set_end_at}
@@ -46,7 +42,7 @@ use Rattle.dasdl_grammar.specs.SetSpelling.{IsSet, IsHead, IsEnd}
 use Rattle.dasdl_grammar.specs.SetSpelling.IsSet.{a_set as whole_set}
 use Rattle.dasdl_grammar.specs.SetSpelling.IsHead.{a_head, a_restart_head}
 use Rattle.dasdl_grammar.specs.SetSpelling.IsEnd.{an_end}
-use Rattle.dasdl_grammar.specs.SchemaSpelling.{IsSchema, structures_of, structures_in, one_if, counted_of, counted_in, Many, Members, Declares}
+use Rattle.dasdl_grammar.specs.SchemaSpelling.{IsSchema, structures_in, one_if, counted_in, Many, Members, Declares}
 use Rattle.dasdl_grammar.specs.SchemaSpelling.Many.{Single, Several}
 use Rattle.dasdl_grammar.specs.SchemaSpelling.Declares.{no_declaration, then_parameters, then_audit, then_structure}
 use Rattle.dasdl_grammar.specs.ParameterSpelling.{AreParameters, IsTrail}
@@ -55,7 +51,7 @@ use Rattle.dasdl_grammar.specs.ParameterSpelling.IsTrail.{trail}
 use Rattle.dasdl_grammar.proofs.ParametersExact.{parameters_complete, audit_complete}
 use Rattle.dasdl_parse.specs.Parameters.{parameters_at, audit_at}
 use Rattle.dasdl_grammar.specs.SchemaSpelling.Members.{a_set, a_data_set, an_item, a_link, a_group, a_first, a_further}
-use Rattle.dasdl_phrases.proofs.CondComplete.{RunsBranches, joins, turns_at-runs, Heads, heads, none_left, name_reads, is_no_keyword}
+use Rattle.dasdl_phrases.proofs.CondComplete.{RunsBranches, joins, turns_at-runs, heads, name_reads, is_no_keyword}
 use Rattle.dasdl_phrases.proofs.CondComplete.RunsBranches.{here, step}
 use Rattle.dasdl_parse.proofs.ItemExact.{item_complete, link_complete}
 use Rattle.dasdl_grammar.proofs.GroupExact.{group_complete, head_complete, item_first}

@@ -6,7 +6,6 @@ use Rattle.std.specs.Prelude.{codes, nat_le}
 use Rattle.std.specs.declared.result.Result.{Result}
 use Rattle.std.specs.declared.result.Result.TheVariants.{Ok}
 use Rattle.dms_base.specs.Name.{is_name}
-use Rattle.dasdl_parse.specs.ItemSpelling.IsItem.{an_item as whole_item}
 use Rattle.dasdl_phrases.specs.declared.fault.ParseFault.{ParseFault}
 use Rattle.dms_tokens.specs.declared.token.Token.TheVariants.{Word}
 use Rattle.dms_tokens.specs.declared.token.Lexeme.{Lexeme}
@@ -28,10 +27,7 @@ use Rattle.dasdl_parse.specs.Sets.{set_at}
 use Rattle.dasdl_parse.specs.Items.{item_at, group_at, link_at}
 use Rattle.dasdl_parse.specs.Grammar.{data_set_at, data_set_end_at}
 use Rattle.dasdl_phrases.specs.CondSpelling.{token_of}
-use Rattle.dasdl_parse.specs.ItemSpelling.IsLink.{a_link as plain_link}
-use Rattle.dasdl_grammar.specs.GroupSpelling.IsGroup.{a_group as whole_group}
 use Rattle.dasdl_grammar.specs.SetSpelling.{IsHead, IsEnd}
-use Rattle.dasdl_grammar.specs.SetSpelling.IsSet.{a_set as whole_set}
 use Rattle.dasdl_grammar.specs.SchemaSpelling.{IsSchema, structures_in, counted_in, Many, Members, Declares}
 use Rattle.dasdl_grammar.specs.SchemaSpelling.Many.{Single, Several}
 use Rattle.dasdl_grammar.specs.SchemaSpelling.Declares.{no_declaration, then_parameters, then_audit, then_structure}

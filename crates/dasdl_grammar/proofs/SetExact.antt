@@ -1,14 +1,11 @@
 -- The options of sets and data sets are read exactly.
-use Rattle.std.proofs.Common.{◌+◌, ◌≡◌, ◌≤◌, ◌<◌, ℕ, zero, suc, List, [], ◌∷◌, ◌++◌, map, length, Bool, true, false, cond, not, ◌&&◌, ◌||◌, refl, sym, ap, ◌∙◌, subst, arith, append_assoc, IsTrue}
-use Rattle.std.proofs.lemmas.List.{append-nil, map-append}
-use Rattle.std.specs.Prelude.{codes, Some, None, is_none}
+use Rattle.std.proofs.Common.{◌+◌, ◌≡◌, ◌≤◌, ◌<◌, ℕ, List, [], ◌∷◌, ◌++◌, map, Bool, true, false, cond, ◌&&◌, ◌||◌, refl, sym, ap, ◌∙◌, subst}
+use Rattle.std.specs.Prelude.{codes, Some, is_none}
 use Rattle.std.specs.declared.option.Option.{Option}
-use Rattle.std.specs.declared.result.Result.{Result}
-use Rattle.std.specs.declared.result.Result.TheVariants.{Ok, Err}
+use Rattle.std.specs.declared.result.Result.TheVariants.{Ok}
 use Rattle.dms_base.specs.declared.op.Op.TheVariants.{Equal}
-use Rattle.dasdl_phrases.specs.declared.fault.ParseFault.{ParseFault}
 use Rattle.dms_tokens.specs.declared.token.Token.{Token}
-use Rattle.dms_tokens.specs.declared.token.Token.TheVariants.{Word, Number, Sign, Compare}
+use Rattle.dms_tokens.specs.declared.token.Token.TheVariants.{Word, Number, Compare}
 use Rattle.dms_tokens.specs.declared.token.Lexeme.{Lexeme}
 use Rattle.dasdl_phrases.specs.declared.key_parts.PartDecl.{PartDecl}
 use Rattle.dasdl_phrases.specs.declared.key_parts.KeyDecl.{KeyDecl}
@@ -16,17 +13,15 @@ use Rattle.dasdl_parse.specs.declared.sets.SetOptions.{SetOptions}
 use Rattle.dasdl_parse.specs.declared.data_sets.DataSetOptions.{DataSetOptions}
 use Rattle.dasdl_phrases.specs.TreeCodes.{WrittenTree}
 use Rattle.dasdl_phrases.specs.Trees.{Condition}
-use Rattle.dasdl_phrases.specs.Reads.{◌>>=◌, Read}
-use Rattle.dms_tokens.specs.Cursors.{place_at, starts, is_word, is_the_sign}
-use Rattle.dasdl_phrases.specs.Cursors.{fault_at, word_at, sign_at, equal_at, number_at, comma_at, turns_at, until_semicolon}
+use Rattle.dasdl_phrases.specs.Reads.{◌>>=◌}
+use Rattle.dms_tokens.specs.Cursors.{place_at, starts, is_word}
+use Rattle.dasdl_phrases.specs.Cursors.{word_at, equal_at}
 use Rattle.dasdl_phrases.specs.Conditions.{cond_at, cond_decl_at}
 use Rattle.dasdl_phrases.specs.Keys.{parts_at, key_at}
-use Rattle.dasdl_parse.specs.Sets.{population_at, duplicates_at, form_at, starts_duplicates, starts_form, no_set_options, plain_option_at, set_option_at, next_set_option_at}
-use Rattle.dasdl_parse.specs.Grammar.{no_data_set_options, data_set_option_at, next_data_set_option_at}
-use Rattle.dasdl_phrases.specs.CondSpelling.{token_of, Reads, IsCond, nodes}
-use Rattle.dasdl_phrases.specs.CondSpelling.CondPart.{Whole}
-use Rattle.dasdl_phrases.specs.KeySpelling.{IsKey}
-use Rattle.dasdl_grammar.specs.SaidSpelling.{SpellsFirst, Said, IsCondDecl, IsKeyDecl, IsPopulation, IsDuplicates, IsForm, SetOption, DataSetOption}
+use Rattle.dasdl_parse.specs.Sets.{population_at, duplicates_at, form_at, starts_duplicates, starts_form, plain_option_at, set_option_at}
+use Rattle.dasdl_parse.specs.Grammar.{data_set_option_at}
+use Rattle.dasdl_phrases.specs.CondSpelling.{token_of, Reads}
+use Rattle.dasdl_grammar.specs.SaidSpelling.{SpellsFirst, IsCondDecl, IsKeyDecl, IsPopulation, IsDuplicates, IsForm, SetOption, DataSetOption}
 use Rattle.dasdl_grammar.specs.SaidSpelling.IsCondDecl.{a_cond}
 use Rattle.dasdl_grammar.specs.SaidSpelling.IsKeyDecl.{a_key}
 use Rattle.dasdl_grammar.specs.SaidSpelling.IsPopulation.{a_population}
@@ -35,15 +30,15 @@ use Rattle.dasdl_grammar.specs.SaidSpelling.IsForm.{a_tree, a_list}
 use Rattle.dasdl_grammar.specs.SaidSpelling.SetOption.{says_where, says_key, says_duplicates, says_form, says_population}
 use Rattle.dasdl_grammar.specs.SaidSpelling.DataSetOption.{says_verify, says_its_population}
 use Rattle.dasdl_phrases.proofs.Inverting.{bind_ok, ok_same}
-use Rattle.dasdl_phrases.proofs.SpelledTokens.{StartsToken, word_spelled, sign_spelled, equal_spelled}
+use Rattle.dasdl_phrases.proofs.SpelledTokens.{word_spelled, equal_spelled}
 use Rattle.dasdl_phrases.proofs.CondSound.{cond_sound, pick}
 use Rattle.dasdl_phrases.proofs.CondNodes.{cond_few}
-use Rattle.dasdl_phrases.proofs.CondComplete.{cond_complete, Heads, heads, none_left, word_reads}
+use Rattle.dasdl_phrases.proofs.CondComplete.{cond_complete, heads, none_left, word_reads}
 use Rattle.dasdl_phrases.proofs.KeyExact.{key_sound}
 use Rattle.dasdl_phrases.proofs.KeyComplete.{key_complete}
-use Rattle.dasdl_phrases.proofs.KindExact.{InRange, number_spelled, number_reads}
+use Rattle.dasdl_phrases.proofs.KindExact.{number_spelled, number_reads}
 use Rattle.dasdl_parse.proofs.ItemOptionsExact.{both_pick, none_is}
-use Rattle.dasdl_grammar.proofs.SaidExact.{FollowsSaid, Opens, said_sound, said_complete}
+use Rattle.dasdl_grammar.proofs.SaidExact.{FollowsSaid}
 
 place_is : (ts ls : List Lexeme) (l : Lexeme) → ts ≡ l ∷ ls → place_at ts ≡ l.place
 place_is ts ls l e = ap place_at e

@@ -1,7 +1,7 @@
 -- What the lexemes of a schema are.
-use Rattle.std.specs.Prelude.{◌≡◌, ◌≤◌, ◌<◌, ◌+◌, ℕ, suc, List, [], ◌∷◌, ◌++◌, map, length, Bool, true, false, codes, IsTrue}
+use Rattle.std.specs.Prelude.{◌≡◌, ◌≤◌, ◌<◌, ◌+◌, ℕ, suc, List, [], ◌∷◌, ◌++◌, map, length, Bool, true, false, IsTrue}
 use Rattle.dms_base.specs.Name.{is_name}
-use Rattle.dms_tokens.specs.declared.token.Token.TheVariants.{Word, End}
+use Rattle.dms_tokens.specs.declared.token.Token.TheVariants.{Word}
 use Rattle.dms_tokens.specs.declared.token.Lexeme.{Lexeme}
 use Rattle.dasdl_parse.specs.declared.schema.Parameters.{Parameters}
 use Rattle.dasdl_parse.specs.declared.schema.Schema.{Schema}

@@ -29,7 +29,8 @@ fn restart(cursor: &mut Cursor<'_>) -> Result<bool, ParseFault>
     Ok(false)
 }
 
-/// `[RESTART] DATA SET (` behind a data set's name.
+/// `[RESTART] DATA SET (` behind a data set's name. Answers BadCharacter or Expected at the first token that isn't
+/// allowed.
 #[tactic(auto, unfolding(crate::specs::Grammar::data_set_at))]
 pub fn data_set(cursor: &mut Cursor<'_>, place: u32, name: Name) -> Result<DataSetDecl, ParseFault>
     ensures { Takes result cursor.new (data_set_at place name cursor.old) }
@@ -81,7 +82,9 @@ impl Turns for DataSetOptions {
     }
 }
 
-/// `) {[,] option} ;` behind a data set's members.
+/// `) {[,] option} ;` behind a data set's members. Answers BadCharacter or Expected at the first token that isn't
+/// allowed, NumberRange at a number outside its range, TooMany with 30 for a name's bytes or with 100 for a
+/// condition's nodes, and Memory.
 #[tactic(auto, unfolding(crate::specs::Grammar::data_set_end_at))]
 pub fn data_set_end(cursor: &mut Cursor<'_>) -> Result<DataSetEnd, ParseFault>
     ensures { Takes result cursor.new (data_set_end_at cursor.old) }

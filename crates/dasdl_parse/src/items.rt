@@ -76,7 +76,8 @@ impl Turns for ItemOptions {
     }
 }
 
-/// `type {[,] option} ;` behind an item's name.
+/// `type {[,] option} ;` behind an item's name. Answers BadCharacter or Expected at the first token that isn't allowed,
+/// NumberRange at a number outside its range, and Memory.
 #[tactic(auto, unfolding(crate::specs::Items::item_at))]
 pub fn item(cursor: &mut Cursor<'_>, place: u32, name: Name) -> Result<ItemDecl, ParseFault>
     ensures { Takes result cursor.new (item_at place name cursor.old) }
@@ -135,7 +136,9 @@ impl Turns for GroupItems {
     }
 }
 
-/// `GROUP ( item {item} ) ;` behind a group's name, where its data set has so many items.
+/// `GROUP ( item {item} ) ;` behind a group's name, where its data set has so many items. Answers BadCharacter or
+/// Expected at the first token that isn't allowed, NumberRange at a number outside its range, TooMany with 30 for a
+/// name's bytes or with 60 for the items, and Memory.
 #[tactic(auto, unfolding(crate::specs::Items::group_at))]
 pub fn group(cursor: &mut Cursor<'_>, count: u8) -> Result<GroupItems, ParseFault>
     ensures { Takes result cursor.new (group_at count cursor.old) }

@@ -30,7 +30,7 @@ impl ItemDecls {
         }
     }
 
-    /// Adds one at the end.
+    /// Adds one at the end. Answers Err where memory is refused, and then nothing changes.
     pub fn push(&mut self, item: ItemDecl) -> Result<(), Memory>
         ensures ok { OnOk result (self.new ≡ self.old ++ item ∷ []) }
         ensures err { OnErr result (self.new ≡ self.old) }
@@ -76,7 +76,7 @@ impl Declarations {
         }
     }
 
-    /// Adds one at the end.
+    /// Adds one at the end. Answers Err where memory is refused, and then nothing changes.
     pub fn push(&mut self, declaration: Declaration) -> Result<(), Memory>
         ensures ok { OnOk result (self.new ≡ self.old ++ declaration ∷ []) }
         ensures err { OnErr result (self.new ≡ self.old) }

@@ -94,7 +94,8 @@ impl Turns for ParameterPairs {
     }
 }
 
-/// `PARAMETERS ( pair {, pair} ) ;`.
+/// `PARAMETERS ( pair {, pair} ) ;`. Answers BadCharacter or Expected at the first token that isn't allowed, and
+/// NumberRange at a number outside its range.
 #[tactic(auto, unfolding(crate::specs::Parameters::parameters_at))]
 pub fn parameters(cursor: &mut Cursor<'_>) -> Result<ParameterPairs, ParseFault>
     ensures { Takes result cursor.new (parameters_at cursor.old) }
@@ -150,7 +151,8 @@ impl Turns for AuditPairs {
     }
 }
 
-/// `AUDIT TRAIL ( pair {, pair} ) ;`.
+/// `AUDIT TRAIL ( pair {, pair} ) ;`. Answers BadCharacter or Expected at the first token that isn't allowed, and
+/// NumberRange at a number outside its range.
 #[tactic(auto, unfolding(crate::specs::Parameters::audit_at))]
 pub fn audit(cursor: &mut Cursor<'_>) -> Result<AuditPairs, ParseFault>
     ensures { Takes result cursor.new (audit_at cursor.old) }

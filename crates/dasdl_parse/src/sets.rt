@@ -24,7 +24,8 @@ pub struct SetOptions {
     pub population: Option<u32>,
 }
 
-/// `POPULATION = number`.
+/// `POPULATION = number`. Answers BadCharacter or Expected at the first token that isn't allowed, and NumberRange at a
+/// number outside 1 to 1,000,000.
 #[tactic(auto, unfolding(crate::specs::Sets::population_at))]
 pub fn population(cursor: &mut Cursor<'_>) -> Result<u32, ParseFault>
     ensures { Takes result cursor.new (population_at cursor.old) }
@@ -163,7 +164,9 @@ fn set_of(place: u32, name: Name, subset: bool, of: Name, options: SetOptions) -
     }
 }
 
-/// `(SET | SUBSET) OF name {[,] option} ;` behind a set's name.
+/// `(SET | SUBSET) OF name {[,] option} ;` behind a set's name. Answers BadCharacter or Expected at the first token
+/// that isn't allowed, NumberRange at a number outside its range, TooMany with 30 for a name's bytes, with 100 for a
+/// condition's nodes or with 16 for a key's parts, and Memory.
 #[tactic(auto, unfolding(crate::specs::Sets::set_at))]
 pub fn set(cursor: &mut Cursor<'_>, place: u32, name: Name) -> Result<SetDecl, ParseFault>
     ensures { Takes result cursor.new (set_at place name cursor.old) }

@@ -6,7 +6,7 @@ use Rattle.std.specs.declared.result.Result.TheVariants.{Ok, Err}
 use Rattle.dms_base.specs.declared.kind.ItemKind.{ItemKind}
 use Rattle.dms_base.specs.declared.kind.ItemKind.TheVariants.{Alpha, Number as Digits, Bool as Truth, Field}
 use Rattle.dms_base.specs.declared.kind.Literal.{Literal}
-use Rattle.dms_base.specs.declared.kind.Literal.TheVariants.{Null, Text, Number as Amount, Bool as Boolean}
+use Rattle.dms_base.specs.declared.kind.Literal.TheVariants.{Text, Number as Amount}
 use Rattle.dms_base.specs.Text.{text_of}
 use Rattle.dasdl_phrases.specs.declared.fault.ParseFault.TheVariants.{BadCharacter, Expected, NumberRange}
 use Rattle.dms_tokens.specs.declared.token.Token.{Token}

@@ -317,7 +317,9 @@ fn cond(cursor: &mut Cursor<'_>) -> Result<Branch, ParseFault>
     }
 }
 
-/// This word, VERIFY or WHERE, and a condition, of which more than 100 nodes are TooMany with 100.
+/// This word, VERIFY or WHERE, and a condition, of which more than 100 nodes are TooMany with 100. Answers BadCharacter
+/// or Expected at the first token that isn't allowed, NumberRange at a number that is too long, TooMany with 30 at a
+/// name that is, and Memory.
 #[tactic(auto, unfolding(crate::specs::Conditions::cond_decl_at))]
 pub fn cond_decl(cursor: &mut Cursor<'_>, word: &[u8]) -> Result<CondDecl, ParseFault>
     ensures { Takes result cursor.new (cond_decl_at word.now cursor.old) }

@@ -90,7 +90,7 @@ impl Branch {
         Ok(Branch { tree })
     }
 
-    /// Behind so many NOTs.
+    /// Behind so many NOTs. Answers Err where memory is refused.
     pub fn negated(self, alloc: Global, nots: u8) -> Result<Branch, Memory>
         ensures { IfOk result (λ b. b ≡ negated nots self) }
     {
@@ -101,7 +101,7 @@ impl Branch {
         Ok(branch)
     }
 
-    /// Behind AND, where there is one.
+    /// Behind AND, where there is one. Answers Err where memory is refused.
     pub fn with_and(self, alloc: Global, left: Option<Branch>) -> Result<Branch, Memory>
         ensures { IfOk result (λ b. b ≡ with_and left self) }
     {
@@ -114,7 +114,7 @@ impl Branch {
         }
     }
 
-    /// Behind OR, where there is one.
+    /// Behind OR, where there is one. Answers Err where memory is refused.
     pub fn with_or(self, alloc: Global, left: Option<Branch>) -> Result<Branch, Memory>
         ensures { IfOk result (λ b. b ≡ with_or left self) }
     {

@@ -69,7 +69,8 @@ pub fn expect_equal(cursor: &mut Cursor<'_>) -> Result<(), ParseFault>
     Ok(())
 }
 
-/// A name: a word of at most 30 bytes that isn't reserved. A longer one is TooMany with 30.
+/// A name: a word of at most 30 bytes that isn't reserved. A longer one is TooMany with 30. Any other token is
+/// BadCharacter or Expected with its place; where no token is left, the fault is Expected with 0.
 #[tactic(auto, unfolding(crate::specs::Cursors::name_at))]
 pub fn read_name(cursor: &mut Cursor<'_>) -> Result<Name, ParseFault>
     ensures { Takes result cursor.new (name_at cursor.old) }
@@ -96,7 +97,8 @@ pub fn read_name(cursor: &mut Cursor<'_>) -> Result<Name, ParseFault>
     }
 }
 
-/// A number in this range, its ends included; one outside it is NumberRange with its place.
+/// A number in this range, its ends included; one outside it is NumberRange with its place. Any other token is
+/// BadCharacter or Expected with its place; where no token is left, the fault is Expected with 0.
 #[tactic(auto, unfolding(crate::specs::Cursors::number_at))]
 pub fn read_number(cursor: &mut Cursor<'_>, low: u64, high: u64) -> Result<u64, ParseFault>
     ensures gives { Takes result cursor.new (number_at low high cursor.old) }

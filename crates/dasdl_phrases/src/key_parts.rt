@@ -45,7 +45,7 @@ impl PartDecls {
         }
     }
 
-    /// Adds one at the end.
+    /// Adds one at the end. Answers Err where memory is refused, and then nothing changes.
     pub fn push(&mut self, part: PartDecl) -> Result<(), Memory>
         ensures ok { OnOk result (self.new ≡ self.old ++ part ∷ []) }
         ensures err { OnErr result (self.new ≡ self.old) }

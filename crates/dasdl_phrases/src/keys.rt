@@ -77,7 +77,8 @@ fn parts(cursor: &mut Cursor<'_>) -> Result<PartDecls, ParseFault>
     Ok(all)
 }
 
-/// `KEY IS parts`, where a 17th part is TooMany with 16.
+/// `KEY IS parts`, where a 17th part is TooMany with 16. Answers BadCharacter or Expected at the first token that isn't
+/// allowed, TooMany with 30 at a name that is too long, and Memory.
 #[tactic(auto, unfolding(crate::specs::Keys::key_at))]
 pub fn key(cursor: &mut Cursor<'_>) -> Result<KeyDecl, ParseFault>
     ensures { Takes result cursor.new (key_at cursor.old) }

@@ -8,7 +8,8 @@ use crate::fault::ParseFault;
 use dms_base::{ItemKind, Literal, Text};
 use dms_tokens::{Cursor, Token, constant, is_digit, with_digit};
 
-/// A literal.
+/// A literal. Answers BadCharacter or Expected where none stands there, NumberRange at a number that is too long, and
+/// Memory.
 #[tactic(auto, unfolding(crate::specs::Kinds::literal_at))]
 pub fn literal(cursor: &mut Cursor<'_>) -> Result<Literal, ParseFault>
     ensures { Takes result cursor.new (literal_at cursor.old) }
@@ -190,7 +191,8 @@ pub fn starts_kind(cursor: &Cursor<'_>) -> bool
         || cursor.starts_word(b"FIELD")
 }
 
-/// An item's type.
+/// An item's type. Answers BadCharacter or Expected at the first token that isn't allowed, and NumberRange at a number
+/// outside its range.
 #[tactic(auto, unfolding(crate::specs::Kinds::kind_at))]
 pub fn kind(cursor: &mut Cursor<'_>) -> Result<ItemKind, ParseFault>
     ensures { Takes result cursor.new (kind_at cursor.old) }

@@ -53,7 +53,7 @@ impl Levels {
         self.kept.is_empty()
     }
 
-    /// Puts one in front.
+    /// Puts one in front. Answers Err where memory is refused, and then nothing changes.
     pub fn push(&mut self, level: Level) -> Result<(), Memory>
         ensures ok { OnOk result (self.new ≡ level ∷ self.old) }
         ensures err { OnErr result (self.new ≡ self.old) }

@@ -23,7 +23,8 @@ pub trait Turns: Drop {
         ensures { Takes result cursor.new (turn_at self cursor.old) };
 }
 
-/// Reads turn by turn up to where it ends.
+/// Reads turn by turn up to where it ends. Answers the first fault of a turn, and else BadCharacter or Expected where
+/// as many turns as there were tokens don't end it.
 #[tactic(auto, unfolding(crate::specs::Cursors::turns_at))]
 pub fn read_turns<T: Turns>(start: T, cursor: &mut Cursor<'_>) -> Result<T, ParseFault>
     ensures { Takes result cursor.new (turns_at T.done_at T.turn_at start cursor.old) }

@@ -75,7 +75,7 @@ impl Gathered {
         }
     }
 
-    /// Adds the entry at a place.
+    /// Adds the entry at a place. Answers Err where memory is refused.
     pub fn add(&mut self, place: EntryPlace, entry: &Entry<'_>) -> Result<(), Memory>
         ensures { OnOk result (seen self.new ≡ one_more (seen self.old) (record { place = place; entry = entry_seen entry.now })) }
     {

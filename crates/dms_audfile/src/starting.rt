@@ -19,6 +19,7 @@ use std::alloc::Global;
 
 impl AuditEnd {
     /// The end of a trail that scanning found. What is appended may go on up to audit file `limit`, from 1 to 9,999.
+    /// Answers Err where memory is refused.
     pub fn new(alloc: Global, reach: &Reach, limit: u32) -> Result<AuditEnd, Memory>
         requires { limit ≤ 9999 }
         ensures kind { IfOk result (λ end. (end.total ≡ reach.now.total) × (end.tag ≡ reach.now.tag) × (end.limit ≡ limit)) }

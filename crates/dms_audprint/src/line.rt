@@ -79,7 +79,7 @@ impl fmt::Display for EntryLine<'_> {
     }
 }
 
-/// The line of an entry as text.
+/// The line of an entry as text. Answers Err where memory is refused.
 pub fn line_text(alloc: Global, line: &EntryLine<'_>) -> Result<Bytes, Memory>
     ensures { IfOk result (λ text. text ≡ entry_line line.now.audit line.now.block (entry_seen line.now.entry)) }
 {

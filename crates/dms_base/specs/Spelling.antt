@@ -1,5 +1,5 @@
 -- What a literal spells for any kind, and how any value is shown, also where no schema has such a kind.
-use Rattle.std.specs.Prelude.{ℕ, ◌^◌, List, [], Bool, true, false, ◌&&◌, nat_lt, nat_le, None, if◌then◌else◌}
+use Rattle.std.specs.Prelude.{ℕ, ◌^◌, List, [], Bool, true, ◌&&◌, nat_lt, nat_le, None, if◌then◌else◌}
 use Rattle.std.specs.declared.option.Option.{Option}
 use Rattle.dms_base.specs.declared.value.Value.{Value}
 use Rattle.dms_base.specs.declared.kind.ItemKind.{ItemKind}

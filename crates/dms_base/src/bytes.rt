@@ -28,7 +28,7 @@ impl Bytes {
         }
     }
 
-    /// The list of these bytes.
+    /// The list of these bytes. Answers Err where memory is refused.
     pub fn copied(alloc: Global, bytes: &[u8]) -> Result<Bytes, Memory>
         ensures { IfOk result (λ b. b ≡ bytes.now) }
     {
@@ -62,7 +62,7 @@ impl Bytes {
         Ok(())
     }
 
-    /// A copy of this list.
+    /// A copy of this list. Answers Err where memory is refused.
     pub fn copy(&self, alloc: Global) -> Result<Bytes, Memory>
         ensures { IfOk result (λ b. b ≡ self.now) }
     {

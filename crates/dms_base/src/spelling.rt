@@ -35,7 +35,7 @@ fn is_literal(literal: &Literal) -> bool
 }
 
 /// The value that a literal spells for a kind, by `value_of`; none where no schema has this kind or no
-/// text spells this literal.
+/// text spells this literal. Answers Err where memory is refused.
 pub fn value_for(alloc: Global, kind: &ItemKind, literal: &Literal) -> Result<Option<Value>, Memory>
     ensures { IfOk result (λ v. v ≡ value_for kind.now literal.now) }
 {
@@ -46,6 +46,7 @@ pub fn value_for(alloc: Global, kind: &ItemKind, literal: &Literal) -> Result<Op
 }
 
 /// A value as a reply shows it, by `value_text`; nothing where no schema has this kind.
+/// Answers Err where memory is refused.
 pub fn text_for(alloc: Global, kind: &ItemKind, value: &Value) -> Result<Bytes, Memory>
     ensures { IfOk result (λ t. t ≡ text_for kind.now value.now) }
 {

@@ -44,6 +44,7 @@ impl Changes {
     }
 
     /// What a block is to be, in place of what was set before.
+    /// Answers Memory, its only error, where memory is refused; nothing changes then.
     pub fn set(&mut self, id: BlockId, block: &Block) -> Result<(), BlockFault>
         ensures ok { OnOk result (self.new.items.items ≡ with_change id.file id.block block.now.0 self.old.items.items) }
         ensures err { OnErr result (self.new.items.items ≡ self.old.items.items) }

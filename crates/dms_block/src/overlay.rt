@@ -55,6 +55,7 @@ impl<B: Blocks> Overlay<B> {
     }
 
     /// A block below its file's count.
+    /// Answers Err only where the block isn't written here and the read below fails, by its error: Disk, Memory, Full or Damaged.
     pub fn read(&mut self, alloc: Global, id: BlockId) -> Result<Block, BlockFault>
         requires sound { (under self.old).sound }
         requires there { id.block < seen_counts self.old id.file }
@@ -70,6 +71,7 @@ impl<B: Blocks> Overlay<B> {
     }
 
     /// A block is another one, or a new one at its file's end. Nothing reaches below.
+    /// Answers Memory, its only error, where memory is refused; nothing is written then.
     pub fn write(&mut self, id: BlockId, block: &Block) -> Result<(), BlockFault>
         requires owned { IsTrue ((under self.old).owns id.file) }
         requires low { id.block < limit }
@@ -85,6 +87,7 @@ impl<B: Blocks> Overlay<B> {
     }
 
     /// Hands down what was written, in one call: only blocks that differ from what stands below.
+    /// Answers Disk, Memory, Full or Damaged where a read below or that call does, and Memory where the list of these blocks is refused.
     pub fn finish(&mut self, alloc: Global) -> Result<(), BlockFault>
         requires sound { (under self.old).sound }
         ensures written { written self.new ≡ [] }

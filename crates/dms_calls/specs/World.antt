@@ -1,8 +1,7 @@
 -- A folder of the system: names, the files behind them, and what the calls do to them.
-use Rattle.std.specs.Prelude.{ℕ, ◌+◌, ◌≤◌, ◌<◌, ◌≡◌, ◌≢◌, ◌⊎◌, List, [], ◌++◌, length, take, None, Some, slice_get}
+use Rattle.std.specs.Prelude.{ℕ, ◌+◌, ◌≤◌, ◌<◌, ◌≡◌, ◌≢◌, ◌⊎◌, List, [], ◌++◌, take, None, Some, slice_get}
 use Rattle.std.specs.declared.option.Option.{Option}
 use Rattle.dms_moments.specs.Moments.{Clock, Now}
-use Rattle.dms_site.specs.Files.{padded}
 
 -- the file that each name of the folder leads to, the bytes of each file, and the text that was printed
 pub record World : Type 0 where

@@ -15,7 +15,7 @@ pub enum Bound {
 }
 
 impl Bound {
-    /// A copy of a bound.
+    /// A copy of a bound. Answers Err where memory is refused.
     pub fn copy(&self, alloc: Global) -> Result<Bound, Memory>
         ensures { IfOk result (λ b. b ≡ self.now) }
     {

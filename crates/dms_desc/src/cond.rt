@@ -83,7 +83,7 @@ pub fn meets(cond: &Cond, values: &[Value]) -> bool
 }
 
 impl Cond {
-    /// A copy of a condition.
+    /// A copy of a condition. Answers Err where memory is refused.
     pub fn copy(&self, alloc: Global) -> Result<Cond, Memory>
         ensures { IfOk result (λ c. tree_of c ≡ tree_of self.now) }
     {

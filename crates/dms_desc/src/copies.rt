@@ -6,7 +6,7 @@ use dms_base::Memory;
 use std::alloc::Global;
 
 impl Item {
-    /// A copy of an item.
+    /// A copy of an item. Answers Err where memory is refused.
     pub fn copy(&self, alloc: Global) -> Result<Item, Memory>
         ensures { IfOk result (λ i. i ≡ self.now) }
     {
@@ -20,7 +20,7 @@ impl Item {
 }
 
 impl Items {
-    /// A copy of the list.
+    /// A copy of the list. Answers Err where memory is refused.
     pub fn copy(&self, alloc: Global) -> Result<Items, Memory>
         ensures { IfOk result (λ v. v ≡ self.now) }
     {
@@ -33,7 +33,7 @@ impl Items {
 }
 
 impl Groups {
-    /// A copy of the list.
+    /// A copy of the list. Answers Err where memory is refused.
     pub fn copy(&self, alloc: Global) -> Result<Groups, Memory>
         ensures { IfOk result (λ v. v ≡ self.now) }
     {
@@ -46,7 +46,7 @@ impl Groups {
 }
 
 impl KeyParts {
-    /// A copy of the list.
+    /// A copy of the list. Answers Err where memory is refused.
     pub fn copy(&self, alloc: Global) -> Result<KeyParts, Memory>
         ensures { IfOk result (λ v. v ≡ self.now) }
     {
@@ -59,7 +59,7 @@ impl KeyParts {
 }
 
 impl Structure {
-    /// A copy of a structure.
+    /// A copy of a structure. Answers Err where memory is refused.
     pub fn copy(&self, alloc: Global) -> Result<Structure, Memory>
         ensures { IfOk result (λ s. shape_of s ≡ shape_of self.now) }
     {
@@ -85,7 +85,7 @@ impl Structure {
 }
 
 impl Structures {
-    /// A copy of the list.
+    /// A copy of the list. Answers Err where memory is refused.
     pub fn copy(&self, alloc: Global) -> Result<Structures, Memory>
         ensures { IfOk result (λ v. map shape_of v ≡ map shape_of self.now) }
     {
@@ -98,7 +98,7 @@ impl Structures {
 }
 
 impl Description {
-    /// A copy of a description.
+    /// A copy of a description. Answers Err where memory is refused.
     pub fn copy(&self, alloc: Global) -> Result<Description, Memory>
         ensures { IfOk result (λ d. described d ≡ described self.now) }
     {

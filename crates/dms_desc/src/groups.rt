@@ -30,7 +30,7 @@ impl Groups {
         }
     }
 
-    /// Adds an element at the end.
+    /// Adds an element at the end. Answers Err where memory is refused; the list is unchanged then.
     pub fn push(&mut self, e: Group) -> Result<(), Memory>
         ensures ok { OnOk result (self.new ≡ self.old ++ e ∷ []) }
         ensures err { OnErr result (self.new ≡ self.old) }

@@ -13,7 +13,7 @@ pub struct Record {
 }
 
 impl Record {
-    /// A copy of a record.
+    /// A copy of a record. Answers Err where memory is refused.
     pub fn copy(&self, alloc: Global) -> Result<Record, Memory>
         ensures { IfOk result (λ r. r ≡ self.now) }
     {

@@ -180,7 +180,7 @@ impl<'a> Input<'a> {
         Value::Bits(self.u64())
     }
 
-    /// The next literal.
+    /// The next literal. Answers Err where memory is refused.
     #[tactic(auto, unfolding(crate::specs::Reading::literal_at))]
     pub fn literal(&mut self, alloc: Global) -> Result<Value, Memory>
         ensures { IfOk result (λ v. (v, self.new) ≡ literal_at self.old) }

@@ -23,7 +23,7 @@ fn read_item(alloc: Global, input: &mut Input<'_>) -> Result<Item, Memory>
     })
 }
 
-/// Reads the items and links of a data set, their count first.
+/// Reads the items and links of a data set, their count first. Answers Err where memory is refused.
 #[tactic(auto, unfolding(crate::specs::Reading::list_at))]
 pub fn read_items(alloc: Global, input: &mut Input<'_>) -> Result<Items, Memory>
     ensures { IfOk result (λ v. (v, input.new) ≡ list_at item_at input.old) }
@@ -46,7 +46,7 @@ fn read_group(input: &mut Input<'_>) -> Group
     Group { name, first, count }
 }
 
-/// Reads the groups of a data set, their count first.
+/// Reads the groups of a data set, their count first. Answers Err where memory is refused.
 #[tactic(auto, unfolding(crate::specs::Reading::list_at))]
 pub fn read_groups(alloc: Global, input: &mut Input<'_>) -> Result<Groups, Memory>
     ensures { IfOk result (λ v. (v, input.new) ≡ list_at group_at input.old) }
@@ -68,7 +68,7 @@ fn read_part(input: &mut Input<'_>) -> KeyPart
     KeyPart { item, descending }
 }
 
-/// Reads the parts of a key, their count first.
+/// Reads the parts of a key, their count first. Answers Err where memory is refused.
 #[tactic(auto, unfolding(crate::specs::Reading::list_at))]
 pub fn read_parts(alloc: Global, input: &mut Input<'_>) -> Result<KeyParts, Memory>
     ensures { IfOk result (λ v. (v, input.new) ≡ list_at part_at input.old) }
@@ -104,7 +104,7 @@ fn read_test(alloc: Global, input: &mut Input<'_>) -> Result<Cond, Memory>
     Ok(Cond::Compare(item, op, value))
 }
 
-/// The next condition, of at most so many levels.
+/// The next condition, of at most so many levels. Answers Err where memory is refused.
 #[tactic(auto, unfolding(crate::specs::Reading::tree_at))]
 pub fn read_cond(alloc: Global, levels: u8, input: &mut Input<'_>) -> Result<Cond, Memory>
     ensures { IfOk result (λ c. (tree_of c, input.new) ≡ tree_at levels input.old) }

@@ -219,7 +219,7 @@ fn put_structures(out: &mut Bytes, structures: &[Structure]) -> Result<(), Memor
 }
 
 /// The bytes of a description. Of one that no schema spells, counts are written modulo the width of
-/// their fields.
+/// their fields. Answers Err where memory is refused.
 #[tactic(auto, unfolding(crate::specs::Spelling::spelling))]
 pub fn encode(alloc: Global, desc: &Description) -> Result<Bytes, Memory>
     ensures { IfOk result (λ bytes. bytes ≡ spelling (described desc.now)) }

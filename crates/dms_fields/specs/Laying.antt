@@ -1,6 +1,6 @@
 -- Fields that are written one behind another.
-use Rattle.std.proofs.Common.{◌≡◌, ℕ, ◌+◌, ◌≤◌, List, [], ◌++◌, length, take, drop, refl, sym, arith, length-append, length-take, length-drop, append_assoc, ◌∙◌, ap}
-use Rattle.std.proofs.lemmas.List.{take_at, drop_at, ext_get_or, places, length-take-le}
+use Rattle.std.proofs.Common.{◌≡◌, ℕ, ◌+◌, ◌≤◌, List, [], ◌++◌, length, take, drop, refl, sym, arith, length-append, length-take, length-drop, ◌∙◌}
+use Rattle.std.proofs.lemmas.List.{take_at, ext_get_or, places}
 use Rattle.dms_fields.specs.Fields.{laid}
 
 -- what was written over other bytes is as long as they were

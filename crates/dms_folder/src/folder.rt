@@ -33,7 +33,7 @@ pub struct Folder<C: Calls> {
 }
 
 impl<C: Calls + Drop> Folder<C> {
-    /// The files of a folder, none of them open. Nothing is known to be stable.
+    /// The files of a folder, none of them open. Nothing is known to be stable. Answers Err where memory is refused.
     pub fn new(calls: C, alloc: Global) -> Result<Folder<C>, AllocError>
         ensures kept { IfOk result (λ s. IsTrue C.tells → KeepsFolder C.file s.opened.items s.made s.synced (C.world s.calls) (C.clock s.calls)) }
         ensures calls { IfOk result (λ s. s.calls ≡ calls) }
@@ -231,7 +231,7 @@ impl<C: Calls> Folder<C> {
     }
 
     /// Writes bytes from a position on. A gap before them is filled with zeros. With nothing to write and no gap it makes no
-    /// call, and no file.
+    /// call, and no file. Answers Err where a call on the folder failed, or wrote nothing of bytes that are left.
     pub fn write(&mut self, file: u32, at: u64, bytes: &[u8]) -> Result<(), Failed>
         requires broken { C.broken self.old.calls ≡ false }
         requires kept { IsTrue C.tells → KeepsFolder C.file self.old.opened.items self.old.made self.old.synced (C.world self.old.calls) (C.clock self.old.calls) }
@@ -267,6 +267,7 @@ impl<C: Calls> Folder<C> {
     }
 
     /// Makes what was written and cut stable, and the names of the folder where files were made. The first sync takes all files.
+    /// Answers Err where a call on the folder failed, or its listing doesn't end within `MOST_NAMES` turns.
     pub fn sync(&mut self) -> Result<(), Failed>
         requires broken { C.broken self.old.calls ≡ false }
         requires kept { IsTrue C.tells → KeepsFolder C.file self.old.opened.items self.old.made self.old.synced (C.world self.old.calls) (C.clock self.old.calls) }
@@ -350,6 +351,7 @@ impl<C: Calls> Folder<C> {
     }
 
     /// The greatest number of a file that isn't empty from `from` to `upto`, or 0.
+    /// Answers Err where a call on the folder failed, or its listing doesn't end within `MOST_NAMES` turns.
     pub fn last_present(&mut self, from: u32, upto: u32) -> Result<u32, Failed>
         requires broken { C.broken self.old.calls ≡ false }
         requires kept { IsTrue C.tells → KeepsFolder C.file self.old.opened.items self.old.made self.old.synced (C.world self.old.calls) (C.clock self.old.calls) }
@@ -391,7 +393,7 @@ impl<C: Calls> Folder<C> {
         Ok(last)
     }
 
-    /// The length of a file in bytes, 0 where there is none.
+    /// The length of a file in bytes, 0 where there is none. Answers Err where a call on the folder failed.
     pub fn length(&mut self, file: u32) -> Result<u64, Failed>
         requires broken { C.broken self.old.calls ≡ false }
         requires kept { IsTrue C.tells → KeepsFolder C.file self.old.opened.items self.old.made self.old.synced (C.world self.old.calls) (C.clock self.old.calls) }
@@ -407,7 +409,7 @@ impl<C: Calls> Folder<C> {
         }
     }
 
-    /// Reads from a position on until the slice is full or the file ends.
+    /// Reads from a position on until the slice is full or the file ends. Answers Err where a call on the folder failed.
     pub fn read(&mut self, file: u32, at: u64, into: &mut [u8]) -> Result<usize, Failed>
         requires broken { C.broken self.old.calls ≡ false }
         requires kept { IsTrue C.tells → KeepsFolder C.file self.old.opened.items self.old.made self.old.synced (C.world self.old.calls) (C.clock self.old.calls) }
@@ -426,7 +428,7 @@ impl<C: Calls> Folder<C> {
         }
     }
 
-    /// Cuts a file to a length.
+    /// Cuts a file to a length. Answers Err where a call on the folder failed.
     pub fn cut(&mut self, file: u32, len: u64) -> Result<(), Failed>
         requires broken { C.broken self.old.calls ≡ false }
         requires kept { IsTrue C.tells → KeepsFolder C.file self.old.opened.items self.old.made self.old.synced (C.world self.old.calls) (C.clock self.old.calls) }

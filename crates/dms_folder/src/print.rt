@@ -5,7 +5,7 @@ ghost use Rattle.dms_calls.specs.World.{Speaks};
 use dms_calls::Calls;
 use dms_site::Failed;
 
-/// Prints bytes, by as many calls as it takes.
+/// Prints bytes, by as many calls as it takes. Answers Err where a call failed, or printed nothing.
 pub fn print_all<C: Calls>(calls: &mut C, bytes: &[u8]) -> Result<(), Failed>
     ensures said { OnOk result (IsTrue C.tells → (C.world calls.new).said ≡ (C.world calls.old).said ++ bytes.now) }
     ensures some { IsTrue C.tells → Speaks bytes.now (C.world calls.old) (C.world calls.new) }

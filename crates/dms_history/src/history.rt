@@ -72,7 +72,7 @@ fn after_event<'a>(
     }
 }
 
-/// What reading the events from the front gives.
+/// What reading the events from the front gives. Answers Err where memory is refused.
 pub fn read_history<'a>(alloc: Global, events: &[Event<'a>]) -> Result<History<'a>, AllocError>
     ensures { IfOk result (λ h. history_seen h ≡ history (events_seen events.now)) }
 {

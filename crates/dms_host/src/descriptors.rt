@@ -54,6 +54,7 @@ pub enum Stream {
 /// Whether a stream ends in one of the database files of the current folder, also through a link or another name of the file.
 ///
 /// It asks the system for the stream's file by its name below `/proc`. Where that isn't mounted the answer is no.
+/// An error comes where the folder can't be read, or where the stream's file or a database file is there and can't be looked at.
 pub fn reaches_database(rt: &HostRuntime, stream: Stream) -> io::Result<bool> {
     let name = match stream {
         Stream::Output => "/proc/self/fd/1",

@@ -29,7 +29,7 @@ impl<D: Read> Listing<D> {
         }
     }
 
-    /// Reads names, where each that was read was given.
+    /// Reads names, where each that was read was given. Answers Err where the reading failed.
     pub fn fill(&mut self) -> Result<(), Failed> {
         if self.from < self.to {
             return Ok(());
@@ -40,7 +40,7 @@ impl<D: Read> Listing<D> {
         Ok(())
     }
 
-    /// Gives the next of the names that were read, and its length, 0 where there is none.
+    /// Gives the next of the names that were read, and its length, 0 where there is none. Answers Err where the name is longer than `into`.
     pub fn take(&mut self, into: &mut [u8]) -> Result<usize, Failed>
         ensures count { IfOk result (λ n. n ≤ length into.new) }
     {

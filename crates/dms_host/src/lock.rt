@@ -18,7 +18,7 @@ pub struct FolderLock {
 }
 
 /// Locks the current folder for this program alone, and doesn't wait where another one holds it. The system frees the lock where
-/// the program ends, however it ends.
+/// the program ends, however it ends. Answers InUse where another program holds it, and Failed where a call on the folder failed.
 pub fn lock_folder(rt: &HostRuntime) -> Result<FolderLock, LockFault> {
     let Ok(folder) = fs::open(rt, ".") else {
         return Err(LockFault::Failed);

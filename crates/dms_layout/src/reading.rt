@@ -144,7 +144,7 @@ fn is_spelled(alloc: Global, desc: &Structure, bytes: &[u8], slot: &Slot) -> Res
 
 /// What the bytes of a slot say. `Free` exactly for zeros alone, `Used` exactly for the spelling of a record whose
 /// values fit and whose texts are printable and have no space at their end, `Bad` for all else. A record of a data set
-/// that stands in no other has no owner.
+/// that stands in no other has no owner. Answers Err where memory is refused.
 #[tactic(auto, unfolding(crate::specs::Slots::slot_of))]
 pub fn from_slot(alloc: Global, desc: &Structure, bytes: &[u8]) -> Result<SlotRead, Memory>
     ensures { IfOk result (λ r. r ≡ slot_of (shape_of desc.now) bytes.now) }

@@ -37,7 +37,7 @@ fn put_record(out: &mut Bytes, items: &[Item], values: &[Value]) -> Result<(), M
 }
 
 /// The bytes of a record's slot. They are as many as a slot of the data set has where the values fit; an owner from
-/// 2 to the power 32 on isn't spelled whole.
+/// 2 to the power 32 on isn't spelled whole. Answers Err where memory is refused.
 pub fn to_slot(alloc: Global, desc: &Structure, slot: &Slot) -> Result<Bytes, Memory>
     ensures { IfOk result (λ b. b ≡ slot_bytes desc.now.items slot.now) }
 {

@@ -53,7 +53,7 @@ fn empty_files(alloc: Global, files: u32) -> Result<Vec<Vec<Block>>, Memory>
 impl MemBlocks {
     ghost use Rattle.dms_memblocks.specs.View.{held, IsNew};
 
-    /// The files 30,001 to 30,000 + `files`, all empty. Points are made under no bytes of a description.
+    /// The files 30,001 to 30,000 + `files`, all empty. Points are made under no bytes of a description. Answers Err where memory is refused.
     pub fn new(alloc: Global, files: u32) -> Result<MemBlocks, Memory>
         requires { files ≤ 200 }
         ensures { IfOk result (λ b. IsNew files (held b)) }
@@ -61,7 +61,7 @@ impl MemBlocks {
         MemBlocks::under(alloc, files, Bytes::new(alloc))
     }
 
-    /// The files 30,001 to 30,000 + `files`, all empty. Points are made under these bytes of a description.
+    /// The files 30,001 to 30,000 + `files`, all empty. Points are made under these bytes of a description. Answers Err where memory is refused.
     pub fn under(alloc: Global, files: u32, schema: Bytes) -> Result<MemBlocks, Memory>
         requires { files ≤ 200 }
         ensures new { IfOk result (λ b. IsNew files (held b)) }

@@ -20,7 +20,7 @@ pub fn place_of(file: u32) -> usize
     file.saturating_sub(30_001) as usize
 }
 
-/// A block of a file is another one, or a new one at its end.
+/// A block of a file is another one, or a new one at its end. Answers Memory alone, where memory for a new block is refused.
 pub fn put_block(blocks: &mut Vec<Block>, at: usize, block: &Block) -> Result<(), BlockFault>
     ensures ok { OnOk result (blocks.new.items ≡ put_in at block.now blocks.old.items) }
     ensures err { OnErr result (blocks.new.items ≡ blocks.old.items) }

@@ -116,7 +116,7 @@ fn settle_names(left: &mut MemDisk, shown: &MemDisk) -> Result<(), AllocError>
     Ok(())
 }
 
-/// The names of the files of a disk.
+/// The names of the files of a disk. Answers Err where memory is refused.
 pub fn names_of(alloc: Global, disk: &MemDisk) -> Result<Image, AllocError>
     ensures { IfOk result (λ names. (k : ℕ) → k < disk.now.count → files_of names.files k ≡ files_of disk.now.names.files k) }
 {
@@ -150,7 +150,7 @@ pub fn left_after(
     Ok(stop.left)
 }
 
-/// The story of a folder that begins with the files of a disk and its text.
+/// The story of a folder that begins with the files of a disk and its text. Answers Err where memory is refused.
 pub fn begun(alloc: Global, disk: &MemDisk) -> Result<Story, AllocError>
     ensures { IfOk result (λ story. Shows (world_of (view disk.now)) (world_now story.events.items)) }
 {

@@ -82,7 +82,7 @@ impl MemCalls {
     /// What was written since the file's last fsync has its old bytes and its old length for pick 0, its new bytes for pick 1,
     /// only the byte 7 for pick 7, and for another pick bytes that are drawn from that seed. Cuts and new lengths have
     /// happened, and names that were made since the folder's last fsync are there, where the pick is odd. The text is what
-    /// was printed up to the call's end.
+    /// was printed up to the call's end. Answers Err where memory is refused, or a write up to the call's end reaches beyond 2^64 - 1.
     pub fn crash(&self, alloc: Global, call: usize, pick: u64) -> Result<MemCalls, Memory>
         requires { self.now.found + call ≤ length self.now.story.events.items }
         ensures left { IfOk result (λ s. (w : World) × WorldMayBeLeft (past_of (take (self.now.found + call) self.now.story.events.items)) w

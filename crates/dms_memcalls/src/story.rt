@@ -26,7 +26,7 @@ impl Story {
         }
     }
 
-    /// Keeps an event and does it.
+    /// Keeps an event and does it. Answers Err where memory is refused, a write that is done reaches beyond 2^64 - 1, or the files would be 2^32.
     pub fn keep(&mut self, event: CallEvent) -> Result<(), AllocError>
         ensures kept { OnOk result (self.new.events.items ≡ self.old.events.items ++ event ∷ []) }
         ensures unkept { OnErr result (self.new.events.items ≡ self.old.events.items) }

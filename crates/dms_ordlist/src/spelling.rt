@@ -129,6 +129,7 @@ fn cut(alloc: Global, width: usize, count: usize, bytes: &[u8]) -> Result<Vec<By
 }
 
 /// The entries of one width that a block spells, with the number of the next block; none where it is no such block.
+/// Answers Err where memory is refused.
 pub fn leaf_of(alloc: Global, width: usize, block: &Block) -> Result<Option<LeafBlock>, Memory>
     requires low { 8 ≤ width }
     requires most { width ≤ 104 }

@@ -113,7 +113,7 @@ fn where_is(rows: &[RecordRow], set: u16, number: u64) -> Where
     Where::Before(rows.len())
 }
 
-/// Puts a row in its place, over the one that is there.
+/// Puts a row in its place, over the one that is there. Answers Err where memory is refused.
 pub fn place_row(rows: &mut Vec<RecordRow>, row: RecordRow) -> Result<(), Memory>
     ensures ok { OnOk result (entries_of rows.new.items ≡ put place_cmp (row.set, row.number) row.rec (entries_of rows.old.items)) }
     ensures err { OnErr result (rows.new.items ≡ rows.old.items) }

@@ -198,7 +198,7 @@ fn restore_row(rows: &mut Vec<RecordRow>, undo: Undo) -> Result<(), Memory>
     }
 }
 
-/// Takes all changes back, the newest first.
+/// Takes all changes back, the newest first. Answers Err where memory is refused.
 pub fn take_back(rows: &mut Vec<RecordRow>, undo: &mut Vec<Undo>) -> Result<(), Memory>
     requires { IsInOrder rows.old.items }
     ensures in_order { IsInOrder rows.new.items }

@@ -54,7 +54,7 @@ impl Pool {
     }
 
     /// Holds a block, in place of what was held of it. It is then the most recently used. Fails only for a block that
-    /// wasn't held, and then changes nothing.
+    /// wasn't held, and then changes nothing. Want of memory is its only error.
     pub fn put(&mut self, id: BlockId, block: &Block, dirty: bool) -> Result<(), Memory>
         requires { HasFrameFor id self.old }
         ensures ok { OnOk result (PutsFrame id (framed block.now dirty) self.old self.new) }

@@ -1,12 +1,9 @@
 -- Names of a script line, looked up in a description. Of two things with one name the first declared counts.
-use Rattle.std.specs.Prelude.{ℕ, zero, suc, ◌+◌, ◌-◌, min, List, [], ◌∷◌, Bool, true, false, not, ◌&&◌, ◌||◌, ◌==◌, nat_lt, take, length, Some, None, if◌then◌else◌}
+use Rattle.std.specs.Prelude.{ℕ, zero, suc, ◌+◌, ◌-◌, min, List, [], ◌∷◌, Bool, not, ◌&&◌, ◌||◌, ◌==◌, nat_lt, take, length, Some, None, if◌then◌else◌}
 use Rattle.std.specs.declared.option.Option.{Option}
 use Rattle.std.specs.List.{list_any}
 use Rattle.std.specs.Str.{bytes_eq}
 use Rattle.dms_base.specs.declared.kind.ItemKind.{ItemKind}
-use Rattle.dms_base.specs.declared.kind.ItemKind.TheVariants.{Alpha, Number as Decimal, Bool as OneBit, Field}
-use Rattle.dms_base.specs.declared.kind.Literal.{Literal}
-use Rattle.dms_base.specs.declared.kind.Literal.TheVariants.{Null, Text, Number as Digits, Bool as Truth}
 use Rattle.dms_desc.specs.declared.structure.Item.{Item}
 use Rattle.dms_desc.specs.declared.structure.Group.{Group}
 use Rattle.dms_desc.specs.declared.structure.KeyPart.{KeyPart}

@@ -65,7 +65,7 @@ fn literal_for(alloc: Global, kind: &ItemKind, token: &Token) -> Result<Option<L
     }
 }
 
-/// This word.
+/// This word. Answers Bad with the place of any other token, and with 0 where no token is left.
 #[tactic(auto, unfolding(crate::specs::Cursors::word_at))]
 pub fn expect_word(cursor: &mut Cursor<'_>, word: &[u8]) -> Result<(), Fault>
     ensures { LinePasses result cursor.new (word_at word.now cursor.old) }
@@ -77,7 +77,7 @@ pub fn expect_word(cursor: &mut Cursor<'_>, word: &[u8]) -> Result<(), Fault>
     Ok(())
 }
 
-/// This sign.
+/// This sign. Answers Bad with the place of any other token, and with 0 where no token is left.
 #[tactic(auto, unfolding(crate::specs::Cursors::sign_at))]
 pub fn expect_sign(cursor: &mut Cursor<'_>, sign: u8) -> Result<(), Fault>
     ensures { LinePasses result cursor.new (sign_at sign cursor.old) }
@@ -89,7 +89,7 @@ pub fn expect_sign(cursor: &mut Cursor<'_>, sign: u8) -> Result<(), Fault>
     Ok(())
 }
 
-/// The sign `=`.
+/// The sign `=`. Answers Bad with the place of any other token, and with 0 where no token is left.
 #[tactic(auto, unfolding(crate::specs::Cursors::equal_at))]
 pub fn expect_equal(cursor: &mut Cursor<'_>) -> Result<(), Fault>
     ensures { LinePasses result cursor.new (equal_at cursor.old) }
@@ -101,7 +101,7 @@ pub fn expect_equal(cursor: &mut Cursor<'_>) -> Result<(), Fault>
     Ok(())
 }
 
-/// The line's end.
+/// The line's end. Answers Bad with the place of any other token, and with 0 where no token is left.
 #[tactic(auto, unfolding(crate::specs::Cursors::end_at))]
 pub fn expect_end(cursor: &mut Cursor<'_>) -> Result<(), Fault>
     ensures { LinePasses result cursor.new (end_at cursor.old) }
@@ -113,7 +113,7 @@ pub fn expect_end(cursor: &mut Cursor<'_>) -> Result<(), Fault>
     Ok(())
 }
 
-/// A name.
+/// A name. Answers Bad with the place of any other token, and with 0 where no token is left.
 #[tactic(auto, unfolding(crate::specs::Cursors::name_at))]
 pub fn read_name(cursor: &mut Cursor<'_>) -> Result<Name, Fault>
     ensures { LineTakes result cursor.new (name_at cursor.old) }
@@ -130,7 +130,7 @@ pub fn read_name(cursor: &mut Cursor<'_>) -> Result<Name, Fault>
     }
 }
 
-/// A literal of this kind.
+/// A literal of this kind. Answers Bad with the place of any other token, or with 0 where no token is left, and Memory.
 #[tactic(auto, unfolding(crate::specs::Cursors::literal_at))]
 pub fn read_literal(cursor: &mut Cursor<'_>, kind: &ItemKind) -> Result<Literal, Fault>
     ensures { LineTakes result cursor.new (literal_at kind.now cursor.old) }
@@ -181,7 +181,8 @@ pub fn read_target(
     }
 }
 
-/// The name of this item, with its kind.
+/// The name of this item, with its kind. Answers Bad with the place of any other token, also where the item is a link
+/// or there is none, and with 0 where no token is left.
 #[tactic(auto, unfolding(crate::specs::Cursors::key_item_at))]
 pub fn read_key_item(cursor: &mut Cursor<'_>, item: Option<&Item>) -> Result<ItemKind, Fault>
     ensures { LineTakes result cursor.new (key_item_at (option_copied item.entry) cursor.old) }
@@ -194,7 +195,8 @@ pub fn read_key_item(cursor: &mut Cursor<'_>, item: Option<&Item>) -> Result<Ite
     }
 }
 
-/// The name of an item or a group.
+/// The name of an item or a group. Answers Bad with the place of any other token, a link's name included, and with 0
+/// where no token is left.
 #[tactic(auto, unfolding(crate::specs::Cursors::run_at))]
 pub fn read_run(cursor: &mut Cursor<'_>, s: &Structure) -> Result<ItemRange, Fault>
     ensures { LineTakes result cursor.new (run_at (shape_of s.now) cursor.old) }

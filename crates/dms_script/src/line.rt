@@ -137,7 +137,8 @@ fn bad_by(place: u32, line: Line) -> Line
     }
 }
 
-/// Reads a line, given without its LF and without a CR before that.
+/// Reads a line, given without its LF and without a CR before that. Answers Err where memory is refused, and there
+/// alone.
 #[tactic(auto, unfolding(crate::specs::Lines::line_of))]
 pub fn read_line(alloc: Global, desc: &Description, bytes: &[u8]) -> Result<Line, Memory>
     ensures { IfOk result (λ l. l ≡ line_of (described desc.now) bytes.now) }

@@ -197,7 +197,7 @@ pub fn whole_run(s: &Structure) -> ItemRange
     }
 }
 
-/// Adds the numbers of these items.
+/// Adds the numbers of these items. Answers Err where memory is refused, and some of them may be added then.
 pub fn push_numbers(done: &mut ItemNumbers, run: ItemRange) -> Result<(), Memory>
     ensures { OnOk result (done.new ≡ done.old ++ numbers run) }
 {

@@ -97,7 +97,7 @@ fn line_head(alloc: Global, line: u32, program: &Name) -> Result<Bytes, Memory>
     Ok(text)
 }
 
-/// The reply to a line, with its LF. Lines are counted from 1.
+/// The reply to a line, with its LF. Lines are counted from 1. Answers Err where memory is refused.
 #[tactic(auto, unfolding(crate::specs::Replies::reply_text))]
 pub fn reply_text(alloc: Global, line: u32, program: &Name, reply: &Reply) -> Result<Bytes, Memory>
     ensures { IfOk result (λ t. t ≡ reply_text line program.now reply.now) }
@@ -108,7 +108,7 @@ pub fn reply_text(alloc: Global, line: u32, program: &Name, reply: &Reply) -> Re
     Ok(text)
 }
 
-/// The reply to a line that is bad at a place, with its LF.
+/// The reply to a line that is bad at a place, with its LF. Answers Err where memory is refused.
 #[tactic(auto, unfolding(crate::specs::Replies::bad_text))]
 pub fn bad_text(alloc: Global, line: u32, place: u32) -> Result<Bytes, Memory>
     ensures { IfOk result (λ t. t ≡ bad_text line place) }
@@ -121,7 +121,7 @@ pub fn bad_text(alloc: Global, line: u32, place: u32) -> Result<Bytes, Memory>
     Ok(text)
 }
 
-/// What is said at the end of a line that was held up to there, with its LF.
+/// What is said at the end of a line that was held up to there, with its LF. Answers Err where memory is refused.
 #[tactic(auto, unfolding(crate::specs::Replies::unanswered_text))]
 pub fn unanswered_text(alloc: Global, line: u32, program: &Name) -> Result<Bytes, Memory>
     ensures { IfOk result (λ t. t ≡ unanswered_text line program.now) }
@@ -131,7 +131,7 @@ pub fn unanswered_text(alloc: Global, line: u32, program: &Name) -> Result<Bytes
     Ok(text)
 }
 
-/// What is said of a syncpoint, with its LF.
+/// What is said of a syncpoint, with its LF. Answers Err where memory is refused.
 #[tactic(auto, unfolding(crate::specs::Replies::syncpoint_text))]
 pub fn syncpoint_text(alloc: Global, number: u64) -> Result<Bytes, Memory>
     ensures { IfOk result (λ t. t ≡ syncpoint_text number) }

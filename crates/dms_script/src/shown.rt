@@ -24,7 +24,8 @@ fn setting(cursor: &mut Cursor<'_>, items: &[Item], mut done: Settings) -> Resul
     Ok(done)
 }
 
-/// item = literal {, item = literal}
+/// item = literal {, item = literal}. Answers Bad with the place of the first token that isn't allowed, or with 0 where
+/// no token is left, and Memory.
 #[tactic(auto, unfolding(crate::specs::Verbs::list_at))]
 pub fn settings(cursor: &mut Cursor<'_>, items: &[Item]) -> Result<Settings, Fault>
     ensures { LineTakes result cursor.new (list_at (setting_at items.now) cursor.old) }
@@ -53,7 +54,8 @@ fn one_shown(
     Ok(done)
 }
 
-/// item {, item}
+/// item {, item}. Answers Bad with the place of the first token that isn't allowed, or with 0 where no token is left,
+/// and Memory.
 #[tactic(auto, unfolding(crate::specs::Verbs::list_at))]
 pub fn shown(cursor: &mut Cursor<'_>, set: &Structure) -> Result<ItemNumbers, Fault>
     ensures { LineTakes result cursor.new (list_at (shown_at (shape_of set.now)) cursor.old) }

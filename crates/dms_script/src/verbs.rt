@@ -237,7 +237,8 @@ fn area(cursor: &mut Cursor<'_>, desc: &Description) -> Result<Verb, Fault>
     transaction(cursor, desc)
 }
 
-/// A verb.
+/// A verb. Answers Bad with the place of the first token that isn't allowed, or with 0 where no token is left, and
+/// Memory.
 #[tactic(auto, unfolding(crate::specs::Verbs::verb_at))]
 pub fn verb(cursor: &mut Cursor<'_>, desc: &Description) -> Result<Verb, Fault>
     ensures { LineTakes result cursor.new (verb_at (described desc.now) cursor.old) }
@@ -254,7 +255,8 @@ pub fn verb(cursor: &mut Cursor<'_>, desc: &Description) -> Result<Verb, Fault>
     area(cursor, desc)
 }
 
-/// A semicolon or none, and the line's end.
+/// A semicolon or none, and the line's end. Answers Bad with the place of the first token that isn't allowed, or with 0
+/// where no token is left.
 #[tactic(auto, unfolding(crate::specs::Verbs::close_line_at))]
 pub fn close_line(cursor: &mut Cursor<'_>) -> Result<(), Fault>
     ensures { LinePasses result cursor.new (close_line_at cursor.old) }

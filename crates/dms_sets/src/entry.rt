@@ -12,7 +12,7 @@ use dms_key::key_bytes;
 use dms_model::key_of;
 use std::alloc::Global;
 
-/// The kinds of a data set's items.
+/// The kinds of a data set's items. Answers Err where memory is refused.
 pub fn kinds_of(alloc: Global, items: &[Item]) -> Result<Vec<ItemKind>, Memory>
     ensures { IfOk result (λ v. v.items ≡ kinds_of items.now) }
 {

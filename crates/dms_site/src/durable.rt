@@ -5,7 +5,7 @@ ghost use Rattle.dms_site.specs.Files.{with_file, overlaid, InFile, Torn, Cut, O
 
 use crate::{Failed, Site};
 
-/// Writes bytes from a position on and syncs.
+/// Writes bytes from a position on and syncs. Answers Failed where the write or the sync fails.
 pub fn write_synced<S: Site>(site: &mut S, file: u32, at: u64, bytes: &[u8]) -> Result<(), Failed>
     requires { at + length bytes.now < 2 ^ 40 }
     ensures written { OnOk result (IsTrue S.tells → S.files site.new ≡ with_file (S.files site.old) file (overlaid at bytes.now (S.files site.old file))) }
@@ -21,7 +21,7 @@ pub fn write_synced<S: Site>(site: &mut S, file: u32, at: u64, bytes: &[u8]) -> 
     site.sync()
 }
 
-/// Cuts a file to a length and syncs.
+/// Cuts a file to a length and syncs. Answers Failed where the cut or the sync fails.
 pub fn cut_synced<S: Site>(site: &mut S, file: u32, len: u64) -> Result<(), Failed>
     ensures cut { OnOk result (IsTrue S.tells → S.files site.new ≡ with_file (S.files site.old) file (take len (S.files site.old file))) }
     ensures torn { IsTrue S.tells → InFile file (Cut len) (S.files site.old) (S.files site.new) }

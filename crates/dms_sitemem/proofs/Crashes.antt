@@ -1,16 +1,16 @@
 -- What a stop makes of events, one by one.
-use Rattle.std.proofs.Common.{ℕ, zero, suc, ◌+◌, ◌-◌, ◌<◌, ◌≤◌, ◌≡◌, ◌≢◌, ◌⊎◌, inl, inr, ◌==◌, if◌then◌else◌, Bool, true, false, List, [], ◌∷◌, ◌++◌, length, take, drop, Some, None, slice_get, refl, sym, ◌∙◌, ap, subst, arith}
+use Rattle.std.proofs.Common.{ℕ, zero, suc, ◌+◌, ◌-◌, ◌<◌, ◌≤◌, ◌≡◌, ◌≢◌, ◌⊎◌, inl, inr, ◌==◌, if◌then◌else◌, Bool, true, false, List, [], ◌∷◌, ◌++◌, length, take, drop, Some, slice_get, refl, sym, ◌∙◌, ap, subst, arith}
 use Rattle.std.proofs.lemmas.Option.{none-some, slice_get_within}
 use Rattle.std.specs.Option.{unwrap_or}
 use Rattle.std.proofs.lemmas.Bool.{false≢true, cases_lt}
 use Rattle.std.proofs.lemmas.Bool.Decides.{nat_tests}
-use Rattle.std.proofs.lemmas.List.{take_all, drop_all, append-nil, append_assoc}
+use Rattle.std.proofs.lemmas.List.{drop_all, append-nil, append_assoc}
 use Rattle.dms_site.specs.Files.{Files}
 use Rattle.dms_sitemem.specs.declared.event.SiteEvent.{SiteEvent}
 use Rattle.dms_sitemem.specs.declared.event.SiteEvent.TheVariants.{Looked, Wrote, Shortened, Synced, Said, Replaced, Recalled}
 use Rattle.dms_sitemem.specs.declared.pick.Fill.{Fill}
-use Rattle.dms_sitemem.specs.Events.{files_after, said_after, is_call, is_sync, through}
-use Rattle.dms_sitemem.specs.Replay.{Replayed, empty, after, state_of}
+use Rattle.dms_sitemem.specs.Events.{is_call, is_sync, through}
+use Rattle.dms_sitemem.specs.Replay.{Replayed, after, state_of}
 use Rattle.dms_sitemem.specs.Picks.{Struck, struck, fill_of, cuts_of, picked, picked_after}
 use Rattle.dms_sitemem.specs.Honest.{state_push}
 

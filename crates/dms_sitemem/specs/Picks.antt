@@ -5,7 +5,7 @@ use Rattle.dms_sitemem.specs.declared.event.SiteEvent.{SiteEvent}
 use Rattle.dms_sitemem.specs.declared.event.SiteEvent.TheVariants.{Looked, Wrote, Shortened, Synced, Said, Replaced, Recalled}
 use Rattle.dms_sitemem.specs.declared.pick.Fill.{Fill}
 use Rattle.dms_sitemem.specs.declared.pick.Fill.TheVariants.{Old, New, Sevens, Drawn}
-use Rattle.dms_sitemem.specs.Replay.{Replayed, state_of}
+use Rattle.dms_sitemem.specs.Replay.{state_of}
 
 -- what a draw makes of the seed
 unfoldable pub next_seed : ℕ → ℕ

@@ -1,5 +1,5 @@
 -- What events make of files and text, and what a stop may leave after them.
-use Rattle.std.specs.Prelude.{ℕ, ◌≤◌, ◌≡◌, ◌⊎◌, if◌then◌else◌, Bool, List, [], ◌∷◌, length, take}
+use Rattle.std.specs.Prelude.{ℕ, ◌≤◌, ◌≡◌, ◌⊎◌, if◌then◌else◌, List, [], ◌∷◌, length, take}
 use Rattle.dms_moments.specs.Moments.{Clock}
 use Rattle.dms_site.specs.Files.{Files, Left, with_file, InFile, Torn, Cut}
 use Rattle.dms_sitemem.specs.declared.event.SiteEvent.{SiteEvent}

@@ -18,7 +18,7 @@ impl Journal {
         !self.plan.names(self.made + 1)
     }
 
-    /// Keeps that something was read.
+    /// Keeps that something was read. Answers Err where memory is refused.
     pub fn look(&mut self) -> Result<bool, AllocError>
         ensures done { IfOk result (λ done. done ≡ not (is_named self.old.plan (self.old.made + 1))) }
         ensures files { files_of self.new.image.files ≡ files_of self.old.image.files }
@@ -104,7 +104,7 @@ impl Journal {
         Ok(done)
     }
 
-    /// Gives a file these bytes from outside. It is no call.
+    /// Gives a file these bytes from outside. It is no call. Answers Err where memory is refused.
     pub fn replace(&mut self, file: u32, bytes: &[u8]) -> Result<(), AllocError>
         ensures replaced { OnOk result (files_of self.new.image.files ≡ with_file (files_of self.old.image.files) file bytes.now) }
         ensures moments { OnOk result (Steps (OnDisk file (λ old new. new ≡ bytes.now)) (clock_of self.old.events.items) (clock_of self.new.events.items)) }
@@ -118,7 +118,7 @@ impl Journal {
         self.keep(SiteEvent::Replaced(file, kept))
     }
 
-    /// Puts text before what is printed. It is no call.
+    /// Puts text before what is printed. It is no call. Answers Err where memory is refused.
     pub fn recall(&mut self, bytes: Vec<u8>) -> Result<(), AllocError>
         ensures recalled { OnOk result (self.new.image.said.items ≡ self.old.image.said.items ++ bytes.items) }
         ensures files { files_of self.new.image.files ≡ files_of self.old.image.files }

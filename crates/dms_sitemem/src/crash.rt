@@ -46,7 +46,7 @@ pub fn last_sync(events: &[SiteEvent]) -> usize
     synced
 }
 
-/// What a read gives after these events, and the text.
+/// What a read gives after these events, and the text. Answers Err where memory is refused, or a write that is done reaches beyond 2^64 - 1.
 pub fn replay(alloc: Global, events: &[SiteEvent]) -> Result<Image, AllocError>
     ensures files { IfOk result (λ image. files_of image.files ≡ (state_of events.now).files) }
     ensures said { IfOk result (λ image. image.said.items ≡ (state_of events.now).said) }
@@ -164,7 +164,7 @@ fn place_all(journal: &mut Journal, files: BTreeMap<u32, Vec<u8>>) -> Result<(),
     Ok(())
 }
 
-/// A journal of these files and this text, with no calls.
+/// A journal of these files and this text, with no calls. Answers Err where memory is refused.
 pub fn journal_of(alloc: Global, image: Image) -> Result<Journal, AllocError>
     ensures files { IfOk result (λ j. (g : ℕ) → files_of j.image.files g ≡ files_of image.files g) }
     ensures said { IfOk result (λ j. j.image.said.items ≡ image.said.items) }

@@ -122,6 +122,7 @@ impl Image {
     }
 
     /// Writes bytes from a position on. A gap before them is filled with zeros.
+    /// Answers Err where memory is refused, or the bytes reach beyond 2^64 - 1.
     pub fn write(&mut self, file: u32, at: u64, bytes: &[u8]) -> Result<(), AllocError>
         ensures written { OnOk result (files_of self.new.files ≡ with_file (files_of self.old.files) file (overlaid at bytes.now (files_of self.old.files file))) }
         ensures same { OnErr result (files_of self.new.files ≡ files_of self.old.files) }
@@ -139,7 +140,7 @@ impl Image {
         self.cut_in(file, len as usize);
     }
 
-    /// Gives a file these bytes and no others.
+    /// Gives a file these bytes and no others. Answers Err where memory is refused.
     pub fn set(&mut self, file: u32, bytes: &[u8]) -> Result<(), AllocError>
         ensures set { OnOk result (files_of self.new.files ≡ with_file (files_of self.old.files) file bytes.now) }
         ensures same { OnErr result (files_of self.new.files ≡ files_of self.old.files) }
@@ -149,7 +150,7 @@ impl Image {
         self.set_in(file, kept)
     }
 
-    /// Adds text.
+    /// Adds text. Answers Err where memory is refused.
     pub fn say(&mut self, bytes: &[u8]) -> Result<(), AllocError>
         ensures said { OnOk result (self.new.said.items ≡ self.old.said.items ++ bytes.now) }
         ensures unsaid { OnErr result (self.new.said.items ≡ self.old.said.items) }

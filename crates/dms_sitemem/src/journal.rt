@@ -41,7 +41,7 @@ impl Journal {
         }
     }
 
-    /// Keeps an event and does it.
+    /// Keeps an event and does it. Answers Err where memory is refused, or a write that is done reaches beyond 2^64 - 1.
     pub fn keep(&mut self, event: SiteEvent) -> Result<(), AllocError>
         ensures kept { OnOk result (self.new.events.items ≡ self.old.events.items ++ event ∷ []) }
         ensures files { OnOk result (files_of self.new.image.files ≡ files_after event (files_of self.old.image.files)) }

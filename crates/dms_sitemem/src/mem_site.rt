@@ -79,6 +79,7 @@ impl MemSite {
     }
 
     /// Gives a file these bytes, so that a stop leaves them and no others. With none the file is removed. It is no call.
+    /// Answers Err where memory is refused.
     pub fn overwrite(&mut self, alloc: Global, file: u32, bytes: &[u8]) -> Result<(), Memory>
         ensures files { OnOk result (files_of self.new.journal.image.files ≡ with_file (files_of self.old.journal.image.files) file bytes.now) }
         ensures moments { OnOk result (Steps (OnDisk file (λ old new. new ≡ bytes.now)) (clock_of self.old.journal.events.items) (clock_of self.new.journal.events.items)) }
@@ -98,6 +99,7 @@ impl MemSite {
     /// What was written since the last sync that succeeded has its old bytes and its old length for pick 0, its new bytes
     /// for pick 1, only the byte 7 for pick 7, and for another pick bytes that are drawn from that seed. Cuts have
     /// happened where the pick is odd. The text is what was printed up to the call's end.
+    /// Answers Err where memory is refused, or a write since that sync reaches beyond 2^64 - 1.
     pub fn crash(&self, alloc: Global, call: u64, pick: u64) -> Result<MemSite, Memory>
         requires { (0 < call) × (call ≤ self.now.journal.made) }
         ensures files { IfOk result (λ s. files_of s.journal.image.files ≡ (picked_after pick (through call self.now.journal.events.items)).files) }

@@ -28,7 +28,7 @@ pub fn fill_of(pick: u64) -> Fill
     }
 }
 
-/// Draws so many bytes.
+/// Draws so many bytes. Answers Err where memory is refused.
 pub fn draw(alloc: Global, count: usize, seed: &mut u64) -> Result<Vec<u8>, AllocError>
     ensures bytes { IfOk result (λ v. v.items ≡ drawn count seed.old) }
     ensures seed { OnOk result (seed.new ≡ seed_after count seed.old) }
@@ -43,7 +43,7 @@ pub fn draw(alloc: Global, count: usize, seed: &mut u64) -> Result<Vec<u8>, Allo
     Ok(bytes)
 }
 
-/// Fills so many bytes with a byte.
+/// Fills so many bytes with a byte. Answers Err where memory is refused.
 pub fn all_of(alloc: Global, count: usize, byte: u8) -> Result<Vec<u8>, AllocError>
     ensures { IfOk result (λ v. v.items ≡ replicate count byte) }
 {

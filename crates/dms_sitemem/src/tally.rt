@@ -32,7 +32,7 @@ impl Tally {
         }
     }
 
-    /// Counts how a call on the files ended.
+    /// Counts how a call on the files ended. Answers Err where the call failed by plan or memory was refused.
     pub fn of_disk(&mut self, kept: Result<bool, AllocError>) -> Result<(), Failed>
         ensures done { OnOk result (Succeeded kept) }
         ensures failed { OnErr result (Failing kept) }
@@ -51,7 +51,7 @@ impl Tally {
         Err(Failed)
     }
 
-    /// Counts how a call that prints ended.
+    /// Counts how a call that prints ended. Answers Err where the call failed by plan or memory was refused.
     pub fn of_say(&mut self, kept: Result<bool, AllocError>) -> Result<(), Failed>
         ensures done { OnOk result (Succeeded kept) }
         ensures failed { OnErr result (Failing kept) }

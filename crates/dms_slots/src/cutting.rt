@@ -77,7 +77,7 @@ fn bytes_of(block: &Block) -> &[u8]
     &block.0
 }
 
-/// Whether each slot of a block is free or used, with zeros behind the last one; a block has 1,024 bytes.
+/// Whether each slot of a block is free or used, with zeros behind the last one; a block has 1,024 bytes. Answers Err where memory is refused.
 #[tactic(auto, unfolding(crate::specs::SlotBlocks::is_block))]
 pub fn is_block(alloc: Global, s: &Structure, block: &Block) -> Result<bool, Memory>
     requires few { length s.now.items ≤ 60 }
@@ -114,7 +114,7 @@ pub fn slot_in(
     from_slot(alloc, s, ahead(behind(&block.0, place * width), width))
 }
 
-/// How many slots stand before the first free one, in the bytes of a block.
+/// How many slots stand before the first free one, in the bytes of a block. Answers Err where memory is refused.
 pub fn before_free(alloc: Global, s: &Structure, bytes: &[u8]) -> Result<usize, Memory>
     requires few { length s.now.items ≤ 60 }
     ensures first { IfOk result (λ n. n ≡ before_free (cut (shape_of s.now) (per_block s.now.items) bytes.now)) }

@@ -16,7 +16,7 @@ fn count(found: u64, fault: &BlockFault) -> u64
     }
 }
 
-/// Counts an answer that a block is damaged.
+/// Counts an answer that a block is damaged. It answers what it was given, so its errors are that answer's.
 pub fn note<T>(found: &mut u64, answer: Result<T, BlockFault>) -> Result<T, BlockFault>
     ensures same { result ≡ answer }
     ensures noted { found.new ≡ noted_by answer found.old }

@@ -158,6 +158,7 @@ impl<B: Blocks> BlockStore<B> {
     }
 
     /// Goes back to the last quiet point, or to the database that it began with.
+    /// Answers the blocks' fault, which is never Say, and not Damaged where they spell a database.
     pub fn back_out(&mut self, alloc: Global) -> Result<(), BlockFault>
         requires { IsUsable (described self.old.desc) self.old.over }
         ensures desc { self.new.desc ≡ self.old.desc }

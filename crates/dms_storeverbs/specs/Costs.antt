@@ -4,8 +4,6 @@ use Rattle.std.specs.declared.result.Result.{Result}
 use Rattle.dms_block.specs.declared.block_fault.BlockFault.{BlockFault}
 use Rattle.dms_desc.specs.Shape.{Described}
 use Rattle.dms_model.specs.declared.reply.Answer.{Answer}
-use Rattle.dms_model.specs.declared.reply.Reply.{Reply}
-use Rattle.dms_model.specs.declared.reply.Reply.TheVariants.{Done, Exception, Waits}
 use Rattle.dms_model.specs.declared.verb.Verb.{Verb}
 use Rattle.dms_block.specs.Held.{IsUpToOne, one_more}
 use Rattle.dms_model.specs.Seen.{Effort}

@@ -131,7 +131,7 @@ pub fn admit(programs: &mut Vec<Program>, i: usize, name: &Name, verb: &Verb) ->
     None
 }
 
-/// CLOSE.
+/// CLOSE. It never answers Err.
 #[tactic(auto, using(std::proofs::lemmas::Option::gets, crate::proofs::Closed::removed), unfolding(dms_model::specs::Session::close_step))]
 pub fn close(alloc: Global, programs: &mut Vec<Program>, i: usize) -> Result<Answer, Memory>
     requires { i < length programs.old.items }

@@ -105,7 +105,7 @@ pub fn area_number(area: &Area, current: Option<u64>) -> Option<u64>
     }
 }
 
-/// A copy of an area's values.
+/// A copy of an area's values. Answers Err where memory is refused.
 pub fn copied(alloc: Global, area: &Area) -> Result<Values, Memory>
     ensures { IfOk result (λ v. v ≡ area_values area.now) }
 {
@@ -125,7 +125,7 @@ fn area_owner(area: &Area) -> u64
     }
 }
 
-/// The record that an area stands for.
+/// The record that an area stands for. Answers Err where memory is refused.
 pub fn record_of(alloc: Global, area: &Area) -> Result<Record, Memory>
     ensures { IfOk result (λ r. r ≡ record_of area.now) }
 {

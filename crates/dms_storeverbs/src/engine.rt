@@ -64,6 +64,7 @@ impl<St: Store> Engine<St> {
     }
 
     /// Goes back to the last quiet point where a program is in transaction state.
+    /// Answers the store's fault, which is never Say, and not Damaged where the store holds a database.
     pub fn end(&mut self, alloc: Global) -> Result<(), BlockFault>
         requires sound { (seen self.old).sound }
         ensures ended { OnOk result ((s : Session) → StandsFor (view self.old) s → StandsFor (view self.new) (ended s)) }

@@ -14,7 +14,7 @@ use dms_desc::{Item, Values};
 use dms_model::{Area, AreaKind, Setting};
 use std::alloc::Global;
 
-/// The initial values of items.
+/// The initial values of items. Answers Err where memory is refused.
 pub fn initial_values(alloc: Global, items: &[Item]) -> Result<Values, Memory>
     ensures { IfOk result (λ v. v ≡ map (λ (t : Item). t.initial) items.now) }
 {

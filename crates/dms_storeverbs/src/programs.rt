@@ -64,7 +64,7 @@ pub fn someone_works(programs: &[Program]) -> bool
     programs.iter().any(|p| p.in_transaction)
 }
 
-/// The programs in transaction state.
+/// The programs in transaction state. Answers Err where memory is refused.
 pub fn workers(alloc: Global, programs: &[Program]) -> Result<Names, Memory>
     ensures { IfOk result (λ names. names ≡ workers programs.now) }
 {
@@ -78,7 +78,7 @@ pub fn workers(alloc: Global, programs: &[Program]) -> Result<Names, Memory>
 }
 
 /// For whom a BEGIN-TRANSACTION waits: while a syncpoint is pending for the programs in transaction state,
-/// where there are any, and else for nobody.
+/// where there are any, and else for nobody. Answers Err where memory is refused.
 pub fn awaited(alloc: Global, pending: bool, programs: &[Program]) -> Result<Option<Names>, Memory>
     ensures { IfOk result (λ names. Awaits names (if pending then workers programs.now else [])) }
 {

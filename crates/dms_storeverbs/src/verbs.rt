@@ -186,6 +186,7 @@ impl<St: Store> Engine<St> {
     }
 
     /// One step of a program: its verb, one that a line can spell, is carried out, and its answer ends its wait or begins one.
+    /// Answers the store's fault, which is never Say, and Memory where memory is refused.
     #[tactic(auto, using(std::proofs::lemmas::Option::gets), unfolding(dms_model::specs::Session::step))]
     pub fn call(&mut self, alloc: Global, program: &Name, verb: &Verb) -> Result<Answer, BlockFault>
         requires verb { IsVerbOf (described self.old.desc) verb.now }

@@ -413,7 +413,7 @@ fn then_bad(token: Token, start: u32, at: u32, out: &mut Lexemes) -> Result<(), 
     emit(out, Token::Bad, at)
 }
 
-/// The tokens of a text.
+/// The tokens of a text. Answers Err where memory is refused.
 pub fn tokens(alloc: Global, text: &[u8]) -> Result<Lexemes, Memory>
     requires { length text.now ≤ 1000000 }
     ensures { IfOk result (λ out. out ≡ tokens_of text.now) }
@@ -421,7 +421,7 @@ pub fn tokens(alloc: Global, text: &[u8]) -> Result<Lexemes, Memory>
     tokens_from(alloc, 1, text)
 }
 
-/// The tokens of what follows in a text, its first byte at this place.
+/// The tokens of what follows in a text, its first byte at this place. Answers Err where memory is refused.
 pub fn tokens_from(alloc: Global, first: u32, text: &[u8]) -> Result<Lexemes, Memory>
     requires { first + length text.now ≤ 1000001 }
     ensures { IfOk result (λ out. out ≡ tokens_from Between first text.now) }

@@ -61,7 +61,7 @@ impl Lexemes {
         }
     }
 
-    /// Adds one at the end.
+    /// Adds one at the end. Answers Err where memory is refused; the list is unchanged then.
     pub fn push(&mut self, lexeme: Lexeme) -> Result<(), Memory>
         ensures ok { OnOk result (self.new ≡ self.old ++ lexeme ∷ []) }
         ensures err { OnErr result (self.new ≡ self.old) }
