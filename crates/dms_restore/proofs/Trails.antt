@@ -48,7 +48,7 @@ trail_low (suc n) total f x y same =
     let here : x f ≡ y f = same f (omega arith) (omega arith) in
     λ i. cond (is_full total (here i)) (sealed total (here i) ++ trail_low n total (f + 1) x y (λ g from upto. same g (omega (arith, from)) (omega (arith, upto))) i) (sealed total (here i))
 
-trail_entries_low : (total first : ℕ) → first ≤ 20000 → (x y : Files) → ((g : ℕ) → g ≤ 30000 → x g ≡ y g) → trail_entries total first x ≡ trail_entries total first y
+pub trail_entries_low : (total first : ℕ) → first ≤ 20000 → (x y : Files) → ((g : ℕ) → g ≤ 30000 → x g ≡ y g) → trail_entries total first x ≡ trail_entries total first y
 unfolding trail_entries
 trail_entries_low total first low x y same = ap entries_in (trail_low 10000 total first x y (λ g from upto. same g (omega (arith, upto, low))))
 

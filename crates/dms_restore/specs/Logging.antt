@@ -1,6 +1,6 @@
 -- The end of an audit trail over its files, as a running database.
-use Rattle.std.specs.Prelude.{ℕ, ◌+◌, ◌≤◌, ◌==◌, ◌≡◌, List, [], ◌∷◌, ◌++◌, length, take, Option, Some, None}
-use Rattle.dms_moments.specs.Moments.{Clock}
+use Rattle.std.specs.Prelude.{ℕ, ◌+◌, ◌<◌, ◌≤◌, ◌==◌, ◌≡◌, List, [], ◌∷◌, ◌++◌, length, take, Option, Some, None}
+use Rattle.dms_moments.specs.Moments.{Clock, Steps}
 use Rattle.dms_site.specs.Files.{Files, Left, stored_of}
 use Rattle.dms_history.specs.Events.{BlockBytes, AllBlocks}
 use Rattle.dms_history.specs.Replay.{with_block}
@@ -11,6 +11,7 @@ use Rattle.dms_history.specs.Entries.{Entry, image, quiet_point}
 use Rattle.dms_history.specs.EntryEvents.{events, live_of}
 use Rattle.dms_audfile.specs.declared.audit_end.AuditEnd.{AuditEnd}
 use Rattle.dms_audfile.specs.Blocks.{block_entries}
+use Rattle.dms_audfile.specs.Header.{tag_said}
 use Rattle.dms_audfile.specs.Unsealed.{block_with}
 use Rattle.dms_audfile.specs.TrailEntries.{entries_of, trail_entries}
 use Rattle.dms_audfile.specs.BlockLaws.{AreNoBegins}
@@ -67,9 +68,15 @@ pub record TakesEntries (v : LogView) : Type 0 where
   pub ends : EndsAt v.end v.first waiting v.files v.clock
   pub plain : AreNoBegins waiting
 
--- The trail is the one of before and some blocks behind it, each of which is in its grammar and holds an entry.
-abbrev pub LogGrows : LogView → LogView → Type 0
-LogGrows a b = Grown a.end.total a.first a.files b.files
+-- The trail is the one of before and some blocks behind it, each of which is in its grammar and holds an entry, and its tag is the same.
+pub record TrailKept (total first : ℕ) (old new : Files) : Type 0 where
+  pub grown : Grown total first old new
+  pub tag : tag_said (new first) ≡ tag_said (old first)
+
+-- So it is of what a stop leaves, and the audit files before the trail are as they were.
+pub record LeavesTrail (total first : ℕ) (old new : Left) : Type 0 where
+  pub kept : TrailKept total first old.files new.files
+  pub below : (g : ℕ) → 10000 < g → g < first → new.files g ≡ old.files g
 
 -- The trail ends where it is said to, and the database runs.
 pub record LogRuns (v : LogView) : Type 0 where
@@ -113,6 +120,20 @@ PrintsNothing old new = new.said ≡ old.said
 -- all entries, those that wait among them
 abbrev pub entries : LogView → List Entry
 entries v = entries_now (telling v) (state v)
+
+-- Files hold at most so many entries more than a log has, waiting ones among them.
+abbrev pub FilesGrew : ℕ → LogView → Files → Type 0
+FilesGrew n v files = length ((telling v).entries files) ≤ length (entries v) + n
+
+-- The trail is the old one and blocks behind it, now and at each stop.
+pub record LogStays (a b : LogView) : Type 0 where
+  pub kept : TrailKept a.end.total a.first a.files b.files
+  pub left : Steps (LeavesTrail a.end.total a.first) a.clock b.clock
+
+-- So it is, and its files hold no more entries than the log had, waiting ones among them, and n more.
+pub record LogGrows (n : ℕ) (a b : LogView) : Type 0 where
+  pub stays : LogStays a b
+  pub few : FilesGrew n a b.files
 
 -- An Image was logged: it stands behind the old entries, the content has the block, and no structure file changed.
 pub record LogsImage (a b : LogView) (f k : ℕ) (before : Option BlockBytes) (after : BlockBytes) : Type 0 where

@@ -36,7 +36,7 @@ impl<S: Site> Log<S> {
         ensures keeps { OnOk result (IsTrue S.tells → BeginsRestore (view_of S.Site self.old) (view_of S.Site self.new) point back_out) }
         ensures logs { OnOk result (IsTrue S.tells → entries (view_of S.Site self.new) ≡ entries (view_of S.Site self.old) ++ begin_restore point by_back_out ∷ []) }
         ensures moments { IsTrue S.tells → let a = view_of S.Site self.old in LogLeaves a (view_of S.Site self.new) (points a) (logs.next a) }
-        ensures grown { IsTrue S.tells → LogGrows (view_of S.Site self.old) (view_of S.Site self.new) }
+        ensures grown { IsTrue S.tells → LogGrows 1 (view_of S.Site self.old) (view_of S.Site self.new) }
         ensures silent { IsTrue S.tells → StaysSilent S.Site self.old.site self.new.site }
         ensures kind { IsSameTrail self.old self.new }
         ensures only { IfErr result (λ e. (e ≡ AudFault.Disk) ⊎ (e ≡ AudFault.Full self.old.end.limit)) }
@@ -61,7 +61,7 @@ impl<S: Site> Log<S> {
             → StandsAll p (view_of S.Site self.old) (view_of S.Site self.new)) }
         ensures moments { (p : Pending) → IsTrue S.tells → BegunAt p (view_of S.Site self.old) → IsTable p.entries p.point (S.files self.old.site) table.now
             → LeavesEach (view_of S.Site self.old) (view_of S.Site self.new) }
-        ensures grown { IsTrue S.tells → self.old.first ≤ 20000 → LogGrows (view_of S.Site self.old) (view_of S.Site self.new) }
+        ensures grown { IsTrue S.tells → self.old.first ≤ 20000 → LogGrows 0 (view_of S.Site self.old) (view_of S.Site self.new) }
         ensures silent { (p : Pending) → IsTrue S.tells → BegunAt p (view_of S.Site self.old) → IsTable p.entries p.point (S.files self.old.site) table.now
             → StaysSilent S.Site self.old.site self.new.site }
         ensures kind { (self.new.end ≡ self.old.end) × (self.new.first ≡ self.old.first) }
@@ -99,7 +99,8 @@ impl<S: Site> Log<S> {
         ensures ended { OnOk result ((p : Pending) → IsTrue S.tells → EndsBy p (view_of S.Site self.old) point next counts.now
             → EndedAt p (view_of S.Site self.old) (view_of S.Site self.new) (schema_control description.now point next counts.now)) }
         ensures moments { (p : Pending) → IsTrue S.tells → EndsBy p (view_of S.Site self.old) point next counts.now → LeavesEach (view_of S.Site self.old) (view_of S.Site self.new) }
-        ensures grown { IsTrue S.tells → TakesEntries (view_of S.Site self.old) → LogGrows (view_of S.Site self.old) (view_of S.Site self.new) }
+        ensures grown { IsTrue S.tells → TakesEntries (view_of S.Site self.old)
+            → LogGrows (length (schema_control description.now point next counts.now)) (view_of S.Site self.old) (view_of S.Site self.new) }
         ensures silent { (p : Pending) → IsTrue S.tells → EndsBy p (view_of S.Site self.old) point next counts.now → StaysSilent S.Site self.old.site self.new.site }
         ensures kind { IsSameTrail self.old self.new }
         ensures only { IfErr result (λ e. (e ≡ AudFault.Disk) ⊎ (e ≡ AudFault.Full self.old.end.limit)) }
@@ -133,7 +134,7 @@ impl<S: Site> Log<S> {
         ensures sealed { (IsErrOf result AudFault.Disk → ⊥) → IsTrue S.tells → SealedAlone (view_of S.Site self.old) (view_of S.Site self.new) }
         ensures idle { self.old.end.used ≡ 0 → IsTrue S.tells → FilesStay (view_of S.Site self.old) (view_of S.Site self.new) }
         ensures moments { IsTrue S.tells → let a = view_of S.Site self.old in LogLeaves a (view_of S.Site self.new) (points a) (logs.next a) }
-        ensures grown { IsTrue S.tells → LogGrows (view_of S.Site self.old) (view_of S.Site self.new) }
+        ensures grown { IsTrue S.tells → LogGrows 0 (view_of S.Site self.old) (view_of S.Site self.new) }
         ensures silent { IsTrue S.tells → StaysSilent S.Site self.old.site self.new.site }
         ensures kind { IsSameTrail self.old self.new }
         ensures only { IfErr result IsDiskOrMemory }
@@ -170,7 +171,7 @@ impl<S: Site> Log<S> {
         requires serves { IsTrue S.tells → ServesBehind (view_of S.Site self.old) point table.now }
         ensures back { OnOk result (IsTrue S.tells → WentBackTo point (view_of S.Site self.old) (view_of S.Site self.new) (back_entries point description.now next counts.now)) }
         ensures moments { IsTrue S.tells → let a = view_of S.Site self.old in LogLeaves a (view_of S.Site self.new) (points a) (logs.next a) }
-        ensures grown { IsTrue S.tells → LogGrows (view_of S.Site self.old) (view_of S.Site self.new) }
+        ensures grown { IsTrue S.tells → LogGrows (length (back_entries point description.now next counts.now)) (view_of S.Site self.old) (view_of S.Site self.new) }
         ensures silent { IsTrue S.tells → StaysSilent S.Site self.old.site self.new.site }
         ensures kind { IsSameTrail self.old self.new }
         ensures only { IfErr result (IsBackFault self.old.end.limit) }
@@ -217,7 +218,7 @@ impl<S: Site> Log<S> {
         requires by { IsTrue S.tells → GoesBackBy (view_of S.Site self.old) point next counts.now }
         ensures back { OnOk result (IsTrue S.tells → WentBackTo point (view_of S.Site self.old) (view_of S.Site self.new) (back_entries point description.now next counts.now)) }
         ensures moments { IsTrue S.tells → let a = view_of S.Site self.old in LogLeaves a (view_of S.Site self.new) (points a) (logs.next a) }
-        ensures grown { IsTrue S.tells → LogGrows (view_of S.Site self.old) (view_of S.Site self.new) }
+        ensures grown { IsTrue S.tells → LogGrows (length (back_entries point description.now next counts.now)) (view_of S.Site self.old) (view_of S.Site self.new) }
         ensures silent { IsTrue S.tells → StaysSilent S.Site self.old.site self.new.site }
         ensures kind { IsSameTrail self.old self.new }
         ensures only { IfErr result (IsBackFault self.old.end.limit) }

@@ -47,8 +47,8 @@ impl<S: Site> Log<S> {
             → SealsBehind (view_of S.Site self) (view_of S.Site b.log) (begin_restore point (how_seen how.entry) ∷ [])) }
         ensures begins { IfOk result (λ b. IsTrue S.tells → LogStarts (view_of S.Site self) → EndsSealed (view_of S.Site b.log)) }
         ensures grown { IfOk result (λ b. IsTrue S.tells → LogStarts (view_of S.Site self) → Grown self.end.total self.first (S.files self.site) (S.files b.log.site)) }
-        ensures grows { IfOk result (λ b. IsTrue S.tells → TakesEntries (view_of S.Site self) → LogGrows (view_of S.Site self) (view_of S.Site b.log)) }
-        ensures grows_then { IfErr result (λ e. IsTrue S.tells → TakesEntries (view_of S.Site self) → LogGrows (view_of S.Site self) (view_of S.Site e.1)) }
+        ensures grows { IfOk result (λ b. IsTrue S.tells → TakesEntries (view_of S.Site self) → LogGrows 1 (view_of S.Site self) (view_of S.Site b.log)) }
+        ensures grows_then { IfErr result (λ e. IsTrue S.tells → TakesEntries (view_of S.Site self) → LogGrows 1 (view_of S.Site self) (view_of S.Site e.1)) }
         ensures silent { IfOk result (λ b. IsTrue S.tells → LogStarts (view_of S.Site self) → StaysSilent S.Site self.site b.log.site) }
         ensures silent_then { IfErr result (λ e. IsTrue S.tells → LogStarts (view_of S.Site self) → StaysSilent S.Site self.site e.1.site) }
         ensures same { IfOk result (λ b. S.same_site self.site b.log.site) }
@@ -102,8 +102,8 @@ impl<S: Site> Begun<S> {
             → LeavesEach (view_of S.Site self.log) (view_of S.Site e.1)) }
         ensures stays { IfOk result (λ r. (p : Pending) → IsTrue S.tells → IsTable p.entries p.point (S.files self.log.site) table.now
             → EndsSealed (view_of S.Site self.log) → LogStarts (view_of S.Site r.log)) }
-        ensures grown { IfOk result (λ r. IsTrue S.tells → self.log.first ≤ 20000 → LogGrows (view_of S.Site self.log) (view_of S.Site r.log)) }
-        ensures grown_then { IfErr result (λ e. IsTrue S.tells → self.log.first ≤ 20000 → LogGrows (view_of S.Site self.log) (view_of S.Site e.1)) }
+        ensures grown { IfOk result (λ r. IsTrue S.tells → self.log.first ≤ 20000 → LogGrows 0 (view_of S.Site self.log) (view_of S.Site r.log)) }
+        ensures grown_then { IfErr result (λ e. IsTrue S.tells → self.log.first ≤ 20000 → LogGrows 0 (view_of S.Site self.log) (view_of S.Site e.1)) }
         ensures silent { IfOk result (λ r. (p : Pending) → IsTrue S.tells → IsTable p.entries p.point (S.files self.log.site) table.now → StaysSilent S.Site self.log.site r.log.site) }
         ensures silent_then { IfErr result (λ e. (p : Pending) → IsTrue S.tells → IsTable p.entries p.point (S.files self.log.site) table.now → StaysSilent S.Site self.log.site e.1.site) }
         ensures same { IfOk result (λ r. S.same_site self.log.site r.log.site) }

@@ -39,8 +39,10 @@ impl<S: Site> Restored<S> {
             → LeavesEach (view_of S.Site self.log) (view_of S.Site e.1)) }
         ensures blocks { IfOk result (λ l. (p : Pending) → IsTrue S.tells → EndsBy p (view_of S.Site self.log) point next counts.now → BlocksStay S.Site self.log.site l.site) }
         ensures blocks_then { IfErr result (λ e. (p : Pending) → IsTrue S.tells → EndsBy p (view_of S.Site self.log) point next counts.now → BlocksStay S.Site self.log.site e.1.site) }
-        ensures grown { IfOk result (λ l. IsTrue S.tells → TakesEntries (view_of S.Site self.log) → LogGrows (view_of S.Site self.log) (view_of S.Site l)) }
-        ensures grown_then { IfErr result (λ e. IsTrue S.tells → TakesEntries (view_of S.Site self.log) → LogGrows (view_of S.Site self.log) (view_of S.Site e.1)) }
+        ensures grown { IfOk result (λ l. IsTrue S.tells → TakesEntries (view_of S.Site self.log)
+            → LogGrows (length (schema_control description.now point next counts.now)) (view_of S.Site self.log) (view_of S.Site l)) }
+        ensures grown_then { IfErr result (λ e. IsTrue S.tells → TakesEntries (view_of S.Site self.log)
+            → LogGrows (length (schema_control description.now point next counts.now)) (view_of S.Site self.log) (view_of S.Site e.1)) }
         ensures silent { IfOk result (λ l. (p : Pending) → IsTrue S.tells → EndsBy p (view_of S.Site self.log) point next counts.now → StaysSilent S.Site self.log.site l.site) }
         ensures silent_then { IfErr result (λ e. (p : Pending) → IsTrue S.tells → EndsBy p (view_of S.Site self.log) point next counts.now → StaysSilent S.Site self.log.site e.1.site) }
         ensures same { IfOk result (λ l. S.same_site self.log.site l.site) }
@@ -92,7 +94,7 @@ impl<S: Site> Log<S> {
         ensures controlled { OnOk result (IsTrue S.tells → ControlledAt (view_of S.Site self.old) (view_of S.Site self.new) (schema_control description.now point next counts.now)) }
         ensures moments { IsTrue S.tells → LeavesEach (view_of S.Site self.old) (view_of S.Site self.new) }
         ensures blocks { IsTrue S.tells → BlocksStay S.Site self.old.site self.new.site }
-        ensures grown { IsTrue S.tells → LogGrows (view_of S.Site self.old) (view_of S.Site self.new) }
+        ensures grown { IsTrue S.tells → LogGrows (length (schema_control description.now point next counts.now)) (view_of S.Site self.old) (view_of S.Site self.new) }
         ensures silent { IsTrue S.tells → StaysSilent S.Site self.old.site self.new.site }
         ensures kind { IsSameTrail self.old self.new }
         ensures only { IfErr result (λ e. (e ≡ AudFault.Disk) ⊎ (e ≡ AudFault.Full self.old.end.limit)) }

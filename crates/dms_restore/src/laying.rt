@@ -7,11 +7,11 @@ ghost use Rattle.dms_history.specs.Schemas.{schema_entries};
 ghost use Rattle.dms_audrec.specs.Spelling.{IsEntry};
 ghost use Rattle.dms_audrec.specs.Reading.{counts_at};
 ghost use Rattle.dms_audfile.specs.Counting.{CountedAt};
-ghost use Rattle.dms_audfile.specs.Ends.{EndsAt, Grown};
+ghost use Rattle.dms_audfile.specs.Ends.{EndsAt};
 ghost use Rattle.dms_restore.specs.Views.{StaysSilent};
 ghost use Rattle.dms_audrec.specs.Bodies.{part_count, bodies};
 ghost use Rattle.dms_running.specs.Plans.{Planned};
-ghost use Rattle.dms_restore.specs.Logging.{telling_of, view, TakesEntries};
+ghost use Rattle.dms_restore.specs.Logging.{telling_of, view, entries, TakesEntries, LogGrows};
 ghost use Rattle.dms_restore.specs.Laying.{schema_control, IsAtStart, LaysEnd, SealsSince};
 
 use dms_audfile::{AudFault, AuditEnd};
@@ -45,7 +45,10 @@ fn lay_parts<S: Site>(end: &mut AuditEnd, site: &mut S, description: &[u8]) -> R
         → LaysEnd end.old.total end.new first (schema_entries (bodies description.now)) (S.files site.old) (S.clock site.old) (S.files site.new) (S.clock site.new)) }
     ensures takes { OnOk result ((first : ℕ) → IsTrue S.tells → TakesEntries (view end.old first (S.files site.old) (S.clock site.old))
         → TakesEntries (view end.new first (S.files site.new) (S.clock site.new))) }
-    ensures grown { (first : ℕ) → IsTrue S.tells → TakesEntries (view end.old first (S.files site.old) (S.clock site.old)) → Grown end.old.total first (S.files site.old) (S.files site.new) }
+    ensures counts { OnOk result ((first : ℕ) → IsTrue S.tells → let a = view end.old first (S.files site.old) (S.clock site.old) in
+        TakesEntries a → length (entries (view end.new first (S.files site.new) (S.clock site.new))) ≡ length (entries a) + length (schema_entries (bodies description.now))) }
+    ensures grown { (first : ℕ) → IsTrue S.tells → let a = view end.old first (S.files site.old) (S.clock site.old) in
+        TakesEntries a → LogGrows (length (schema_entries (bodies description.now))) a (view end.new first (S.files site.new) (S.clock site.new)) }
     ensures kind { (end.new.total ≡ end.old.total) × (end.new.tag ≡ end.old.tag) × (end.new.limit ≡ end.old.limit) }
     ensures only { IfErr result (λ e. (e ≡ AudFault.Disk) ⊎ (e ≡ AudFault.Full end.old.limit)) }
     ensures full { IsErrOf result (AudFault.Full end.old.limit) → (end.new.used ≡ 0) × (10000 + end.old.limit < end.new.file) }
@@ -83,7 +86,8 @@ pub(crate) fn seal_control<S: Site>(
     ensures silent { (first : ℕ) → IsTrue S.tells → IsAtStart end.old first (S.files site.old) (S.clock site.old) → StaysSilent S.Site site.old site.new }
     ensures sealed { OnOk result ((first : ℕ) → IsTrue S.tells → IsAtStart end.old first (S.files site.old) (S.clock site.old)
         → SealsSince end.old.total end.new first (schema_control description.now point next counts.now) (S.files site.old) (S.files site.new) (S.clock site.new)) }
-    ensures grown { (first : ℕ) → IsTrue S.tells → TakesEntries (view end.old first (S.files site.old) (S.clock site.old)) → Grown end.old.total first (S.files site.old) (S.files site.new) }
+    ensures grown { (first : ℕ) → IsTrue S.tells → let a = view end.old first (S.files site.old) (S.clock site.old) in
+        TakesEntries a → LogGrows (length (schema_control description.now point next counts.now)) a (view end.new first (S.files site.new) (S.clock site.new)) }
     ensures kind { (end.new.total ≡ end.old.total) × (end.new.tag ≡ end.old.tag) × (end.new.limit ≡ end.old.limit) }
     ensures only { IfErr result (λ e. (e ≡ AudFault.Disk) ⊎ (e ≡ AudFault.Full end.old.limit)) }
     ensures full { IsErrOf result (AudFault.Full end.old.limit) → (end.new.used ≡ 0) × (10000 + end.old.limit < end.new.file) }

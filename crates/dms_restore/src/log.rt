@@ -45,7 +45,7 @@ impl<S: Site> Log<S> {
         ensures runs { OnOk result (IsTrue S.tells → LogRuns (view_of S.Site self.new)) }
         ensures logs { OnOk result (IsTrue S.tells → LogsImage (view_of S.Site self.old) (view_of S.Site self.new) file block (option_copied before.entry) after.now) }
         ensures moments { IsTrue S.tells → let a = view_of S.Site self.old in LogLeaves a (view_of S.Site self.new) (points a) (next a) }
-        ensures grown { IsTrue S.tells → LogGrows (view_of S.Site self.old) (view_of S.Site self.new) }
+        ensures grown { IsTrue S.tells → LogGrows 1 (view_of S.Site self.old) (view_of S.Site self.new) }
         ensures silent { IsTrue S.tells → StaysSilent S.Site self.old.site self.new.site }
         ensures kind { IsSameTrail self.old self.new }
         ensures only { IfErr result (λ e. (e ≡ AudFault.Disk) ⊎ (e ≡ AudFault.Full self.old.end.limit)) }
@@ -70,7 +70,7 @@ impl<S: Site> Log<S> {
         ensures runs { OnOk result (IsTrue S.tells → LogRuns (view_of S.Site self.new)) }
         ensures logs { OnOk result (IsTrue S.tells → LogsQuiet (view_of S.Site self.old) (view_of S.Site self.new)) }
         ensures moments { IsTrue S.tells → let a = view_of S.Site self.old in LogLeaves a (view_of S.Site self.new) (points a ++ here a ∷ []) (next a + 1) }
-        ensures grown { IsTrue S.tells → LogGrows (view_of S.Site self.old) (view_of S.Site self.new) }
+        ensures grown { IsTrue S.tells → LogGrows 1 (view_of S.Site self.old) (view_of S.Site self.new) }
         ensures silent { IsTrue S.tells → StaysSilent S.Site self.old.site self.new.site }
         ensures kind { IsSameTrail self.old self.new }
         ensures only { IfErr result (λ e. (e ≡ AudFault.Disk) ⊎ (e ≡ AudFault.Full self.old.end.limit)) }
@@ -96,7 +96,7 @@ impl<S: Site> Log<S> {
         ensures steps { IsTrue S.tells → Steps (Seals self.old.end.total self.old.end.tag self.old.first (waits self.old.end)) (S.clock self.old.site) (S.clock self.new.site) }
         ensures idle { self.old.end.used ≡ 0 → (self.new.end ≡ self.old.end) × (self.new.site ≡ self.old.site) }
         ensures moments { IsTrue S.tells → let a = view_of S.Site self.old in LogLeaves a (view_of S.Site self.new) (points a) (next a) }
-        ensures grown { IsTrue S.tells → LogGrows (view_of S.Site self.old) (view_of S.Site self.new) }
+        ensures grown { IsTrue S.tells → LogGrows 0 (view_of S.Site self.old) (view_of S.Site self.new) }
         ensures silent { IsTrue S.tells → StaysSilent S.Site self.old.site self.new.site }
         ensures kind { IsSameTrail self.old self.new }
         ensures only { IfErr result (λ e. e ≡ AudFault.Disk) }
@@ -119,7 +119,7 @@ impl<S: Site> Log<S> {
         ensures same { IsTrue S.tells → LogsWrite (view_of S.Site self.old) (view_of S.Site self.new) }
         ensures written { OnOk result (IsTrue S.tells → S.files self.new.site ≡ with_file (S.files self.old.site) file (overlaid (1024 * block) bytes.now (S.files self.old.site file))) }
         ensures moments { IsTrue S.tells → let a = view_of S.Site self.old in LogLeaves a (view_of S.Site self.new) (points a) (next a) }
-        ensures grown { IsTrue S.tells → LogGrows (view_of S.Site self.old) (view_of S.Site self.new) }
+        ensures grown { IsTrue S.tells → LogGrows 0 (view_of S.Site self.old) (view_of S.Site self.new) }
         ensures silent { IsTrue S.tells → StaysSilent S.Site self.old.site self.new.site }
         ensures end { (self.new.end ≡ self.old.end) × (self.new.first ≡ self.old.first) }
         ensures said { S.said self.new.site ≡ S.said self.old.site }

@@ -1,16 +1,18 @@
-use Rattle.std.proofs.Common.{◌+◌, ◌/◌, ◌≤◌, ◌∙◌, List, length, refl, sym, subst, arith}
+use Rattle.std.proofs.Common.{◌+◌, ◌/◌, ◌≤◌, ◌∙◌, List, length, take, refl, sym, ap, subst, arith}
+use Rattle.std.proofs.lemmas.List.{length-take}
 use Rattle.dms_history.specs.Entries.{Entry}
+use Rattle.dms_history.specs.Schemas.{schema_entries}
 use Rattle.dms_moments.specs.Moments.{Runs}
 use Rattle.dms_audrec.specs.Bodies.{bodies}
 use Rattle.dms_running.specs.Plans.{Planned}
-use Rattle.dms_restore.specs.Logging.{telling_of}
+use Rattle.dms_restore.specs.Logging.{telling_of, view, entries, LogGrows}
 use Rattle.dms_restore.specs.Laying.{LaysEnd}
 use Rattle.dms_restore.proofs.Laid.{bodies_many, both_silent, none_silent, lay_none, lay_since, lay_silent, lay_one, part_next, parts_all, some_parts}
 use Rattle.dms_restore.proofs.Sizes.{part_size}
 use Rattle.dms_restore.proofs.Sealed.{full_limit}
 use Rattle.dms_restore.proofs.Results.{is_fault}
-use Rattle.dms_restore.specs.GrowLaws.{trail_stays}
-use Rattle.dms_restore.proofs.Grows.{appends_takes, lay_grows}
+use Rattle.dms_restore.specs.GrowLaws.{log_grows_none, log_grows_more}
+use Rattle.dms_restore.proofs.Grows.{appends_takes, append_counts, lay_grows, none_more, one_more}
 use Rattle.dms_restore.proofs.laying.lay_parts.Goals as goal
 
 pub loop-number-init : goal.loop-number-init
@@ -19,7 +21,8 @@ loop-number-init g c = record {
   laid = λ first tells s. lay_none _ first _ _ s;
   silent = λ first tells s. none_silent _;
   takes = λ first tells t. t;
-  grown = λ first tells t. trail_stays _ first _;
+  counts = λ first tells t. none_more _;
+  grown = λ first tells t. log_grows_none (view c.args.end.now first (g.S.Site.files c.args.site.now) (g.S.Site.clock c.args.site.now));
   said = refl;
   same = g.met.S.Site.same_again _;
   disk = refl;
@@ -51,6 +54,8 @@ returns-in_err-append-clause-silent g c first tells s =
 pub loop-number-preserved : goal.loop-number-preserved
 loop-number-preserved g c =
     let inv = c.loop-number.invariant in
+    let all = schema_entries (bodies c.args.description.now) in
+    let next = part_next c.args.description.now c.part_of-part.result.now c.loop-number.number ((length c.args.description.now + 3999) / 4000) refl c.loop-number-test.true c.part_of-part.ensures.part in
     record {
       kind = (c.append.ensures.kind.0 ∙ inv.kind.0, c.append.ensures.kind.1 ∙ inv.kind.1, c.append.ensures.kind.2 ∙ inv.kind.2);
       laid = λ first tells s.
@@ -63,8 +68,13 @@ loop-number-preserved g c =
       takes = λ first tells t.
           let was = inv.takes first tells t in
           appends_takes c.append.new.self first _ _ _ _ (c.in_ok-append.ensures.appends first was.waiting tells was.plain was.ends);
+      counts = λ first tells t.
+          let was = inv.takes first tells t in
+          omega (arith, inv.counts first tells t, one_more (take c.loop-number.number all) _ _ next, append_counts (view c.loop-number.end first (g.S.Site.files c.loop-number.site) (g.S.Site.clock c.loop-number.site)) (view c.append.new.self first (g.S.Site.files c.append.new.site) (g.S.Site.clock c.append.new.site)) was.waiting _ c.append.ensures.kind.0 refl was.ends (c.in_ok-append.ensures.appends first was.waiting tells was.plain was.ends));
       grown = λ first tells t.
-          lay_grows c.args.end.now.total c.loop-number.end first _ _ _ _ _ _ inv.kind.0 (inv.takes first tells t) (inv.grown first tells t) (g.met.S.Site.may_stay c.append.new.site tells) (λ waiting plain ends. c.append.ensures.moments first waiting tells plain ends);
+          subst (λ k. LogGrows k (view c.args.end.now first (g.S.Site.files c.args.site.now) (g.S.Site.clock c.args.site.now)) (view c.append.new.self first (g.S.Site.files c.append.new.site) (g.S.Site.clock c.append.new.site))) (sym (one_more (take c.loop-number.number all) _ _ next))
+          (lay_grows _ (view c.args.end.now first (g.S.Site.files c.args.site.now) (g.S.Site.clock c.args.site.now)) (view c.loop-number.end first (g.S.Site.files c.loop-number.site) (g.S.Site.clock c.loop-number.site)) (view c.append.new.self first (g.S.Site.files c.append.new.site) (g.S.Site.clock c.append.new.site)) _ inv.kind.0 refl (inv.takes first tells t) (inv.counts first tells t) (inv.grown first tells t) (g.met.S.Site.may_stay c.append.new.site tells)
+          (λ first waiting plain ends. c.append.ensures.moments first waiting tells plain ends));
       said = c.append.ensures.said ∙ inv.said;
       same = g.met.S.Site.same_then _ _ _ inv.same c.append.ensures.same_site;
       disk = c.in_ok-append.ensures.disk.clean (λ e. subst (λ r. is_fault r) (sym e) tt) ∙ inv.disk;
@@ -81,4 +91,23 @@ returns-in_err-append-clause-ends g c full first tells s =
 pub returns-in_err-append-clause-grown : goal.returns-in_err-append-clause-grown
 returns-in_err-append-clause-grown g c first tells t =
     let inv = c.loop-number.invariant in
-    lay_grows c.args.end.now.total c.loop-number.end first _ _ _ _ _ _ inv.kind.0 (inv.takes first tells t) (inv.grown first tells t) (g.met.S.Site.may_stay c.append.new.site tells) (λ waiting plain ends. c.append.ensures.moments first waiting tells plain ends)
+    let all = schema_entries (bodies c.args.description.now) in
+    let next = part_next c.args.description.now c.part_of-part.result.now c.loop-number.number ((length c.args.description.now + 3999) / 4000) refl c.loop-number-test.true c.part_of-part.ensures.part in
+    let a = view c.args.end.now first (g.S.Site.files c.args.site.now) (g.S.Site.clock c.args.site.now) in
+    let b = view c.append.new.self first (g.S.Site.files c.append.new.site) (g.S.Site.clock c.append.new.site) in
+    log_grows_more (length (take c.loop-number.number all) + 1) (length all) a b (omega (arith, sym (one_more (take c.loop-number.number all) _ _ next), length-take (c.loop-number.number + 1) all))
+    (lay_grows _ a (view c.loop-number.end first (g.S.Site.files c.loop-number.site) (g.S.Site.clock c.loop-number.site)) b _ inv.kind.0 refl (inv.takes first tells t) (inv.counts first tells t) (inv.grown first tells t)
+    (g.met.S.Site.may_stay c.append.new.site tells) (λ first waiting plain ends. c.append.ensures.moments first waiting tells plain ends))
+
+pub returns-clause-counts : goal.returns-clause-counts
+returns-clause-counts g c first tells t =
+    let bs = bodies c.args.description.now in
+    let le : length bs ≤ c.loop-number.number = omega (arith, bodies_many c.args.description.now, c.loop-number-test.false) in
+    c.loop-number.invariant.counts first tells t ∙ ap (λ (l : List Entry). length (entries (view c.args.end.now first (g.S.Site.files c.args.site.now) (g.S.Site.clock c.args.site.now))) + length l) (parts_all bs c.loop-number.number le)
+
+pub returns-clause-grown : goal.returns-clause-grown
+returns-clause-grown g c first tells t =
+    let bs = bodies c.args.description.now in
+    let le : length bs ≤ c.loop-number.number = omega (arith, bodies_many c.args.description.now, c.loop-number-test.false) in
+    subst (λ (l : List Entry). LogGrows (length l) (view c.args.end.now first (g.S.Site.files c.args.site.now) (g.S.Site.clock c.args.site.now)) (view c.loop-number.end first (g.S.Site.files c.loop-number.site) (g.S.Site.clock c.loop-number.site)))
+    (parts_all bs c.loop-number.number le) (c.loop-number.invariant.grown first tells t)

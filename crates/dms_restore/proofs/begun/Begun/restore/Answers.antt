@@ -2,7 +2,7 @@ use Rattle.std.proofs.Common.{[], ◌∙◌, refl, sym, ap, subst}
 use Rattle.dms_restore.proofs.Results.{is_fault, counted_fault, counted_call}
 use Rattle.dms_site.specs.Files.{Files, Only}
 use Rattle.dms_running.specs.Restoring.{IsKept, Rewritten}
-use Rattle.dms_restore.specs.Table.{AllStandAsTold}
+use Rattle.dms_restore.specs.Table.{AllStandAsTold, KeepsNone}
 use Rattle.dms_restore.specs.Views.{view_of}
 use Rattle.dms_restore.proofs.Backed.{rewrites_silent}
 use Rattle.dms_restore.proofs.Beginnings.{ends_kept, then_looks, table_leave, table_begun, table_restored, table_keeps, table_entries}
@@ -77,10 +77,18 @@ returns-in-Ok-clause-stays g c p tells is ends = record {
 }
 
 pub returns-in-Ok-clause-grown : goal.returns-in-Ok-clause-grown
-returns-in-Ok-clause-grown g c tells low = blocks_grow c.args.self.log.end.total c.args.self.log.first low _ (g.S.Site.files c.sync.new.self) (λ h upto. ap (λ (f : Files). f h) (c.sync.ensures.files tells) ∙ c.write_all.ensures.others tells h upto)
+returns-in-Ok-clause-grown g c tells low =
+    let log = c.args.self.log in
+    blocks_grow (view_of g.S.Site log) (view_of g.S.Site (record log { site = c.sync.new.self })) low (λ h upto. ap (λ (f : Files). f h) (c.sync.ensures.files tells) ∙ c.write_all.ensures.others tells h upto)
+    (then_looks KeepsNone _ _ _ (c.write_all.ensures.left tells) c.sync.ensures.moments)
 
 pub returns-in-Err-clause-grown_then : goal.returns-in-Err-clause-grown_then
-returns-in-Err-clause-grown_then g c tells low = blocks_grow c.args.self.log.end.total c.args.self.log.first low _ (g.S.Site.files c.write_all.new.site) (λ h upto. c.write_all.ensures.others tells h upto)
+returns-in-Err-clause-grown_then g c tells low =
+    let log = c.args.self.log in
+    blocks_grow (view_of g.S.Site log) (view_of g.S.Site (record log { site = c.write_all.new.site })) low (λ h upto. c.write_all.ensures.others tells h upto) (c.write_all.ensures.left tells)
 
 pub returns-in-Err-sync-clause-grown_then : goal.returns-in-Err-sync-clause-grown_then
-returns-in-Err-sync-clause-grown_then g c tells low = blocks_grow c.args.self.log.end.total c.args.self.log.first low _ (g.S.Site.files c.sync.new.self) (λ h upto. ap (λ (f : Files). f h) (c.sync.ensures.files tells) ∙ c.write_all.ensures.others tells h upto)
+returns-in-Err-sync-clause-grown_then g c tells low =
+    let log = c.args.self.log in
+    blocks_grow (view_of g.S.Site log) (view_of g.S.Site (record log { site = c.sync.new.self })) low (λ h upto. ap (λ (f : Files). f h) (c.sync.ensures.files tells) ∙ c.write_all.ensures.others tells h upto)
+    (then_looks KeepsNone _ _ _ (c.write_all.ensures.left tells) c.sync.ensures.moments)

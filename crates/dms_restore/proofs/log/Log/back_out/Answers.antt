@@ -1,12 +1,13 @@
-use Rattle.std.proofs.Common.{inr, sym, subst}
+use Rattle.std.proofs.Common.{◌+◌, inr, List, length, sym, ap, subst, arith}
+use Rattle.dms_history.specs.Entries.{Entry}
 use Rattle.dms_restore.specs.Logging.{telling_of}
 use Rattle.dms_restore.specs.Views.{view_of}
-use Rattle.dms_restore.specs.BackOuts.{ServesBehind}
+use Rattle.dms_restore.specs.BackOuts.{ServesBehind, back_entries}
 use Rattle.dms_restore.proofs.Results.{one_ok, is_fault}
 use Rattle.dms_restore.proofs.Endings.{part_from}
 use Rattle.dms_restore.proofs.Backed.{silent_on, counted_on, back_full, never_full}
 use Rattle.dms_restore.proofs.Sealed.{goes_back_then, went_back_then, leaves_then, not_disk, ok_not_disk, full_of, back_limit}
-use Rattle.dms_restore.specs.GrowLaws.{log_grows_on}
+use Rattle.dms_restore.specs.GrowLaws.{log_grows_more, log_grows_on}
 use Rattle.dms_restore.proofs.log.Log.back_out.Goals as goal
 
 pub returns-in-Err-clause-only : goal.returns-in-Err-clause-only
@@ -71,6 +72,16 @@ returns-clause-part g c full tells =
     part_from (view_of g.S.Site c.args.self.now) (view_of g.S.Site c.table_back.new.self) (view_of g.S.Site c.go_back_by.new.self) _ (c.in-Ok.ensures.sealed (ok_not_disk _) tells).same.entries_same
     (c.go_back_by.ensures.part (full_of c.go_back_by.result _ _ c.table_back.ensures.kind.2 full) tells)
 
+pub returns-in-Err-clause-grown : goal.returns-in-Err-clause-grown
+returns-in-Err-clause-grown g c tells =
+    log_grows_more 0 (length (back_entries c.args.point c.args.description.now c.args.next c.args.counts.now)) (view_of g.S.Site c.args.self.now) (view_of g.S.Site c.table_back.new.self) (omega arith) (c.table_back.ensures.grown tells)
+
 pub returns-clause-grown : goal.returns-clause-grown
 returns-clause-grown g c tells =
-    log_grows_on (view_of g.S.Site c.args.self.now) (view_of g.S.Site c.table_back.new.self) (view_of g.S.Site c.go_back_by.new.self) c.table_back.ensures.kind.0 c.table_back.ensures.kind.3 (c.table_back.ensures.grown tells) (c.go_back_by.ensures.grown tells)
+    let n = length (back_entries c.args.point c.args.description.now c.args.next c.args.counts.now) in
+    let a = view_of g.S.Site c.args.self.now in
+    let b = view_of g.S.Site c.table_back.new.self in
+    let d = view_of g.S.Site c.go_back_by.new.self in
+    log_grows_more (0 + n) n a d (omega arith)
+    (log_grows_on a b d c.table_back.ensures.kind.0 c.table_back.ensures.kind.3 0 n (omega (arith, ap (λ (l : List Entry). length l) (c.in-Ok.ensures.sealed (ok_not_disk _) tells).same.entries_same))
+    (c.table_back.ensures.grown tells) (c.go_back_by.ensures.grown tells))
