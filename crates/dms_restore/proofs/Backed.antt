@@ -5,10 +5,9 @@ use Rattle.std.specs.declared.result.Result.{Result}
 use Rattle.std.specs.declared.result.Result.TheVariants.{Ok, Err}
 use Rattle.dms_moments.specs.Moments.{Clock, Steps}
 use Rattle.dms_moments.specs.MomentLaws.{runs_on, steps_on, steps_weaken}
-use Rattle.dms_site.specs.Files.{Files, Left, Same, stored_of}
+use Rattle.dms_site.specs.Files.{Files, Left, stored_of}
 use Rattle.dms_history.specs.Events.{back_out}
 use Rattle.dms_history.specs.History.{Pending}
-use Rattle.dms_history.specs.Here.{outcome}
 use Rattle.dms_history.specs.Pick.{count_at, pick, blocks_at}
 use Rattle.dms_history.specs.Entries.{Entry}
 use Rattle.dms_history.specs.EntryEvents.{live_of}
@@ -23,20 +22,16 @@ use Rattle.dms_audfile.specs.declared.fault.AudFault.TheVariants.{Disk, Full}
 use Rattle.dms_running.specs.Running.{entries_now}
 use Rattle.dms_running.specs.Telling.{Telling}
 use Rattle.dms_running.specs.Standing.{IsWhole}
-use Rattle.dms_running.specs.Points.{DescribedPoint, points_of, next_in, LeavesPointsPrefix}
+use Rattle.dms_running.specs.Points.{DescribedPoint, points_of, next_in}
 use Rattle.dms_running.specs.Restoring.{IsKept, Rewritten, Rewrites}
 use Rattle.dms_running.specs.Begun.{content_at_point}
 use Rattle.dms_running.proofs.Appending.{points_enough}
-use Rattle.dms_running.proofs.Restored.{restore_leaves, same_entries}
+use Rattle.dms_running.proofs.Restored.{same_entries}
 use Rattle.dms_running.proofs.Stopped.{joined}
-use Rattle.dms_running.proofs.Rewriting.{rewritten_same}
-use Rattle.dms_restore.specs.declared.told.Told.{Told}
-use Rattle.dms_restore.specs.Table.{IsTable}
 use Rattle.dms_restore.specs.Logging.{waits, LogView, view, telling, state, LogRuns, points, next, entries, PrintsNothing, LogLeaves}
 use Rattle.dms_restore.specs.Begins.{begun_to, BegunAt, BeginsRestore, LeavesEach}
 use Rattle.dms_restore.specs.Endings.{EndsBy}
 use Rattle.dms_restore.specs.BackOuts.{StandsAll, GoesBackBy, IsBackFault, IsDiskOrMemory}
-use Rattle.dms_restore.proofs.Beginnings.{table_begun}
 use Rattle.dms_restore.proofs.Trails.{is_telling, first_low}
 use Rattle.dms_restore.proofs.Logs as logs
 use Rattle.dms_restore.proofs.Logs.{Reads}
@@ -130,41 +125,3 @@ back_full {T = T} r limit old end same = subst (λ n. IsErrOf r (Full n) → (en
 pub never_full : {T : Type 0} (fault : AudFault) (limit : ℕ) → IsDiskOrMemory fault → IsErrOf {T = T} (Err fault) (Full limit) → ⊥
 never_full fault limit (inl disk) is = cc
 never_full fault limit (inr memory) is = cc
-
--- ---- a call that only looks, over a restore that is begun
-
-module _ (p : Pending) (a : LogView) (r : BegunAt p a) (read : Reads a) (files : Files) (clock : Clock Left) (same : files ≡ a.files) (steps : Steps Same a.clock clock) where
-  abbrev pub looked : LogView
-  looked = view a.end a.first files clock
-
-  steps_same : Steps (Rewrites (IsKept p.entries p.point)) a.clock clock
-  steps_same = steps_weaken steps (λ x y now s. subst (λ (l : Left). Rewrites (IsKept p.entries p.point) x l) (sym s) (record { files = rewritten_same (IsKept p.entries p.point) x.files; said = refl }))
-
-  pub look_silent : Steps PrintsNothing a.clock clock
-  look_silent = rewrites_silent (IsKept p.entries p.point) a.clock clock steps_same
-
-  pub look_leaves : LeavesEach a looked
-  look_leaves = restore_leaves (telling a) (is_telling a.end.total a.first (first_low a.end a.first (waits a.end) a.files a.clock r.ends)) p (state a) r.begun read clock steps_same
-
-  -- a call behind it
-  pub look_on : (c : LogView) → LeavesEach looked c → LeavesEach a c
-  look_on c run = runs_on look_leaves run (λ x q. subst (λ (l : Files). LeavesPointsPrefix (telling a) (points_of (telling a) l) (length (points_of (telling a) l)) (next_in (telling a) l) x) same q)
-
-  module _ (table : List Told) (is : IsTable p.entries p.point a.files table) where
-    pub look_table : IsTable p.entries p.point files table
-    look_table = subst (λ (l : Files). IsTable p.entries p.point l table) (sym same) is
-
-    pub look_begun : BegunAt p looked
-    look_begun = table_begun p a r read table is files clock steps_same (subst (λ (l : Files). Rewritten (IsKept p.entries p.point) a.files l) (sym same) (rewritten_same (IsKept p.entries p.point) a.files))
-
-  pub look_stands : (c : LogView) → StandsAll p looked c → StandsAll p a c
-  look_stands c s = record {
-    entries_same = s.entries_same ∙ ap (λ (l : Files). (telling a).entries l ++ waits a.end) same;
-    begun = s.begun;
-    restored = s.restored;
-    keeps = record {
-      points_same = s.keeps.points_same ∙ ap (λ (l : Files). points_of (telling a) l) same;
-      next_same = s.keeps.next_same ∙ ap (λ (l : Files). next_in (telling a) l) same;
-      outcome_same = s.keeps.outcome_same ∙ ap (λ (l : Files). outcome p.how ((telling a).dumps l) p.entries p.point (stored_of l)) same;
-    };
-  }

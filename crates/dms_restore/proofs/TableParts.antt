@@ -51,9 +51,6 @@ pub record ListsSoFar (spots left : Spots) (table : List Told) : Type 0 where
   pub each : AllFromSpots spots table
   pub blocks : AreBlocks table
 
-pub lists_none : (spots : Spots) → ListsSoFar spots spots []
-lists_none spots = record { sub = λ f b o is. is; all = λ f b s is. inl is; each = tt; blocks = tt }
-
 taken : {A : Type 0} (t : Bool) (x : Option A) (y : A) → cond t None x ≡ Some y → x ≡ Some y
 taken true x y is = absurd (none_not_some y is)
 taken false x y is = is
@@ -72,17 +69,6 @@ module _ (spots left later : Spots) (table : List Told) (g k : ℕ) (o : Option 
     | inr apart ↦ inl (gone f b ∙ ap (λ t. cond t None (spot_of left f b)) apart.1 ∙ is)
   ]
 
-  pub lists_new : o ≡ None → ListsSoFar spots later table
-  lists_new none = record {
-    sub = still;
-    all = λ f b s is. elim (so.all f b s is) [
-      | inl there ↦ elim (other f b s there) [ inl left_over ↦ inl left_over | inr this ↦ absurd (none_not_some s (sym none ∙ this.2)) ]
-      | inr among ↦ inr among
-    ];
-    each = so.each;
-    blocks = so.blocks;
-  }
-
   pub lists_more : (s : AuditSpot) (new : List Told) → o ≡ Some s → AreBlocks new → new ≡ table ++ record { file = g; block = k; audit = s.audit; at = s.at } ∷ [] → ListsSoFar spots later new
   lists_more s new here blocks is =
       let t : Told = record { file = g; block = k; audit = s.audit; at = s.at } in
@@ -98,12 +84,6 @@ module _ (spots left later : Spots) (table : List Told) (g k : ℕ) (o : Option 
         each = subst (AllFromSpots spots) (sym is) (from_push spots table t so.each (so.sub g k o found ∙ ap (λ (p : Option AuditSpot). Some p) here));
         blocks = blocks;
       }
-
-pub lists_all : (spots left : Spots) (table : List Told) → ListsSoFar spots left table → ((f b : ℕ) → spot_of left f b ≡ None) → (f b : ℕ) (s : AuditSpot) → spot_of spots f b ≡ Some (Some s) → IsAmong f b table
-lists_all spots left table so empty f b s is = elim (so.all f b s is) [
-  | inl there ↦ absurd (none_not_some (Some s) (sym (empty f b) ∙ there))
-  | inr among ↦ among
-]
 
 -- ---- whole blocks
 

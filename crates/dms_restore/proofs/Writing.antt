@@ -1,9 +1,8 @@
 -- A block is read from the audit and written.
 use Rattle.std.proofs.Common.{ℕ, zero, suc, ◌*◌, ◌≤◌, ◌<◌, ◌≡◌, List, [], ◌∷◌, ◌++◌, length, drop, Some, refl, sym, ◌∙◌, ap, subst, arith}
 use Rattle.dms_moments.specs.Moments.{Clock, Steps}
-use Rattle.dms_moments.specs.MomentLaws.{steps_on, steps_weaken}
+use Rattle.dms_moments.specs.MomentLaws.{steps_on}
 use Rattle.dms_site.specs.Files.{Files, Left, Same, range, with_file, overlaid, InFile, Torn, OnDisk}
-use Rattle.dms_site.specs.Laws.{torn_refl, in_file_same}
 use Rattle.dms_history.specs.Events.{Event}
 use Rattle.dms_history.specs.Told.{told_block}
 use Rattle.dms_history.proofs.Order.{append_none}
@@ -14,23 +13,11 @@ use Rattle.dms_restore.specs.Table.{bytes_at}
 use Rattle.dms_restore.proofs.Tables.{write_stands}
 
 -- a call that only looks writes nothing
-pub look_rewrites : (keeps : ℕ → ℕ → Type 0) (a b : Clock Left) → Steps Same a b → Steps (Rewrites keeps) a b
-look_rewrites keeps a b steps = steps_weaken steps (λ x y was look. subst (λ (l : Left). Rewrites keeps x l) (sym look) (record { files = rewritten_same keeps x.files; said = refl }))
-
 pub look_then : (keeps : ℕ → ℕ → Type 0) (a b c : Clock Left) → Steps Same a b → Steps (Rewrites keeps) b c → Steps (Rewrites keeps) a c
 look_then keeps a b c one two = steps_on one two (λ x y z was now look step. subst (λ (l : Left). Rewrites keeps l z) look step) (λ x y was look. subst (λ (l : Left). Rewrites keeps x l) (sym look) (record { files = rewritten_same keeps x.files; said = refl }))
 
-pub same_rewritten : (keeps : ℕ → ℕ → Type 0) (x y : Files) → y ≡ x → Rewritten keeps x y
-same_rewritten keeps x y same = subst (λ (l : Files). Rewritten keeps x l) (sym same) (rewritten_same keeps x)
-
 pub then_rewritten : (keeps : ℕ → ℕ → Type 0) (x y z : Files) → y ≡ x → Rewritten keeps y z → Rewritten keeps x z
 then_rewritten keeps x y z same step = subst (λ (l : Files). Rewritten keeps l z) same step
-
-pub same_torn : (f b : ℕ) (x y : Files) → y ≡ x → InFile f (Torn (1024 * b) 1024) x y
-same_torn f b x y same = subst (λ (l : Files). InFile f (Torn (1024 * b) 1024) x l) (sym same) (in_file_same f (Torn (1024 * b) 1024) x (torn_refl (1024 * b) 1024 (x f)))
-
-pub then_torn : (f b : ℕ) (x y z : Files) → y ≡ x → InFile f (Torn (1024 * b) 1024) y z → InFile f (Torn (1024 * b) 1024) x z
-then_torn f b x y z same step = subst (λ (l : Files). InFile f (Torn (1024 * b) 1024) l z) same step
 
 drop_long : (n : ℕ) (l : List ℕ) → length l ≤ n → drop n l ≡ []
 drop_long zero [] le = refl
