@@ -1,5 +1,5 @@
 -- What an opening does that isn't refused.
-use Rattle.std.proofs.Common.{ℕ, ◌≡◌, inl, inr, true, false, List, Option, Some, None, refl, sym, ◌∙◌, ap, subst}
+use Rattle.std.proofs.Common.{ℕ, ◌≡◌, true, false, List, Option, Some, None, refl, sym, ◌∙◌, ap, subst}
 use Rattle.dms_site.specs.Files.{Files}
 use Rattle.dms_history.specs.Events.{How, halt_load, back_out, roll_back, rebuild, reconstruct}
 use Rattle.dms_history.specs.Places.{IsLive}
@@ -10,14 +10,10 @@ use Rattle.dms_history.specs.EntryEvents.{history_of, next_of}
 use Rattle.dms_history.proofs.Judging.{each_judged}
 use Rattle.dms_running.specs.Begun.{ByAudit}
 use Rattle.dms_running.specs.FromDumps.{dump_by, dump_in}
-use Rattle.dms_opening.specs.declared.choosing.OpenFault.{OpenFault}
-use Rattle.dms_opening.specs.declared.choosing.OpenFault.TheVariants.{ByDump}
-use Rattle.dms_opening.specs.declared.judging.PointFault.{PointFault}
 use Rattle.dms_restore.specs.declared.live.PendingAt.{PendingAt}
 use Rattle.dms_restore.specs.declared.tracing.TrailHistory.{TrailHistory}
-use Rattle.dms_opening.specs.Judged.{refusal_of}
-use Rattle.dms_opening.specs.Refusals.{RefusedPoint, at_point, judge_pending, judge_last, or_then, judge_opening, refusal_at}
-use Rattle.dms_opening.specs.Choices.{PointIsRefused, RefusesOpening, Chooses}
+use Rattle.dms_opening.specs.Refusals.{RefusedPoint, at_point, judge_pending, judge_last, or_then, judge_opening}
+use Rattle.dms_opening.specs.Choices.{Chooses}
 use Rattle.dms_restore.specs.Tracing.{MatchesHow, IsTraced}
 use Rattle.dms_opening.proofs.Refused.{none_pending, some_pending}
 
@@ -38,12 +34,12 @@ at_none n None none = refl
 at_none n (Some r) none = absurd cc
 
 -- where the last point isn't refused there is one, and it is live
-pub record LastLives (h : History) : Type 0 where
+pub record LastPointLives (h : History) : Type 0 where
   pub point : ℕ
   pub last : last_point h ≡ Some point
   pub lives : IsLive h.live point
 
-last_lives : (h : History) (next : ℕ) (k : Option ℕ) → last_point h ≡ k → judge_last next h.live k ≡ None → LastLives h
+last_lives : (h : History) (next : ℕ) (k : Option ℕ) → last_point h ≡ k → judge_last next h.live k ≡ None → LastPointLives h
 last_lives h next None is none = absurd cc
 last_lives h next (Some n) is none = record { point = n; last = is; lives = ((each_judged h.live next n).lives.0 (at_none n (judge_point h.live next n) none)).1 }
 
@@ -87,15 +83,3 @@ dump_none files entries h none t = sym (ap dump_in (none_pending files entries h
 
 pub dump_some : (files : Files) (entries : List Entry) (h : TrailHistory) (q : PendingAt) (d : Option ℕ) → h.pending ≡ Some q → IsTraced files entries h → ((how : How) → MatchesHow q.how how → d ≡ dump_by how) → d ≡ dump_in (history_of entries).pending
 dump_some files entries h q d some t is = let s = some_pending files entries h q some t in is s.p.how s.at.how_matches ∙ ap dump_in (sym s.is)
-
--- why it is refused
-pub refused_dump : (first next d : ℕ) (h : History) (o : Option ℕ) → o ≡ Some d → o ≡ dump_in h.pending → RefusesOpening first h next (ByDump d)
-refused_dump first next d h o some is = inr (inl (d, sym is ∙ some, refl))
-
-pub refused_point : (first point next : ℕ) (h : History) (fault : PointFault) (answer : OpenFault) (o : Option ℕ) (r : Option (ℕ × PointFault)) → o ≡ None → o ≡ dump_in h.pending → r ≡ Some (point, fault) → refusal_at r ≡ judge_opening h next → PointIsRefused first point fault answer → RefusesOpening first h next answer
-refused_point first point next h fault answer o r none same some is answered = inr (inr (record {
-  no_dump = sym same ∙ none;
-  refused = record { point = point; why = refusal_of fault };
-  is = sym is ∙ ap refusal_at some;
-  answered = answered;
-}))

@@ -1,6 +1,6 @@
 -- The counts of structure files, entry by entry.
 use Rattle.std.specs.Prelude.{◌==◌, ◌||◌, if◌then◌else◌}
-use Rattle.std.proofs.Common.{ℕ, zero, suc, ◌+◌, ◌-◌, ◌/◌, ◌≤◌, ◌<◌, max, ◌≡◌, ◌⊎◌, inl, inr, Bool, true, false, cond, IsTrue, List, [], ◌∷◌, ◌++◌, length, take, drop, get_or, Some, None, refl, sym, ◌∙◌, ap, subst, arith, append_assoc, get_or-set_same, get_or-set_other}
+use Rattle.std.proofs.Common.{ℕ, zero, suc, ◌+◌, ◌-◌, ◌/◌, ◌≤◌, ◌<◌, ◌≡◌, ◌⊎◌, inl, inr, Bool, true, false, cond, IsTrue, List, [], ◌∷◌, ◌++◌, length, take, drop, get_or, refl, sym, ◌∙◌, ap, subst, arith, append_assoc, get_or-set_same, get_or-set_other}
 use Rattle.std.proofs.Math.ListN.{set}
 use Rattle.std.proofs.lemmas.Bool.{cases_lt, cases_eq}
 use Rattle.std.proofs.lemmas.Bool.Decides.{nat_tests}
@@ -8,7 +8,7 @@ use Rattle.std.proofs.lemmas.List.{take-append-drop}
 use Rattle.std.specs.Int.{w32, from_be_bytes}
 use Rattle.dms_site.specs.Files.{Files, range}
 use Rattle.dms_history.specs.declared.event.FileCount.{FileCount}
-use Rattle.dms_history.specs.Events.{Event, change}
+use Rattle.dms_history.specs.Events.{Event}
 use Rattle.dms_history.specs.Lists.{has}
 use Rattle.dms_history.specs.Places.{is_control}
 use Rattle.dms_history.specs.Entries.{counts_in}
@@ -16,7 +16,6 @@ use Rattle.dms_history.specs.Pick.{reached_count}
 use Rattle.dms_history.proofs.Counts.{reached_append, reached_any}
 use Rattle.dms_history.proofs.PlainPick.{to_end}
 use Rattle.dms_audrec.specs.Reading.{counts_at}
-use Rattle.dms_restore.specs.declared.live.ImageAt.{ImageAt}
 use Rattle.dms_restore.specs.declared.live.LiveEntry.{LiveEntry}
 use Rattle.dms_restore.specs.declared.live.LiveEntry.TheVariants.{Changed, Quiet, Controlled}
 use Rattle.dms_restore.specs.Counts.{count_of}
@@ -24,7 +23,7 @@ use Rattle.dms_audrec.specs.Spelling.{counts_rise}
 use Rattle.dms_audfile.specs.declared.fault.AudFault.{AudFault}
 use Rattle.dms_audfile.specs.declared.fault.AudFault.TheVariants.{Disk, Memory}
 use Rattle.dms_opening.specs.PointCounts.{AllAtMost, IsNoCount, IsNoCountAmong}
-use Rattle.dms_restore.specs.LiveEntries.{event_at, events_at, after_in}
+use Rattle.dms_restore.specs.LiveEntries.{event_at, events_at}
 use Rattle.dms_restore.proofs.Spots.{no_entry, events_more}
 
 -- ---- one place of a table
@@ -104,7 +103,7 @@ said_push (d ∷ cs) c f all = elim (cases_eq d.file f) [
     below a b k less one two = omega (arith, less, one, two)
 
 -- the first counts of a list are in the table, and k are still to be taken
-pub record Taken (list rest : List ℕ) (n k low : ℕ) (counts : List ℕ) : Type 0 where
+pub record CountsTaken (list rest : List ℕ) (n k low : ℕ) (counts : List ℕ) : Type 0 where
   pub done : List FileCount
   pub are : counts_at n list ≡ done ++ counts_at k rest
   pub below : AllBelow low done
@@ -112,7 +111,7 @@ pub record Taken (list rest : List ℕ) (n k low : ℕ) (counts : List ℕ) : Ty
   pub table : (f : ℕ) → count_of counts f ≡ counts_in done f
   pub small : AllAtMost counts
 
-pub taken_none : (list : List ℕ) (n : ℕ) (counts : List ℕ) → ((i : ℕ) → get_or counts i 0 ≡ 0) → Taken list list n n 30001 counts
+pub taken_none : (list : List ℕ) (n : ℕ) (counts : List ℕ) → ((i : ℕ) → get_or counts i 0 ≡ 0) → CountsTaken list list n n 30001 counts
 taken_none list n counts none = record {
   done = [];
   are = refl;
@@ -128,7 +127,7 @@ next_pair zero rest some = absurd (omega (arith, some))
 next_pair (suc k) rest some = let e : suc k - 1 ≡ k = omega arith in ap (λ j. (let c : FileCount = record { file = from_be_bytes w32 (take 4 rest); blocks = from_be_bytes w32 (take 4 (drop 4 rest)) } in c) ∷ counts_at j (drop 8 rest)) (sym e)
 
 pub taken_more : (list rest after : List ℕ) (n k low file blocks : ℕ) (counts : List ℕ) → length counts ≡ 200 → 0 < k → file ≡ from_be_bytes w32 (take 4 rest) → blocks ≡ from_be_bytes w32 (take 4 (drop 4 rest)) → after ≡ drop 8 rest
-    → low ≤ file → file ≤ 30200 → blocks ≤ 2097152 → Taken list rest n k low counts → Taken list after n (k - 1) (file + 1) (set counts (file - 30001) blocks)
+    → low ≤ file → file ≤ 30200 → blocks ≤ 2097152 → CountsTaken list rest n k low counts → CountsTaken list after n (k - 1) (file + 1) (set counts (file - 30001) blocks)
 taken_more list rest after n k low file blocks counts size some one two behind le high few t =
     let c : FileCount = record { file = file; blocks = blocks } in
     let up : 30001 ≤ file = omega (arith, t.from, le) in
@@ -142,7 +141,7 @@ taken_more list rest after n k low file blocks counts size some one two behind l
       small = most_set counts file blocks size up high few t.small;
     }
 
-pub taken_all : (list rest : List ℕ) (n k low : ℕ) (counts : List ℕ) → k ≡ 0 → Taken list rest n k low counts → (f : ℕ) → count_of counts f ≡ counts_in (counts_at n list) f
+pub taken_all : (list rest : List ℕ) (n k low : ℕ) (counts : List ℕ) → k ≡ 0 → CountsTaken list rest n k low counts → (f : ℕ) → count_of counts f ≡ counts_in (counts_at n list) f
 unfolding counts_at
 taken_all list rest n zero low counts none t f = t.table f ∙ ap (λ (l : List FileCount). counts_in l f) (sym (t.are ∙ append_nothing t.done))
   where
@@ -150,26 +149,6 @@ taken_all list rest n zero low counts none t f = t.table f ∙ ap (λ (l : List 
     append_nothing [] = refl
     append_nothing (x ∷ xs) = ap (λ (l : List FileCount). x ∷ l) (append_nothing xs)
 taken_all list rest n (suc k) low counts none t f = absurd (omega (arith, none))
-
--- ---- one more entry
-
--- a new block
-pub raise_new : (files : Files) (i : ImageAt) (counts : List ℕ) (n f : ℕ) → length counts ≡ 200 → 30000 < i.file → i.file ≤ 30200 → i.is_new ≡ true → n ≡ max (count_of counts i.file) (i.block + 1)
-    → count_of (set counts (i.file - 30001) n) f ≡ reached_count f (count_of counts f) (event_at files (Changed i) ∷ [])
-raise_new files i counts n f size low high new is =
-    count_set counts i.file n f size (omega (arith, low)) high ∙ go (i.file == f) refl
-    ∙ sym (ap (λ b. reached_count f (count_of counts f) (change i.file i.block (cond b None (Some (range (i.at - 1024) 1024 (files i.audit)))) (after_in files i) ∷ [])) new)
-  where
-    go : (b : Bool) → (i.file == f) ≡ b → cond b n (count_of counts f) ≡ cond b (max (count_of counts f) (i.block + 1)) (count_of counts f)
-    go true on = is ∙ ap (λ k. max (count_of counts k) (i.block + 1)) (same i.file f on)
-      where
-        same : (m k : ℕ) → (m == k) ≡ true → m ≡ k
-        same m k on = grind (arith, nat_tests, on)
-    go false off = refl
-
--- a block that was there
-pub raise_old : (files : Files) (i : ImageAt) (k f : ℕ) → i.is_new ≡ false → k ≡ reached_count f k (event_at files (Changed i) ∷ [])
-raise_old files i k f old = sym (ap (λ b. reached_count f k (change i.file i.block (cond b None (Some (range (i.at - 1024) 1024 (files i.audit)))) (after_in files i) ∷ [])) old)
 
 -- ---- where to begin
 

@@ -86,27 +86,6 @@ parts_all places i bytes ps le are is = is ∙ ap (λ (l : List Placed). part_by
 
 -- ---- some of the places
 
-drop_past : {A : Type 0} (n : ℕ) (xs : List A) → length xs ≤ n → drop n xs ≡ []
-drop_past zero [] le = refl
-drop_past zero (x ∷ xs) le = absurd (omega (arith, le))
-drop_past (suc n) [] le = refl
-drop_past (suc n) (x ∷ xs) le = drop_past n xs (omega (arith, le))
-
-pub drop_least : (n m : ℕ) (xs : List EntryPlace) → m ≡ min n (length xs) → drop m xs ≡ drop n xs
-drop_least n m xs is = elim (cases_le n (length xs)) [
-  | inl le ↦ ap (λ k. drop k xs) (least is le)
-  | inr more ↦ ap (λ k. drop k xs) (most is more) ∙ drop_past (length xs) xs (omega arith) ∙ sym (drop_past n xs (omega (arith, more)))
-]
-  where
-    cases_le : (a b : ℕ) → (a ≤ b) ⊎ (b < a)
-    cases_le a b = elim (cases_lt b a) [ inl less ↦ inr less | inr le ↦ inl le ]
-
-    least : {l : ℕ} → m ≡ min n l → n ≤ l → m ≡ n
-    least is le = omega (arith, is, le)
-
-    most : {l : ℕ} → m ≡ min n l → l < n → m ≡ l
-    most is more = omega (arith, is, more)
-
 pub take_least : (n m : ℕ) (xs : List EntryPlace) → m ≡ min n (length xs) → take m xs ≡ take n xs
 take_least n m xs is = elim (cases_lt (length xs) n) [
   | inr le ↦ ap (λ k. take k xs) (least n m (length xs) is le)

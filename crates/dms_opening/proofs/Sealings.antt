@@ -1,25 +1,20 @@
--- How few entries an opening seals.
-use Rattle.std.proofs.Common.{ℕ, ◌/◌, ◌≤◌, ◌≡◌, List, [], ◌∷◌, ◌++◌, append_assoc, length, length-append, length-take, take, Option, Some, None, sym, ◌∙◌, ap, subst, arith}
+-- Entries that an opening seals, by one call after another.
+use Rattle.std.proofs.Common.{ℕ, ◌+◌, ◌/◌, ◌≤◌, ◌≡◌, List, [], ◌++◌, length, length-append, take, sym, ◌∙◌, ap, subst, arith}
+use Rattle.dms_site.specs.declared.site.Site.{Ghosts}
 use Rattle.dms_history.specs.History.{Pending}
-use Rattle.dms_history.specs.Entries.{Entry, begin_restore, by_halt_load, control_point}
-use Rattle.dms_history.specs.EntryEvents.{history_of}
+use Rattle.dms_history.specs.Entries.{Entry, control_point}
 use Rattle.dms_audrec.specs.Reading.{counts_at}
 use Rattle.dms_audfile.specs.Ends.{EndsAt}
 use Rattle.dms_audfile.specs.TrailEntries.{trail_entries}
 use Rattle.dms_restore.specs.Begins.{BegunAt}
+use Rattle.dms_restore.specs.GrowLaws.{log_grows_more, log_grows_on}
 use Rattle.dms_restore.specs.Laying.{schema_control}
-use Rattle.dms_restore.specs.Logging.{LogView, EndsSealed}
+use Rattle.dms_restore.specs.Logging.{EndsSealed, LogGrows, LogView, entries, view, waits}
 use Rattle.dms_restore.specs.Parts.{SealsPart}
+use Rattle.dms_restore.specs.Views.{view_of}
+use Rattle.dms_restore.specs.declared.log.Log.{Log}
+use Rattle.dms_restore.proofs.Trails.{waits_is}
 use Rattle.dms_wal.proofs.Grown.{control_few}
-use Rattle.dms_opening.specs.declared.plan.OpeningPlan.{OpeningPlan}
-use Rattle.dms_opening.specs.Carrying.{IsFitPlan}
-use Rattle.dms_opening.specs.Openings.{begin_where_none, SealsFew}
-use Rattle.dms_opening.proofs.Carries.{BeginsWhole}
-
--- a Begin at most
-pub begin_few : (pending : Option Pending) (point : ℕ) → length (begin_where_none pending point) ≤ 1
-begin_few None point = omega arith
-begin_few (Some p) point = omega arith
 
 -- nothing waits where a restore is begun
 pub ends_sealed : (p : Pending) (v : LogView) → BegunAt p v → EndsSealed v
@@ -32,22 +27,23 @@ sealed_as a b c es total first same p = (
   (λ i. trail_entries (sym total i) (sym first i) c.files) ∙ p.1 ∙ (λ i. trail_entries (total i) (first i) b.files ++ take p.0 es) ∙ ap (λ (l : List Entry). l ++ take p.0 es) same,
 )
 
--- the Begin wasn't sealed, or it alone
-pub few_begun : (a b : LogView) (point : ℕ) → SealsPart a b (begin_restore point by_halt_load ∷ []) → SealsFew a.end.total a.first a.files b.files
-few_begun a b point p = record { more = take p.0 (begin_restore point by_halt_load ∷ []); few = omega (arith, length-take p.0 (begin_restore point by_halt_load ∷ [])); entries_are = p.1 }
+-- the whole Schema of a description and a Control are 18 entries at most
+pub grows_ended : (a b : LogView) (description : List ℕ) (point next : ℕ) (counts : List ℕ) → length description ≤ 65535 → LogGrows (length (schema_control description point next counts)) a b → LogGrows 18 a b
+grows_ended a b description point next counts few grows =
+    log_grows_more (length (schema_control description point next counts)) 18 a b (control_few description (control_point point next (counts_at (length counts / 8) counts)) few) grows
 
--- the Begin was, and then the first so many of the Schema and its Control
-pub few_ended : (a b c : LogView) (plan : OpeningPlan) (w : BeginsWhole a plan b) → IsFitPlan plan → (schema counts : List ℕ) → schema ≡ plan.schema.items → SealsPart b c (schema_control schema plan.choice.point plan.next counts) → SealsFew a.end.total a.first a.files c.files
-few_ended a b c plan w fit schema counts same p =
-    let found : List Entry = trail_entries a.end.total a.first a.files in
-    let start : List Entry = begin_where_none (history_of found).pending plan.choice.point in
-    let es : List Entry = schema_control schema plan.choice.point plan.next counts in
-    let low : length schema ≤ 65535 = omega (arith, ap length same, fit.described.1) in
-    let total = w.begins.total_same in
-    let first = w.begins.first_same in
-    record {
-      more = start ++ take p.0 es;
-      few = omega (arith, begin_few (history_of found).pending plan.choice.point, control_few schema (control_point plan.choice.point plan.next (counts_at (length counts / 8) counts)) low, length-take p.0 es, length-append start (take p.0 es));
-      entries_are = (λ i. trail_entries (sym total i) (sym first i) c.files) ∙ p.1 ∙ (λ i. trail_entries (total i) (first i) b.files ++ take p.0 es)
-          ∙ ap (λ (l : List Entry). l ++ take p.0 es) w.begins.sealed ∙ append_assoc found start (take p.0 es);
-    }
+-- a log of which nothing waits has the entries of its files alone
+sealed_few : (n : ℕ) (a b : LogView) → b.end.total ≡ a.end.total → b.first ≡ a.first → EndsSealed b → LogGrows n a b → length (entries b) ≤ length (entries a) + n
+sealed_few n a b total first ends grows =
+    let same : length (trail_entries b.end.total b.first b.files) ≡ length (trail_entries a.end.total a.first b.files) = λ i. length (trail_entries (total i) (first i) b.files) in
+    let none : length (waits b.end) ≡ 0 = ap (λ (l : List Entry). length l) (waits_is b.end b.first [] b.files b.clock ends) in
+    omega (arith, grows.few, same, none, length-append (trail_entries b.end.total b.first b.files) (waits b.end))
+
+-- one growth may follow another where nothing waits between them
+pub grows_sealed : (n m : ℕ) (a b c : LogView) → b.end.total ≡ a.end.total → b.first ≡ a.first → EndsSealed b → LogGrows n a b → LogGrows m b c → LogGrows (n + m) a c
+grows_sealed n m a b c total first ends one two = log_grows_on a b c total first n m (sealed_few n a b total first ends one) one two
+
+-- the same of the site of a log that is given back without it
+pub grows_site : {S : Type 0} (g : Ghosts S) (n : ℕ) (a : LogView) (log : Log S) (site : S) → site ≡ log.site → LogGrows n a (view_of g log) → LogGrows n a (view a.end a.first (g.files site) (g.clock site))
+grows_site g n a log site is grows =
+    subst (λ s. LogGrows n a (view a.end a.first (g.files s) (g.clock s))) (sym is) (record { stays = record { kept = grows.stays.kept; left = grows.stays.left }; few = grows.few })

@@ -1,5 +1,5 @@
 -- The opening of a database: what it does to its files, what a stop within it leaves, and why it is refused.
-use Rattle.std.specs.Prelude.{ℕ, ◌-◌, ◌<◌, ◌≤◌, ◌≡◌, ◌⊎◌, true, List, [], ◌∷◌, ◌++◌, if◌then◌else◌, slice_index_or, length, map, None, Some}
+use Rattle.std.specs.Prelude.{ℕ, ◌+◌, ◌-◌, ◌<◌, ◌≤◌, ◌≡◌, ◌⊎◌, true, List, [], ◌∷◌, ◌++◌, if◌then◌else◌, slice_index_or, length, map, None, Some}
 use Rattle.std.specs.declared.option.Option.{Option}
 use Rattle.dms_desc.specs.Shape.{Described}
 use Rattle.dms_desc_bytes.specs.Spelling.{spelling}
@@ -15,7 +15,6 @@ use Rattle.dms_history.specs.EntryEvents.{history_of, next_of}
 use Rattle.dms_history.specs.Schemas.{schema_entries}
 use Rattle.dms_history.specs.SchemaAt.{schema_at}
 use Rattle.dms_audfile.specs.AuditTrail.{IsFound}
-use Rattle.dms_audfile.specs.Ends.{Grown}
 use Rattle.dms_audfile.specs.Gates.{is_full}
 use Rattle.dms_audfile.specs.Reads.{Refuses}
 use Rattle.dms_audfile.specs.Sealing.{IsWrittenUpTo}
@@ -36,7 +35,7 @@ use Rattle.dms_opening.specs.Choices.{Chooses}
 use Rattle.dms_restore.specs.Counts.{count_of, file_counts}
 use Rattle.dms_restore.specs.Views.{view_of}
 use Rattle.dms_restore.specs.Logging as logs
-use Rattle.dms_restore.specs.Logging.{LogView, telling_of, telling, state, waits, LogRuns, entries, points, durable, content}
+use Rattle.dms_restore.specs.Logging.{LogView, telling_of, telling, state, waits, LogRuns, TrailKept, LeavesTrail, entries, points, durable, content}
 use Rattle.dms_wal.specs.Lifting.{block_point, last_blocks}
 use Rattle.dms_wal.specs.Marks.{IsDescription, IsMarkOf, StandsUnder}
 use Rattle.dms_opening.specs.declared.opened.Opened.{Opened}
@@ -152,16 +151,16 @@ abbrev pub RefusesFiles : Files → OpenFault → Type 0
 RefusesFiles files fault = ((e : AudFault) × (fault ≡ Audit e) × Refuses files e) ⊎ (RefusesTrail files fault ⊎ IsFullFault fault)
 
 -- At most 19 entries were sealed behind those that there were: a Begin, 17 parts of a Schema and a Control.
-pub record SealsFew (total first : ℕ) (old new : Files) : Type 0 where
-  pub more : List Entry
-  pub few : length more ≤ 19
-  pub entries_are : trail_entries total first new ≡ trail_entries total first old ++ more
+abbrev pub SealsFew : ℕ → ℕ → Files → Files → Type 0
+SealsFew total first old new = length (trail_entries total first new) ≤ length (trail_entries total first old) + 19
 
--- What an opening does to the trail of these files, whatever it answers: the trail is the old one and blocks behind it, each of which is in its
--- grammar and holds an entry. Unless it failed so, at most 19 entries were sealed, where the files held a database.
-pub record OpeningGrows (failed : Type 0) (old new : Files) : Type 0 where
-  pub grown : (total first : ℕ) → IsTrailFound total first old → Grown total first old new
-  pub few : (failed → ⊥) → (total first : ℕ) → IsTrailFound total first old → IsWhole (telling_of total first) old → SealsFew total first old new
+module _ {S : Type 0} (g : Ghosts S) where
+  -- What an opening does to the trail of the files of a site, whatever it answers: the trail is the old one and blocks behind it, each of which is in
+  -- its grammar and holds an entry, now and at each stop. At most 19 entries were sealed, where the files held a database.
+  pub record OpeningGrows (old new : S) : Type 0 where
+    pub kept : (total first : ℕ) → IsTrailFound total first (g.files old) → TrailKept total first (g.files old) (g.files new)
+    pub left : (total first : ℕ) → IsTrailFound total first (g.files old) → Steps (LeavesTrail total first) (g.clock old) (g.clock new)
+    pub few : (total first : ℕ) → IsTrailFound total first (g.files old) → IsWhole (telling_of total first) (g.files old) → SealsFew total first (g.files old) (g.files new)
 
 -- Why the audit has no room: each file of the trail of these files, up to file 9,999, is full now.
 pub record IsFullIn (files now : Files) : Type 0 where

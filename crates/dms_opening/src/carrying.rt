@@ -1,15 +1,14 @@
 //! A plan is carried out: the restore is begun, its blocks are written, and it is ended.
 
-ghost use Rattle.std.specs.Prelude.{◌≡◌, ◌≤◌, IfOk, IfErr, IsTrue};
+ghost use Rattle.std.specs.Prelude.{◌≡◌, IfOk, IfErr, IsTrue};
 ghost use Rattle.dms_moments.specs.Moments.{Runs};
 ghost use Rattle.dms_audfile.specs.Counting.{CountedAt};
-ghost use Rattle.dms_audfile.specs.Ends.{Grown};
 ghost use Rattle.dms_running.specs.Standing.{IsWhole};
-ghost use Rattle.dms_restore.specs.Logging.{telling};
+ghost use Rattle.dms_restore.specs.Logging.{LogGrows, telling, view};
 ghost use Rattle.dms_restore.specs.Views.{view_of};
 ghost use Rattle.dms_wal.specs.Closing.{IsFullTrail};
 ghost use Rattle.dms_opening.specs.Carrying.{IsFitPlan, IsPlanned};
-ghost use Rattle.dms_opening.specs.Openings.{RunsFrom, Reopens, text_of, IsFullFault, SealsFew, MayHaveWritten};
+ghost use Rattle.dms_opening.specs.Openings.{RunsFrom, Reopens, text_of, IsFullFault, MayHaveWritten};
 
 use crate::going_on::go_on;
 use crate::looking::PlannedOpening;
@@ -43,12 +42,10 @@ pub(crate) fn carry_out<S: Site>(planned: PlannedOpening<S>) -> Result<Opened<S>
         → Runs v.clock (S.clock e.1) (Reopens (telling v) v.files (text_of S.Site planned.log.site))) }
     ensures only { IfErr result (λ e. IsTrue S.tells → IsPlanned (view_of S.Site planned.log) planned.plan → MayHaveWritten e.0) }
     ensures full { IfErr result (λ e. IsTrue S.tells → IsPlanned (view_of S.Site planned.log) planned.plan → IsFullFault e.0 → IsFullTrail (view_of S.Site planned.log) (S.files e.1)) }
-    ensures few { IfErr result (λ e. IsTrue S.tells → let v = view_of S.Site planned.log in IsPlanned v planned.plan → IsWhole (telling v) v.files
-        → IsFullFault e.0 → SealsFew v.end.total v.first v.files (S.files e.1)) }
     ensures grown { IfOk result (λ o. IsTrue S.tells → let v = view_of S.Site planned.log in IsPlanned v planned.plan
-        → Grown v.end.total v.first v.files (S.files o.log.site)) }
+        → LogGrows 19 v (view_of S.Site o.log)) }
     ensures grown_then { IfErr result (λ e. IsTrue S.tells → let v = view_of S.Site planned.log in IsPlanned v planned.plan
-        → Grown v.end.total v.first v.files (S.files e.1)) }
+        → LogGrows 19 v (view v.end v.first (S.files e.1) (S.clock e.1))) }
     ensures plan { IfOk result (λ o. (o.point ≡ planned.plan.choice.point) × (o.next ≡ planned.plan.next) × (o.schema ≡ planned.plan.schema) × (o.counts ≡ planned.plan.counts)) }
     ensures kind { IfOk result (λ o. (o.log.end.total ≡ planned.log.end.total) × (o.log.end.limit ≡ planned.log.end.limit) × (o.log.first ≡ planned.log.first)) }
     ensures same { IfOk result (λ o. S.same_site planned.log.site o.log.site) }

@@ -43,9 +43,9 @@ pub(crate) fn go_on<S: Site>(
     ensures silent_then { IfErr result (λ e. (p : Pending) → IsTrue S.tells → MayGoOn p (view_of S.Site begun.log) table.now point next counts.now
         → StaysSilent S.Site begun.log.site e.1.site) }
     ensures grown { IfOk result (λ l. (p : Pending) → IsTrue S.tells → IsTable p.entries p.point (S.files begun.log.site) table.now → EndsSealed (view_of S.Site begun.log)
-        → LogGrows (view_of S.Site begun.log) (view_of S.Site l)) }
+        → LogGrows 18 (view_of S.Site begun.log) (view_of S.Site l)) }
     ensures grown_then { IfErr result (λ e. (p : Pending) → IsTrue S.tells → IsTable p.entries p.point (S.files begun.log.site) table.now → EndsSealed (view_of S.Site begun.log)
-        → LogGrows (view_of S.Site begun.log) (view_of S.Site e.1)) }
+        → LogGrows 18 (view_of S.Site begun.log) (view_of S.Site e.1)) }
     ensures same { IfOk result (λ l. S.same_site begun.log.site l.site) }
     ensures same_then { IfErr result (λ e. S.same_site begun.log.site e.1.site) }
     ensures said { IfOk result (λ l. S.said l.site ≡ S.said begun.log.site) }

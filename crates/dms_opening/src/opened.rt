@@ -49,8 +49,8 @@ pub fn open<S: Site>(alloc: Global, found: Found<S>) -> Result<Opened<S>, (OpenF
     ensures stopped { IfErr result (λ e. IsTrue S.tells → ReopensSince S.Site found.site e.1) }
     ensures refused { IfErr result (λ e. IsTrue S.tells → RefusesFiles (S.files found.site) e.0) }
     ensures full { IfErr result (λ e. IsTrue S.tells → IsFullFault e.0 → IsFullIn (S.files found.site) (S.files e.1)) }
-    ensures grows { IfOk result (λ o. IsTrue S.tells → OpeningGrows ⊥ (S.files found.site) (S.files o.log.site)) }
-    ensures grows_then { IfErr result (λ e. IsTrue S.tells → OpeningGrows (e.0 ≡ OpenFault.Audit AudFault.Disk) (S.files found.site) (S.files e.1)) }
+    ensures grows { IfOk result (λ o. IsTrue S.tells → OpeningGrows S.Site found.site o.log.site) }
+    ensures grows_then { IfErr result (λ e. IsTrue S.tells → OpeningGrows S.Site found.site e.1) }
     ensures begun { IfErr result (λ e. IsTrue S.tells → CanOpen (S.files found.site) ⊎ StaysUnopened S.Site found.site e.1 e.0) }
     ensures complete { IfErr result (λ e. IsTrue S.tells → (total first : ℕ) → IsOpenable total first (S.files found.site) → IsNoRefusal e.0) }
     ensures files_then { IfErr result (λ e. IsTrue S.tells → (MayHaveWritten e.0 → ⊥) → S.files e.1 ≡ S.files found.site) }

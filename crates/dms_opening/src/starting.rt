@@ -33,8 +33,8 @@ pub(crate) fn start<S: Site>(
     ensures sealed { IfOk result (λ b. IsTrue S.tells → LogStarts (view_of S.Site log)
         → SealsBehind (view_of S.Site log) (view_of S.Site b.log) (if begins then begin_restore point by_halt_load ∷ [] else [])) }
     ensures starts { IfOk result (λ b. IsTrue S.tells → LogStarts (view_of S.Site log) → EndsSealed (view_of S.Site b.log)) }
-    ensures grown { IfOk result (λ b. IsTrue S.tells → LogStarts (view_of S.Site log) → LogGrows (view_of S.Site log) (view_of S.Site b.log)) }
-    ensures grown_then { IfErr result (λ e. IsTrue S.tells → LogStarts (view_of S.Site log) → LogGrows (view_of S.Site log) (view_of S.Site e.1)) }
+    ensures grown { IfOk result (λ b. IsTrue S.tells → LogStarts (view_of S.Site log) → LogGrows 1 (view_of S.Site log) (view_of S.Site b.log)) }
+    ensures grown_then { IfErr result (λ e. IsTrue S.tells → LogStarts (view_of S.Site log) → LogGrows 1 (view_of S.Site log) (view_of S.Site e.1)) }
     ensures moments { IfOk result (λ b. (p : Pending) → IsTrue S.tells → MayOpen (view_of S.Site log) begins point p
         → LeavesEach (view_of S.Site log) (view_of S.Site b.log)) }
     ensures stopped { IfErr result (λ e. (p : Pending) → IsTrue S.tells → MayOpen (view_of S.Site log) begins point p

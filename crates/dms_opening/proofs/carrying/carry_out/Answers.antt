@@ -1,7 +1,6 @@
 use Rattle.std.proofs.Common.{◌∙◌, [], List, sym, subst, arith}
 use Rattle.dms_moments.specs.Moments.{Runs}
-use Rattle.dms_audfile.specs.Ends.{Grown}
-use Rattle.dms_restore.specs.GrowLaws.{log_grows_on}
+use Rattle.dms_restore.specs.GrowLaws.{log_grows_more}
 use Rattle.dms_restore.specs.Logging.{LogView, telling, telling_of}
 use Rattle.dms_restore.specs.Table.{IsTable}
 use Rattle.dms_restore.specs.declared.told.Told.{Told}
@@ -9,9 +8,9 @@ use Rattle.dms_restore.specs.Views.{view_of}
 use Rattle.dms_restore.proofs.Backed.{silent_on}
 use Rattle.dms_restore.proofs.CountBytes.{counts_entry}
 use Rattle.dms_wal.specs.Closing.{IsFullTrail}
-use Rattle.dms_opening.specs.Openings.{Reopens, text_of, SealsFew}
+use Rattle.dms_opening.specs.Openings.{Reopens, text_of}
 use Rattle.dms_opening.proofs.Rooms.{as_limit, full_by}
-use Rattle.dms_opening.proofs.Sealings.{few_begun, few_ended}
+use Rattle.dms_opening.proofs.Sealings.{grows_sealed, grows_site}
 use Rattle.dms_opening.proofs.Carries.{BeginsWhole, count_table, may_open, begins_whole, leaves_on, reopens_all, written_at, may_end, runs_from, bytes_are}
 use Rattle.dms_opening.proofs.carrying.carry_out.Goals as goal
 
@@ -30,7 +29,7 @@ returns-in-Ok-go_on-clause-runs g c tells s whole =
     let a : LogView = view_of g.S.Site c.args.planned.log in
     let b : LogView = view_of g.S.Site c.in-Ok.begun.log in
     let r = c.in-Ok.ensures in
-    let w : BeginsWhole a c.args.planned.plan b = begins_whole a b c.args.planned.plan s r.kind.0 r.kind.3 (r.grown tells s.start) (r.sealed tells s.start) whole (r.begun _ tells (may_open a c.args.planned.plan s whole)) (r.keeps _ tells (may_open a c.args.planned.plan s whole)) in
+    let w : BeginsWhole a c.args.planned.plan b = begins_whole a b c.args.planned.plan s r.kind.0 r.kind.3 (r.grown tells s.start).stays.kept.grown (r.sealed tells s.start) whole (r.begun _ tells (may_open a c.args.planned.plan s whole)) (r.keeps _ tells (may_open a c.args.planned.plan s whole)) in
     let is = bytes_are _ _ _ c.deref.ensures.value c.count_bytes-used.ensures.bytes in
     runs_from a b c.args.planned.plan w c.requires.ready _ is _ (λ i. telling_of ((c.in-Ok-go_on.ensures.kind.0 ∙ r.kind.0) i) ((c.in-Ok-go_on.ensures.kind.3 ∙ r.kind.3) i)) _ c.deref-3.ensures.value
     (c.in-Ok-go_on.ensures.opened _ tells (may_end a b c.args.planned.plan w c.requires.ready _ is _ c.deref-2.ensures.value))
@@ -40,7 +39,7 @@ returns-in-Ok-go_on-clause-moments g c tells s whole =
     let a : LogView = view_of g.S.Site c.args.planned.log in
     let b : LogView = view_of g.S.Site c.in-Ok.begun.log in
     let r = c.in-Ok.ensures in
-    let w : BeginsWhole a c.args.planned.plan b = begins_whole a b c.args.planned.plan s r.kind.0 r.kind.3 (r.grown tells s.start) (r.sealed tells s.start) whole (r.begun _ tells (may_open a c.args.planned.plan s whole)) (r.keeps _ tells (may_open a c.args.planned.plan s whole)) in
+    let w : BeginsWhole a c.args.planned.plan b = begins_whole a b c.args.planned.plan s r.kind.0 r.kind.3 (r.grown tells s.start).stays.kept.grown (r.sealed tells s.start) whole (r.begun _ tells (may_open a c.args.planned.plan s whole)) (r.keeps _ tells (may_open a c.args.planned.plan s whole)) in
     let e = may_end a b c.args.planned.plan w c.requires.ready _ (bytes_are _ _ _ c.deref.ensures.value c.count_bytes-used.ensures.bytes) _ c.deref-2.ensures.value in
     reopens_all g.S.Site g.met.S.Site.now_said (telling a) c.args.planned.log.site _ []
     (leaves_on a b c.args.planned.plan _ w (r.moments _ tells (may_open a c.args.planned.plan s whole)) (c.in-Ok-go_on.ensures.moments _ tells e))
@@ -51,7 +50,7 @@ returns-clause-stopped g c tells s whole =
     let a : LogView = view_of g.S.Site c.args.planned.log in
     let b : LogView = view_of g.S.Site c.in-Ok.begun.log in
     let r = c.in-Ok.ensures in
-    let w : BeginsWhole a c.args.planned.plan b = begins_whole a b c.args.planned.plan s r.kind.0 r.kind.3 (r.grown tells s.start) (r.sealed tells s.start) whole (r.begun _ tells (may_open a c.args.planned.plan s whole)) (r.keeps _ tells (may_open a c.args.planned.plan s whole)) in
+    let w : BeginsWhole a c.args.planned.plan b = begins_whole a b c.args.planned.plan s r.kind.0 r.kind.3 (r.grown tells s.start).stays.kept.grown (r.sealed tells s.start) whole (r.begun _ tells (may_open a c.args.planned.plan s whole)) (r.keeps _ tells (may_open a c.args.planned.plan s whole)) in
     let e = may_end a b c.args.planned.plan w c.requires.ready _ (bytes_are _ _ _ c.deref.ensures.value c.count_bytes-used.ensures.bytes) _ c.deref-2.ensures.value in
     subst (λ site. Runs (g.S.Site.clock c.args.planned.log.site) (g.S.Site.clock site) (Reopens (telling a) (g.S.Site.files c.args.planned.log.site) (text_of g.S.Site c.args.planned.log.site))) (sym c.site_of-in-Err-go_on.ensures)
     (reopens_all g.S.Site g.met.S.Site.now_said (telling a) c.args.planned.log.site _ []
@@ -66,7 +65,7 @@ returns-clause-only g c tells s =
     let r = c.in-Ok.ensures in
     written_at _ _ (r.kind.2 ∙ c.requires.limit)
     (c.in-Err-go_on.ensures.only s.plans.chooses.restore tells
-    (subst (λ (l : List Told). IsTable s.plans.chooses.restore.entries s.plans.chooses.restore.point (g.S.Site.files c.in-Ok.begun.log.site) l) (sym c.deref-2.ensures.value) (s.plans.table_is _ (r.grown tells s.start))))
+    (subst (λ (l : List Told). IsTable s.plans.chooses.restore.entries s.plans.chooses.restore.point (g.S.Site.files c.in-Ok.begun.log.site) l) (sym c.deref-2.ensures.value) (s.plans.table_is _ (r.grown tells s.start).stays.kept.grown)))
 
 pub returns-in-Err-clause-full : goal.returns-in-Err-clause-full
 returns-in-Err-clause-full g c tells s full =
@@ -81,42 +80,24 @@ returns-clause-full g c tells s full =
     let r = c.in-Ok.ensures in
     let n = c.in-Err-go_on.ensures in
     let p = s.plans.chooses.restore in
-    let table = subst (λ (l : List Told). IsTable p.entries p.point (g.S.Site.files c.in-Ok.begun.log.site) l) (sym c.deref-2.ensures.value) (s.plans.table_is _ (r.grown tells s.start)) in
+    let table = subst (λ (l : List Told). IsTable p.entries p.point (g.S.Site.files c.in-Ok.begun.log.site) l) (sym c.deref-2.ensures.value) (s.plans.table_is _ (r.grown tells s.start).stays.kept.grown) in
     let limit = r.kind.2 ∙ c.requires.limit in
     let is = as_limit _ _ limit full in
     subst (λ site. IsFullTrail a (g.S.Site.files site)) (sym c.site_of-in-Err-go_on.ensures)
     (full_by a _ _ limit (n.kind_then.0 ∙ r.kind.0) (n.kind_then.3 ∙ r.kind.3) (n.full p tells table is).1 (n.ends p tells table (r.starts tells s.start) is))
 
-pub returns-in-Err-clause-few : goal.returns-in-Err-clause-few
-returns-in-Err-clause-few g c tells s whole full =
-    let a : LogView = view_of g.S.Site c.args.planned.log in
-    subst (λ site. SealsFew a.end.total a.first a.files (g.S.Site.files site)) (sym c.site_of.ensures)
-    (few_begun a (view_of g.S.Site c.in-Err.log) c.args.planned.plan.choice.point (c.in-Err.ensures.part tells s.start))
-
-pub returns-clause-few : goal.returns-clause-few
-returns-clause-few g c tells s whole full =
-    let a : LogView = view_of g.S.Site c.args.planned.log in
-    let b : LogView = view_of g.S.Site c.in-Ok.begun.log in
-    let plan = c.args.planned.plan in
-    let r = c.in-Ok.ensures in
-    let o = may_open a plan s whole in
-    let w : BeginsWhole a plan b = begins_whole a b plan s r.kind.0 r.kind.3 (r.grown tells s.start) (r.sealed tells s.start) whole (r.begun _ tells o) (r.keeps _ tells o) in
-    let e = may_end a b plan w c.requires.ready _ (bytes_are _ _ _ c.deref.ensures.value c.count_bytes-used.ensures.bytes) _ c.deref-2.ensures.value in
-    let is = as_limit _ _ (r.kind.2 ∙ c.requires.limit) full in
-    subst (λ site. SealsFew a.end.total a.first a.files (g.S.Site.files site)) (sym c.site_of-in-Err-go_on.ensures)
-    (few_ended a b (view_of g.S.Site c.in-Err-go_on.log) plan w c.requires.ready _ _ c.deref-3.ensures.value (c.in-Err-go_on.ensures.part _ tells e is))
-
 pub returns-in-Err-clause-grown_then : goal.returns-in-Err-clause-grown_then
 returns-in-Err-clause-grown_then g c tells s =
     let a : LogView = view_of g.S.Site c.args.planned.log in
-    subst (λ site. Grown a.end.total a.first a.files (g.S.Site.files site)) (sym c.site_of.ensures) (c.in-Err.ensures.grown_then tells s.start)
+    grows_site g.S.Site 19 a c.in-Err.log _ c.site_of.ensures (log_grows_more 1 19 a (view_of g.S.Site c.in-Err.log) (omega arith) (c.in-Err.ensures.grown_then tells s.start))
 
 pub returns-in-Ok-go_on-clause-grown : goal.returns-in-Ok-go_on-clause-grown
 returns-in-Ok-go_on-clause-grown g c tells s =
     let r = c.in-Ok.ensures in
     let p = s.plans.chooses.restore in
-    let table = subst (λ (l : List Told). IsTable p.entries p.point (g.S.Site.files c.in-Ok.begun.log.site) l) (sym c.deref-2.ensures.value) (s.plans.table_is _ (r.grown tells s.start)) in
-    log_grows_on (view_of g.S.Site c.args.planned.log) (view_of g.S.Site c.in-Ok.begun.log) (view_of g.S.Site c.in-Ok-go_on.log) r.kind.0 r.kind.3 (r.grown tells s.start)
+    let grown = r.grown tells s.start in
+    let table = subst (λ (l : List Told). IsTable p.entries p.point (g.S.Site.files c.in-Ok.begun.log.site) l) (sym c.deref-2.ensures.value) (s.plans.table_is _ grown.stays.kept.grown) in
+    grows_sealed 1 18 (view_of g.S.Site c.args.planned.log) (view_of g.S.Site c.in-Ok.begun.log) (view_of g.S.Site c.in-Ok-go_on.log) r.kind.0 r.kind.3 (r.starts tells s.start) grown
     (c.in-Ok-go_on.ensures.grown p tells table (r.starts tells s.start))
 
 pub returns-clause-grown_then : goal.returns-clause-grown_then
@@ -124,6 +105,8 @@ returns-clause-grown_then g c tells s =
     let a : LogView = view_of g.S.Site c.args.planned.log in
     let r = c.in-Ok.ensures in
     let p = s.plans.chooses.restore in
-    let table = subst (λ (l : List Told). IsTable p.entries p.point (g.S.Site.files c.in-Ok.begun.log.site) l) (sym c.deref-2.ensures.value) (s.plans.table_is _ (r.grown tells s.start)) in
-    subst (λ site. Grown a.end.total a.first a.files (g.S.Site.files site)) (sym c.site_of-in-Err-go_on.ensures)
-    (log_grows_on a (view_of g.S.Site c.in-Ok.begun.log) (view_of g.S.Site c.in-Err-go_on.log) r.kind.0 r.kind.3 (r.grown tells s.start) (c.in-Err-go_on.ensures.grown_then p tells table (r.starts tells s.start)))
+    let grown = r.grown tells s.start in
+    let table = subst (λ (l : List Told). IsTable p.entries p.point (g.S.Site.files c.in-Ok.begun.log.site) l) (sym c.deref-2.ensures.value) (s.plans.table_is _ grown.stays.kept.grown) in
+    grows_site g.S.Site 19 a c.in-Err-go_on.log _ c.site_of-in-Err-go_on.ensures
+    (grows_sealed 1 18 a (view_of g.S.Site c.in-Ok.begun.log) (view_of g.S.Site c.in-Err-go_on.log) r.kind.0 r.kind.3 (r.starts tells s.start) grown
+    (c.in-Err-go_on.ensures.grown_then p tells table (r.starts tells s.start)))

@@ -1,14 +1,14 @@
-use Rattle.std.proofs.Common.{[], ◌+◌, ◌<◌, ◌≡◌, inl, sym, ◌∙◌, ap, subst}
+use Rattle.std.proofs.Common.{[], ◌+◌, ◌<◌, ◌≡◌, inl, sym, ◌∙◌, ap, subst, arith}
 use Rattle.dms_audfile.specs.TrailEntries.{trail_entries}
 use Rattle.dms_audfile.specs.declared.fault.AudFault.TheVariants.{Full}
 use Rattle.dms_restore.specs.Logging.{LogView, view, telling_of}
-use Rattle.dms_restore.specs.GrowLaws.{log_grows_on, starts_takes}
+use Rattle.dms_restore.specs.GrowLaws.{log_grows_more, starts_takes}
 use Rattle.dms_restore.specs.Views.{view_of}
 use Rattle.dms_restore.proofs.Trails.{first_low}
 use Rattle.dms_restore.proofs.Results.{one_if_ok, one_if_err}
 use Rattle.dms_restore.proofs.Backed.{silent_on}
 use Rattle.dms_opening.proofs.GoneOn.{each_on, ends_by, opened}
-use Rattle.dms_opening.proofs.Sealings.{ends_sealed, sealed_as}
+use Rattle.dms_opening.proofs.Sealings.{ends_sealed, grows_ended, grows_sealed, sealed_as}
 use Rattle.dms_opening.proofs.Faults.{disk_no_full}
 use Rattle.dms_opening.proofs.going_on.go_on.Goals as goal
 
@@ -105,16 +105,22 @@ returns-in-Err-clause-part g c p tells m is = absurd (disk_no_full (c.in-Err.ens
 pub returns-in-Ok-clause-grown : goal.returns-in-Ok-clause-grown
 returns-in-Ok-clause-grown g c = one_if_ok c.finish.result c.finish.ensures.grown (λ l grown p tells table sealed.
     let was = c.args.begun.log in
+    let b : LogView = view_of g.S.Site c.in-Ok.restored.log in
     let r = c.in-Ok.ensures in
-    log_grows_on (view_of g.S.Site was) (view_of g.S.Site c.in-Ok.restored.log) (view_of g.S.Site l) (λ i. (r.kind.0 i).total) r.kind.1
-    (r.grown tells (first_low was.end was.first [] _ _ sealed)) (grown tells (starts_takes _ (r.stays p tells table sealed))))
+    let start = r.stays p tells table sealed in
+    grows_sealed 0 18 (view_of g.S.Site was) b (view_of g.S.Site l) (λ i. (r.kind.0 i).total) r.kind.1 start.ends (r.grown tells (first_low was.end was.first [] _ _ sealed))
+    (grows_ended b (view_of g.S.Site l) c.args.description.now c.args.point c.args.next c.args.counts.now c.requires.few (grown tells (starts_takes b start))))
 
 pub returns-in-Ok-clause-grown_then : goal.returns-in-Ok-clause-grown_then
 returns-in-Ok-clause-grown_then g c = one_if_err c.finish.result c.finish.ensures.grown_then (λ e grown p tells table sealed.
     let was = c.args.begun.log in
+    let b : LogView = view_of g.S.Site c.in-Ok.restored.log in
     let r = c.in-Ok.ensures in
-    log_grows_on (view_of g.S.Site was) (view_of g.S.Site c.in-Ok.restored.log) (view_of g.S.Site e.1) (λ i. (r.kind.0 i).total) r.kind.1
-    (r.grown tells (first_low was.end was.first [] _ _ sealed)) (grown tells (starts_takes _ (r.stays p tells table sealed))))
+    let start = r.stays p tells table sealed in
+    grows_sealed 0 18 (view_of g.S.Site was) b (view_of g.S.Site e.1) (λ i. (r.kind.0 i).total) r.kind.1 start.ends (r.grown tells (first_low was.end was.first [] _ _ sealed))
+    (grows_ended b (view_of g.S.Site e.1) c.args.description.now c.args.point c.args.next c.args.counts.now c.requires.few (grown tells (starts_takes b start))))
 
 pub returns-in-Err-clause-grown_then : goal.returns-in-Err-clause-grown_then
-returns-in-Err-clause-grown_then g c p tells table sealed = c.in-Err.ensures.grown_then tells (first_low c.args.begun.log.end c.args.begun.log.first [] _ _ sealed)
+returns-in-Err-clause-grown_then g c p tells table sealed =
+    let was = c.args.begun.log in
+    log_grows_more 0 18 _ _ (omega arith) (c.in-Err.ensures.grown_then tells (first_low was.end was.first [] _ _ sealed))

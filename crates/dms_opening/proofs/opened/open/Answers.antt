@@ -1,9 +1,8 @@
 use Rattle.std.proofs.Common.{inl, inr}
-use Rattle.dms_restore.specs.Views.{view_of}
 use Rattle.dms_restore.proofs.Results.{one_if_ok, two_if_ok, three_if_ok, one_if_err}
 use Rattle.dms_opening.proofs.Opens.{may_refuse, can_open, opens_at, runs_at, is_planned, whole_at, since, since_none, counted_on}
 use Rattle.dms_opening.proofs.Complete.{refuses_none}
-use Rattle.dms_opening.proofs.Growths.{grows_none, grows_by, few_run, full_unless, three_if_err}
+use Rattle.dms_opening.proofs.Growths.{grows_none, grows_by}
 use Rattle.dms_opening.proofs.opened.open.Goals as goal
 
 pub returns-in-Ok-clause-opens : goal.returns-in-Ok-clause-opens
@@ -67,23 +66,21 @@ pub returns-in-Err-clause-full : goal.returns-in-Err-clause-full
 returns-in-Err-clause-full g c tells is = absurd (c.in-Err.ensures.room tells is)
 
 pub returns-in-Ok-clause-grows : goal.returns-in-Ok-clause-grows
-returns-in-Ok-clause-grows g c = three_if_ok c.carry_out.result c.carry_out.ensures.kind c.carry_out.ensures.runs c.carry_out.ensures.grown (λ o kind runs grown tells.
+returns-in-Ok-clause-grows g c = one_if_ok c.carry_out.result c.carry_out.ensures.grown (λ o grown tells.
     let l = c.in-Ok.ensures in
     let p = c.in-Ok.planned in
     let s = is_planned g.S.Site c.args.found.site p (l.files tells) (l.starts tells) (l.plans tells) in
-    grows_by p.log.end.total p.log.first _ _ _ (l.files tells) (l.trail tells) _ (grown tells s)
-    (λ off whole. few_run p.log.end.total p.log.first _ _ _ _ _ (view_of g.S.Site o.log) kind.0 kind.2 l.ready.described.1 (runs tells s whole)))
+    grows_by g.S.Site c.args.found.site p (l.files tells) l.moments (l.trail tells) (l.starts tells) o.log.site o.log.end o.log.first (grown tells s))
 
 pub returns-in-Ok-clause-grows_then : goal.returns-in-Ok-clause-grows_then
-returns-in-Ok-clause-grows_then g c = three_if_err c.carry_out.result c.carry_out.ensures.only c.carry_out.ensures.few c.carry_out.ensures.grown_then (λ e only few grown tells.
+returns-in-Ok-clause-grows_then g c = one_if_err c.carry_out.result c.carry_out.ensures.grown_then (λ e grown tells.
     let l = c.in-Ok.ensures in
     let p = c.in-Ok.planned in
     let s = is_planned g.S.Site c.args.found.site p (l.files tells) (l.starts tells) (l.plans tells) in
-    grows_by p.log.end.total p.log.first _ _ _ (l.files tells) (l.trail tells) _ (grown tells s)
-    (λ off whole. few tells s whole (full_unless e.0 off (only tells s))))
+    grows_by g.S.Site c.args.found.site p (l.files tells) l.moments (l.trail tells) (l.starts tells) e.1 p.log.end p.log.first (grown tells s))
 
 pub returns-in-Err-clause-grows_then : goal.returns-in-Err-clause-grows_then
-returns-in-Err-clause-grows_then g c tells = grows_none _ _ _ (c.in-Err.ensures.files_then tells)
+returns-in-Err-clause-grows_then g c tells = grows_none g.S.Site c.args.found.site _ (c.in-Err.ensures.files_then tells) c.in-Err.ensures.moments_then
 
 pub returns-in-Ok-clause-begun : goal.returns-in-Ok-clause-begun
 returns-in-Ok-clause-begun g c = one_if_err c.carry_out.result c.carry_out.ensures.only (λ e only tells.

@@ -2,7 +2,7 @@ use Rattle.std.proofs.Common.{inl, inr, ◌∙◌, ◌≡◌, ℕ, ◌+◌, ◌-
 use Rattle.std.specs.Prelude.{slice_set}
 use Rattle.dms_audrec.specs.Reading.{counts_at}
 use Rattle.dms_audrec.specs.Spelling.{counts_rise}
-use Rattle.dms_opening.proofs.Counted.{Taken, taken_more, taken_all, rises_on, rises_not, rises_end}
+use Rattle.dms_opening.proofs.Counted.{CountsTaken, taken_more, taken_all, rises_on, rises_not, rises_end}
 use Rattle.dms_opening.proofs.point_counts.take_counts.Goals as goal
 use Rattle.dms_opening.proofs.point_counts.take_counts.Goals.{then-file-low-via-then-file-low, then-file-low-via-else-file-low+then-file-gt30200, then-file-low-via-else-file-low+else-file-gt30200+then-blocks-gt2097152}
 
@@ -18,7 +18,7 @@ loop-pair-preserved c =
           ∙ rises_on c.loop-pair.rest.now p.result.0 p.result.1 p.ensures.one p.ensures.two k c.loop-pair.low (omega (arith, c.loop-pair-test.true)) c.if-file-low.false c.if-file-gt30200.false c.if-blocks-gt2097152.false
           ∙ c.loop-pair.invariant.rises;
       long = omega (arith, c.loop-pair.invariant.long, ap length p.ensures.rest, length-drop 8 c.loop-pair.rest.now, c.loop-pair-test.true);
-      taken = subst (λ j. Taken c.args.list.now p.result.2.now n j (p.result.0 + 1) (slice_set c.loop-pair.counts (p.result.0 - 30001) p.result.1)) (sym e)
+      taken = subst (λ j. CountsTaken c.args.list.now p.result.2.now n j (p.result.0 + 1) (slice_set c.loop-pair.counts (p.result.0 - 30001) p.result.1)) (sym e)
           (taken_more c.args.list.now c.loop-pair.rest.now p.result.2.now n k c.loop-pair.low p.result.0 p.result.1 c.loop-pair.counts size (omega (arith, c.loop-pair-test.true)) p.ensures.one p.ensures.two p.ensures.rest
           c.if-file-low.false c.if-file-gt30200.false c.if-blocks-gt2097152.false c.loop-pair.invariant.taken);
     }

@@ -1,10 +1,11 @@
-use Rattle.std.proofs.Common.{cond, [], ◌∷◌, ◌++◌, sym, ◌∙◌, ap}
+use Rattle.std.proofs.Common.{cond, [], ◌∷◌, ◌++◌, sym, ◌∙◌, ap, arith}
 use Rattle.dms_history.specs.Entries.{begin_restore, by_halt_load}
 use Rattle.dms_history.proofs.Order.{append_none}
 use Rattle.dms_audfile.specs.TrailEntries.{trail_entries}
 use Rattle.dms_restore.proofs.Laid.{none_silent}
-use Rattle.dms_restore.specs.GrowLaws.{trail_stays, starts_takes}
+use Rattle.dms_restore.specs.GrowLaws.{log_grows_more, log_grows_none, starts_takes}
 use Rattle.dms_restore.specs.Logging.{LogView, view}
+use Rattle.dms_restore.specs.Views.{view_of}
 use Rattle.dms_restore.proofs.Results.{one_if_ok, one_if_err}
 use Rattle.dms_opening.proofs.Started.{may_run, last_found, begun_new, keeps_new, leaves_new, begun_found, keeps_found, leaves_found}
 use Rattle.dms_opening.proofs.starting.start.Goals as goal
@@ -41,7 +42,7 @@ pub returns-else-begins-clause-moments : goal.returns-else-begins-clause-moments
 returns-else-begins-clause-moments g c p tells s = leaves_found (view c.args.log.end c.args.log.first (g.S.Site.files c.args.log.site) (g.S.Site.clock c.args.log.site))
 
 pub returns-else-begins-clause-grown : goal.returns-else-begins-clause-grown
-returns-else-begins-clause-grown g c tells start = trail_stays c.args.log.end.total c.args.log.first (g.S.Site.files c.args.log.site)
+returns-else-begins-clause-grown g c tells start = let v : LogView = view_of g.S.Site c.args.log in log_grows_more 0 1 v v (omega arith) (log_grows_none v)
 
 pub returns-then-begins-clause-sealed : goal.returns-then-begins-clause-sealed
 returns-then-begins-clause-sealed g c = one_if_ok c.begin.result c.begin.ensures.sealed (λ b sealed tells start.
@@ -69,6 +70,9 @@ returns-then-begins-clause-ends g c = c.begin.ensures.ends
 
 pub returns-then-begins-clause-part : goal.returns-then-begins-clause-part
 returns-then-begins-clause-part g c = c.begin.ensures.part
+
+pub returns-then-begins-clause-grown : goal.returns-then-begins-clause-grown
+returns-then-begins-clause-grown g c = one_if_ok c.begin.result c.begin.ensures.grows (λ b grows tells start. grows tells (starts_takes _ start))
 
 pub returns-then-begins-clause-grown_then : goal.returns-then-begins-clause-grown_then
 returns-then-begins-clause-grown_then g c = one_if_err c.begin.result c.begin.ensures.grows_then (λ e grows tells start. grows tells (starts_takes _ start))
