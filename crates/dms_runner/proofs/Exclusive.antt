@@ -53,17 +53,17 @@ retries_exclusive (suc n) desc s waiting held =
 
 -- a line
 
-abbrev Leaves : LineEffect → Type 0
-Leaves l = IsExclusive l.going.session
+abbrev LeavesExclusive : LineEffect → Type 0
+LeavesExclusive l = IsExclusive l.going.session
 
-leaves_if : (b : Bool) (x y : LineEffect) → Leaves x → Leaves y → Leaves (cond b x y)
+leaves_if : (b : Bool) (x y : LineEffect) → LeavesExclusive x → LeavesExclusive y → LeavesExclusive (cond b x y)
 leaves_if true x y h k = h
 leaves_if false x y h k = k
 
-waits_exclusive : (g : RunState) (s : Session) (h : WaitingLine) (first said : List RunEvent) → IsExclusive s → Leaves (put_to_wait g s h first said)
+waits_exclusive : (g : RunState) (s : Session) (h : WaitingLine) (first said : List RunEvent) → IsExclusive s → LeavesExclusive (put_to_wait g s h first said)
 waits_exclusive g s h first said held = leaves_if (nat_le 10000 (length g.waiting)) _ _ held held
 
-effect_exclusive : (desc : Described) (g : RunState) (l : Line) → IsExclusive g.session → Leaves (line_effect desc g l)
+effect_exclusive : (desc : Described) (g : RunState) (l : Line) → IsExclusive g.session → LeavesExclusive (line_effect desc g l)
 effect_exclusive desc g Empty held = held
 effect_exclusive desc g (Bad place) held = retries_exclusive (length g.waiting) desc g.session g.waiting held
 effect_exclusive desc g (Spoken name verb) held =

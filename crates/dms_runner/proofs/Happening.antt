@@ -11,7 +11,7 @@ use Rattle.dms_model.specs.BackOut.{asks_back_out}
 use Rattle.dms_model.specs.declared.reply.Reply.{Reply}
 use Rattle.dms_model.specs.Seen.{Effort, GoesBack, Seen, IsMute, IsSilent, Keeps, SaysPart, StaysDurable}
 use Rattle.dms_storeverbs.specs.Costs.{Costs, block_limit, limit_if, stores, up_if}
-use Rattle.std.proofs.Common.{ℕ, ◌≡◌, ◌≤◌, ◌+◌, List, [], ◌∷◌, ◌++◌, length, take, map, Some, None, refl, sym, ◌∙◌, ap, subst, arith, append_assoc, length-append, Bool, true, false}
+use Rattle.std.proofs.Common.{ℕ, ◌≡◌, ◌≤◌, ◌+◌, ◌⊎◌, inl, inr, List, [], ◌∷◌, ◌++◌, length, take, map, Some, None, refl, sym, ◌∙◌, ap, subst, arith, append_assoc, length-append, Bool, true, false}
 use Rattle.std.specs.declared.option.Option.{Option}
 use Rattle.std.proofs.lemmas.List.{append-nil, map-append, length-map, take-append-le, take_all}
 use Rattle.std.proofs.Math.Seq.{take-append-add}
@@ -28,7 +28,7 @@ use Rattle.dms_storeverbs.specs.Laws.{MakesWhereQuiet}
 use Rattle.dms_storeverbs.proofs.Quiet.{quiet_rule}
 use Rattle.dms_storeverbs.specs.View.{View, PerformsCall, PointsGrow, LeavesQuiets, StandsFor, view_of}
 use Rattle.dms_storeverbs.proofs.Calls.{lower, stays}
-use Rattle.dms_runner.specs.Events.{IsTold, RunEvent, calls, says, goes_back, text_of, quiets_of, durable_by, durable_after, CrashesFrom, IsCutShort, SaidWhole, Performs, PerformsPrefix, SaidAtLeast, TakesEvents, TookPart, blocks_of, syncs_of, backs_of, may_store, one_if}
+use Rattle.dms_runner.specs.Events.{IsTold, RunEvent, calls, says, goes_back, text_of, quiets_of, durable_by, durable_after, CrashesFrom, IsCutShort, SaidWhole, Performs, PerformsPrefix, SaidAtLeast, TakesEvents, TookAll, TookOneMore, TookPart, EndsAnswered, blocks_of, syncs_of, backs_of, may_store, one_if}
 use Rattle.dms_runner.proofs.Texts.{prints_none, prints_on, front_none, front_all, front_of_first, front_on}
 use Rattle.dms_laws.specs.Exclusive.{is_done}
 
@@ -115,10 +115,10 @@ damaged_same (Err (Full f)) a b u p = ap (λ (f : Faults). f.damaged) p.1
 damaged_same (Err (Damaged f n)) a b u p = absurd u
 damaged_same (Err Say) a b u p = ap (λ (f : Faults). f.damaged) p.1
 
-abbrev pub Sound : Seen → Seen → Type 0
-Sound a b = IsTold a → b.faults.damaged ≡ a.faults.damaged
+abbrev pub FindsNoDamage : Seen → Seen → Type 0
+FindsNoDamage a b = IsTold a → b.faults.damaged ≡ a.faults.damaged
 
-pub undamaged_by : {T : Type 0} (a b : Seen) (r : Result T BlockFault) → ((d : Db) → a.db ≡ Some d → Undamaged r) → CausedBy r a.faults b.faults → Sound a b
+pub undamaged_by : {T : Type 0} (a b : Seen) (r : Result T BlockFault) → ((d : Db) → a.db ≡ Some d → Undamaged r) → CausedBy r a.faults b.faults → FindsNoDamage a b
 undamaged_by a b r u p t = damaged_same r a.faults b.faults (u t.db t.db_is) p
 
 pub ran_none : (a : Seen) → Performs a a []
@@ -212,10 +212,7 @@ took_by a b x k within text t high = record {
   near = (omega arith, omega arith);
   least = least_all a.said b.said (text_of (take k x)) text;
   most = front_all a.said b.said (text_of (take k x)) text;
-  spent = omega (arith, t.spent);
-  next = omega (arith, high);
-  syncs = omega (arith, t.syncs);
-  outs = omega (arith, t.outs);
+  took = inl (record { effort = t; next = high });
 }
 
 -- nothing was done, and nothing said
@@ -240,19 +237,46 @@ took_of_first a b x y p =
       near = p.near;
       least = subst (λ (e : List RunEvent). SaidAtLeast a.said b.said (text_of e)) (sym whole) p.least;
       most = subst (λ (e : List RunEvent). PrintsPrefix a.said b.said (text_of e)) (sym front) p.most;
-      spent = omega (arith, p.spent, ap (λ (e : List RunEvent). blocks_of a.desc e) front);
-      next = omega (arith, p.next, ap (λ (e : List RunEvent). length (quiets_of e)) front);
-      syncs = omega (arith, p.syncs, ap (λ (e : List RunEvent). syncs_of e) front);
-      outs = omega (arith, p.outs, ap (λ (e : List RunEvent). backs_of e) front);
+      took = subst (λ (e : List RunEvent). TookAll a b e ⊎ TookOneMore a b e) (sym front) p.took;
     }
 
-took_on : {cut : Type 0} (a b c : Seen) (x y : List RunEvent) → Performs a b x → TookPart cut b c y → TookPart cut a c (x ++ y)
-took_on a b c x y first next =
+-- where the last of the first events takes nothing, and that of those behind them, that of all does
+pub answered_on : (x y : List RunEvent) → EndsAnswered x → EndsAnswered y → EndsAnswered (x ++ y)
+answered_on [] y p q = q
+answered_on (e ∷ []) [] p q = p
+answered_on (e ∷ []) (f ∷ y) p q = q
+answered_on (e ∷ f ∷ x) y p q = answered_on (f ∷ x) y p q
+
+-- all that was done behind events
+all_on : (a b c : Seen) (x y : List RunEvent) → Performs a b x → TookAll b c y → TookAll a c (x ++ y)
+all_on a b c x y first next = record {
+  effort = takes_on a.desc x y first.effort (subst (λ (d : Described). TakesEvents d y b.effort c.effort) first.desc next.effort);
+  next = omega (arith, first.next_high, next.next, count_of_both x y);
+}
+
+-- one call more behind events
+more_on : (a b c : Seen) (x y : List RunEvent) → Performs a b x → EndsAnswered x → TookOneMore b c y → TookOneMore a c (x ++ y)
+more_on a b c x y first answered next =
+    let spent : c.effort.spent ≤ b.effort.spent + blocks_of a.desc y + limit_if true a.desc =
+    subst (λ (d : Described). c.effort.spent ≤ b.effort.spent + blocks_of d y + limit_if true d) first.desc next.spent in
+    record {
+      answered = answered_on x y answered next.answered;
+      spent = omega (arith, first.effort.spent, spent, blocks_on a.desc x y);
+      next = omega (arith, first.next_high, next.next, count_of_both x y);
+      syncs = omega (arith, first.effort.syncs, next.syncs, syncs_on x y);
+      outs = omega (arith, first.effort.outs, next.outs, backs_on x y);
+    }
+
+took_either : (a b c : Seen) (x y : List RunEvent) → Performs a b x → EndsAnswered x → TookAll b c y ⊎ TookOneMore b c y → TookAll a c (x ++ y) ⊎ TookOneMore a c (x ++ y)
+took_either a b c x y first answered (inl all) = inl (all_on a b c x y first all)
+took_either a b c x y first answered (inr more) = inr (more_on a b c x y first answered more)
+
+-- events, and a part of those behind them, by what they took together
+took_behind : {cut : Type 0} (a b c : Seen) (x y : List RunEvent) → Performs a b x → (p : TookPart cut b c y) → TookAll a c (x ++ take p.k y) ⊎ TookOneMore a c (x ++ take p.k y) → TookPart cut a c (x ++ y)
+took_behind a b c x y first next took =
     let front : take (length x + next.k) (x ++ y) ≡ x ++ take next.k y = take-append-add x y next.k in
     let whole : take (length x + next.whole) (x ++ y) ≡ x ++ take next.whole y = take-append-add x y next.whole in
     let text : text_of (take (length x + next.k) (x ++ y)) ≡ text_of x ++ text_of (take next.k y) = ap text_of front ∙ text_on x (take next.k y) in
-    let spent : c.effort.spent ≤ b.effort.spent + blocks_of a.desc (take next.k y) + limit_if true a.desc =
-    subst (λ (d : Described). c.effort.spent ≤ b.effort.spent + blocks_of d (take next.k y) + limit_if true d) first.desc next.spent in
     record {
       k = length x + next.k;
       within = omega (arith, next.within, length-append x y);
@@ -261,14 +285,19 @@ took_on a b c x y first next =
       near = (omega (arith, next.near.0), omega (arith, next.near.1));
       least = subst (λ (t : List ℕ). SaidAtLeast a.said c.said t) (sym (ap text_of whole ∙ text_on x (take next.whole y))) (least_on a.said b.said c.said (text_of x) (text_of (take next.whole y)) first.text next.least);
       most = subst (λ (t : List ℕ). PrintsPrefix a.said c.said t) (sym text) (front_on a.said b.said c.said (text_of x) (text_of (take next.k y)) first.text next.most);
-      spent = omega (arith, first.effort.spent, spent, ap (λ (e : List RunEvent). blocks_of a.desc e) front, blocks_on a.desc x (take next.k y));
-      next = omega (arith, first.next_high, next.next, ap (λ (e : List RunEvent). length (quiets_of e)) front, count_of_both x (take next.k y));
-      syncs = omega (arith, first.effort.syncs, next.syncs, ap (λ (e : List RunEvent). syncs_of e) front, syncs_on x (take next.k y));
-      outs = omega (arith, first.effort.outs, next.outs, ap (λ (e : List RunEvent). backs_of e) front, backs_on x (take next.k y));
+      took = subst (λ (e : List RunEvent). TookAll a c e ⊎ TookOneMore a c e) (sym front) took;
     }
 
+took_on : {cut : Type 0} (a b c : Seen) (x y : List RunEvent) → Performs a b x → EndsAnswered x → TookPart cut b c y → TookPart cut a c (x ++ y)
+took_on a b c x y first answered next = took_behind a b c x y first next (took_either a b c x (take next.k y) first answered next.took)
+
+-- behind the events nothing more was done
+took_on_said : {cut : Type 0} (a b c : Seen) (x y : List RunEvent) → Performs a b x → c.effort ≡ b.effort → c.next ≡ b.next → TookPart cut b c y → TookPart cut a c (x ++ y)
+took_on_said a b c x y first same number next =
+    took_behind a b c x y first next (inl (all_on a b c x (take next.k y) first (record { effort = takes_still b.desc (take next.k y) same; next = omega (arith, number) })))
+
 took_cut : {cut cut' : Type 0} (a b : Seen) (x : List RunEvent) → (cut → cut') → TookPart cut a b x → TookPart cut' a b x
-took_cut a b x f p = record { k = p.k; within = p.within; text = λ uncut. p.text (λ is. uncut (f is)); whole = p.whole; near = p.near; least = p.least; most = p.most; spent = p.spent; next = p.next; syncs = p.syncs; outs = p.outs }
+took_cut a b x f p = record { k = p.k; within = p.within; text = λ uncut. p.text (λ is. uncut (f is)); whole = p.whole; near = p.near; least = p.least; most = p.most; took = p.took }
 
 -- no event of them happened
 pub part_none : {cut : Type 0} (a : Seen) (x : List RunEvent) → PerformsPrefix cut a a x
@@ -288,15 +317,22 @@ part_of_first a b x y part = record {
   took = took_of_first a b x y part.took;
 }
 
--- events, and a prefix of those behind them
-pub part_on : {cut : Type 0} (a b c : Seen) (x y : List RunEvent) → Performs a b x → PerformsPrefix cut b c y → PerformsPrefix cut a c (x ++ y)
-part_on a b c x y first next = record {
+part_behind : {cut : Type 0} (a b c : Seen) (x y : List RunEvent) → Performs a b x → PerformsPrefix cut b c y → TookPart cut a c (x ++ y) → PerformsPrefix cut a c (x ++ y)
+part_behind a b c x y first next took = record {
   text = subst (λ (t : List ℕ). PrintsPrefix a.said c.said t) (sym (text_on x y)) (front_on a.said b.said c.said (text_of x) (text_of y) first.text next.text);
   said_whole = λ uncut. whole_on a.said b.said c.said x y first.text (next.said_whole uncut);
   undamaged = λ t. next.undamaged (first.told t) ∙ first.undamaged t;
   moments = λ t. runs_on (runs_weaken (first.moments t) (stopped_first a x y)) (next.moments (told_on first t)) (λ stop s. stopped_on a b x y stop t first s);
-  took = took_on a b c x y first next.took;
+  took = took;
 }
+
+-- events, the last of which takes nothing, and a prefix of those behind them
+pub part_on : {cut : Type 0} (a b c : Seen) (x y : List RunEvent) → Performs a b x → EndsAnswered x → PerformsPrefix cut b c y → PerformsPrefix cut a c (x ++ y)
+part_on a b c x y first answered next = part_behind a b c x y first next (took_on a b c x y first answered next.took)
+
+-- events, and a prefix of those behind them, where nothing but text came behind them
+pub part_on_said : {cut : Type 0} (a b c : Seen) (x y : List RunEvent) → Performs a b x → c.effort ≡ b.effort → c.next ≡ b.next → PerformsPrefix cut b c y → PerformsPrefix cut a c (x ++ y)
+part_on_said a b c x y first same number next = part_behind a b c x y first next (took_on_said a b c x y first same number next.took)
 
 -- the same events, told otherwise
 pub ran_as : (a b : Seen) (x y : List RunEvent) → x ≡ y → Performs a b x → Performs a b y
@@ -331,7 +367,7 @@ stopped_says a x stop p = record {
   text = λ t is. let n = p.1 t is in (n.0, n.1 ∙ ap (λ (l : List ℕ). l ++ take n.0 x) (sym (append-nil t)));
 }
 
-pub ran_says : (a b : Seen) (x y : List ℕ) → x ≡ y → (a.tells → b.tells) → ((files : StopFiles) → b.whole files → a.whole files) → b.desc ≡ a.desc → b.effort ≡ a.effort → Sound a b → Prints a.said b.said x → SaysPart a b x → Keeps a b → a.next + 1 < 2 ^ 64 → Performs a b (says y ∷ [])
+pub ran_says : (a b : Seen) (x y : List ℕ) → x ≡ y → (a.tells → b.tells) → ((files : StopFiles) → b.whole files → a.whole files) → b.desc ≡ a.desc → b.effort ≡ a.effort → FindsNoDamage a b → Prints a.said b.said x → SaysPart a b x → Keeps a b → a.next + 1 < 2 ^ 64 → Performs a b (says y ∷ [])
 ran_says a b x y is tells whole desc same undamaged text part keeps room = record {
   text = subst (λ (t : List ℕ). Prints a.said b.said t) (is ∙ sym (append-nil y)) text;
   tells = tells;
@@ -350,7 +386,6 @@ ran_says a b x y is tells whole desc same undamaged text part keeps room = recor
 -- a text that may have been cut off
 took_says : {cut : Type 0} (a b : Seen) (x y : List ℕ) → x ≡ y → b.effort ≡ a.effort → SaysPart a b x → ((cut → ⊥) → Prints a.said b.said x) → TookPart cut a b (says y ∷ [])
 took_says a b x y is same part whole =
-    let t = takes_still a.desc (says y ∷ []) same in
     record {
       k = 1;
       within = omega arith;
@@ -359,13 +394,10 @@ took_says a b x y is same part whole =
       near = (omega arith, omega arith);
       least = least_none a.said b.said x part.part;
       most = subst (λ (z : List ℕ). PrintsPrefix a.said b.said z) (is ∙ sym (append-nil y)) part.part;
-      spent = omega (arith, t.spent);
-      next = omega (arith, part.next);
-      syncs = omega (arith, t.syncs);
-      outs = omega (arith, t.outs);
+      took = inl (record { effort = takes_still a.desc (says y ∷ []) same; next = omega (arith, part.next) });
     }
 
-pub part_says : {cut : Type 0} (a b : Seen) (x y : List ℕ) → x ≡ y → b.effort ≡ a.effort → Sound a b → SaysPart a b x → ((cut → ⊥) → Prints a.said b.said x) → a.next + 1 < 2 ^ 64 → PerformsPrefix cut a b (says y ∷ [])
+pub part_says : {cut : Type 0} (a b : Seen) (x y : List ℕ) → x ≡ y → b.effort ≡ a.effort → FindsNoDamage a b → SaysPart a b x → ((cut → ⊥) → Prints a.said b.said x) → a.next + 1 < 2 ^ 64 → PerformsPrefix cut a b (says y ∷ [])
 part_says a b x y is same undamaged part whole room = record {
   took = took_says a b x y is same part whole;
   said_whole = λ uncut. whole_all a.said b.said (says y ∷ []) (subst (λ (t : List ℕ). Prints a.said b.said t) (is ∙ sym (append-nil y)) (whole uncut));
@@ -435,10 +467,13 @@ took_call a b verb x result mute costs = record {
   near = (omega arith, omega arith);
   least = least_all a.said b.said [] (prints_none a.said b.said mute.said);
   most = front_none a.said b.said [] mute.said;
-  spent = omega (arith, costs.spent, limit_low (stores verb) a.desc);
-  next = omega (arith, mute.one_number);
-  syncs = omega (arith, costs.few_syncs.1);
-  outs = omega (arith, costs.few_outs.1);
+  took = inr (record {
+    answered = tt;
+    spent = omega (arith, costs.spent, limit_low (stores verb) a.desc);
+    next = omega (arith, mute.one_number);
+    syncs = omega (arith, costs.few_syncs.1);
+    outs = omega (arith, costs.few_outs.1);
+  });
 }
 
 pub ran_calls : (a b : Seen) {programs : List Program} {pending : Bool} {since : ℕ} {waits : List Wait} (verb : Verb) (o : Outcome) (answer : Answer) → (a.tells → b.tells) → ((files : StopFiles) → b.whole files → a.whole files) → b.desc ≡ a.desc → Costs (block_limit a.desc verb) (asks_back_out verb) (Ok answer) a.effort b.effort → (is_waits answer.reply ≡ true → b.effort.spent ≤ a.effort.spent)
@@ -484,7 +519,7 @@ pub back_takes : {T : Type 0} (r : Result T BlockFault) (works : Bool) (desc : D
 back_takes r true desc back stays = let p = back refl in record { spent = omega (arith, p.spent); syncs = omega (arith, p.syncs); outs = omega (arith, p.few.1) }
 back_takes r false desc back stays = takes_still desc (goes_back ∷ []) (stays refl)
 
-pub ran_back : (a b : Seen) → (a.tells → b.tells) → ((files : StopFiles) → b.whole files → a.whole files) → b.desc ≡ a.desc → TakesEvents a.desc (goes_back ∷ []) a.effort b.effort → (IsTold a → IsTold b) → Sound a b → IsSilent a b → StaysDurable a b → a.next + 1 < 2 ^ 64 → Performs a b (goes_back ∷ [])
+pub ran_back : (a b : Seen) → (a.tells → b.tells) → ((files : StopFiles) → b.whole files → a.whole files) → b.desc ≡ a.desc → TakesEvents a.desc (goes_back ∷ []) a.effort b.effort → (IsTold a → IsTold b) → FindsNoDamage a b → IsSilent a b → StaysDurable a b → a.next + 1 < 2 ^ 64 → Performs a b (goes_back ∷ [])
 ran_back a b tells whole desc takes told undamaged silent points room = record {
   text = prints_none a.said b.said silent.said;
   tells = tells;
@@ -502,21 +537,9 @@ ran_back a b tells whole desc takes told undamaged silent points room = record {
 
 -- it may be done in part
 took_back : {cut : Type 0} (a b : Seen) → TakesEvents a.desc (goes_back ∷ []) a.effort b.effort → IsSilent a b → TookPart cut a b (goes_back ∷ [])
-took_back a b takes silent = record {
-  k = 0;
-  within = omega arith;
-  text = λ uncut. prints_none a.said b.said silent.said;
-  whole = 0;
-  near = (omega arith, omega arith);
-  least = least_all a.said b.said [] (prints_none a.said b.said silent.said);
-  most = front_none a.said b.said [] silent.said;
-  spent = omega (arith, takes.spent);
-  next = omega (arith, silent.next);
-  syncs = omega (arith, takes.syncs);
-  outs = omega (arith, takes.outs);
-}
+took_back a b takes silent = took_by a b (goes_back ∷ []) 1 (omega arith) (prints_none a.said b.said silent.said) takes (omega (arith, silent.next))
 
-pub part_back : {cut : Type 0} (a b : Seen) → TakesEvents a.desc (goes_back ∷ []) a.effort b.effort → Sound a b → IsSilent a b → a.next + 1 < 2 ^ 64 → PerformsPrefix cut a b (goes_back ∷ [])
+pub part_back : {cut : Type 0} (a b : Seen) → TakesEvents a.desc (goes_back ∷ []) a.effort b.effort → FindsNoDamage a b → IsSilent a b → a.next + 1 < 2 ^ 64 → PerformsPrefix cut a b (goes_back ∷ [])
 part_back a b takes undamaged silent room = record {
   took = took_back a b takes silent;
   said_whole = λ uncut. whole_none a.said b.said (goes_back ∷ []) silent.said;

@@ -1,4 +1,5 @@
 pub mod Always
+pub mod Answered
 pub mod Blames
 pub mod Exclusive
 pub mod Happening

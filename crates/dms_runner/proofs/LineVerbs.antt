@@ -4,10 +4,7 @@ use Rattle.std.specs.Prelude.{slice_get, ◌==◌, IsTrue}
 use Rattle.std.specs.List.{AllByRecursion}
 use Rattle.std.specs.declared.option.Option.{Option}
 use Rattle.std.proofs.lemmas.Bool.Decides.{nat_tests}
-use Rattle.dms_base.specs.declared.kind.ItemKind.{ItemKind}
-use Rattle.dms_base.specs.declared.kind.ItemKind.TheVariants.{Alpha, Number as Decimal, Bool as OneBit, Field}
 use Rattle.dms_base.specs.declared.kind.Literal.{Literal}
-use Rattle.dms_base.specs.declared.kind.Literal.TheVariants.{Null, Text, Number as Digits, Bool as Truth}
 use Rattle.dms_desc.specs.declared.structure.Item.{Item}
 use Rattle.dms_desc.specs.declared.structure.KeyPart.{KeyPart}
 use Rattle.dms_desc.specs.Kinds.{is_link, is_restart, over}

@@ -10,8 +10,9 @@ use Rattle.dms_model.specs.Session.{Session, Outcome, step, is_waits}
 use Rattle.dms_model.proofs.Rises.{step_small}
 use Rattle.dms_runner.specs.declared.waiting.WaitingLine.{WaitingLine}
 use Rattle.dms_runner.proofs.Exclusive.{step_exclusive}
-use Rattle.dms_runner.proofs.Happening.{ran_none, ran_on, part_on, part_of_first}
-use Rattle.dms_runner.specs.Events.{RunEvent, Performs, PerformsPrefix}
+use Rattle.dms_runner.proofs.Answered.{tries_answered}
+use Rattle.dms_runner.proofs.Happening.{answered_on, ran_none, ran_on, part_on, part_of_first}
+use Rattle.dms_runner.specs.Events.{RunEvent, EndsAnswered, Performs, PerformsPrefix}
 use Rattle.dms_runner.specs.Trying.{PerformsTry, PerformsRetry}
 use Rattle.dms_runner.specs.Waiting.{has_line, tries, said_to_wait, RetryEffect, events_before, answer_effect, retry, retries}
 
@@ -54,9 +55,10 @@ pub record Passing (desc : Described) (s : Session) (first now : List WaitingLin
   pub stands : StandsFor v at
   pub may : MayStep at
   pub ran : Performs before after events
+  pub answered : EndsAnswered events
 
 pub passing_start : (desc : Described) (s : Session) (first : List WaitingLine) (v : View) (said : Seen) → StandsFor v s → MayStep s → Passing desc s first first 0 v said said
-passing_start desc s first v said stands may = record { events = []; at = s; is = refl; stands = stands; may = may; ran = ran_none said }
+passing_start desc s first v said stands may = record { events = []; at = s; is = refl; stands = stands; may = may; ran = ran_none said; answered = tt }
 
 at_place : (now : List WaitingLine) (i : ℕ) (h : WaitingLine) → slice_get now i ≡ Some h → drop i now ≡ h ∷ drop (i + 1) now
 at_place now i h is = drop_more now i h (slice_get_within now i h is) ∙ ap (λ (x : WaitingLine). x ∷ drop (i + 1) now) (get_or_from_slice_get now i h h is)
@@ -70,7 +72,7 @@ pub passing_skip : (desc : Described) (s : Session) (first now : List WaitingLin
 passing_skip desc s first now i v before after h here has p =
     let e : retry desc p.at (take i now) (drop i now) ≡ retry desc p.at (take (i + 1) now) (drop (i + 1) now) =
     ap (λ (l : List WaitingLine). retry desc p.at (take i now) l) (at_place now i h here) ∙ retry_skips desc p.at (take i now) h (drop (i + 1) now) has ∙ ap (λ (l : List WaitingLine). retry desc p.at l (drop (i + 1) now)) (sym (to_place now i h here)) in
-    record { events = p.events; at = p.at; is = p.is ∙ ap (λ (w : RetryEffect). events_before p.events w) e; stands = p.stands; may = p.may; ran = p.ran }
+    record { events = p.events; at = p.at; is = p.is ∙ ap (λ (w : RetryEffect). events_before p.events w) e; stands = p.stands; may = p.may; ran = p.ran; answered = p.answered }
 
 pub behind_on : (x y : List RunEvent) (w : RetryEffect) → events_before x (events_before y w) ≡ events_before (x ++ y) w
 behind_on x y w = λ j. record w { events = sym (append_assoc x y w.events) j }
@@ -99,6 +101,7 @@ passing_wait desc s first now next i v w before mid after h answered here has se
         exclusive = step_exclusive desc p.at h.program h.verb p.may.exclusive;
       };
       ran = ran_on before mid after p.events (tries h o) p.ran t.ran;
+      answered = answered_on p.events (tries h o) p.answered (tries_answered h o);
     }
   where
     not_false : (b : Bool) → not b ≡ false → b ≡ true
@@ -150,7 +153,7 @@ passing_part {cut} desc s first now i v before mid after h here has p part =
 
     from : (x : RetryEffect) (rest : List RunEvent) → retry desc p.at (take i now) (drop i now) ≡ x → x.events ≡ tries h o ++ rest → PerformsPrefix cut before after (retry desc s [] first).events
     from x rest e more = subst (λ (t : List RunEvent). PerformsPrefix cut before after t) (sym (ap (λ (y : RetryEffect). y.events) (p.is ∙ ap (λ (y : RetryEffect). events_before p.events y) e) ∙ ap (λ (t : List RunEvent). p.events ++ t) more))
-        (part_on before mid after p.events (tries h o ++ rest) p.ran (part_of_first mid after (tries h o) rest part))
+        (part_on before mid after p.events (tries h o ++ rest) p.ran p.answered (part_of_first mid after (tries h o) rest part))
 
     by_reply : (b : Bool) → is_waits o.reply ≡ b → PerformsPrefix cut before after (retry desc s [] first).events
     by_reply true waits = from _ _ (ap (λ (l : List WaitingLine). retry desc p.at (take i now) l) (at_place now i h here) ∙ retry_waits desc p.at (take i now) h (drop (i + 1) now) has waits) refl

@@ -17,9 +17,10 @@ use Rattle.dms_runner.proofs.Exclusive.{line_exclusive}
 use Rattle.dms_runner.specs.Answers.{RunState, LineEffect, MayTakeLine, nothing_done, line_step, lines_run, lines_before, first_state, script_run, end_events, script_events}
 use Rattle.dms_runner.specs.Events.{RunEvent, Performs, PerformsPrefix, text_of}
 use Rattle.dms_feed.specs.Raws.{CutLine}
-use Rattle.dms_runner.specs.Running.{bytes_of, text_of_lines, HasTooManyBytes, HasTooManyLines, InputBreaks, TakesRawLine, AnswersWhole, TakesLines, PassesLines, PassesBytes, PassesWaiting, CutInput}
+use Rattle.dms_runner.specs.Running.{bytes_of, text_of_lines, FitsScript, HasTooManyBytes, HasTooManyLines, InputBreaks, TakesRawLine, AnswersWhole, TakesLines, PassesLines, PassesBytes, PassesWaiting, CutInput}
 use Rattle.dms_runner.specs.Trying.{MatchesLine}
 use Rattle.dms_runner.proofs.Texts.{prints_on}
+use Rattle.dms_runner.proofs.Answered.{run_answered}
 use Rattle.dms_runner.proofs.Happening.{ran_none, ran_on, part_on, part_of_first}
 use Rattle.dms_runner.proofs.Lining.{line_low}
 
@@ -152,15 +153,25 @@ read_within r = omega (arith, ap length r.split, length-append r.done (raw_lines
 
 -- the input has a line too many
 pub read_lines : {i room : ℕ} {all feed : List ℕ} {left : Option (List ℕ)} (r : InputRead i room all feed left) → i ≡ 1000000 → r.rest ≢ [] → HasTooManyLines all
-read_lines r end some = omega (arith, ap length r.split, length-append r.done (raw_lines r.rest), r.count, end, some_lines r.rest some)
+read_lines {all = all} r end some = record {
+  over = omega (arith, ap length r.split, length-append r.done (raw_lines r.rest), r.count, end, some_lines r.rest some);
+  short = omega (arith, ap (λ (n : ℕ). bytes_of (take n (raw_lines all))) end, ap bytes_of (read_taken r), r.bytes);
+}
 
 -- it has a byte too many
 pub read_bytes : {i room : ℕ} {all feed : List ℕ} {left : Option (List ℕ)} (r : InputRead i room all feed left) → i < 1000000 → room < length (first_line r.rest) → HasTooManyBytes all
 read_bytes {i} r more over = record {
   n = i;
   few = more;
+  short = omega (arith, ap bytes_of (read_taken r), r.bytes);
   over = omega (arith, ap bytes_of (read_more r (some_first r.rest (omega (arith, over)))), bytes_on r.done (first_line r.rest ∷ []), r.bytes, over);
 }
+
+-- it was read to its end, and keeps the limits
+pub read_fits : {i room : ℕ} {all feed : List ℕ} {left : Option (List ℕ)} (r : InputRead i room all feed left) → i ≤ 1000000 → r.rest ≡ [] → FitsScript all
+read_fits {all = all} r small none =
+    let whole : raw_lines all ≡ r.done = r.split ∙ ap (λ (rest : List ℕ). r.done ++ raw_lines rest) none ∙ append-nil r.done in
+    record { few = omega (arith, ap length whole, r.count, small); short = omega (arith, ap bytes_of whole, r.bytes) }
 
 -- taking from it failed
 pub read_breaks : {k i room : ℕ} {all feed : List ℕ} {left left' : Option (List ℕ)} (r : InputRead i room all feed left) → i ≤ 1000000 → k ≤ room → (i ≡ 1000000 → k ≡ 0) → CutLine k left' r.rest → InputBreaks left' all
@@ -178,7 +189,7 @@ read_breaks {i = i} r small under last cut = record {
 }
 
 -- after so many lines: those done, the bytes that are left, and what happened
-pub record Runs (desc : Described) (g : RunState) (i room : ℕ) (all : List ℕ) (v : View) (waiting : List WaitingLine) (feed : List ℕ) (left : Option (List ℕ)) (before after : Seen) : Type 0 where
+pub record RunsLines (desc : Described) (g : RunState) (i room : ℕ) (all : List ℕ) (v : View) (waiting : List WaitingLine) (feed : List ℕ) (left : Option (List ℕ)) (before after : Seen) : Type 0 where
   pub read : InputRead i room all feed left
   pub roomy : (lines_run desc g read.done).full ≡ false
   pub stands : StandsFor v (lines_run desc g read.done).going.session
@@ -189,7 +200,7 @@ pub record Runs (desc : Described) (g : RunState) (i room : ℕ) (all : List ℕ
   pub ran : Performs before after (lines_run desc g read.done).events
 
 pub runs_start : (desc : Described) (db : Db) (first : ℕ) (all : List ℕ) (v : View) (feed : List ℕ) (left : Option (List ℕ)) (now : Seen) → StandsFor v (first_state db first).session → Remains feed left all
-    → Runs desc (first_state db first) 0 2147483648 all v [] feed left now now
+    → RunsLines desc (first_state db first) 0 2147483648 all v [] feed left now now
 unfolding read_start
 runs_start desc db first all v feed left now stands remains =
     let e : lines_run desc (first_state db first) [] ≡ nothing_done (first_state db first) = run_none desc (first_state db first) in
@@ -206,12 +217,12 @@ runs_start desc db first all v feed left now stands remains =
 
 -- the next line may be taken
 pub runs_room : (desc : Described) (db : Db) (first : ℕ) (i room : ℕ) (all : List ℕ) (v : View) (waiting : List WaitingLine) (feed : List ℕ) (left : Option (List ℕ)) (before after : Seen)
-    (r : Runs desc (first_state db first) i room all v waiting feed left before after) → i < 1000000 → first + 1000003 < 2 ^ 64 → MayTakeLine (lines_run desc (first_state db first) r.read.done).going
+    (r : RunsLines desc (first_state db first) i room all v waiting feed left before after) → i < 1000000 → first + 1000003 < 2 ^ 64 → MayTakeLine (lines_run desc (first_state db first) r.read.done).going
 runs_room desc db first i room all v waiting feed left before after r more small = record { room = omega (arith, r.low, more, small); exclusive = r.exclusive }
 
 -- and for the one that the end asks for
 pub runs_next : (desc : Described) (db : Db) (first : ℕ) (i room : ℕ) (all : List ℕ) (v : View) (waiting : List WaitingLine) (feed : List ℕ) (left : Option (List ℕ)) (before after : Seen)
-    (r : Runs desc (first_state db first) i room all v waiting feed left before after) → i ≤ 1000000 → first + 1000003 < 2 ^ 64 → (lines_run desc (first_state db first) r.read.done).going.session.next + 1 < 2 ^ 64
+    (r : RunsLines desc (first_state db first) i room all v waiting feed left before after) → i ≤ 1000000 → first + 1000003 < 2 ^ 64 → (lines_run desc (first_state db first) r.read.done).going.session.next + 1 < 2 ^ 64
 runs_next desc db first i room all v waiting feed left before after r few small = omega (arith, r.low, few, small)
 
 one_more : (desc : Described) (g : RunState) (done : List (List ℕ)) (l : List ℕ) → (lines_run desc g done).full ≡ false → (line_step desc (lines_run desc g done).going l).full ≡ false
@@ -222,7 +233,7 @@ one_more desc g done l room more =
 
 -- one line more was taken
 pub runs_on : (desc : Described) (g : RunState) (i room room' : ℕ) (all : List ℕ) (v w : View) (waiting next : List WaitingLine) (feed feed' : List ℕ) (left left' : Option (List ℕ)) (before mid after : Seen)
-    (r : Runs desc g i room all v waiting feed left before mid) → TakesRawLine room room' feed' left' r.read.rest → MatchesLine (line_step desc (lines_run desc g r.read.done).going (first_line r.read.rest)) true w next mid after → Runs desc g (i + 1) room' all w next feed' left' before after
+    (r : RunsLines desc g i room all v waiting feed left before mid) → TakesRawLine room room' feed' left' r.read.rest → MatchesLine (line_step desc (lines_run desc g r.read.done).going (first_line r.read.rest)) true w next mid after → RunsLines desc g (i + 1) room' all w next feed' left' before after
 unfolding read_on
 runs_on desc g i room room' all v w waiting next feed feed' left left' before mid after r t goes =
     let now = (lines_run desc g r.read.done).going in
@@ -243,7 +254,7 @@ runs_on desc g i room room' all v w waiting next feed feed' left left' before mi
 
 -- the lines that were done, and what they answered
 pub runs_took : (desc : Described) (db : Db) (first : ℕ) (i room : ℕ) (all : List ℕ) (v : View) (waiting : List WaitingLine) (feed : List ℕ) (left : Option (List ℕ)) (before mid : Seen) (after : Option (List ℕ))
-    → Runs desc (first_state db first) i room all v waiting feed left before mid → i ≤ 1000000 → Prints mid.said after [] → TakesLines desc db first (raw_lines all) i before.said after
+    → RunsLines desc (first_state db first) i room all v waiting feed left before mid → i ≤ 1000000 → Prints mid.said after [] → TakesLines desc db first (raw_lines all) i before.said after
 runs_took desc db first i room all v waiting feed left before mid after r small same =
     let t : take i (raw_lines all) ≡ r.read.done = read_taken r.read in
     record {
@@ -256,15 +267,15 @@ runs_took desc db first i room all v waiting feed left before mid after r small 
 
 -- the script has a line too many
 pub runs_lines : (desc : Described) (db : Db) (first : ℕ) (i room : ℕ) (all : List ℕ) (v : View) (waiting : List WaitingLine) (feed : List ℕ) (left : Option (List ℕ)) (before mid : Seen) (after : Option (List ℕ))
-    (r : Runs desc (first_state db first) i room all v waiting feed left before mid) → Prints mid.said after [] → i ≡ 1000000 → r.read.rest ≢ [] → PassesLines desc db first (raw_lines all) before.said after
+    (r : RunsLines desc (first_state db first) i room all v waiting feed left before mid) → Prints mid.said after [] → i ≡ 1000000 → r.read.rest ≢ [] → PassesLines desc db first (raw_lines all) before.said after
 runs_lines desc db first i room all v waiting feed left before mid after r same end some = (
-  read_lines r.read end some,
+  (read_lines r.read end some).over,
   subst (λ (n : ℕ). TakesLines desc db first (raw_lines all) n before.said after) end (runs_took desc db first i room all v waiting feed left before mid after r (omega (arith, end)) same),
 )
 
 -- the script has a byte too many
 pub runs_bytes : (desc : Described) (db : Db) (first : ℕ) (i room : ℕ) (all : List ℕ) (v : View) (waiting : List WaitingLine) (feed : List ℕ) (left : Option (List ℕ)) (before mid : Seen) (after : Option (List ℕ))
-    (r : Runs desc (first_state db first) i room all v waiting feed left before mid) → i < 1000000 → Prints mid.said after [] → room < length (first_line r.read.rest) → PassesBytes desc db first (raw_lines all) before.said after
+    (r : RunsLines desc (first_state db first) i room all v waiting feed left before mid) → i < 1000000 → Prints mid.said after [] → room < length (first_line r.read.rest) → PassesBytes desc db first (raw_lines all) before.said after
 unfolding read_bytes
 runs_bytes desc db first i room all v waiting feed left before mid after r more same over = record {
   n = i;
@@ -275,7 +286,7 @@ runs_bytes desc db first i room all v waiting feed left before mid after r more 
 
 -- a line would be one too many to hold
 pub runs_waiting : (desc : Described) (db : Db) (first : ℕ) (i room : ℕ) (all : List ℕ) (v : View) (waiting : List WaitingLine) (feed : List ℕ) (left : Option (List ℕ)) (before mid : Seen) (after : Option (List ℕ))
-    (r : Runs desc (first_state db first) i room all v waiting feed left before mid) → i < 1000000 → Prints mid.said after [] → r.read.rest ≢ [] → (line_step desc (lines_run desc (first_state db first) r.read.done).going (first_line r.read.rest)).full ≡ true → length (first_line r.read.rest) ≤ room
+    (r : RunsLines desc (first_state db first) i room all v waiting feed left before mid) → i < 1000000 → Prints mid.said after [] → r.read.rest ≢ [] → (line_step desc (lines_run desc (first_state db first) r.read.done).going (first_line r.read.rest)).full ≡ true → length (first_line r.read.rest) ≤ room
     → PassesWaiting desc db first (raw_lines all) before.said after
 runs_waiting desc db first i room all v waiting feed left before mid after r more same some full fits =
     let g = first_state db first in
@@ -290,7 +301,7 @@ runs_waiting desc db first i room all v waiting feed left before mid after r mor
 
 -- taking from the input failed
 pub runs_cut : (desc : Described) (db : Db) (first : ℕ) (k i room : ℕ) (all : List ℕ) (v : View) (waiting : List WaitingLine) (feed : List ℕ) (left left' : Option (List ℕ)) (before mid : Seen) (after : Option (List ℕ))
-    (r : Runs desc (first_state db first) i room all v waiting feed left before mid) → i ≤ 1000000 → k ≤ room → (i ≡ 1000000 → k ≡ 0) → Prints mid.said after [] → CutLine k left' r.read.rest → CutInput desc db first all left' before.said after
+    (r : RunsLines desc (first_state db first) i room all v waiting feed left before mid) → i ≤ 1000000 → k ≤ room → (i ≡ 1000000 → k ≡ 0) → Prints mid.said after [] → CutLine k left' r.read.rest → CutInput desc db first all left' before.said after
 unfolding read_breaks
 runs_cut desc db first k i room all v waiting feed left left' before mid after r small under last same cut =
     let b = read_breaks r.read small under last cut in
@@ -311,7 +322,7 @@ lines_none rest none = ap raw_lines none
 
 -- the input's end: what happens now ends the run
 pub runs_ran : (desc : Described) (db : Db) (first : ℕ) (i room : ℕ) (all : List ℕ) (v : View) (waiting : List WaitingLine) (feed : List ℕ) (left : Option (List ℕ)) (before mid after : Seen)
-    (r : Runs desc (first_state db first) i room all v waiting feed left before mid) → r.read.rest ≡ [] → Performs mid after (end_events waiting) → Performs before after (script_events desc db first (raw_lines all))
+    (r : RunsLines desc (first_state db first) i room all v waiting feed left before mid) → r.read.rest ≡ [] → Performs mid after (end_events waiting) → Performs before after (script_events desc db first (raw_lines all))
 unfolding script_events
 runs_ran desc db first i room all v waiting feed left before mid after r none last =
     let g = first_state db first in
@@ -320,43 +331,44 @@ runs_ran desc db first i room all v waiting feed left before mid after r none la
     (ran_on before mid after (lines_run desc g r.read.done).events (end_events (lines_run desc g r.read.done).going.waiting) r.ran (subst (λ (hs : List WaitingLine). Performs mid after (end_events hs)) r.waiting_is last))
 
 pub runs_end : (desc : Described) (db : Db) (first : ℕ) (i room : ℕ) (all : List ℕ) (v : View) (waiting : List WaitingLine) (feed : List ℕ) (left : Option (List ℕ)) (before mid after : Seen)
-    (r : Runs desc (first_state db first) i room all v waiting feed left before mid) → i ≤ 1000000 → r.read.rest ≡ [] → Performs mid after (end_events waiting) → AnswersWhole desc db first (raw_lines all) before.said after.said
+    (r : RunsLines desc (first_state db first) i room all v waiting feed left before mid) → i ≤ 1000000 → r.read.rest ≡ [] → Performs mid after (end_events waiting) → AnswersWhole desc db first (raw_lines all) before.said after.said
 runs_end desc db first i room all v waiting feed left before mid after r small none last =
     let whole : raw_lines all ≡ r.read.done = r.read.split ∙ ap (λ (ls : List (List ℕ)). r.read.done ++ ls) (lines_none r.read.rest none) ∙ append-nil r.read.done in
     record {
-      few = omega (arith, ap length whole, r.read.count, small);
-      short = omega (arith, ap bytes_of whole, r.read.bytes);
+      few = (read_fits r.read small none).few;
+      short = (read_fits r.read small none).short;
       room = ap (λ (ls : List (List ℕ)). (script_run desc db first ls).full) whole ∙ r.roomy;
       text = (runs_ran desc db first i room all v waiting feed left before mid after r none last).text;
     }
 
 -- the session at the end, of the whole script
 pub runs_ended : (desc : Described) (db : Db) (first : ℕ) (i room : ℕ) (all : List ℕ) (v w : View) (waiting : List WaitingLine) (feed : List ℕ) (left : Option (List ℕ)) (before mid : Seen)
-    (r : Runs desc (first_state db first) i room all v waiting feed left before mid) → r.read.rest ≡ [] → StandsFor w (ended (lines_run desc (first_state db first) r.read.done).going.session) → StandsFor w (ended (script_run desc db first (raw_lines all)).going.session)
+    (r : RunsLines desc (first_state db first) i room all v waiting feed left before mid) → r.read.rest ≡ [] → StandsFor w (ended (lines_run desc (first_state db first) r.read.done).going.session) → StandsFor w (ended (script_run desc db first (raw_lines all)).going.session)
 runs_ended desc db first i room all v w waiting feed left before mid r none stands =
     let whole : raw_lines all ≡ r.read.done = r.read.split ∙ ap (λ (ls : List (List ℕ)). r.read.done ++ ls) (lines_none r.read.rest none) ∙ append-nil r.read.done in
     subst (λ (ls : List (List ℕ)). StandsFor w (ended (script_run desc db first ls).going.session)) (sym whole) stands
 
 -- a prefix of what the lines to come do is, behind what happened, a prefix of the whole
 pub runs_part : {cut : Type 0} (desc : Described) (db : Db) (first : ℕ) (i room : ℕ) (all : List ℕ) (v : View) (waiting : List WaitingLine) (feed : List ℕ) (left : Option (List ℕ)) (before mid after : Seen)
-    (r : Runs desc (first_state db first) i room all v waiting feed left before mid) → PerformsPrefix cut mid after (lines_run desc (lines_run desc (first_state db first) r.read.done).going (raw_lines r.read.rest)).events
+    (r : RunsLines desc (first_state db first) i room all v waiting feed left before mid) → PerformsPrefix cut mid after (lines_run desc (lines_run desc (first_state db first) r.read.done).going (raw_lines r.read.rest)).events
     → PerformsPrefix cut before after (script_events desc db first (raw_lines all))
 unfolding script_events
 runs_part {cut} desc db first i room all v waiting feed left before mid after r part =
     let g = first_state db first in
     let e : lines_run desc g (raw_lines all) ≡ lines_before (lines_run desc g r.read.done) (lines_run desc (lines_run desc g r.read.done).going (raw_lines r.read.rest)) = ap (lines_run desc g) r.read.split ∙ run_on desc g r.read.done (raw_lines r.read.rest) r.roomy in
     part_of_first before after (lines_run desc g (raw_lines all)).events (end_events (lines_run desc g (raw_lines all)).going.waiting)
-    (subst (λ (t : List RunEvent). PerformsPrefix cut before after t) (sym (ap (λ (l : LineEffect). l.events) e)) (part_on before mid after (lines_run desc g r.read.done).events (lines_run desc (lines_run desc g r.read.done).going (raw_lines r.read.rest)).events r.ran part))
+    (subst (λ (t : List RunEvent). PerformsPrefix cut before after t) (sym (ap (λ (l : LineEffect). l.events) e)) (part_on before mid after (lines_run desc g r.read.done).events (lines_run desc (lines_run desc g r.read.done).going (raw_lines r.read.rest)).events r.ran (run_answered desc g r.read.done r.roomy) part))
 
 -- a prefix of what happens at the end
 pub runs_end_part : {cut : Type 0} (desc : Described) (db : Db) (first : ℕ) (i room : ℕ) (all : List ℕ) (v : View) (waiting : List WaitingLine) (feed : List ℕ) (left : Option (List ℕ)) (before mid after : Seen)
-    (r : Runs desc (first_state db first) i room all v waiting feed left before mid) → r.read.rest ≡ [] → PerformsPrefix cut mid after (end_events waiting) → PerformsPrefix cut before after (script_events desc db first (raw_lines all))
+    (r : RunsLines desc (first_state db first) i room all v waiting feed left before mid) → r.read.rest ≡ [] → PerformsPrefix cut mid after (end_events waiting) → PerformsPrefix cut before after (script_events desc db first (raw_lines all))
 unfolding script_events
 runs_end_part {cut} desc db first i room all v waiting feed left before mid after r none part =
     let g = first_state db first in
     let whole : raw_lines all ≡ r.read.done = r.read.split ∙ ap (λ (ls : List (List ℕ)). r.read.done ++ ls) (lines_none r.read.rest none) ∙ append-nil r.read.done in
     subst (λ (ls : List (List ℕ)). PerformsPrefix cut before after ((script_run desc db first ls).events ++ end_events (script_run desc db first ls).going.waiting)) (sym whole)
-    (part_on before mid after (lines_run desc g r.read.done).events (end_events (lines_run desc g r.read.done).going.waiting) r.ran (subst (λ (hs : List WaitingLine). PerformsPrefix cut mid after (end_events hs)) r.waiting_is part))
+    (part_on before mid after (lines_run desc g r.read.done).events (end_events (lines_run desc g r.read.done).going.waiting) r.ran (run_answered desc g r.read.done r.roomy)
+    (subst (λ (hs : List WaitingLine). PerformsPrefix cut mid after (end_events hs)) r.waiting_is part))
 
 -- a prefix of what a line does is one of what it and those behind it do
 pub line_part : {cut : Type 0} (desc : Described) (g : RunState) (all : List ℕ) (before after : Seen) → all ≢ [] → PerformsPrefix cut before after (line_step desc g (first_line all)).events → PerformsPrefix cut before after (lines_run desc g (raw_lines all)).events

@@ -12,9 +12,10 @@ use Rattle.dms_model.proofs.Rises.{step_small}
 use Rattle.dms_runner.specs.declared.waiting.WaitingLine.{WaitingLine}
 use Rattle.dms_runner.specs.Waiting.{has_line, said_to_wait, RetryEffect, events_before, retry, retries}
 use Rattle.dms_runner.specs.Trying.{PerformsRetry, PerformsRetries}
-use Rattle.dms_runner.specs.Events.{RunEvent, Performs, PerformsPrefix}
+use Rattle.dms_runner.specs.Events.{RunEvent, EndsAnswered, Performs, PerformsPrefix}
 use Rattle.dms_runner.proofs.Exclusive.{retry_exclusive}
-use Rattle.dms_runner.proofs.Happening.{ran_none, ran_on, part_on, part_of_first}
+use Rattle.dms_runner.proofs.Answered.{retry_answered}
+use Rattle.dms_runner.proofs.Happening.{answered_on, ran_none, ran_on, part_on, part_of_first}
 use Rattle.dms_runner.proofs.Passes.{retry_skips, retry_waits, retry_answers, retry_ends, retries_again, retries_end, behind_on}
 
 -- each answer takes a line from the list, and makes one quiet point at most
@@ -61,9 +62,10 @@ pub record Retrying (desc : Described) (s : Session) (first : List WaitingLine) 
   pub exclusive : IsExclusive at
   pub low : at.next + length now ≤ s.next + length first
   pub ran : Performs before after events
+  pub answered : EndsAnswered events
 
 pub retrying_start : (desc : Described) (s : Session) (first : List WaitingLine) (v : View) (said : Seen) → StandsFor v s → IsExclusive s → Retrying desc s first 0 first v said said
-retrying_start desc s first v said stands held = record { events = []; at = s; left = length first; fuel = omega arith; is = refl; stands = stands; exclusive = held; low = omega arith; ran = ran_none said }
+retrying_start desc s first v said stands held = record { events = []; at = s; left = length first; fuel = omega arith; is = refl; stands = stands; exclusive = held; low = omega arith; ran = ran_none said; answered = tt }
 
 pub retrying_room : (desc : Described) (s : Session) (first : List WaitingLine) (turn : ℕ) (now : List WaitingLine) (v : View) (before after : Seen) (k : Retrying desc s first turn now v before after) → s.next + length first + 2 < 2 ^ 64 → Room k.at.next
 retrying_room desc s first turn now v before after k room = omega (arith, k.low, room)
@@ -91,6 +93,7 @@ retrying_on desc s first turn now next last i v w before mid after k more p gone
       exclusive = retry_exclusive desc k.at [] now k.exclusive;
       low = omega (arith, k.low, retry_low desc k.at [] now, ap length waiting_is);
       ran = ran_on before mid after k.events x.events k.ran p.ran;
+      answered = answered_on k.events x.events k.answered (retry_answered desc k.at [] now);
     }
 
 -- a retry answered none
@@ -141,7 +144,7 @@ retrying_part {cut} desc s first turn now v before mid after k more part = from 
     from zero fuel is = absurd (omega (arith, fuel, more))
     from (suc n) fuel is =
         let r = rest n x.answered refl in
-        subst (λ (t : List RunEvent). PerformsPrefix cut before after t) (sym (ap (λ (y : RetryEffect). y.events) is ∙ ap (λ (t : List RunEvent). k.events ++ t) r.1)) (part_on before mid after k.events (x.events ++ r.0) k.ran (part_of_first mid after x.events r.0 part))
+        subst (λ (t : List RunEvent). PerformsPrefix cut before after t) (sym (ap (λ (y : RetryEffect). y.events) is ∙ ap (λ (t : List RunEvent). k.events ++ t) r.1)) (part_on before mid after k.events (x.events ++ r.0) k.ran k.answered (part_of_first mid after x.events r.0 part))
 
 -- the same retry over the same list
 pub passes_from : (d e : Described) (s : Session) (l m : List WaitingLine) (v : View) (now : List WaitingLine) (found found' : Option ℕ) (before after : Seen) → d ≡ e → l ≡ m → found ≡ found'

@@ -13,19 +13,6 @@ use Rattle.dms_runner.specs.Events.{RunEvent, text_of, quiets_of, CrashesWithin}
 abbrev pub any : StopFiles → Type 0
 any files = ⊤
 
--- a stop of which something of the files is said, too
-pub any_stop : {W : StopFiles → Type 0} {said : Option (List ℕ)} {points : List Point} {durable next : ℕ} {events : List RunEvent} {stop : Stop} → CrashesWithin W said points durable next events stop → CrashesWithin any said points durable next events stop
-any_stop s =
-    let f = s.left.front in
-    record {
-      before = s.before;
-      at = s.at;
-      rest = s.rest;
-      all = s.all;
-      left = record { made = s.left.made; rest = s.left.rest; all = s.left.all; front_of = s.left.front_of; grew = s.left.grew; front = record { count = f.count; enough = f.enough; within = f.within; is = f.is; not_fallen = f.not_fallen; files = tt } };
-      text = s.text;
-    }
-
 -- the quiet points are the first ones of those at first and all that are made behind them, and none that was durable at first is
 -- missing; where all were durable at first the next number hasn't fallen; the text is a prefix of all that is said
 pub record LeavesOfRun (said : Option (List ℕ)) (points : List Point) (durable next : ℕ) (events : List RunEvent) (stop : Stop) : Type 0 where

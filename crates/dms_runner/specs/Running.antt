@@ -26,14 +26,21 @@ pub record TakesRawLine (room room' : ℕ) (feed : List ℕ) (left : Option (Lis
   pub remains : Remains feed left (after_line all)
   pub bytes : room' + length (first_line all) ≡ room
 
--- an input has more lines than a script may have
-abbrev pub HasTooManyLines : List ℕ → Type 0
-HasTooManyLines all = 1000000 < length (raw_lines all)
+-- an input has no more lines and bytes than a script may have
+pub record FitsScript (all : List ℕ) : Type 0 where
+  pub few : length (raw_lines all) ≤ 1000000
+  pub short : bytes_of (raw_lines all) ≤ 2147483648
 
--- up to the end of a line, one that isn't a line too many, it has more bytes than a script may have
+-- an input has more lines than a script may have; the lines before have no more bytes than they may
+pub record HasTooManyLines (all : List ℕ) : Type 0 where
+  pub over : 1000000 < length (raw_lines all)
+  pub short : bytes_of (take 1000000 (raw_lines all)) ≤ 2147483648
+
+-- up to the end of a line, one that isn't a line too many, it has more bytes than a script may have; the lines before it have not
 pub record HasTooManyBytes (all : List ℕ) : Type 0 where
   pub n : ℕ
   pub few : n < 1000000
+  pub short : bytes_of (take n (raw_lines all)) ≤ 2147483648
   pub over : 2147483648 < bytes_of (take (n + 1) (raw_lines all))
 
 -- Taking from an input failed: so many whole lines of it were taken, and a part of the next line, without its line feed, within the limits. The

@@ -135,7 +135,7 @@ module _ {St : Type 0} {g : Ghosts St} where
   abbrev pub StopsAtInput : Option (List ℕ) → Engine St g → Engine St g → Db → ℕ → List ℕ → Type 0
   StopsAtInput left old new db first all = CutInput (described old.desc) db first all left (seen old).said (seen new).said
 
-  -- no more was done than the events of the script may take, or than those may take whose text was said and one call that was under way
+  -- no more was done than the events of the script may take, or than the first ones may take whose text was said, with one call under way at most
   abbrev pub EffortWithin : Engine St g → Engine St g → Db → ℕ → List ℕ → Type 0
   EffortWithin old new db first all = TakesEvents (seen old).desc (events_at old db first all) (seen old).effort (seen new).effort
 

@@ -13,7 +13,7 @@ ghost use Rattle.dms_runner.specs.Answers.{unanswered_events, end_events};
 ghost use Rattle.dms_runner.specs.Waiting.{AreVerbs};
 ghost use Rattle.dms_runner.specs.Starting.{AnswersAll, AtInput, AtStart, HeldTooMany, InputEnds, LineOfInputTaken, OnInput, RunPart, StandsAtEnd, StopsAtBytes, StopsAtInput, StopsAtLines, StopsAtWaiting, events_at, lines_at};
 ghost use Rattle.dms_runner.specs.Blaming.{CutRun, LastsRun};
-ghost use Rattle.dms_runner.specs.Running.{HasTooManyBytes, HasTooManyLines, InputBreaks, TakesRawLine};
+ghost use Rattle.dms_runner.specs.Running.{FitsScript, HasTooManyBytes, HasTooManyLines, InputBreaks, TakesRawLine};
 
 use crate::WaitingLine;
 use crate::lines::take_line;
@@ -188,6 +188,7 @@ pub fn run_lines<St: Store, I: Source>(
     ensures bytes { IsErrOf result RunFault.Bytes → AtStart engine.old feed.old (I.left source.old) (StopsAtBytes engine.old engine.new) }
     ensures full_list { IsErrOf result RunFault.Held → AtStart engine.old feed.old (I.left source.old) (StopsAtWaiting engine.old engine.new) }
     ensures failed { IsErrOf result RunFault.Input → AtStart engine.old feed.old (I.left source.old) (StopsAtInput (I.left source.new) engine.old engine.new) }
+    ensures fits { OnOk result (OnInput feed.old (I.left source.old) FitsScript) }
     ensures too_many_lines { IsErrOf result RunFault.Lines → OnInput feed.old (I.left source.old) HasTooManyLines }
     ensures too_many_bytes { IsErrOf result RunFault.Bytes → OnInput feed.old (I.left source.old) HasTooManyBytes }
     ensures breaks { IsErrOf result RunFault.Input → OnInput feed.old (I.left source.old) (InputBreaks (I.left source.new)) }

@@ -63,6 +63,8 @@ pub fn say_answer<St: Store>(
     ensures front { PrintsPrefix (seen engine.old).said (seen engine.new).said (answer_text line program.now answer.now.reply answer.now.sync) }
     ensures ran { OnOk result ((seen engine.old).next + 1 < 2 ^ 64 → Performs (seen engine.old) (seen engine.new) (says (answer_text line program.now answer.now.reply answer.now.sync) ∷ [])) }
     ensures part { (seen engine.old).next + 1 < 2 ^ 64 → PartHappened result engine.old engine.new (says (answer_text line program.now answer.now.reply answer.now.sync) ∷ []) }
+    ensures effort { (seen engine.new).effort ≡ (seen engine.old).effort }
+    ensures number { (seen engine.new).next ≡ (seen engine.old).next }
     ensures stands { OnOk result (SameSession engine.old engine.new) }
     ensures lasts { EngineLasts result engine.old engine.new }
 {
@@ -82,6 +84,8 @@ fn say_tried<St: Store>(
     ensures front { PrintsPrefix (seen engine.old).said (seen engine.new).said (said_of waiting.now answer.now.reply answer.now.sync) }
     ensures ran { OnOk result ((seen engine.old).next + 1 < 2 ^ 64 → Performs (seen engine.old) (seen engine.new) (says (said_of waiting.now answer.now.reply answer.now.sync) ∷ [])) }
     ensures part { (seen engine.old).next + 1 < 2 ^ 64 → PartHappened result engine.old engine.new (says (said_of waiting.now answer.now.reply answer.now.sync) ∷ []) }
+    ensures effort { (seen engine.new).effort ≡ (seen engine.old).effort }
+    ensures number { (seen engine.new).next ≡ (seen engine.old).next }
     ensures stands { OnOk result (SameSession engine.old engine.new) }
     ensures lasts { EngineLasts result engine.old engine.new }
 {

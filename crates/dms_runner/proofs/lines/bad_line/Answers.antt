@@ -4,6 +4,7 @@ use Rattle.dms_desc.specs.Shape.{described}
 use Rattle.dms_script.specs.Replies.{bad_text}
 use Rattle.dms_runner.specs.Events.{says}
 use Rattle.dms_runner.proofs.Verbs.{verbs_under}
+use Rattle.dms_runner.proofs.Answered.{says_nothing_more}
 use Rattle.dms_runner.proofs.Happening.{undamaged_by, ran_says, part_none, part_says, part_of_first, part_on, part_cut, cut_as}
 use Rattle.dms_runner.proofs.Lining.{goes_retried, retries_from, retries_part_from}
 use Rattle.dms_runner.proofs.lines.bad_line.Goals as goal
@@ -28,7 +29,7 @@ returns-in_err-retry_all-clause-part g c = λ now stands same line may.
     let room' : (seen c.args.engine.now).next + 1 < 2 ^ 64 = omega (arith, stands.next, may.room) in
     let text : c.as_slice.result.now ≡ bad_text now.line c.args.place = c.as_slice.ensures ∙ c.in_ok-text.ensures ∙ ap (λ (n : ℕ). bad_text n c.args.place) (sym line) in
     let said = ran_says _ _ _ _ text c.say.ensures.lasts.causes.tells c.say.ensures.lasts.causes.whole c.say.ensures.lasts.causes.desc c.say.ensures.effort (undamaged_by _ (seen c.say.new.self) c.say.result c.say.ensures.undamaged c.say.ensures.lasts.causes.cause) c.in_ok-say.ensures.text c.say.ensures.part c.in_ok-say.ensures.keeps room' in
-    part_on _ _ _ (says (bad_text now.line c.args.place) ∷ []) _ said
+    part_on _ _ _ (says (bad_text now.line c.args.place) ∷ []) _ said (says_nothing_more _)
     (retries_part_from _ _ now.session _ _ _ _ (ap described c.say.ensures.lasts.description) (sym same) (part_cut _ _ _ (cut_as _ _ c.from_residual-in_err-retry_all.ensures.1) (c.in_err-retry_all.ensures.part now.session (c.in_ok-say.ensures.stands now.session stands) (omega (arith, may.room, ap length same)) may.exclusive)))
 
 pub returns-clause-lined : goal.returns-clause-lined
@@ -44,5 +45,5 @@ returns-clause-part g c = λ now stands same line may.
     let room' : (seen c.args.engine.now).next + 1 < 2 ^ 64 = omega (arith, stands.next, may.room) in
     let text : c.as_slice.result.now ≡ bad_text now.line c.args.place = c.as_slice.ensures ∙ c.in_ok-text.ensures ∙ ap (λ (n : ℕ). bad_text n c.args.place) (sym line) in
     let said = ran_says _ _ _ _ text c.say.ensures.lasts.causes.tells c.say.ensures.lasts.causes.whole c.say.ensures.lasts.causes.desc c.say.ensures.effort (undamaged_by _ (seen c.say.new.self) c.say.result c.say.ensures.undamaged c.say.ensures.lasts.causes.cause) c.in_ok-say.ensures.text c.say.ensures.part c.in_ok-say.ensures.keeps room' in
-    part_on _ _ _ (says (bad_text now.line c.args.place) ∷ []) _ said
+    part_on _ _ _ (says (bad_text now.line c.args.place) ∷ []) _ said (says_nothing_more _)
     (retries_part_from _ _ now.session _ _ _ _ (ap described c.say.ensures.lasts.description) (sym same) (c.in_ok-retry_all.ensures.part now.session (c.in_ok-say.ensures.stands now.session stands) (omega (arith, may.room, ap length same)) may.exclusive))

@@ -15,7 +15,7 @@ use Rattle.dms_runner.proofs.Always.{always_ok, then_on, fault_as}
 use Rattle.dms_runner.proofs.Texts.{prints_none}
 use Rattle.dms_runner.proofs.Verbs.{verbs_in, verbs_under}
 use Rattle.dms_runner.proofs.Happening.{part_none, part_as}
-use Rattle.dms_runner.proofs.Running.{Runs, read_start, read_on, read_lines, read_bytes, read_breaks, runs_start, runs_room, runs_on, runs_lines, runs_bytes, runs_waiting, runs_cut, runs_end, runs_ran, runs_ended, runs_next, runs_part, runs_end_part}
+use Rattle.dms_runner.proofs.Running.{RunsLines, read_start, read_on, read_fits, read_lines, read_bytes, read_breaks, runs_start, runs_room, runs_on, runs_lines, runs_bytes, runs_waiting, runs_cut, runs_end, runs_ran, runs_ended, runs_next, runs_part, runs_end_part}
 use Rattle.dms_runner.proofs.run.run_lines.Goals as goal
 
 pub loop-line-init : goal.loop-line-init
@@ -27,7 +27,7 @@ loop-line-init g c = record {
   small = omega arith;
   few = omega arith;
   read = λ all remains. read_start all _ _ remains;
-  runs = λ db first all stands small remains. subst (λ (hs : List WaitingLine). Runs (described c.args.engine.now.desc) (first_state db first) 0 2147483648 all (view c.args.engine.now) hs c.args.feed.now (g.I.Source.left c.args.source.now) (seen c.args.engine.now) (seen c.args.engine.now)) (sym c.new-waiting.ensures.items) (runs_start _ db first all _ _ _ _ stands remains);
+  runs = λ db first all stands small remains. subst (λ (hs : List WaitingLine). RunsLines (described c.args.engine.now.desc) (first_state db first) 0 2147483648 all (view c.args.engine.now) hs c.args.feed.now (g.I.Source.left c.args.source.now) (seen c.args.engine.now) (seen c.args.engine.now)) (sym c.new-waiting.ensures.items) (runs_start _ db first all _ _ _ _ stands remains);
 }
 
 pub one_line-requires-clause-verbs : goal.one_line-requires-clause-verbs
@@ -35,7 +35,7 @@ one_line-requires-clause-verbs g c = verbs_under _ (ap described (sym c.loop-lin
 
 pub returns-in-Err-clause-part : goal.returns-in-Err-clause-part
 returns-in-Err-clause-part g c = λ db first all stands small remains.
-    let r = subst (λ (d : Description). Runs (described d) (first_state db first) c.loop-line.line c.loop-line.room all (view c.loop-line.engine) c.loop-line.waiting.items c.loop-line.feed (g.I.Source.left c.loop-line.source) (seen c.args.engine.now) (seen c.loop-line.engine)) (sym c.loop-line.invariant.lasts.description) (c.loop-line.invariant.runs db first all stands small remains) in
+    let r = subst (λ (d : Description). RunsLines (described d) (first_state db first) c.loop-line.line c.loop-line.room all (view c.loop-line.engine) c.loop-line.waiting.items c.loop-line.feed (g.I.Source.left c.loop-line.source) (seen c.args.engine.now) (seen c.loop-line.engine)) (sym c.loop-line.invariant.lasts.description) (c.loop-line.invariant.runs db first all stands small remains) in
     let p = part_as _ _ _ _ (ap (λ (d : Description). script_events (described d) db first (raw_lines all)) c.loop-line.invariant.lasts.description) (runs_part _ db first _ _ all _ _ _ _ _ _ _ r (c.in-Err.ensures.part (lines_run (described c.loop-line.engine.desc) (first_state db first) r.read.done).going r.read.rest r.stands (sym r.waiting_is) r.line (runs_room (described c.loop-line.engine.desc) db first _ _ all _ _ _ _ _ _ r (omega (arith, c.loop-line-test.true)) small) r.read.remains)) in
     p
 
@@ -47,7 +47,7 @@ returns-in-Err-clause-too_many_lines g c = λ e. absurd (c.in-Err.ensures.no_lin
 
 pub returns-in-Err-clause-bytes : goal.returns-in-Err-clause-bytes
 returns-in-Err-clause-bytes g c = λ e db first all stands small remains.
-    let r = subst (λ (d : Description). Runs (described d) (first_state db first) c.loop-line.line c.loop-line.room all (view c.loop-line.engine) c.loop-line.waiting.items c.loop-line.feed (g.I.Source.left c.loop-line.source) (seen c.args.engine.now) (seen c.loop-line.engine)) (sym c.loop-line.invariant.lasts.description) (c.loop-line.invariant.runs db first all stands small remains) in
+    let r = subst (λ (d : Description). RunsLines (described d) (first_state db first) c.loop-line.line c.loop-line.room all (view c.loop-line.engine) c.loop-line.waiting.items c.loop-line.feed (g.I.Source.left c.loop-line.source) (seen c.args.engine.now) (seen c.loop-line.engine)) (sym c.loop-line.invariant.lasts.description) (c.loop-line.invariant.runs db first all stands small remains) in
     let b = c.in-Err.ensures.bytes (fault_as _ _ c.in-Err.fault _ refl refl e) in
     subst (λ (d : Description). PassesBytes (described d) db first (raw_lines all) (seen c.args.engine.now).said (seen c.one_line.new.engine).said) c.loop-line.invariant.lasts.description (runs_bytes _ db first _ _ all _ _ _ _ _ _ _ r (omega (arith, c.loop-line-test.true)) (prints_none _ _ b.0) (b.1 r.read.rest r.read.remains))
 
@@ -59,13 +59,13 @@ returns-in-Err-clause-too_many_bytes g c = λ e all remains.
 
 pub returns-in-Err-clause-full_list : goal.returns-in-Err-clause-full_list
 returns-in-Err-clause-full_list g c = λ e db first all stands small remains.
-    let r = subst (λ (d : Description). Runs (described d) (first_state db first) c.loop-line.line c.loop-line.room all (view c.loop-line.engine) c.loop-line.waiting.items c.loop-line.feed (g.I.Source.left c.loop-line.source) (seen c.args.engine.now) (seen c.loop-line.engine)) (sym c.loop-line.invariant.lasts.description) (c.loop-line.invariant.runs db first all stands small remains) in
+    let r = subst (λ (d : Description). RunsLines (described d) (first_state db first) c.loop-line.line c.loop-line.room all (view c.loop-line.engine) c.loop-line.waiting.items c.loop-line.feed (g.I.Source.left c.loop-line.source) (seen c.args.engine.now) (seen c.loop-line.engine)) (sym c.loop-line.invariant.lasts.description) (c.loop-line.invariant.runs db first all stands small remains) in
     let f = c.in-Err.ensures.full_list (fault_as _ _ c.in-Err.fault _ refl refl e) (lines_run (described c.loop-line.engine.desc) (first_state db first) r.read.done).going r.read.rest r.stands (sym r.waiting_is) r.line (runs_room (described c.loop-line.engine.desc) db first _ _ all _ _ _ _ _ _ r (omega (arith, c.loop-line-test.true)) small) r.read.remains in
     subst (λ (d : Description). PassesWaiting (described d) db first (raw_lines all) (seen c.args.engine.now).said (seen c.one_line.new.engine).said) c.loop-line.invariant.lasts.description (runs_waiting _ db first _ _ all _ _ _ _ _ _ _ r (omega (arith, c.loop-line-test.true)) f.0 f.1 f.2 f.3)
 
 pub returns-in-Err-clause-failed : goal.returns-in-Err-clause-failed
 returns-in-Err-clause-failed g c = λ e db first all stands small remains.
-    let r = subst (λ (d : Description). Runs (described d) (first_state db first) c.loop-line.line c.loop-line.room all (view c.loop-line.engine) c.loop-line.waiting.items c.loop-line.feed (g.I.Source.left c.loop-line.source) (seen c.args.engine.now) (seen c.loop-line.engine)) (sym c.loop-line.invariant.lasts.description) (c.loop-line.invariant.runs db first all stands small remains) in
+    let r = subst (λ (d : Description). RunsLines (described d) (first_state db first) c.loop-line.line c.loop-line.room all (view c.loop-line.engine) c.loop-line.waiting.items c.loop-line.feed (g.I.Source.left c.loop-line.source) (seen c.args.engine.now) (seen c.loop-line.engine)) (sym c.loop-line.invariant.lasts.description) (c.loop-line.invariant.runs db first all stands small remains) in
     let b = c.in-Err.ensures.failed (fault_as _ _ c.in-Err.fault _ refl refl e) in
     subst (λ (d : Description). CutInput (described d) db first all (g.I.Source.left c.one_line.new.source) (seen c.args.engine.now).said (seen c.one_line.new.engine).said) c.loop-line.invariant.lasts.description (runs_cut _ db first _ _ _ all _ _ _ _ _ _ _ _ r c.loop-line.invariant.few (omega arith) (λ end. absurd (omega (arith, end, c.loop-line-test.true))) (prints_none _ _ b.0) (b.1 r.read.rest r.read.remains))
 
@@ -133,6 +133,12 @@ returns-in-Ok-false-clause-end g c = always_ok c.end_run.result _ (λ all remain
     let r = c.loop-line.invariant.read all remains in
     (none.2 r.rest r.remains).1)
 
+pub returns-in-Ok-false-clause-fits : goal.returns-in-Ok-false-clause-fits
+returns-in-Ok-false-clause-fits g c = always_ok c.end_run.result _ (λ all remains.
+    let none = (rw c.in-Ok-false.field-0-test at c.in-Ok-false.ensures.none) refl in
+    let r = c.loop-line.invariant.read all remains in
+    read_fits r c.loop-line.invariant.few (none.2 r.rest r.remains).0)
+
 pub returns-in-Ok-false-clause-same_source : goal.returns-in-Ok-false-clause-same_source
 returns-in-Ok-false-clause-same_source g c = g.met.I.Source.same_then _ _ _ c.loop-line.invariant.same_source c.one_line.ensures.same_source
 
@@ -148,8 +154,8 @@ loop-line-preserved g c = record {
       let r = c.loop-line.invariant.read all remains in
       read_on r ((rw c.in-Ok-true.field-0-test at c.in-Ok-true.ensures.read) refl r.rest r.remains);
   runs = λ db first all stands small remains.
-      let r = subst (λ (d : Description). Runs (described d) (first_state db first) c.loop-line.line c.loop-line.room all (view c.loop-line.engine) c.loop-line.waiting.items c.loop-line.feed (g.I.Source.left c.loop-line.source) (seen c.args.engine.now) (seen c.loop-line.engine)) (sym c.loop-line.invariant.lasts.description) (c.loop-line.invariant.runs db first all stands small remains) in
-      subst (λ (d : Description). Runs (described d) (first_state db first) (c.loop-line.line + 1) c.one_line.new.room all (view c.one_line.new.engine) c.one_line.new.waiting.items c.one_line.new.feed (g.I.Source.left c.one_line.new.source) (seen c.args.engine.now) (seen c.one_line.new.engine)) c.loop-line.invariant.lasts.description (runs_on _ (first_state db first) _ _ _ all _ _ _ _ _ _ _ _ _ _ _ r ((rw c.in-Ok-true.field-0-test at c.in-Ok-true.ensures.read) refl r.read.rest r.read.remains) ((rw c.in-Ok-true.field-0-test at c.in-Ok-true.ensures.took) refl (lines_run (described c.loop-line.engine.desc) (first_state db first) r.read.done).going r.read.rest r.stands (sym r.waiting_is) r.line (runs_room (described c.loop-line.engine.desc) db first _ _ all _ _ _ _ _ _ r (omega (arith, c.loop-line-test.true)) small) r.read.remains));
+      let r = subst (λ (d : Description). RunsLines (described d) (first_state db first) c.loop-line.line c.loop-line.room all (view c.loop-line.engine) c.loop-line.waiting.items c.loop-line.feed (g.I.Source.left c.loop-line.source) (seen c.args.engine.now) (seen c.loop-line.engine)) (sym c.loop-line.invariant.lasts.description) (c.loop-line.invariant.runs db first all stands small remains) in
+      subst (λ (d : Description). RunsLines (described d) (first_state db first) (c.loop-line.line + 1) c.one_line.new.room all (view c.one_line.new.engine) c.one_line.new.waiting.items c.one_line.new.feed (g.I.Source.left c.one_line.new.source) (seen c.args.engine.now) (seen c.one_line.new.engine)) c.loop-line.invariant.lasts.description (runs_on _ (first_state db first) _ _ _ all _ _ _ _ _ _ _ _ _ _ _ r ((rw c.in-Ok-true.field-0-test at c.in-Ok-true.ensures.read) refl r.read.rest r.read.remains) ((rw c.in-Ok-true.field-0-test at c.in-Ok-true.ensures.took) refl (lines_run (described c.loop-line.engine.desc) (first_state db first) r.read.done).going r.read.rest r.stands (sym r.waiting_is) r.line (runs_room (described c.loop-line.engine.desc) db first _ _ all _ _ _ _ _ _ r (omega (arith, c.loop-line-test.true)) small) r.read.remains));
 }
 
 pub returns-in-Err-after_last-clause-part : goal.returns-in-Err-after_last-clause-part
@@ -243,6 +249,11 @@ returns-clause-lasts g c = run_then_lasts g.met.St.Store.same_then c.loop-line.i
 
 pub returns-clause-same_source : goal.returns-clause-same_source
 returns-clause-same_source g c = g.met.I.Source.same_then _ _ _ c.loop-line.invariant.same_source c.after_last.ensures.same_source
+
+pub returns-clause-fits : goal.returns-clause-fits
+returns-clause-fits g c = always_ok c.end_run-2.result _ (λ all remains.
+    let r = c.loop-line.invariant.read all remains in
+    read_fits r c.loop-line.invariant.few (c.in-Ok.ensures.end r.rest r.remains).0)
 
 pub returns-clause-end : goal.returns-clause-end
 returns-clause-end g c = always_ok c.end_run-2.result _ (λ all remains.

@@ -2,7 +2,7 @@ use Rattle.std.proofs.Common.{◌≡◌, ◌≤◌, ◌<◌, ◌+◌, ◌^◌, �
 use Rattle.dms_desc.specs.Shape.{described}
 use Rattle.dms_model.specs.Session.{fresh_session}
 use Rattle.dms_storeverbs.specs.View.{Lasted, seen, view, StandsFor}
-use Rattle.dms_runner.proofs.Running.{InputRead, Runs}
+use Rattle.dms_runner.proofs.Running.{InputRead, RunsLines}
 use Rattle.dms_runner.specs.Waiting.{AreVerbs}
 use Rattle.dms_runner.specs.Answers.{first_state}
 use Rattle.dms_model.specs.Db.{Db}
@@ -19,5 +19,5 @@ invariant-loop-line g l = record {
   few : l.line ≤ 1000000;
   read : (all : List ℕ) → Remains l.fn.feed (g.I.Source.left l.fn.source) all → InputRead l.line l.room all l.feed (g.I.Source.left l.source);
   runs : (db : Db) (first : ℕ) (all : List ℕ) → StandsFor (view l.fn.engine) (fresh_session db first) → first + 1000003 < 2 ^ 64 → Remains l.fn.feed (g.I.Source.left l.fn.source) all
-      → Runs (described l.fn.engine.desc) (first_state db first) l.line l.room all (view l.engine) l.waiting.items l.feed (g.I.Source.left l.source) (seen l.fn.engine) (seen l.engine);
+      → RunsLines (described l.fn.engine.desc) (first_state db first) l.line l.room all (view l.engine) l.waiting.items l.feed (g.I.Source.left l.source) (seen l.fn.engine) (seen l.engine);
 }

@@ -7,6 +7,9 @@ use Rattle.dms_runner.proofs.saying.say_answer.Goals as goal
 pub returns-in_err-text-clause-part : goal.returns-in_err-text-clause-part
 returns-in_err-text-clause-part g c = λ room. part_none _ _
 
+pub returns-clause-number : goal.returns-clause-number
+returns-clause-number g c = c.say.ensures.part.next
+
 pub returns-clause-ran : goal.returns-clause-ran
 returns-clause-ran g c = then_both c.say.result _ _ _ (λ text keeps room. ran_says _ _ _ _ (c.as_slice.ensures ∙ c.in_ok-text.ensures) c.say.ensures.lasts.causes.tells c.say.ensures.lasts.causes.whole c.say.ensures.lasts.causes.desc c.say.ensures.effort (undamaged_by _ (seen c.say.new.self) c.say.result c.say.ensures.undamaged c.say.ensures.lasts.causes.cause) text c.say.ensures.part keeps room) c.say.ensures.text c.say.ensures.keeps
 
