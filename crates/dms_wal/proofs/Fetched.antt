@@ -160,10 +160,6 @@ module _ {S : Type 0} (g : Ghosts S) (r : Running S) (u : IsRunningUsable g r) w
     };
   }
 
-  -- and a read was counted
-  pub usable_counted : (n : ℕ) → IsRunningUsable g (record r { reads = n })
-  usable_counted n = record { unbroken = u.unbroken; under = u.under; described = u.described; table = u.table; marked = u.marked; pointed = u.pointed; unchanged = u.unchanged; counted = u.counted; goes = λ t. let k = u.goes t in record { runs = k.runs; holds = k.holds; numbered = k.numbered; counted = k.counted } }
-
   -- the block that is held is that of the content
   pub asked_block : (id : BlockId) (block : Block) → Some block ≡ option_map (λ f. f.block) (frame_of id r.pool) → IsTrue g.tells → block.0 ≡ block_in (content (view_of g r.log)) id.file id.block
   asked_block id block is t =

@@ -1,22 +1,23 @@
 -- How much the audit grew by a call.
-use Rattle.std.proofs.Common.{ℕ, suc, min, ◌+◌, ◌-◌, ◌/◌, ◌^◌, ◌<◌, ◌≤◌, ◌≡◌, ◌⊎◌, inl, inr, Bool, true, false, IsTrue, List, [], ◌∷◌, ◌++◌, length, append-nil, length-append, length-take, take, sym, ◌∙◌, ap, subst, arith}
+use Rattle.std.proofs.Common.{ℕ, zero, suc, ◌+◌, ◌-◌, ◌/◌, ◌^◌, ◌<◌, ◌≤◌, ◌≡◌, ◌⊎◌, inl, inr, Bool, true, false, IsTrue, Option, List, [], ◌∷◌, ◌++◌, length, append-nil, length-append, length-take, take, sym, ◌∙◌, ap, subst, arith}
 use Rattle.std.specs.Prelude.{if◌then◌else◌, IfErr, IsErrOf, OnOk}
 use Rattle.std.specs.declared.result.Result.{Result}
 use Rattle.std.specs.declared.result.Result.TheVariants.{Ok, Err}
 use Rattle.dms_site.specs.declared.site.Site.{Ghosts}
-use Rattle.dms_site.specs.Files.{Files}
-use Rattle.dms_audfile.specs.Counting.{CountedAt}
+use Rattle.dms_moments.specs.Moments.{Clock, Steps}
+use Rattle.dms_site.specs.Files.{Files, Left}
+use Rattle.dms_audfile.specs.declared.audit_end.AuditEnd.{AuditEnd}
 use Rattle.dms_audfile.specs.declared.fault.AudFault.{AudFault}
 use Rattle.dms_audfile.specs.declared.fault.AudFault.TheVariants as audit
 use Rattle.dms_block.specs.declared.block_fault.BlockFault.{BlockFault}
-use Rattle.dms_block.specs.declared.block_fault.BlockFault.TheVariants.{Disk, Memory, Full, Damaged, Say}
+use Rattle.dms_block.specs.declared.block_fault.BlockFault.TheVariants.{Disk}
 use Rattle.dms_block.specs.declared.change.Change.{Change}
-use Rattle.dms_block.specs.Held.{Caused, HasCauses, Held, one_more}
-use Rattle.dms_history.specs.Entries.{Entry, quiet_point, control_point}
+use Rattle.dms_block.specs.Held.{one_more}
+use Rattle.dms_history.specs.Entries.{Entry, image, quiet_point, control_point}
 use Rattle.dms_history.specs.Schemas.{schema_entries}
 use Rattle.dms_audrec.specs.Bodies.{bodies}
 use Rattle.dms_restore.specs.GrowLaws.{log_grows_on}
-use Rattle.dms_restore.specs.Logging.{LogView, LogsPart, LogsQuiet, entries, telling, waits}
+use Rattle.dms_restore.specs.Logging.{LogGrows, LogView, LeavesTrail, LogsImage, LogsPart, LogsQuiet, TrailKept, entries, telling, telling_of, view}
 use Rattle.dms_audrec.specs.Reading.{counts_at}
 use Rattle.dms_restore.specs.BackOuts.{back_entries, IsBackFault, SealedAlone, WentBackTo}
 use Rattle.dms_restore.proofs.Laid.{bodies_many, parts_length}
@@ -25,8 +26,11 @@ use Rattle.dms_wal.specs.Changing.{LogsChanges}
 use Rattle.dms_wal.specs.Controls.{is_due_at, KeepsPace}
 use Rattle.dms_restore.specs.Views.{view_of}
 use Rattle.dms_wal.specs.Faults.{IsSeenAs, IsSeenInBack}
-use Rattle.dms_wal.specs.Growing.{controls_among, FilesGrew, GivesGrown, GivesTrail, GrowsBy, HasStayed, IsCounted, LogsAtMost, TrailGrows}
+use Rattle.dms_wal.specs.Growing.{accounts, close_limit, controls_among, GivesGrown, GrowsBy, IsCounted, LogsAtMost, over_site, TrailGrows}
+use Rattle.dms_wal.specs.PaceLaws.{pace_kind}
 use Rattle.dms_wal.proofs.Logged.{logs_many}
+use Rattle.dms_wal.proofs.Marked.{true_not_false}
+use Rattle.dms_wal.proofs.Reaching.{EndsAlike, entries_alike}
 
 -- ---- entries that were logged
 
@@ -37,6 +41,10 @@ logged_more n a b l = omega (arith, ap (λ (es : List Entry). length es) l.entri
 -- one for a quiet point
 pub logged_quiet : (a b : LogView) → LogsQuiet a b → length (entries b) ≡ length (entries a) + 1
 logged_quiet a b l = ap (λ (es : List Entry). length es) l.entries_are ∙ length-append (entries a) (quiet_point _ ∷ [])
+
+-- and one for an Image
+pub logged_image : (a b : LogView) (f k : ℕ) (before : Option (List ℕ)) (after : List ℕ) → LogsImage a b f k before after → length (entries b) ≤ length (entries a) + 1
+logged_image a b f k before after l = omega (arith, ap (λ (es : List Entry). length es) l.entries_are, length-append (entries a) (image f k before after ∷ []))
 
 pub some_none : (n : ℕ) (a b : LogView) → entries b ≡ entries a → LogsAtMost n a b
 some_none n a b same = record { more = []; few = omega arith; entries_are = same ∙ sym (append-nil (entries a)) }
@@ -71,174 +79,131 @@ back_few (Err e) m limit a b es few (inl is) back full memory off = some_part 19
 back_few (Err e) m limit a b es few (inr (inl is)) back full memory off = absurd (off (λ i. Err (is i)))
 back_few (Err e) m limit a b es few (inr (inr is)) back full memory off = some_none 19 a b (memory (λ i. Err (is i))).same.entries_same
 
--- ---- faults of the disk
-
--- a count that rose hasn't stayed
-pub rose_not : (before now : ℕ) → min (before + 1) (2 ^ 64 - 1) ≤ now → HasStayed before now → ⊥
-rose_not before now rose stayed = absurd (omega (arith, rose, stayed.0, stayed.1))
-
-caused_disk : (e : BlockFault) (a b : Held) → Caused e a b → a.faults.disk ≤ b.faults.disk
-caused_disk Disk a b c = c.0.later
-caused_disk Memory a b c = omega (arith, ap (λ f. f.disk) c)
-caused_disk (Full n) a b c = omega (arith, ap (λ f. f.disk) c.1)
-caused_disk (Damaged f n) a b c = omega (arith, ap (λ f. f.disk) c.0.1)
-caused_disk Say a b c = omega (arith, ap (λ f. f.disk) c.1)
-
--- the count of failures doesn't fall
-pub disk_kept : {T : Type 0} (r : Result T BlockFault) (a b : Held) → HasCauses r a b → a.faults.disk ≤ b.faults.disk
-disk_kept (Ok x) a b same = omega (arith, ap (λ f. f.disk) same)
-disk_kept (Err e) a b c = caused_disk e a b c
-
--- where it has stayed no call of the disk failed
-pub not_disk : {T : Type 0} (r : Result T BlockFault) (a b : Held) → HasCauses r a b → HasStayed a.faults.disk b.faults.disk → IsErrOf r Disk → ⊥
-not_disk (Ok x) a b same stayed is = absurd cc
-not_disk (Err Disk) a b c stayed is = rose_not a.faults.disk b.faults.disk c.0.rose stayed
-not_disk (Err Memory) a b c stayed is = absurd cc
-not_disk (Err (Full n)) a b c stayed is = absurd cc
-not_disk (Err (Damaged f n)) a b c stayed is = absurd cc
-not_disk (Err Say) a b c stayed is = absurd cc
+-- ---- faults
 
 -- what holds where the audit was full, unless a call of the disk failed
 pub kept_append : {P : Type 0} (f : AudFault) (e : BlockFault) (limit old new : ℕ) → (f ≡ audit.Disk) ⊎ (f ≡ audit.Full limit) → IsSeenAs f e old new → (IsErrOf {T = Unit {0}} (Err f) (audit.Full limit) → P) → (e ≡ Disk → ⊥) → P
 kept_append f e limit old new (inl at) seen kept off = absurd (off (subst (λ (x : AudFault). IsSeenAs x e old new) at seen).0)
 kept_append f e limit old new (inr at) seen kept off = kept (λ i. Err (at i))
 
-pub kept_unless : {P : Type 0} (f : AudFault) (limit before now : ℕ) → (f ≡ audit.Disk) ⊎ (f ≡ audit.Full limit) → CountedAt (IsErrOf {T = Unit {0}} (Err f) audit.Disk) before now → (IsErrOf {T = Unit {0}} (Err f) (audit.Full limit) → P) → HasStayed before now → P
-kept_unless f limit before now (inl at) counted kept stayed = absurd (rose_not before now (counted.failed (λ i. Err (at i))) stayed)
-kept_unless f limit before now (inr at) counted kept stayed = kept (λ i. Err (at i))
+pub ok_never : {T E : Type 0} {x : T} {e : E} → IsErrOf (Ok x) e → ⊥
+ok_never is = cc
 
-pub which_error : {T E : Type 0} (fault e : E) → IsErrOf {T = T} (Err fault) e → fault ≡ e
+-- on which no call failed didn't answer a fault
+pub never_failed : {T : Type 0} (r : Result T BlockFault) (broken : Bool) → IfErr r (λ e. broken ≡ true) → broken ≡ false → (e : BlockFault) → IsErrOf r e → ⊥
+never_failed (Ok x) broken failed whole e is = ok_never is
+never_failed (Err f) broken failed whole e is = true_not_false (sym failed ∙ whole)
+
+-- a back-out that wasn't refused by the disk
+which_error : {T E : Type 0} (fault e : E) → IsErrOf {T = T} (Err fault) e → fault ≡ e
 which_error fault e is = cc
 
-pub ok_never : {T : Type 0} {x : T} {e : BlockFault} → IsErrOf (Ok x) e → ⊥
-ok_never is = cc
+pub back_disk : {T U : Type 0} (f : AudFault) (e : BlockFault) (old new : ℕ) → IsSeenInBack f e old new → IsErrOf {T = T} (Err f) audit.Disk → IsErrOf {T = U} (Err e) Disk
+back_disk f e old new seen is = λ i. Err ((subst (λ (x : AudFault). IsSeenInBack x e old new) (which_error f audit.Disk is) seen).0 i)
 
 -- ---- syncs
 
 -- one more sync that is counted
-pub next_sync : (n m : ℕ) → m ≡ one_more n → m < 2 ^ 64 - 1 → m ≡ suc n
+next_sync : (n m : ℕ) → m ≡ one_more n → m < 2 ^ 64 - 1 → m ≡ suc n
 next_sync n m is low = omega (arith, is, low)
 
 pub stays_or_rises : (b : Bool) (n : ℕ) → n ≤ (if b then suc n else n)
 stays_or_rises true n = omega arith
 stays_or_rises false n = omega arith
 
+-- among more syncs no fewer are followed by a control point
+controls_up : (every m k : ℕ) → controls_among every m ≤ controls_among every (m + k)
+controls_up every m zero = let e : m + 0 ≡ m = omega arith in omega (arith, ap (λ n. controls_among every n) e)
+controls_up every m (suc k) =
+    let e : m + suc k ≡ suc (m + k) = omega arith in
+    omega (arith, controls_up every m k, ap (λ n. controls_among every n) e, stays_or_rises (is_due_at every (suc (m + k))) (controls_among every (m + k)))
+
+pub controls_low : (every m n : ℕ) → m ≤ n → controls_among every m ≤ controls_among every n
+controls_low every m n le =
+    let e : m + (n - m) ≡ n = omega (arith, le) in
+    subst (λ k. controls_among every m ≤ controls_among every k) e (controls_up every m (n - m))
+
 -- ---- calls
 
-module _ {S : Type 0} (g : Ghosts S) (a b : Running S) (every : b.every ≡ a.every) (spent : a.spent ≤ b.spent) (next : a.next ≤ b.next) (disk : g.disk_faults a.log.site ≤ g.disk_faults b.log.site) (grown : TrailGrows g a b) where
-  -- a call of the disk failed
-  pub grows_void : a.syncs ≤ b.syncs → a.outs ≤ b.outs → (HasStayed (g.disk_faults a.log.site) (g.disk_faults b.log.site) → ⊥) → GrowsBy g a b
-  grows_void syncs outs failed = record { every = every; spent = spent; syncs = syncs; outs = outs; next = next; disk = disk; grown = grown; grows = λ tells stayed counted. absurd (failed stayed) }
-
-  -- no point was synced, and nothing gone back from
-  module _ (syncs : b.syncs ≡ a.syncs) (outs : b.outs ≡ a.outs) where
-    controls_same : controls_among b.every b.syncs ≡ controls_among a.every a.syncs
-    controls_same = λ i. controls_among (every i) (syncs i)
-
-    -- so many entries, and as many blocks and numbers
-    pub grows_logged : (IsTrue g.tells → HasStayed (g.disk_faults a.log.site) (g.disk_faults b.log.site) → IsCounted b → length (entries (view_of g b.log)) + (a.spent + a.next) ≤ length (entries (view_of g a.log)) + (b.spent + b.next)) → GrowsBy g a b
-    grows_logged more = record {
-      every = every;
-      spent = spent;
-      syncs = omega (arith, syncs);
-      outs = omega (arith, outs);
-      next = next;
-      disk = disk;
-      grown = grown;
-      grows = λ tells stayed counted. omega (arith, more tells stayed counted, controls_same, outs);
-    }
-
-    -- nothing was logged
-    pub grows_still : (IsTrue g.tells → HasStayed (g.disk_faults a.log.site) (g.disk_faults b.log.site) → entries (view_of g b.log) ≡ entries (view_of g a.log)) → GrowsBy g a b
-    grows_still still = grows_logged (λ tells stayed counted. omega (arith, ap (λ (es : List Entry). length es) (still tells stayed), spent, next))
-
-  -- points were synced
-  module _ (risen : a.syncs ≤ b.syncs) (syncs : b.syncs ≡ one_more a.syncs) (outs : b.outs ≡ a.outs) where
-    controls_next : IsCounted b → controls_among b.every b.syncs ≡ controls_among a.every (suc a.syncs)
-    controls_next counted = λ i. controls_among (every i) (next_sync a.syncs b.syncs syncs counted.syncs i)
-
-    -- and no more
-    pub grows_synced : (IsTrue g.tells → entries (view_of g b.log) ≡ entries (view_of g a.log)) → GrowsBy g a b
-    grows_synced still = record {
-      every = every;
-      spent = spent;
-      syncs = risen;
-      outs = omega (arith, outs);
-      next = next;
-      disk = disk;
-      grown = grown;
-      grows = λ tells stayed counted. omega (arith, ap (λ (es : List Entry). length es) (still tells), spent, next, outs, controls_next counted, stays_or_rises (is_due_at a.every (suc a.syncs)) (controls_among a.every a.syncs));
-    }
-
-    -- and a control point followed
-    pub grows_controlled : is_due_at a.every (one_more a.syncs) ≡ true → (IsTrue g.tells → HasStayed (g.disk_faults a.log.site) (g.disk_faults b.log.site) → LogsAtMost 18 (view_of g a.log) (view_of g b.log)) → GrowsBy g a b
-    grows_controlled due few = record {
-      every = every;
-      spent = spent;
-      syncs = risen;
-      outs = omega (arith, outs);
-      next = next;
-      disk = disk;
-      grown = grown;
-      grows = λ tells stayed counted.
-          let at : is_due_at a.every (suc a.syncs) ≡ true = subst (λ n. is_due_at a.every n ≡ true) (sym syncs ∙ next_sync a.syncs b.syncs syncs counted.syncs) due in
-          let one : controls_among a.every (suc a.syncs) ≡ suc (controls_among a.every a.syncs) = ap (λ (d : Bool). if d then suc (controls_among a.every a.syncs) else controls_among a.every a.syncs) at in
-          omega (arith, logged_more 18 (view_of g a.log) (view_of g b.log) (few tells stayed), spent, next, outs, controls_next counted, one);
-    }
-
-  -- it went back, or tried to
-  pub grows_back : b.syncs ≡ a.syncs → a.outs ≤ b.outs → b.outs ≡ one_more a.outs → (IsTrue g.tells → HasStayed (g.disk_faults a.log.site) (g.disk_faults b.log.site) → LogsAtMost 19 (view_of g a.log) (view_of g b.log)) → GrowsBy g a b
-  grows_back syncs risen outs few = record {
-    every = every;
-    spent = spent;
-    syncs = omega (arith, syncs);
-    outs = risen;
-    next = next;
-    disk = disk;
-    grown = grown;
-    grows = λ tells stayed counted.
-        let same : controls_among b.every b.syncs ≡ controls_among a.every a.syncs = λ i. controls_among (every i) (syncs i) in
-        let once : b.outs ≡ a.outs + 1 = omega (arith, outs, counted.outs) in
-        omega (arith, logged_more 19 (view_of g a.log) (view_of g b.log) (few tells stayed), spent, next, same, once);
-  }
-
--- one change was made, and is counted
+-- one change was made
 pub change_more : {S : Type 0} (g : Ghosts S) (a b : Running S) (x : Change) → (IsTrue g.tells → LogsChanges (view_of g a.log) (view_of g b.log) (x ∷ [])) → IsTrue g.tells → length (entries (view_of g b.log)) ≤ length (entries (view_of g a.log)) + 1
 change_more g a b x logs tells =
     let l = logs tells in
     omega (arith, ap (λ (es : List Entry). length es) l.entries_are, length-append (entries (view_of g a.log)) l.images, logs_many (view_of g a.log) (view_of g b.log) (x ∷ []) l)
 
+module _ {S : Type 0} (g : Ghosts S) (a b : Running S) (unbroken : a.broken ≡ false) (pace : KeepsPace a b) (spent : a.spent ≤ b.spent) (syncs : a.syncs ≤ b.syncs) (outs : a.outs ≤ b.outs) (next : a.next ≤ b.next) where
+  -- at most so many entries were logged or sealed besides, and so many are accounted for
+  grows_by : (n : ℕ) → (IsCounted b → n + accounts a ≤ accounts b) → TrailGrows g n a b → (IsTrue g.tells → b.broken ≡ false → length (entries (view_of g b.log)) ≤ length (entries (view_of g a.log)) + n) → GrowsBy g a b
+  grows_by n paid grown few = record {
+    every = pace.every;
+    spent = spent;
+    syncs = syncs;
+    outs = outs;
+    next = next;
+    last = λ broken. absurd (true_not_false (sym broken ∙ unbroken));
+    stays = λ tells. (grown tells).stays;
+    grows = λ tells whole counted. omega (arith, few tells whole, paid counted);
+    sealed = λ tells counted.
+        let files = g.files b.log.site in
+        let same : length ((telling (view_of g b.log)).entries files) ≡ length ((telling (view_of g a.log)).entries files) = λ i. length ((pace_kind pace i).entries files) in
+        omega (arith, same, (grown tells).few, paid counted);
+  }
+
+  controls_risen : controls_among a.every a.syncs ≤ controls_among b.every b.syncs
+  controls_risen = subst (λ e. controls_among a.every a.syncs ≤ controls_among e b.syncs) (sym pace.every) (controls_low a.every a.syncs b.syncs syncs)
+
+  -- as many as blocks were changed and numbers used up
+  pub grows_logged : (n : ℕ) → (IsCounted b → n + (a.spent + a.next) ≤ b.spent + b.next) → TrailGrows g n a b → (IsTrue g.tells → b.broken ≡ false → length (entries (view_of g b.log)) ≤ length (entries (view_of g a.log)) + n) → GrowsBy g a b
+  grows_logged n paid = grows_by n (λ counted. omega (arith, paid counted, outs, controls_risen))
+
+  -- none
+  pub grows_still : TrailGrows g 0 a b → (IsTrue g.tells → b.broken ≡ false → entries (view_of g b.log) ≡ entries (view_of g a.log)) → GrowsBy g a b
+  grows_still grown still = grows_logged 0 (λ counted. omega (arith, spent, next)) grown (λ tells whole. omega (arith, ap (λ (es : List Entry). length es) (still tells whole)))
+
+  -- those of a control point, behind one more sync
+  pub grows_controlled : b.syncs ≡ one_more a.syncs → is_due_at a.every (one_more a.syncs) ≡ true → TrailGrows g 18 a b → (IsTrue g.tells → b.broken ≡ false → LogsAtMost 18 (view_of g a.log) (view_of g b.log)) → GrowsBy g a b
+  grows_controlled one due grown few = grows_by 18
+      (λ counted.
+      let at : b.syncs ≡ suc a.syncs = next_sync a.syncs b.syncs one counted.syncs in
+      let follows : is_due_at a.every (suc a.syncs) ≡ true = subst (λ n. is_due_at a.every n ≡ true) (sym one ∙ at) due in
+      let rises : controls_among a.every (suc a.syncs) ≡ suc (controls_among a.every a.syncs) = ap (λ (d : Bool). if d then suc (controls_among a.every a.syncs) else controls_among a.every a.syncs) follows in
+      let now : controls_among b.every b.syncs ≡ controls_among a.every (suc a.syncs) = λ i. controls_among (pace.every i) (at i) in
+      omega (arith, rises, now, spent, next, outs))
+      grown (λ tells whole. logged_more 18 (view_of g a.log) (view_of g b.log) (few tells whole))
+
+  -- those of a back-out
+  pub grows_back : b.outs ≡ one_more a.outs → TrailGrows g 19 a b → (IsTrue g.tells → b.broken ≡ false → LogsAtMost 19 (view_of g a.log) (view_of g b.log)) → GrowsBy g a b
+  grows_back one grown few = grows_by 19 (λ counted. omega (arith, one, counted.outs, spent, next, controls_risen)) grown (λ tells whole. logged_more 19 (view_of g a.log) (view_of g b.log) (few tells whole))
+
 -- ---- files that are given back
 
--- what files hold is all or a part of it
-pub files_few : (n : ℕ) (v a w : LogView) → entries a ≡ entries v → telling w ≡ telling v → LogsAtMost n a w → (files : Files) → files ≡ w.files → FilesGrew n v files
-files_few n v a w same kind l files is =
-    let part : length ((telling w).entries w.files) ≤ length (entries w) = omega (arith, length-append ((telling w).entries w.files) (waits w.end)) in
-    let here : length ((telling v).entries files) ≡ length ((telling w).entries w.files) = λ i. length ((sym kind i).entries (is i)) in
-    omega (arith, part, here, logged_more n a w l, ap (λ (es : List Entry). length es) same)
+-- the same of another end over the files of then
+pub grows_as : (n : ℕ) (a b : LogView) (end : AuditEnd) (first : ℕ) → LogGrows n a b → LogGrows n a (view end first b.files b.clock)
+grows_as n a b end first grows = record { stays = record { kept = grows.stays.kept; left = grows.stays.left }; few = grows.few }
 
-pub files_more : (m n : ℕ) (v : LogView) (files : Files) → m ≤ n → FilesGrew m v files → FilesGrew n v files
-files_more m n v files le few = omega (arith, le, few)
+-- a trail whose audit may go on up to another file grows as much
+pub grows_alike : (n m : ℕ) (a b : AuditEnd) (alike : EndsAlike a b) (first : ℕ) (files : Files) (clock : Clock Left) (c : LogView) (end : AuditEnd) (since : ℕ) → n ≤ m → LogGrows n (view b first files clock) c
+    → LogGrows m (view a first files clock) (view end since c.files c.clock)
+grows_alike n m a b alike first files clock c end since le grows =
+    let few : length ((telling_of a.total first).entries c.files) ≡ length ((telling_of b.total first).entries c.files) = λ i. length ((telling_of (sym alike.total i) first).entries c.files) in
+    record {
+      stays = record {
+        kept = subst (λ k. TrailKept k first files c.files) alike.total grows.stays.kept;
+        left = subst (λ k. Steps (LeavesTrail k first) clock c.clock) alike.total grows.stays.left;
+      };
+      few = omega (arith, le, few, grows.few, ap (λ (es : List Entry). length es) (entries_alike a b alike first files clock));
+    }
 
-pub gives_more : {S : Type 0} (g : Ghosts S) (m n : ℕ) (v : LogView) (r : Result S (BlockFault × S)) → m ≤ n → GivesGrown g m v r → GivesGrown g n v r
-gives_more g m n v (Ok s) le few = λ tells. files_more m n v (g.files s) le (few tells)
-gives_more g m n v (Err e) le few = λ off tells. files_more m n v (g.files e.1) le (few off tells)
+pub gives_as : {S : Type 0} (g : Ghosts S) (n : ℕ) (v : LogView) (r : Result S (BlockFault × S)) (changed : Bool) → close_limit changed ≡ n → GivesGrown g n v r → GivesGrown g (close_limit changed) v r
+gives_as g n v r changed is = subst (λ k. GivesGrown g k v r) (sym is)
 
--- behind so many entries
-files_on : (m n : ℕ) (v w : LogView) (files : Files) → telling w ≡ telling v → LogsAtMost m v w → FilesGrew n w files → FilesGrew (m + n) v files
-files_on m n v w files kind l few =
-    let here : length ((telling v).entries files) ≡ length ((telling w).entries files) = λ i. length ((sym kind i).entries files) in
-    omega (arith, here, few, logged_more m v w l)
-
-pub gives_on : {S : Type 0} (g : Ghosts S) (m n : ℕ) (v w : LogView) (r : Result S (BlockFault × S)) → telling w ≡ telling v → (IsTrue g.tells → LogsAtMost m v w) → GivesGrown g n w r → GivesGrown g (m + n) v r
-gives_on g m n v w (Ok s) kind l few = λ tells. files_on m n v w (g.files s) kind (l tells) (few tells)
-gives_on g m n v w (Err e) kind l few = λ off tells. files_on m n v w (g.files e.1) kind (l tells) (few off tells)
-
--- a back-out that wasn't refused by the disk
-pub back_disk : {T U : Type 0} (f : AudFault) (e : BlockFault) (old new : ℕ) → IsSeenInBack f e old new → IsErrOf {T = T} (Err f) audit.Disk → IsErrOf {T = U} (Err e) Disk
-back_disk f e old new seen is = λ i. Err ((subst (λ (x : AudFault). IsSeenInBack x e old new) (which_error f audit.Disk is) seen).0 i)
-
--- the trail of the site that is given back, behind a call before
-pub gives_trail : {S : Type 0} (g : Ghosts S) (a b : Running S) (r : Result S (BlockFault × S)) → KeepsPace a b → TrailGrows g a b → GivesTrail g (view_of g b.log) r → GivesTrail g (view_of g a.log) r
-gives_trail g a b (Ok s) pace one two = λ tells. log_grows_on (view_of g a.log) (view_of g b.log) (view_of g (record b.log { site = s })) pace.total pace.first (one tells) (two tells)
-gives_trail g a b (Err e) pace one two = λ tells. log_grows_on (view_of g a.log) (view_of g b.log) (view_of g (record b.log { site = e.1 })) pace.total pace.first (one tells) (two tells)
+-- behind a call before
+pub gives_on : {S : Type 0} (g : Ghosts S) (m n : ℕ) (a b : Running S) (r : Result S (BlockFault × S)) → KeepsPace a b → (IsTrue g.tells → LogsAtMost m (view_of g a.log) (view_of g b.log)) → TrailGrows g m a b → GivesGrown g n (view_of g b.log) r → GivesGrown g (m + n) (view_of g a.log) r
+gives_on g m n a b (Ok s) pace few one two = λ tells.
+    let v = view_of g a.log in
+    let w = view_of g b.log in
+    grows_as (m + n) v (over_site g w s) v.end v.first (log_grows_on v w (over_site g w s) pace.total pace.first m n (logged_more m v w (few tells)) (one tells) (two tells))
+gives_on g m n a b (Err e) pace few one two = λ tells.
+    let v = view_of g a.log in
+    let w = view_of g b.log in
+    grows_as (m + n) v (over_site g w e.1) v.end v.first (log_grows_on v w (over_site g w e.1) pace.total pace.first m n (logged_more m v w (few tells)) (one tells) (two tells))

@@ -1,5 +1,5 @@
 -- An Image was logged: its block is held, or written.
-use Rattle.std.proofs.Common.{ℕ, ◌<◌, ◌≤◌, ◌≡◌, inl, inr, true, cond, IsTrue, List, [], ◌∷◌, length, Option, Some, None, refl, sym, ◌∙◌, ap, subst, arith}
+use Rattle.std.proofs.Common.{ℕ, ◌<◌, ◌+◌, ◌≤◌, ◌≡◌, inl, inr, true, cond, IsTrue, List, [], ◌∷◌, length, Option, Some, None, refl, sym, ◌∙◌, ap, subst, arith}
 use Rattle.std.specs.Prelude.{option_map}
 use Rattle.std.specs.Global.{Vec}
 use Rattle.dms_site.specs.declared.site.Site.{Ghosts}
@@ -10,15 +10,14 @@ use Rattle.dms_block.specs.Content as blocks
 use Rattle.dms_block.specs.Content.{raised, limit}
 use Rattle.dms_block.specs.Changing.{grown_is}
 use Rattle.dms_history.specs.Events.{AllBlocks}
-use Rattle.dms_history.specs.Images.{is_at}
 use Rattle.dms_history.specs.Replay.{TellsBefore, with_block}
 use Rattle.dms_history.proofs.Picks.{place_cases, tells_le}
 use Rattle.dms_running.specs.Points.{DescribedPoint}
 use Rattle.dms_pool.specs.declared.frame.BufferFrame as pools
 use Rattle.dms_pool.specs.declared.pool.Pool.{Pool}
-use Rattle.dms_pool.specs.Calls.{FrameUsed, PutsFrame}
+use Rattle.dms_pool.specs.Calls.{FrameUsed}
 use Rattle.dms_pool.specs.Entries.{is_key}
-use Rattle.dms_pool.specs.Held.{frame_of, framed}
+use Rattle.dms_pool.specs.Held.{frame_of}
 use Rattle.std.specs.Map.{lookup}
 use Rattle.lru.specs.LruCache.{LruCache}
 use Rattle.dms_pool.specs.declared.frame.FrameKey.{FrameKey}
@@ -36,7 +35,7 @@ use Rattle.dms_wal.specs.Marks.{IsMarkOf}
 use Rattle.dms_wal.specs.Database.{frame_seen, frames_of, HoldsCounted, IsRunningUsable}
 use Rattle.dms_wal.specs.Changing.{IsImaged, KeepsLog}
 use Rattle.dms_wal.specs.Writing.{WritesBack}
-use Rattle.dms_wal.proofs.Pooled.{holds_like, frames_put, frames_looked}
+use Rattle.dms_wal.proofs.Pooled.{holds_like, frames_looked}
 use Rattle.dms_wal.proofs.Backs.{all_sized, holds_back}
 use Rattle.std.proofs.Common.{◌⊎◌}
 use Rattle.std.specs.declared.result.Result.TheVariants.{Ok, Err}
@@ -45,7 +44,7 @@ use Rattle.dms_site.specs.Files.{Left}
 use Rattle.dms_block.specs.declared.block_fault.BlockFault.{BlockFault}
 use Rattle.dms_block.specs.declared.block_fault.BlockFault.TheVariants as fault
 use Rattle.dms_block.specs.Faults.{Unbroken}
-use Rattle.dms_block.specs.Held.{Alters, Stays}
+use Rattle.dms_block.specs.Held.{Alters, Stays, Used}
 use Rattle.dms_block.specs.HeldLaws.{used_none}
 use Rattle.dms_restore.specs.Logging.{PrintsNothing}
 use Rattle.dms_restore.specs.Views.{view_of}
@@ -86,21 +85,6 @@ module _ (id : BlockId) (block : Block) (a : LogView) (first second : Pool) (im 
 
   abbrev full : Frames
   full = with_frame (frames_of first) id.file id.block dirty
-
-  -- it is held
-  pub keeps_put : (third : Pool) → PutsFrame id (framed block true) second third → KeepsLog a a third
-  keeps_put third put = record {
-    runs = im.runs;
-    holds = holds_like (telling a) (state a) full (frames_of third)
-        (λ g c. frames_put id (framed block true) second third put g c ∙ ap (λ (o : Option Frame). cond (is_at id.file id.block g c) dirty o) (frames_looked id first second looked g c)) im.holds;
-    points_same = refl;
-    next_same = refl;
-    content_same = refl;
-    entries_same = refl;
-  }
-
-  pub image_changed : logs.IsChangedBlock a id.file id.block
-  image_changed = (im.holds id.file id.block).changed (record { block = block.0; dirty = true }) (frame_here (frames_of first) id.file id.block dirty) refl
 
   -- it isn't held, and is written
   pub keeps_back : (third : Pool) → third.frames ≡ second.frames → frame_of id second ≡ None → (b : LogView) → telling b ≡ telling a → Reads a → LogRuns b → WritesBack a b id.file id.block block.0 → KeepsLog a b third
@@ -151,9 +135,6 @@ module _ {S : Type 0} (g : Ghosts S) (r : Running S) (u : IsRunningUsable g r) (
     };
   }
 
-  pub points_changed : IsTrue g.tells → points (view_of g two) ≡ points (view_of g r.log)
-  points_changed t = (kept t).points_same ∙ (logged t).points_same
-
 -- the pool's blocks are counted by the greater table too
 pub counted_more : (pool : Pool) (l m : List ℕ) (f k : ℕ) → HoldsCounted pool l → count_of m ≡ raised (count_of l) f k → HoldsCounted pool m
 counted_more pool l m f k h raises id x is = omega (arith, h id x is, raised_more l m f k id.file raises)
@@ -203,3 +184,7 @@ then_left g stay counts_now r u one two f k before after kind logged first secon
 -- what a database was used for doesn't touch what it needs
 pub usable_spent : {S : Type 0} (g : Ghosts S) (r : Running S) (n : ℕ) → IsRunningUsable g r → IsRunningUsable g (record r { spent = n })
 usable_spent g r n u = record { unbroken = u.unbroken; under = u.under; described = u.described; table = u.table; marked = u.marked; pointed = u.pointed; unchanged = u.unchanged; counted = u.counted; goes = u.goes }
+
+-- one change more
+pub one_spent : {S : Type 0} (g : Ghosts S) (r : Running S) (n : ℕ) → r.spent ≤ n → n ≤ r.spent + 1 → Used 0 1 (uses_of g r) (uses_of g (record r { spent = n }))
+one_spent g r n le few = record { not_fewer = omega arith; reads = omega arith; not_less = le; spent = few; syncs = refl; outs = refl }

@@ -27,34 +27,38 @@ pub record MadeChanges (xs : List Change) (a b : Held) : Type 0 where
 pub made_none : (a : Held) → a.sound → MadeChanges [] a a
 made_none a sound = record { counts = refl; content = λ t. refl; passes = passes_none a; stays = stays_none a sound; uses = used_none 0 0 a.uses; faults = refl }
 
--- one change further, which is counted
-pub made_push : (xs : List Change) (x : Change) (a b c : Held) (sound : Type 0) (uses : Uses) → MadeChanges xs a b → c.counts ≡ raised b.counts x.id.file x.id.block → (IsTrue b.told → c.content ≡ with_block b.content x.id.file x.id.block x.block.0)
-    → Alters 0 0 (Ok (tt {0})) b c → c.faults ≡ b.faults → sound → Used 0 1 c.uses uses → MadeChanges (xs ++ x ∷ []) a (record c { sound = sound; uses = uses })
-made_push xs x a b c sound uses s counts content one faults usable used = record {
+-- one change further, which was counted before
+made_push : (xs : List Change) (x : Change) (a b c : Held) (sound : Type 0) (uses : Uses) → MadeChanges xs a b → sound → Used 0 1 b.uses uses → c.counts ≡ raised b.counts x.id.file x.id.block → (IsTrue b.told → c.content ≡ with_block b.content x.id.file x.id.block x.block.0)
+    → Alters 0 0 (Ok (tt {0})) (record b { sound = sound; uses = uses }) c → c.faults ≡ b.faults → MadeChanges (xs ++ x ∷ []) a c
+made_push xs x a b c sound uses s usable used counts content one faults = record {
   counts = counts ∙ ap (λ (k : ℕ → ℕ). raised k x.id.file x.id.block) s.counts ∙ sym (grown_push xs x a.counts);
   content = λ t. content (told_after s.passes.lasts t) ∙ ap (λ (d : Content). with_block d x.id.file x.id.block x.block.0) (s.content t) ∙ sym (changed_push xs x a.content);
-  passes = passes_on (passes_on s.passes s.stays one.passes) (stays_on s.passes s.stays one.stays) (passes_sound c sound uses);
-  stays = stays_on (passes_on s.passes s.stays one.passes) (stays_on s.passes s.stays one.stays) (stays_sound c sound uses usable);
-  uses = used_more 0 (length (xs ++ x ∷ [])) (omega arith) (omega (arith, length-append xs (x ∷ []))) (used_on s.uses (used_on one.uses used));
+  passes = passes_on (passes_on s.passes s.stays (passes_sound b sound uses)) (stays_on s.passes s.stays (stays_sound b sound uses usable)) one.passes;
+  stays = stays_on (passes_on s.passes s.stays (passes_sound b sound uses)) (stays_on s.passes s.stays (stays_sound b sound uses usable)) one.stays;
+  uses = used_more 0 (length (xs ++ x ∷ [])) (omega arith) (omega (arith, length-append xs (x ∷ []))) (used_on s.uses (used_on used one.uses));
   faults = faults ∙ s.faults;
 }
 
-pub made_more : (all items : List Change) (i : ℕ) (d : Change) → items ≡ all → i < length items → (a b c : Held) (sound : Type 0) (uses : Uses) → MadeChanges (take i all) a b → c.counts ≡ raised b.counts (get_or items i d).id.file (get_or items i d).id.block
-    → (IsTrue b.told → c.content ≡ with_block b.content (get_or items i d).id.file (get_or items i d).id.block (get_or items i d).block.0) → Alters 0 0 (Ok (tt {0})) b c → c.faults ≡ b.faults → sound → Used 0 1 c.uses uses
-    → MadeChanges (take (i + 1) all) a (record c { sound = sound; uses = uses })
-made_more all items i d is low a b c sound uses s counts content one faults usable used =
+pub made_more : (all items : List Change) (i : ℕ) (d : Change) → items ≡ all → i < length items → (a b c : Held) (sound : Type 0) (uses : Uses) → MadeChanges (take i all) a b → sound → Used 0 1 b.uses uses → c.counts ≡ raised b.counts (get_or items i d).id.file (get_or items i d).id.block
+    → (IsTrue b.told → c.content ≡ with_block b.content (get_or items i d).id.file (get_or items i d).id.block (get_or items i d).block.0) → Alters 0 0 (Ok (tt {0})) (record b { sound = sound; uses = uses }) c → c.faults ≡ b.faults → MadeChanges (take (i + 1) all) a c
+made_more all items i d is low a b c sound uses s usable used counts content one faults =
     let x = get_or items i d in
     let longer : take (i + 1) all ≡ take i all ++ x ∷ [] = subst (λ l. take (i + 1) l ≡ take i l ++ x ∷ []) is (take_more items i d low) in
-    subst (λ (l : List Change). MadeChanges l a (record c { sound = sound; uses = uses })) (sym longer) (made_push (take i all) x a b c sound uses s counts content one faults usable used)
+    subst (λ (l : List Change). MadeChanges l a c) (sym longer) (made_push (take i all) x a b c sound uses s usable used counts content one faults)
 
 -- the last one failed, and not by memory
-pub made_failed : (i : ℕ) (all : List Change) (e : BlockFault) (a b c : Held) → MadeChanges (take i all) a b → Alters {T = Unit {0}} 0 0 (Err e) b c → (IsErrOf {T = Unit {0}} (Err e) Memory → ⊥) → Alters {T = Unit {0}} 0 (length all) (Err e) a c
-made_failed i all e a b c s one off = record {
-  passes = passes_on s.passes s.stays one.passes;
-  stays = unbroken_map {T = Unit {0}} (Err e) (λ p. stays_on s.passes s.stays p) one.stays;
-  memory = λ is. absurd (off is);
-  uses = used_more 0 (length all) (omega arith) (omega (arith, length-take i all)) (used_on s.uses one.uses);
-}
+pub made_failed : (i : ℕ) (all items : List Change) → items ≡ all → i < length items → (e : BlockFault) (a b c : Held) (sound : Type 0) (uses : Uses) → MadeChanges (take i all) a b → sound → Used 0 1 b.uses uses → Alters {T = Unit {0}} 0 0 (Err e) (record b { sound = sound; uses = uses }) c
+    → (IsErrOf {T = Unit {0}} (Err e) Memory → ⊥) → Alters {T = Unit {0}} 0 (length all) (Err e) a c
+made_failed i all items is low e a b c sound uses s usable used one off =
+    let there : i < length all = subst (λ (l : List Change). i < length l) is low in
+    let counted : MakesNoPoint a (record b { sound = sound; uses = uses }) = passes_on s.passes s.stays (passes_sound b sound uses) in
+    let stays : Stays a (record b { sound = sound; uses = uses }) = stays_on s.passes s.stays (stays_sound b sound uses usable) in
+    record {
+      passes = passes_on counted stays one.passes;
+      stays = unbroken_map {T = Unit {0}} (Err e) (λ p. stays_on counted stays p) one.stays;
+      memory = λ is. absurd (off is);
+      uses = used_more 0 (length all) (omega arith) (omega (arith, length-take i all, there)) (used_on s.uses (used_on used one.uses));
+    }
 
 -- all were made
 pub made_all : (xs : List Change) (a b : Held) → MadeChanges xs a b → Alters 0 (length xs) (Ok (tt {0})) a b

@@ -6,7 +6,7 @@ use Rattle.dms_moments.specs.MomentLaws.{runs_weaken}
 use Rattle.dms_moments.specs.SeenLaws.{runs_seen_as}
 use Rattle.dms_site.specs.Files.{Files, Left, PrintsPartOf}
 use Rattle.dms_block.specs.Counts.{Faults}
-use Rattle.dms_block.specs.Held.{Held, BlockPoint, HasNextNumber, IfTold, Leaves, MadeDurable, MadeQuiet, Prefix, TextGrows, Uses}
+use Rattle.dms_block.specs.Held.{Held, BlockPoint, IfTold, Leaves, MadeDurable, MadeQuiet, Prefix, TextGrows, Uses}
 use Rattle.dms_running.specs.Points.{LeavesPointsPrefix, points_of, next_in}
 use Rattle.dms_running.specs.Standing.{IsWhole}
 use Rattle.dms_running.proofs.Appending.{now_leaves}
@@ -18,16 +18,6 @@ use Rattle.dms_wal.specs.Lifting.{block_point, stop_of, lifted, last_blocks, hel
 use Rattle.dms_wal.specs.Marks.{StandsUnder}
 use Rattle.dms_wal.specs.AgreeLaws.{TellsText, front_lifted}
 use Rattle.dms_wal.proofs.Lifts.{leaves_lifted, last_here}
-
--- there is no further number
-pub quiet_none : (a : Held) → a.sound → (HasNextNumber a → ⊥) → MadeQuiet a a
-quiet_none a sound none = record {
-  sound = sound;
-  next = λ room. absurd (none room);
-  same = λ room. absurd (none room);
-  mark = λ room t. absurd (none room);
-  points = λ t room. absurd (none room);
-}
 
 module _ (tells : Bool) (sound sound' : Type 0) (a b : LogView) (schema : List ℕ) (next : ℕ) (counts : List ℕ) (said said' : Option (List ℕ)) (faults faults' : Faults) (uses uses' : Uses) where
   abbrev before : Held

@@ -51,13 +51,6 @@ module _ (id : BlockId) (x : pools.BufferFrame) (old new : Pool) where
     | inr apart ↦ h other y (sym (ap (λ k. cond k None (frame_of other old)) apart.1) ∙ sym (p.holds other) ∙ is)
   ]
 
-  -- what isn't held before isn't held then
-  pub fewer_up : GivesUp id x old new → (other : BlockId) → frame_of other old ≡ None → frame_of other new ≡ None
-  fewer_up p other none = elim (place_cases id.file id.block other.file other.block) [
-    | inl place ↦ p.holds other ∙ ap (λ k. cond k None (frame_of other old)) place.2
-    | inr apart ↦ p.holds other ∙ ap (λ k. cond k None (frame_of other old)) apart.1 ∙ none
-  ]
-
 module _ (id : BlockId) (old new : Pool) (l : FrameUsed id old new) where
   pub frames_looked : (g c : ℕ) → frames_of new g c ≡ frames_of old g c
   frames_looked g c = ap (λ (o : Option pools.BufferFrame). option_map frame_seen o) (l.holds (record { file = g; block = c }))

@@ -1,7 +1,7 @@
 -- A block is given up, and written first where it is changed.
 use Rattle.std.proofs.Common.{ℕ, ◌<◌, ◌≤◌, ◌≡◌, true, false, IsTrue, List, [], length, Option, Some, None, sym, ◌∙◌, ap, subst, arith}
 use Rattle.std.specs.Prelude.{option_map}
-use Rattle.std.specs.declared.result.Result.TheVariants.{Ok, Err}
+use Rattle.std.specs.declared.result.Result.TheVariants.{Ok}
 use Rattle.dms_base.specs.Causes.{HasCause}
 use Rattle.dms_moments.specs.Moments.{Clock, Steps}
 use Rattle.dms_moments.specs.MomentLaws.{steps_on}
@@ -56,9 +56,6 @@ then_leave a m b same first second points_same surer next_same =
 
 pub then_silent : {a b c : Clock Left} → Steps PrintsNothing a b → Steps PrintsNothing b c → Steps PrintsNothing a c
 then_silent one two = steps_on one two (λ x y z was now p q. q ∙ p) (λ x y was p. p)
-
-pub then_err : {T U E F : Type 0} (e : E) (f : F) (a m n : ℕ) → m ≡ a → HasCause {T = T} {E = E} m n (Err e) → HasCause {T = U} {E = F} a n (Err f)
-then_err {U = U} {F = F} e f a m n same c = subst (λ k. HasCause {T = U} {E = F} k n (Err f)) same (record { later = c.later; failed = c.failed; once = c.once; clean = tt })
 
 pub then_ok : {T U E F : Type 0} (x : T) (y : U) (a m n : ℕ) → m ≡ a → HasCause {T = T} {E = E} m n (Ok x) → HasCause {T = U} {E = F} a n (Ok y)
 then_ok {U = U} {F = F} x y a m n same c = subst (λ k. HasCause {T = U} {E = F} k n (Ok y)) same (record { later = c.later; failed = tt; once = tt; clean = c.clean })

@@ -2,7 +2,7 @@
 use Rattle.std.proofs.Common.{ℕ, ◌+◌, ◌-◌, ◌≤◌, ◌<◌, ◌≡◌, ◌≢◌, inl, inr, IsTrue, List, length, set, get_or, max, sym, ◌∙◌, ap, subst, arith}
 use Rattle.std.proofs.lemmas.Bool.{cases_lt, cases_eq}
 use Rattle.std.proofs.lemmas.Bool.Decides.{nat_tests}
-use Rattle.std.proofs.lemmas.List.{get_or-set_same, get_or-set_other}
+use Rattle.std.proofs.lemmas.List.{get_or-set_other}
 use Rattle.dms_block.specs.Content.{limit, raised}
 use Rattle.dms_restore.specs.Counts.{count_of}
 use Rattle.dms_wal.specs.Lifting.{owns_of, AreCounts}
@@ -29,17 +29,6 @@ module _ (l : List ℕ) (f b : ℕ) (structure : 30000 < f) where
     | inl high ↦ count_at (set l (f - 30001) n) g high ∙ get_or-set_other l (f - 30001) (g - 30001) n 0 (λ e. other (omega (arith, e, high, structure))) ∙ sym (count_at l g high)
     | inr low ↦ count_low (set l (f - 30001) n) g (omega (arith, low)) ∙ sym (count_low l g (omega (arith, low)))
   ]
-
-  -- a new block
-  pub raised_new : f - 30001 < length l → get_or l (f - 30001) 0 ≤ b → count_of (set l (f - 30001) (b + 1)) ≡ raised (count_of l) f b
-  raised_new there le = λ i g. one g i
-    where
-      one : (g : ℕ) → count_of (set l (f - 30001) (b + 1)) g ≡ raised (count_of l) f b g
-      one g = elim (cases_eq g f) [
-        | inl same ↦ subst (λ h. count_of (set l (f - 30001) (b + 1)) h ≡ raised (count_of l) f b h) (sym same)
-            (count_at (set l (f - 30001) (b + 1)) f structure ∙ get_or-set_same l (f - 30001) (b + 1) 0 there ∙ sym (raised_here (count_of l) f b ∙ omega (arith, count_at l f structure, le)))
-        | inr other ↦ set_other (b + 1) g other ∙ sym (raised_other (count_of l) f b g other)
-      ]
 
   -- one that is there
   pub raised_old : b < get_or l (f - 30001) 0 → count_of l ≡ raised (count_of l) f b

@@ -1,14 +1,11 @@
 -- How the audit of a running database grows with what the database is used for.
-use Rattle.std.specs.Prelude.{ℕ, zero, suc, ◌+◌, ◌-◌, ◌*◌, ◌^◌, ◌<◌, ◌≤◌, ◌≡◌, IsTrue, if◌then◌else◌, List, ◌++◌, length}
+use Rattle.std.specs.Prelude.{ℕ, zero, suc, ◌+◌, ◌-◌, ◌*◌, ◌^◌, ◌<◌, ◌≤◌, ◌≡◌, IsTrue, if◌then◌else◌, Bool, true, false, List, ◌++◌, length}
 use Rattle.std.specs.declared.result.Result.{Result}
 use Rattle.std.specs.declared.result.Result.TheVariants.{Ok, Err}
 use Rattle.dms_site.specs.declared.site.Site.{Ghosts}
-use Rattle.dms_site.specs.Files.{Files}
 use Rattle.dms_block.specs.declared.block_fault.BlockFault.{BlockFault}
-use Rattle.dms_block.specs.declared.block_fault.BlockFault.TheVariants.{Disk}
 use Rattle.dms_history.specs.Entries.{Entry}
-use Rattle.dms_audfile.specs.Ends.{Grown}
-use Rattle.dms_restore.specs.Logging.{LogGrows, LogView, entries, telling}
+use Rattle.dms_restore.specs.Logging.{LogGrows, LogStays, LogView, entries, telling, view}
 use Rattle.dms_wal.specs.declared.running.Running.{Running}
 use Rattle.dms_wal.specs.Controls.{is_due_at}
 use Rattle.dms_restore.specs.Views.{view_of}
@@ -35,38 +32,35 @@ pub record IsCounted {S : Type 0} (r : Running S) : Type 0 where
   pub syncs : r.syncs < 2 ^ 64 - 1
   pub outs : r.outs < 2 ^ 64 - 1
 
--- a count hasn't risen, and doesn't stand at its type's end
-abbrev pub HasStayed : ℕ → ℕ → Type 0
-HasStayed old new = (new ≤ old) × (new < 2 ^ 64 - 1)
+-- Its trail is the one of before and some blocks behind it, each of which is in its grammar and holds an entry, and its files hold no more entries
+-- than its log had, waiting ones among them, and n more.
+abbrev pub TrailGrows : {S : Type 0} → Ghosts S → ℕ → Running S → Running S → Type 0
+TrailGrows g n a b = IsTrue g.tells → LogGrows n (view_of g a.log) (view_of g b.log)
 
--- Its trail is the one of before and some blocks behind it, each of which is in its grammar and holds an entry.
-abbrev pub TrailGrows : {S : Type 0} → Ghosts S → Running S → Running S → Type 0
-TrailGrows g a b = IsTrue g.tells → LogGrows (view_of g a.log) (view_of g b.log)
-
--- The uses of a running database only rise, and so does its next number. Its trail grows by blocks that hold an entry alone. Where no call of its
--- site failed meanwhile, its audit grew by no more entries than it accounts for.
+-- The uses of a running database only rise, and so does its next number. Its trail grows by blocks that hold an entry alone, and whatever failed, its
+-- files hold no more entries than it accounts for. Once a call failed there is none behind it; until then its log has no more, either, waiting ones
+-- among them.
 pub record GrowsBy {S : Type 0} (g : Ghosts S) (a b : Running S) : Type 0 where
   pub every : b.every ≡ a.every
   pub spent : a.spent ≤ b.spent
   pub syncs : a.syncs ≤ b.syncs
   pub outs : a.outs ≤ b.outs
   pub next : a.next ≤ b.next
-  pub disk : g.disk_faults a.log.site ≤ g.disk_faults b.log.site
-  pub grown : TrailGrows g a b
-  pub grows : IsTrue g.tells → HasStayed (g.disk_faults a.log.site) (g.disk_faults b.log.site) → IsCounted b
-      → length (entries (view_of g b.log)) + accounts a ≤ length (entries (view_of g a.log)) + accounts b
+  pub last : a.broken ≡ true → b ≡ a
+  pub stays : IsTrue g.tells → LogStays (view_of g a.log) (view_of g b.log)
+  pub grows : IsTrue g.tells → b.broken ≡ false → IsCounted b → length (entries (view_of g b.log)) + accounts a ≤ length (entries (view_of g a.log)) + accounts b
+  pub sealed : IsTrue g.tells → IsCounted b → length ((telling (view_of g b.log)).entries (g.files b.log.site)) + accounts a ≤ length (entries (view_of g a.log)) + accounts b
 
--- Files hold at most so many entries more than a log has.
-abbrev pub FilesGrew : ℕ → LogView → Files → Type 0
-FilesGrew n v files = length ((telling v).entries files) ≤ length (entries v) + n
+-- a log over another site
+abbrev pub over_site : {S : Type 0} → Ghosts S → LogView → S → LogView
+over_site g v s = view v.end v.first (g.files s) (g.clock s)
 
--- So it is of the site that a call gives back, unless a call of the disk failed.
+-- Whatever a call answers, the trail of the site that it gives back is the one that a log has and some blocks behind it, and holds at most so many
+-- entries more.
 abbrev pub GivesGrown : {S : Type 0} → Ghosts S → ℕ → LogView → Result S (BlockFault × S) → Type 0
-GivesGrown g n v (Ok s) = IsTrue g.tells → FilesGrew n v (g.files s)
-GivesGrown g n v (Err e) = (e.0 ≡ Disk → ⊥) → IsTrue g.tells → FilesGrew n v (g.files e.1)
+GivesGrown g n v (Ok s) = IsTrue g.tells → LogGrows n v (over_site g v s)
+GivesGrown g n v (Err e) = IsTrue g.tells → LogGrows n v (over_site g v e.1)
 
--- The trail of the site that a call gives back, whatever it answers, is the one that a log has, and some blocks behind it, each of which is in its
--- grammar and holds an entry.
-abbrev pub GivesTrail : {S : Type 0} → Ghosts S → LogView → Result S (BlockFault × S) → Type 0
-GivesTrail g v (Ok s) = IsTrue g.tells → Grown v.end.total v.first v.files (g.files s)
-GivesTrail g v (Err e) = IsTrue g.tells → Grown v.end.total v.first v.files (g.files e.1)
+-- How many entries a close takes: 18 of a control point, and 19 of a back-out where something was changed since the last point.
+abbrev pub close_limit : Bool → ℕ
+close_limit changed = if changed then 37 else 18

@@ -13,7 +13,7 @@ ghost use Rattle.dms_wal.specs.Lifting.{AreCounts};
 ghost use Rattle.dms_wal.specs.Marks.{IsDescription, IsMarkOf};
 ghost use Rattle.dms_wal.specs.Database.{held};
 ghost use Rattle.dms_wal.specs.Faults.{IsSeenInBack};
-ghost use Rattle.dms_wal.specs.Growing.{GrowsBy, LogsAtMost};
+ghost use Rattle.dms_wal.specs.Growing.{GrowsBy, LogsAtMost, TrailGrows};
 ghost use Rattle.dms_wal.specs.Passing.{LogPasses};
 
 use crate::Running;
@@ -51,7 +51,7 @@ fn go_back<S: Site>(
     requires numbered { IsTrue S.tells → next ≡ logs.next (view_of S.Site log.old) }
     requires pointed { IsTrue S.tells → IsMarkOf (points (view_of S.Site log.old)) point marks.now }
     ensures back { OnOk result (IsTrue S.tells → WentBackTo point (view_of S.Site log.old) (view_of S.Site log.new) (entries_back point schema.now next marks.now)) }
-    ensures passes { LogPasses S.Site log.old log.new }
+    ensures passes { LogPasses S.Site 19 log.old log.new }
     ensures only { IfErr result (IsBackFault 9999) }
     ensures memory { IsErrOf result AudFault.Memory → IsTrue S.tells → SealedAlone (view_of S.Site log.old) (view_of S.Site log.new) }
     ensures idle { IsErrOf result AudFault.Memory → log.old.end.used ≡ 0 → IsTrue S.tells → FilesStay (view_of S.Site log.old) (view_of S.Site log.new) }
@@ -95,6 +95,7 @@ impl<S: Site> Running<S> {
         ensures silent { IsErrOf result BlockFault.Say → ⊥ }
         ensures broken { IfErr result (λ e. self.new.broken ≡ true) }
         ensures few { (IsErrOf result BlockFault.Disk → ⊥) → IsTrue S.tells → LogsAtMost 19 (view_of S.Site self.old.log) (view_of S.Site self.new.log) }
+        ensures grown { TrailGrows S.Site 19 self.old self.new }
         ensures grows { GrowsBy S.Site self.old self.new }
         ensures same { S.same_site self.old.log.site self.new.log.site }
     {

@@ -60,7 +60,7 @@ fn keep<S: Site>(
     requires imaged { IsTrue S.tells → IsImaged (view_of S.Site log.old) pool.old id.file id.block block.now.0 }
     ensures kept { OnOk result (IsTrue S.tells → KeepsLog (view_of S.Site log.old) (view_of S.Site log.new) pool.new) }
     ensures counted { (counts : _) → HoldsCounted pool.old counts → id.block < count_of counts id.file → HoldsCounted pool.new counts }
-    ensures passes { LogPasses S.Site log.old log.new }
+    ensures passes { LogPasses S.Site 0 log.old log.new }
     ensures only { IfErr result (λ e. e ≡ BlockFault.Disk) }
     ensures faults { HasCause (S.disk_faults log.old.site) (S.disk_faults log.new.site) result }
 {
@@ -79,7 +79,7 @@ impl<S: Site> Running<S> {
     /// stands at its file's count, further new ones rising from there.
     ///
     /// Each change is logged by one Image, and nothing else is logged. Answers Disk, Damaged, and Full where the audit has no room: then the
-    /// Images of the first changes are logged, each of which counts as a block that was changed.
+    /// Images of the first changes are logged. Each of these changes counts as a block that was changed, and so does the one that failed.
     pub fn apply(&mut self, changes: &Changes) -> Result<(), BlockFault>
         requires sound { (held S.Site self.old).sound }
         requires fits { FitsIn changes.now.items.items (held S.Site self.old).owns (held S.Site self.old).counts }
@@ -101,11 +101,10 @@ impl<S: Site> Running<S> {
         let items = changes.as_slice();
         let mut spent = self.spent;
         for change in items {
+            spent = spent.saturating_add(1);
+            self.spent = spent;
             match self.change(change) {
-                Ok(()) => {
-                    spent = spent.saturating_add(1);
-                    self.spent = spent;
-                }
+                Ok(()) => {}
                 Err(fault) => return Err(fault),
             }
         }
@@ -130,7 +129,7 @@ impl<S: Site> Running<S> {
         ensures pace { KeepsPace self.old self.new }
         ensures broken { IfErr result (λ e. self.new.broken ≡ true) }
         ensures kept { IfErr result (λ e. (e ≡ BlockFault.Disk → ⊥) → IsTrue S.tells → entries (view_of S.Site self.new.log) ≡ entries (view_of S.Site self.old.log)) }
-        ensures grown { TrailGrows S.Site self.old self.new }
+        ensures grown { TrailGrows S.Site 1 self.old self.new }
         ensures same { S.same_site self.old.log.site self.new.log.site }
     {
         match self.before(change.id) {
@@ -153,7 +152,7 @@ impl<S: Site> Running<S> {
         ensures pace { KeepsPace self.old self.new }
         ensures broken { IfErr result (λ e. self.new.broken ≡ true) }
         ensures kept { IfErr result (λ e. (e ≡ BlockFault.Disk → ⊥) → IsTrue S.tells → entries (view_of S.Site self.new.log) ≡ entries (view_of S.Site self.old.log)) }
-        ensures grown { TrailGrows S.Site self.old self.new }
+        ensures grown { TrailGrows S.Site 0 self.old self.new }
         ensures same { S.same_site self.old.log.site self.new.log.site }
     {
         if let Some(block) = self.pool.get(id) {
@@ -191,7 +190,7 @@ impl<S: Site> Running<S> {
         ensures pace { KeepsPace self.old self.new }
         ensures broken { IfErr result (λ e. self.new.broken ≡ true) }
         ensures kept { IfErr result (λ e. (e ≡ BlockFault.Disk → ⊥) → IsTrue S.tells → entries (view_of S.Site self.new.log) ≡ entries (view_of S.Site self.old.log)) }
-        ensures grown { TrailGrows S.Site self.old self.new }
+        ensures grown { TrailGrows S.Site 1 self.old self.new }
         ensures same { S.same_site self.old.log.site self.new.log.site }
     {
         let id = change.id;

@@ -6,7 +6,7 @@ ghost use Rattle.dms_restore.specs.Logging.{content, telling};
 ghost use Rattle.dms_restore.specs.Views.{view_of};
 ghost use Rattle.dms_wal.specs.Closing.{entries_control, FilesStand, IsClosed, IsFullTrail, LeavesUntil};
 ghost use Rattle.dms_wal.specs.Database.{held};
-ghost use Rattle.dms_wal.specs.Growing.{GivesGrown, GivesTrail};
+ghost use Rattle.dms_wal.specs.Growing.{GivesGrown, close_limit};
 ghost use Rattle.dms_wal.specs.Lifting.{lifted};
 
 use crate::Running;
@@ -30,8 +30,7 @@ impl<S: Site> Running<S> {
         ensures stopped { IfErr result (λ e. LeavesUntil (held S.Site self) (lifted (telling (view_of S.Site self.log)) (S.clock e.1))) }
         ensures only { IfErr result (λ e. (e.0 ≡ BlockFault.Disk) ⊎ ((e.0 ≡ BlockFault.Full 9999) ⊎ ((self.changed ≡ true) × (e.0 ≡ BlockFault.Memory)))) }
         ensures full { IfErr result (λ e. e.0 ≡ BlockFault.Full 9999 → IsTrue S.tells → IsFullTrail (view_of S.Site self.log) (S.files e.1)) }
-        ensures few { GivesGrown S.Site 37 (view_of S.Site self.log) result }
-        ensures grown { GivesTrail S.Site (view_of S.Site self.log) result }
+        ensures grown { GivesGrown S.Site (close_limit self.changed) (view_of S.Site self.log) result }
         ensures clean { IfOk result (λ s. (S.disk_faults s ≡ S.disk_faults self.log.site) × (S.say_faults s ≡ S.say_faults self.log.site)) }
         ensures disk { IfErr result (λ e. CountedAt (e.0 ≡ BlockFault.Disk) (S.disk_faults self.log.site) (S.disk_faults e.1)) }
         ensures say_faults { IfErr result (λ e. S.say_faults e.1 ≡ S.say_faults self.log.site) }
@@ -58,8 +57,7 @@ impl<S: Site> Running<S> {
         ensures stopped { IfErr result (λ e. LeavesUntil (held S.Site self) (lifted (telling (view_of S.Site self.log)) (S.clock e.1))) }
         ensures only { IfErr result (λ e. (e.0 ≡ BlockFault.Disk) ⊎ (e.0 ≡ BlockFault.Full 9999)) }
         ensures full { IfErr result (λ e. e.0 ≡ BlockFault.Full 9999 → IsTrue S.tells → IsFullTrail (view_of S.Site self.log) (S.files e.1)) }
-        ensures few { GivesGrown S.Site 18 (view_of S.Site self.log) result }
-        ensures grown { GivesTrail S.Site (view_of S.Site self.log) result }
+        ensures grown { GivesGrown S.Site 18 (view_of S.Site self.log) result }
         ensures clean { IfOk result (λ s. (S.disk_faults s ≡ S.disk_faults self.log.site) × (S.say_faults s ≡ S.say_faults self.log.site)) }
         ensures disk { IfErr result (λ e. CountedAt (e.0 ≡ BlockFault.Disk) (S.disk_faults self.log.site) (S.disk_faults e.1)) }
         ensures say_faults { IfErr result (λ e. S.say_faults e.1 ≡ S.say_faults self.log.site) }

@@ -27,7 +27,7 @@ fn make_stable<S: Site>(log: &mut Log<S>) -> Result<(), BlockFault>
     ensures nothing { OnOk result (IsTrue S.tells → LogsNothing (view_of S.Site log.old) (view_of S.Site log.new)) }
     ensures waits { OnOk result (IsTrue S.tells → waits log.new.end ≡ []) }
     ensures stable { OnOk result (IsTrue S.tells → Only (S.files log.new.site) (S.clock log.new.site)) }
-    ensures passes { LogPasses S.Site log.old log.new }
+    ensures passes { LogPasses S.Site 0 log.old log.new }
     ensures only { IfErr result (λ e. e ≡ BlockFault.Disk) }
     ensures faults { HasCause (S.disk_faults log.old.site) (S.disk_faults log.new.site) result }
 {
@@ -54,7 +54,7 @@ impl<S: Site> Running<S> {
         ensures causes { HasCauses result (held S.Site self.old) (held S.Site self.new) }
         ensures only { IfErr result (λ e. e ≡ BlockFault.Disk) }
         ensures broken { IfErr result (λ e. self.new.broken ≡ true) }
-        ensures grown { TrailGrows S.Site self.old self.new }
+        ensures grown { TrailGrows S.Site 0 self.old self.new }
         ensures same { S.same_site self.old.log.site self.new.log.site }
     {
         match self.pool.peek(id) {
@@ -83,7 +83,7 @@ impl<S: Site> Running<S> {
         ensures causes { HasCauses result (held S.Site self.old) (held S.Site self.new) }
         ensures only { IfErr result (λ e. e ≡ BlockFault.Disk) }
         ensures broken { IfErr result (λ e. self.new.broken ≡ true) }
-        ensures grown { TrailGrows S.Site self.old self.new }
+        ensures grown { TrailGrows S.Site 0 self.old self.new }
         ensures same { S.same_site self.old.log.site self.new.log.site }
     {
         while let Some(id) = self.pool.dirty() {
@@ -107,7 +107,7 @@ impl<S: Site> Running<S> {
         ensures causes { HasCauses result (held S.Site self.old) (held S.Site self.new) }
         ensures only { IfErr result (λ e. e ≡ BlockFault.Disk) }
         ensures broken { IfErr result (λ e. self.new.broken ≡ true) }
-        ensures grown { TrailGrows S.Site self.old self.new }
+        ensures grown { TrailGrows S.Site 0 self.old self.new }
         ensures same { S.same_site self.old.log.site self.new.log.site }
     {
         match self.write_changed() {
@@ -143,7 +143,7 @@ impl<S: Site> Running<S> {
         ensures silent { IsErrOf result BlockFault.Say → ⊥ }
         ensures broken { IfErr result (λ e. self.new.broken ≡ true) }
         ensures few { (IsErrOf result BlockFault.Disk → ⊥) → IsTrue S.tells → LogsAtMost 18 (view_of S.Site self.old.log) (view_of S.Site self.new.log) }
-        ensures grown { TrailGrows S.Site self.old self.new }
+        ensures grown { TrailGrows S.Site 18 self.old self.new }
         ensures same { S.same_site self.old.log.site self.new.log.site }
     {
         let mut room = [0u8; 1600];
@@ -182,7 +182,7 @@ impl<S: Site> Running<S> {
         ensures silent { IsErrOf result BlockFault.Say → ⊥ }
         ensures broken { IfErr result (λ e. self.new.broken ≡ true) }
         ensures few { (IsErrOf result BlockFault.Disk → ⊥) → IsTrue S.tells → LogsAtMost 18 (view_of S.Site self.old.log) (view_of S.Site self.new.log) }
-        ensures grown { TrailGrows S.Site self.old self.new }
+        ensures grown { TrailGrows S.Site 18 self.old self.new }
         ensures same { S.same_site self.old.log.site self.new.log.site }
     {
         match self.settle() {

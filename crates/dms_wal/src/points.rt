@@ -33,8 +33,8 @@ fn follows(every: u32, sync: u64) -> bool
 impl<S: Site> Running<S> {
     /// Makes a quiet point, and answers its number. Takes no memory. Where the next number is 2^64 - 1 it stays so.
     ///
-    /// One quiet point is logged, which the next sync makes durable. Answers Disk, and Full exactly where no call of the site
-    /// failed and the audit has no room; then all that waited is sealed.
+    /// One quiet point is logged, which the next sync makes durable. Its number is used up, whatever is answered. Answers Disk, and
+    /// Full exactly where no call of the site failed and the audit has no room; then all that waited is sealed.
     pub fn quiet(&mut self) -> Result<u64, BlockFault>
         requires { (held S.Site self.old).sound }
         ensures number { HasNextNumber (held S.Site self.old) → IfOk result (λ n. n ≡ (held S.Site self.old).next) }
@@ -61,9 +61,9 @@ impl<S: Site> Running<S> {
         if number == u64::MAX {
             return Ok(number);
         }
+        self.next = number + 1;
         match self.log.quiet(number) {
             Ok(()) => {
-                self.next = number + 1;
                 self.point = number;
                 copy_counts(&self.counts, &mut self.marks);
                 self.changed = false;
@@ -121,7 +121,7 @@ impl<S: Site> Running<S> {
         ensures silent { IsErrOf result BlockFault.Say → ⊥ }
         ensures kept { KeepsFields self.old self.new }
         ensures broken { IfErr result (λ e. self.new.broken ≡ true) }
-        ensures grown { TrailGrows S.Site self.old self.new }
+        ensures grown { TrailGrows S.Site 0 self.old self.new }
         ensures same { S.same_site self.old.log.site self.new.log.site }
     {
         match self.log.sync() {

@@ -51,7 +51,7 @@ impl<S: Site> Running<S> {
         ensures pace { KeepsPace self.old self.new }
         ensures broken { IfErr result (λ e. self.new.broken ≡ true) }
         ensures logs { (IsErrOf result BlockFault.Disk → ⊥) → IsTrue S.tells → entries (view_of S.Site self.new.log) ≡ entries (view_of S.Site self.old.log) }
-        ensures grown { TrailGrows S.Site self.old self.new }
+        ensures grown { TrailGrows S.Site 0 self.old self.new }
         ensures same { S.same_site self.old.log.site self.new.log.site }
     {
         match self.make_room() {
@@ -82,7 +82,7 @@ impl<S: Site> Running<S> {
         ensures silent { IsErrOf result BlockFault.Say → ⊥ }
         ensures pace { KeepsPace self.old self.new }
         ensures broken { IfErr result (λ e. self.new.broken ≡ true) }
-        ensures grown { TrailGrows S.Site self.old self.new }
+        ensures grown { TrailGrows S.Site 0 self.old self.new }
         ensures same { S.same_site self.old.log.site self.new.log.site }
     {
         let mut buffer = [0u8; 1024];

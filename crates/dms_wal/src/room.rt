@@ -31,7 +31,7 @@ pub(crate) fn write_back<S: Site>(
     requires block { IsTrue S.tells → block_in (content (view_of S.Site log.old)) id.file id.block ≡ block.now.0 }
     ensures runs { OnOk result (IsTrue S.tells → LogRuns (view_of S.Site log.new)) }
     ensures back { OnOk result (IsTrue S.tells → WritesBack (view_of S.Site log.old) (view_of S.Site log.new) id.file id.block block.now.0) }
-    ensures passes { LogPasses S.Site log.old log.new }
+    ensures passes { LogPasses S.Site 0 log.old log.new }
     ensures only { IfErr result (λ e. e ≡ BlockFault.Disk) }
     ensures faults { HasCause (S.disk_faults log.old.site) (S.disk_faults log.new.site) result }
 {
@@ -57,7 +57,7 @@ impl<S: Site> Running<S> {
         ensures fewer { (id : _) → frame_of id self.old.pool ≡ None → frame_of id self.new.pool ≡ None }
         ensures pace { KeepsPace self.old self.new }
         ensures broken { IfErr result (λ e. self.new.broken ≡ true) }
-        ensures grown { TrailGrows S.Site self.old self.new }
+        ensures grown { TrailGrows S.Site 0 self.old self.new }
         ensures same { S.same_site self.old.log.site self.new.log.site }
     {
         if self.pool.room() {

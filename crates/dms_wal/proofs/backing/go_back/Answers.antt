@@ -6,7 +6,7 @@ use Rattle.dms_restore.specs.Views.{view_of}
 use Rattle.dms_wal.proofs.Controlling.{count_table}
 use Rattle.dms_wal.proofs.BackedOut.{back_by, back_counts}
 use Rattle.dms_wal.proofs.Limits.{by_with, sealed_from, sealed_to, went_from, went_to, leaves_with}
-use Rattle.dms_wal.proofs.Grown.{back_entries_few, back_few, some_alike}
+use Rattle.dms_wal.proofs.Grown.{back_entries_few, back_few, grows_alike, some_alike}
 use Rattle.dms_wal.proofs.Reaching.{ends_alike, entries_alike, runs_alike}
 use Rattle.dms_wal.proofs.backing.go_back.Goals as goal
 
@@ -35,7 +35,7 @@ returns-clause-passes g c =
     let e = c.back_out-done.ensures in
     record {
       moments = λ tells. leaves_with c.args.log.now.end _ (record { file = refl; total = refl; tag = refl; count = refl; used = refl; block = refl }) c.args.log.now.first _ _ _ (e.moments tells);
-      grown = e.grown;
+      grown = λ tells. grows_alike _ 19 c.args.log.now.end _ (record { file = refl; total = refl; tag = refl; count = refl; used = refl; block = refl }) c.args.log.now.first _ _ (view_of g.S.Site c.back_out-done.new.self) _ _ (back_entries_few c.args.point c.args.schema.now c.args.next _ c.requires.described.1) (e.grown tells);
       silent = e.silent;
       kind = λ i. record { total = e.kind.0 i; first = e.kind.3 i };
       limit = refl;

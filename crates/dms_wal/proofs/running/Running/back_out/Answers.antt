@@ -5,7 +5,8 @@ use Rattle.dms_restore.specs.Views.{view_of}
 use Rattle.dms_wal.specs.BackOuts.{entries_back}
 use Rattle.dms_wal.proofs.BackFaults.{caused_back, back_silent, back_only, back_full, back_memory}
 use Rattle.dms_restore.proofs.Sealed.{ok_not_disk}
-use Rattle.dms_wal.proofs.Grown.{back_disk, grows_back, rose_not}
+use Rattle.dms_wal.proofs.Grown.{back_disk, grows_back}
+use Rattle.dms_wal.proofs.Marked.{true_not_false}
 use Rattle.dms_wal.proofs.BackedOut.{passes_back, stays_back, marked_content}
 use Rattle.dms_wal.proofs.running.Running.back_out.Goals as goal
 
@@ -66,11 +67,11 @@ returns-in-Err-clause-ends g c is = c.in-Err.ensures.ends (back_full c.in-Err.fa
 
 pub returns-in-Err-clause-grows : goal.returns-in-Err-clause-grows
 returns-in-Err-clause-grows g c =
-    grows_back g.S.Site c.args.self.now _ refl (omega arith) (omega arith) c.go_back.ensures.disk.later c.go_back.ensures.passes.grown refl (omega (arith, c.saturating_add-self.ensures)) (omega (arith, c.saturating_add-self.ensures)) (λ tells stayed. c.go_back.ensures.few (λ is. rose_not _ _ (c.go_back.ensures.disk.failed is) stayed) tells)
+    grows_back g.S.Site c.args.self.now _ c.requires.unbroken (record { every = refl; limit = c.go_back.ensures.passes.limit; total = c.go_back.ensures.passes.total; first = c.go_back.ensures.passes.first; schema = refl }) (omega arith) (omega arith) (omega (arith, c.saturating_add-self.ensures)) (omega arith) (omega (arith, c.saturating_add-self.ensures)) c.go_back.ensures.passes.grown (λ tells whole. absurd (true_not_false whole))
 
 pub returns-clause-grows : goal.returns-clause-grows
 returns-clause-grows g c =
-    grows_back g.S.Site c.args.self.now _ refl (omega arith) (omega arith) c.go_back.ensures.disk.later c.go_back.ensures.passes.grown refl (omega (arith, c.saturating_add-self.ensures)) (omega (arith, c.saturating_add-self.ensures)) (λ tells stayed. c.go_back.ensures.few (λ is. rose_not _ _ (c.go_back.ensures.disk.failed is) stayed) tells)
+    grows_back g.S.Site c.args.self.now _ c.requires.unbroken (record { every = refl; limit = c.go_back.ensures.passes.limit; total = c.go_back.ensures.passes.total; first = c.go_back.ensures.passes.first; schema = refl }) (omega arith) (omega arith) (omega (arith, c.saturating_add-self.ensures)) (omega arith) (omega (arith, c.saturating_add-self.ensures)) c.go_back.ensures.passes.grown (λ tells whole. c.in-Ok.ensures.few (ok_not_disk _) tells)
 
 pub returns-in-Err-clause-few : goal.returns-in-Err-clause-few
 returns-in-Err-clause-few g c off t = c.in-Err.ensures.few (λ is. off (back_disk c.in-Err.fault c.back_fault.result _ _ c.back_fault.ensures is)) t

@@ -38,10 +38,10 @@ pub returns-in-Some-clause-grown : goal.returns-in-Some-clause-grown
 returns-in-Some-clause-grown g c = trail_none g.S.Site c.args.self.now
 
 pub returns-in-Ok-fetch-clause-grown : goal.returns-in-Ok-fetch-clause-grown
-returns-in-Ok-fetch-clause-grown g c = trail_then g.S.Site _ c.make_room.new.self c.fetch.new.self c.make_room.ensures.pace c.make_room.ensures.grown c.fetch.ensures.grown
+returns-in-Ok-fetch-clause-grown g c = trail_then g.S.Site 0 _ c.make_room.new.self c.fetch.new.self c.make_room.ensures.pace c.in-Ok.ensures.logs c.make_room.ensures.grown c.fetch.ensures.grown
 
 pub returns-in-Err-fetch-clause-grown : goal.returns-in-Err-fetch-clause-grown
-returns-in-Err-fetch-clause-grown g c = trail_then g.S.Site _ c.make_room.new.self c.fetch.new.self c.make_room.ensures.pace c.make_room.ensures.grown c.fetch.ensures.grown
+returns-in-Err-fetch-clause-grown g c = trail_then g.S.Site 0 _ c.make_room.new.self c.fetch.new.self c.make_room.ensures.pace c.in-Ok.ensures.logs c.make_room.ensures.grown c.fetch.ensures.grown
 
 pub returns-in-Ok-fetch-clause-before : goal.returns-in-Ok-fetch-clause-before
 returns-in-Ok-fetch-clause-before g c t = (

@@ -1,4 +1,4 @@
-use Rattle.std.proofs.Common.{ℕ, Bool, IsTrue, Option, sym, ◌∙◌, ap, subst}
+use Rattle.std.proofs.Common.{ℕ, Bool, IsTrue, Option, sym, ◌∙◌, ap, subst, arith}
 use Rattle.std.specs.Prelude.{option_map}
 use Rattle.dms_block.specs.Content.{Content, with_block}
 use Rattle.dms_history.specs.Replay.{TellsBefore}
@@ -9,6 +9,7 @@ use Rattle.dms_wal.specs.PaceLaws.{trail_then}
 use Rattle.dms_wal.proofs.Causes.{not_full}
 use Rattle.dms_restore.proofs.Results.{one_if_err, one_ok}
 use Rattle.dms_wal.proofs.Logged.{logs_from}
+use Rattle.dms_restore.specs.GrowLaws.{log_grows_more}
 use Rattle.dms_restore.specs.Views.{view_of}
 use Rattle.dms_wal.proofs.running.Running.change.Goals as goal
 
@@ -32,7 +33,10 @@ pub returns-in-Ok-clause-kept : goal.returns-in-Ok-clause-kept
 returns-in-Ok-clause-kept g c = one_if_err c.log_change.result c.log_change.ensures.kept (λ e kept off t. kept off t ∙ c.in-Ok.ensures.logs t)
 
 pub returns-in-Ok-clause-grown : goal.returns-in-Ok-clause-grown
-returns-in-Ok-clause-grown g c = trail_then g.S.Site c.args.self.now c.before-2.new.self c.log_change.new.self c.before-2.ensures.pace c.before-2.ensures.grown c.log_change.ensures.grown
+returns-in-Ok-clause-grown g c = trail_then g.S.Site 1 c.args.self.now c.before-2.new.self c.log_change.new.self c.before-2.ensures.pace c.in-Ok.ensures.logs c.before-2.ensures.grown c.log_change.ensures.grown
+
+pub returns-in-Err-clause-grown : goal.returns-in-Err-clause-grown
+returns-in-Err-clause-grown g c = λ tells. log_grows_more 0 1 (view_of g.S.Site c.args.self.now.log) (view_of g.S.Site c.before-2.new.self.log) (omega arith) (c.before-2.ensures.grown tells)
 
 pub log_change-requires-clause-before : goal.log_change-requires-clause-before
 log_change-requires-clause-before g c t =

@@ -1,14 +1,15 @@
-use Rattle.std.proofs.Common.{◌≡◌, refl, sym, ◌∙◌, ap, subst, arith}
+use Rattle.std.proofs.Common.{◌≡◌, sym, ◌∙◌, ap, subst, arith}
 use Rattle.std.specs.declared.result.Result.TheVariants.{Err}
 use Rattle.dms_block.specs.declared.block_fault.BlockFault.TheVariants.{Disk}
 use Rattle.dms_block.specs.Counts.{Faults}
 use Rattle.dms_audfile.specs.Counting.{CountedAt}
-use Rattle.dms_audfile.specs.Ends.{Grown}
 use Rattle.dms_restore.proofs.Results.{one_if_ok, one_if_err}
-use Rattle.dms_wal.proofs.Grown.{files_few, files_more, gives_more, gives_on, gives_trail, ok_never, which_error}
+use Rattle.dms_wal.proofs.Grown.{gives_as, gives_on, grows_as, ok_never}
+use Rattle.dms_wal.specs.Growing.{close_limit, over_site}
+use Rattle.dms_restore.specs.GrowLaws.{log_grows_more}
 use Rattle.dms_wal.specs.Closing.{IsFullTrail, LeavesUntil, entries_control}
 use Rattle.dms_wal.specs.Database.{held}
-use Rattle.dms_restore.specs.Logging.{telling}
+use Rattle.dms_restore.specs.Logging.{LogGrows, telling}
 use Rattle.dms_restore.specs.Views.{view_of}
 use Rattle.dms_wal.specs.Lifting.{lifted}
 use Rattle.dms_wal.specs.PaceLaws.{pace_kind}
@@ -93,21 +94,17 @@ returns-in-Err-clause-say_faults g c =
 pub returns-in-Err-clause-said_then : goal.returns-in-Err-clause-said_then
 returns-in-Err-clause-said_then g c told = ap g.S.Site.said c.into_site.ensures ∙ said_told g.S.Site.tells_said _ _ c.back_out.ensures.passes.said told
 
-pub returns-then-not-self-clause-few : goal.returns-then-not-self-clause-few
-returns-then-not-self-clause-few g c = gives_more g.S.Site 18 37 (view_of g.S.Site c.args.self.log) c.close_by_control.result (omega arith) c.close_by_control.ensures.few
-
-pub returns-in-Ok-clause-few : goal.returns-in-Ok-clause-few
-returns-in-Ok-clause-few g c =
-    gives_on g.S.Site 19 18 (view_of g.S.Site c.args.self.log) (view_of g.S.Site c.back_out.new.self.log) c.close_by_control-in-Ok.result (pace_kind c.back_out.ensures.pace) (λ tells. c.in-Ok.ensures.few ok_never tells) c.close_by_control-in-Ok.ensures.few
-
-pub returns-in-Err-clause-few : goal.returns-in-Err-clause-few
-returns-in-Err-clause-few g c off tells =
-    let v = view_of g.S.Site c.args.self.log in
-    files_more 19 37 v (g.S.Site.files c.into_site.result) (omega arith)
-    (files_few 19 v v (view_of g.S.Site c.back_out.new.self.log) refl (pace_kind c.back_out.ensures.pace) (c.in-Err.ensures.few (λ is. off (which_error c.in-Err.fault Disk is)) tells) (g.S.Site.files c.into_site.result) (ap g.S.Site.files c.into_site.ensures))
+pub returns-then-not-self-clause-grown : goal.returns-then-not-self-clause-grown
+returns-then-not-self-clause-grown g c = gives_as g.S.Site 18 (view_of g.S.Site c.args.self.log) c.close_by_control.result c.args.self.changed (ap close_limit c.if-not-self.true) c.close_by_control.ensures.grown
 
 pub returns-in-Ok-clause-grown : goal.returns-in-Ok-clause-grown
-returns-in-Ok-clause-grown g c = gives_trail g.S.Site c.args.self c.back_out.new.self c.close_by_control-in-Ok.result c.back_out.ensures.pace c.back_out.ensures.grows.grown c.close_by_control-in-Ok.ensures.grown
+returns-in-Ok-clause-grown g c =
+    gives_as g.S.Site 37 (view_of g.S.Site c.args.self.log) c.close_by_control-in-Ok.result c.args.self.changed (ap close_limit c.if-not-self.false)
+    (gives_on g.S.Site 19 18 c.args.self c.back_out.new.self c.close_by_control-in-Ok.result c.back_out.ensures.pace (λ tells. c.in-Ok.ensures.few ok_never tells) c.back_out.ensures.grown c.close_by_control-in-Ok.ensures.grown)
 
 pub returns-in-Err-clause-grown : goal.returns-in-Err-clause-grown
-returns-in-Err-clause-grown g c = λ tells. subst (λ (x : _). Grown c.args.self.log.end.total c.args.self.log.first (g.S.Site.files c.args.self.log.site) (g.S.Site.files x)) (sym c.into_site.ensures) (c.back_out.ensures.grows.grown tells)
+returns-in-Err-clause-grown g c = λ tells.
+    let v = view_of g.S.Site c.args.self.log in
+    subst (λ n. LogGrows n v (over_site g.S.Site v c.into_site.result)) (sym (ap close_limit c.if-not-self.false))
+    (subst (λ (x : _). LogGrows 37 v (over_site g.S.Site v x)) (sym c.into_site.ensures)
+    (grows_as 37 v (view_of g.S.Site c.back_out.new.self.log) v.end v.first (log_grows_more 19 37 v (view_of g.S.Site c.back_out.new.self.log) (omega arith) (c.back_out.ensures.grown tells))))

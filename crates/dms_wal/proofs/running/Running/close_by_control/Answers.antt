@@ -1,13 +1,13 @@
 use Rattle.dms_wal.proofs.Lifts.{told_same}
-use Rattle.std.proofs.Common.{refl, sym, ◌∙◌, ap, subst}
+use Rattle.std.proofs.Common.{refl, sym, ◌∙◌, ap, subst, arith}
 use Rattle.std.specs.declared.result.Result.TheVariants.{Err}
-use Rattle.dms_audfile.specs.Ends.{Grown}
 use Rattle.dms_wal.proofs.Closed.{full_trail, said_told}
 use Rattle.dms_wal.specs.Closing.{IsFullTrail}
 use Rattle.dms_restore.specs.Views.{view_of}
-use Rattle.dms_block.specs.declared.block_fault.BlockFault.TheVariants.{Disk}
-use Rattle.dms_wal.proofs.Grown.{files_few, ok_never, which_error}
-use Rattle.dms_wal.proofs.Reaching.{closes_all, closes_leaves, entries_alike, usable_alike}
+use Rattle.dms_restore.specs.Logging.{LogGrows}
+use Rattle.dms_wal.specs.Growing.{over_site}
+use Rattle.dms_wal.proofs.Grown.{grows_alike}
+use Rattle.dms_wal.proofs.Reaching.{closes_all, closes_leaves, usable_alike}
 use Rattle.dms_wal.proofs.running.Running.close_by_control.Goals as goal
 
 pub control-requires : goal.control-requires
@@ -40,20 +40,14 @@ returns-in-Ok-clause-said g c told = ap g.S.Site.said c.into_site.ensures ∙ sa
 pub returns-in-Err-clause-said_then : goal.returns-in-Err-clause-said_then
 returns-in-Err-clause-said_then g c told = ap g.S.Site.said c.into_site-in-Err.ensures ∙ said_told g.S.Site.tells_said _ _ c.control.ensures.passes.said told
 
-pub returns-in-Ok-clause-few : goal.returns-in-Ok-clause-few
-returns-in-Ok-clause-few g c tells =
-    let log = c.args.self.log in
-    files_few 18 (view_of g.S.Site log) _ (view_of g.S.Site c.control.new.self.log) (entries_alike log.end _ (record { file = refl; total = refl; tag = refl; count = refl; used = refl; block = refl }) log.first (g.S.Site.files log.site) (g.S.Site.clock log.site)) (told_same c.control.ensures.kind)
-    (c.in-Ok.ensures.few ok_never tells) (g.S.Site.files c.into_site.result) (ap g.S.Site.files c.into_site.ensures)
-
-pub returns-in-Err-clause-few : goal.returns-in-Err-clause-few
-returns-in-Err-clause-few g c off tells =
-    let log = c.args.self.log in
-    files_few 18 (view_of g.S.Site log) _ (view_of g.S.Site c.control.new.self.log) (entries_alike log.end _ (record { file = refl; total = refl; tag = refl; count = refl; used = refl; block = refl }) log.first (g.S.Site.files log.site) (g.S.Site.clock log.site)) (told_same c.control.ensures.kind)
-    (c.in-Err.ensures.few (λ is. off (which_error c.in-Err.fault Disk is)) tells) (g.S.Site.files c.into_site-in-Err.result) (ap g.S.Site.files c.into_site-in-Err.ensures)
-
 pub returns-in-Ok-clause-grown : goal.returns-in-Ok-clause-grown
-returns-in-Ok-clause-grown g c = λ tells. subst (λ (x : _). Grown c.args.self.log.end.total c.args.self.log.first (g.S.Site.files c.args.self.log.site) (g.S.Site.files x)) (sym c.into_site.ensures) (c.control.ensures.grown tells)
+returns-in-Ok-clause-grown g c = λ tells.
+    let log = c.args.self.log in
+    subst (λ (x : _). LogGrows 18 (view_of g.S.Site log) (over_site g.S.Site (view_of g.S.Site log) x)) (sym c.into_site.ensures)
+    (grows_alike 18 18 log.end _ (record { file = refl; total = refl; tag = refl; count = refl; used = refl; block = refl }) log.first _ _ (view_of g.S.Site c.control.new.self.log) _ _ (omega arith) (c.control.ensures.grown tells))
 
 pub returns-in-Err-clause-grown : goal.returns-in-Err-clause-grown
-returns-in-Err-clause-grown g c = λ tells. subst (λ (x : _). Grown c.args.self.log.end.total c.args.self.log.first (g.S.Site.files c.args.self.log.site) (g.S.Site.files x)) (sym c.into_site-in-Err.ensures) (c.control.ensures.grown tells)
+returns-in-Err-clause-grown g c = λ tells.
+    let log = c.args.self.log in
+    subst (λ (x : _). LogGrows 18 (view_of g.S.Site log) (over_site g.S.Site (view_of g.S.Site log) x)) (sym c.into_site-in-Err.ensures)
+    (grows_alike 18 18 log.end _ (record { file = refl; total = refl; tag = refl; count = refl; used = refl; block = refl }) log.first _ _ (view_of g.S.Site c.control.new.self.log) _ _ (omega arith) (c.control.ensures.grown tells))

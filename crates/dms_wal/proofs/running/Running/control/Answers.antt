@@ -1,8 +1,9 @@
-use Rattle.std.proofs.Common.{sym, subst, ◌∙◌}
+use Rattle.std.proofs.Common.{sym, subst, ◌∙◌, arith}
 use Rattle.dms_block.specs.HeldLaws.{causes_on, passes_on}
 use Rattle.dms_block.specs.Held.{Used, Uses}
 use Rattle.dms_restore.proofs.Results.{one_ok}
 use Rattle.std.specs.declared.result.Result.TheVariants.{Err}
+use Rattle.dms_restore.specs.GrowLaws.{log_grows_more}
 use Rattle.dms_restore.specs.Views.{view_of}
 use Rattle.dms_wal.specs.Database.{held}
 use Rattle.dms_wal.specs.PaceLaws.{trail_then}
@@ -40,5 +41,8 @@ returns-in-Err-clause-few g c off = absurd (off (λ i. Err (c.in-Err.ensures.onl
 pub returns-clause-few : goal.returns-clause-few
 returns-clause-few g c off t = some_from 18 (view_of g.S.Site c.args.self.now.log) (view_of g.S.Site c.settle.new.self.log) (view_of g.S.Site c.seal_control.new.self.log) (c.in-Ok.ensures.tells t).entries_same (c.seal_control.ensures.few off t)
 
+pub returns-in-Err-clause-grown : goal.returns-in-Err-clause-grown
+returns-in-Err-clause-grown g c = λ tells. log_grows_more 0 18 (view_of g.S.Site c.args.self.now.log) (view_of g.S.Site c.settle.new.self.log) (omega arith) (c.settle.ensures.grown tells)
+
 pub returns-clause-grown : goal.returns-clause-grown
-returns-clause-grown g c = trail_then g.S.Site c.args.self.now c.settle.new.self c.seal_control.new.self c.settle.ensures.kept.pace c.settle.ensures.grown c.seal_control.ensures.grown
+returns-clause-grown g c = trail_then g.S.Site 18 c.args.self.now c.settle.new.self c.seal_control.new.self c.settle.ensures.kept.pace (λ t. (c.in-Ok.ensures.tells t).entries_same) c.settle.ensures.grown c.seal_control.ensures.grown

@@ -35,10 +35,10 @@ pub returns-in-Err-fetch-clause-logs : goal.returns-in-Err-fetch-clause-logs
 returns-in-Err-fetch-clause-logs g c off t = c.fetch.ensures.logs t ∙ c.in-Ok.ensures.logs t
 
 pub returns-in-Ok-fetch-clause-grown : goal.returns-in-Ok-fetch-clause-grown
-returns-in-Ok-fetch-clause-grown g c = λ tells. subst (λ log. LogGrows (view_of g.S.Site c.args.self.now.log) (view_of g.S.Site log)) (sym c.hold.ensures.log) (trail_then g.S.Site c.args.self.now c.make_room.new.self c.fetch.new.self c.make_room.ensures.pace c.make_room.ensures.grown c.fetch.ensures.grown tells)
+returns-in-Ok-fetch-clause-grown g c = λ tells. subst (λ log. LogGrows 0 (view_of g.S.Site c.args.self.now.log) (view_of g.S.Site log)) (sym c.hold.ensures.log) (trail_then g.S.Site 0 c.args.self.now c.make_room.new.self c.fetch.new.self c.make_room.ensures.pace c.in-Ok.ensures.logs c.make_room.ensures.grown c.fetch.ensures.grown tells)
 
 pub returns-in-Err-fetch-clause-grown : goal.returns-in-Err-fetch-clause-grown
-returns-in-Err-fetch-clause-grown g c = trail_then g.S.Site c.args.self.now c.make_room.new.self c.fetch.new.self c.make_room.ensures.pace c.make_room.ensures.grown c.fetch.ensures.grown
+returns-in-Err-fetch-clause-grown g c = trail_then g.S.Site 0 c.args.self.now c.make_room.new.self c.fetch.new.self c.make_room.ensures.pace c.in-Ok.ensures.logs c.make_room.ensures.grown c.fetch.ensures.grown
 
 pub hold-requires-clause-block : goal.hold-requires-clause-block
 hold-requires-clause-block g c t = c.in-Ok-fetch.ensures.block t ∙ ap (λ (k : Content). block_in k c.args.id.file c.args.id.block) (sym (c.in-Ok-fetch.ensures.looks.same.content t))

@@ -11,7 +11,7 @@ use Rattle.dms_wal.proofs.Synced.{kind_is}
 use Rattle.dms_wal.proofs.Imaged.{alters_made, alters_failed, counted_more, imaged, usable_changed, with_same, then_left}
 use Rattle.dms_wal.proofs.Roomed.{then_silent}
 use Rattle.dms_wal.proofs.Tabled.{raised_there}
-use Rattle.dms_wal.proofs.Grown.{kept_append}
+use Rattle.dms_wal.proofs.Grown.{kept_append, logged_image}
 use Rattle.dms_wal.proofs.Logged.{logs_one}
 use Rattle.dms_wal.proofs.running.Running.log_change.Goals as goal
 
@@ -74,7 +74,7 @@ pub returns-in-Err-keep-clause-kept : goal.returns-in-Err-keep-clause-kept
 returns-in-Err-keep-clause-kept g c off = absurd (off c.in-Err-keep.ensures.only)
 
 pub returns-in-Ok-keep-clause-grown : goal.returns-in-Ok-keep-clause-grown
-returns-in-Ok-keep-clause-grown g c = λ t. log_grows_on (view_of g.S.Site c.args.self.now.log) (view_of g.S.Site c.image.new.self) (view_of g.S.Site c.keep.new.log) c.image.ensures.kind.0 c.image.ensures.kind.3 (c.image.ensures.grown t) (c.keep.ensures.passes.grown t)
+returns-in-Ok-keep-clause-grown g c = λ t. log_grows_on (view_of g.S.Site c.args.self.now.log) (view_of g.S.Site c.image.new.self) (view_of g.S.Site c.keep.new.log) c.image.ensures.kind.0 c.image.ensures.kind.3 1 0 (logged_image _ _ _ _ _ _ (c.in-Ok.ensures.logs t)) (c.image.ensures.grown t) (c.keep.ensures.passes.grown t)
 
 pub returns-in-Err-keep-clause-grown : goal.returns-in-Err-keep-clause-grown
-returns-in-Err-keep-clause-grown g c = λ t. log_grows_on (view_of g.S.Site c.args.self.now.log) (view_of g.S.Site c.image.new.self) (view_of g.S.Site c.keep.new.log) c.image.ensures.kind.0 c.image.ensures.kind.3 (c.image.ensures.grown t) (c.keep.ensures.passes.grown t)
+returns-in-Err-keep-clause-grown g c = λ t. log_grows_on (view_of g.S.Site c.args.self.now.log) (view_of g.S.Site c.image.new.self) (view_of g.S.Site c.keep.new.log) c.image.ensures.kind.0 c.image.ensures.kind.3 1 0 (logged_image _ _ _ _ _ _ (c.in-Ok.ensures.logs t)) (c.image.ensures.grown t) (c.keep.ensures.passes.grown t)

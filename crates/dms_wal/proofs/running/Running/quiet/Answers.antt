@@ -1,7 +1,8 @@
 use Rattle.std.proofs.Common.{◌∙◌, refl, false, arith}
 use Rattle.dms_restore.specs.Views.{view_of}
 use Rattle.dms_wal.specs.PaceLaws.{grows_none}
-use Rattle.dms_wal.proofs.Grown.{grows_logged, grows_still, kept_unless, logged_quiet}
+use Rattle.dms_wal.proofs.Grown.{grows_logged, logged_quiet}
+use Rattle.dms_wal.proofs.Marked.{true_not_false}
 use Rattle.dms_wal.proofs.Synced.{kind_is, quiet_done, quiet_left}
 use Rattle.std.specs.declared.result.Result.TheVariants.{Err}
 use Rattle.dms_wal.proofs.Causes.{full_left, full_seen}
@@ -35,11 +36,12 @@ returns-in-Err-clause-kept g c n is =
 
 pub returns-in-Ok-clause-grows : goal.returns-in-Ok-clause-grows
 returns-in-Ok-clause-grows g c =
-    grows_logged g.S.Site c.args.self.now _ refl (omega arith) (omega arith) c.quiet.ensures.disk.later c.quiet.ensures.grown refl refl (λ tells stayed counted. omega (arith, logged_quiet (view_of g.S.Site c.args.self.now.log) (view_of g.S.Site c.quiet.new.self) (c.in-Ok.ensures.logs tells)))
+    grows_logged g.S.Site c.args.self.now _ c.requires.unbroken (let k = c.quiet.ensures.kind in record { every = refl; limit = k.2; total = k.0; first = k.3; schema = refl }) (omega arith) (omega arith) (omega arith) (omega arith) 1 (λ counted. omega arith) c.quiet.ensures.grown
+    (λ tells whole. omega (arith, logged_quiet (view_of g.S.Site c.args.self.now.log) (view_of g.S.Site c.quiet.new.self) (c.in-Ok.ensures.logs tells)))
 
 pub returns-in-Err-clause-grows : goal.returns-in-Err-clause-grows
 returns-in-Err-clause-grows g c =
-    grows_still g.S.Site c.args.self.now _ refl (omega arith) (omega arith) c.quiet.ensures.disk.later c.quiet.ensures.grown refl refl (λ tells stayed. kept_unless c.in-Err.fault _ _ _ c.in-Err.ensures.only c.in-Err.ensures.disk (λ full. (c.in-Err.ensures.kept full tells).entries_same) stayed)
+    grows_logged g.S.Site c.args.self.now _ c.requires.unbroken (let k = c.quiet.ensures.kind in record { every = refl; limit = k.2; total = k.0; first = k.3; schema = refl }) (omega arith) (omega arith) (omega arith) (omega arith) 1 (λ counted. omega arith) c.quiet.ensures.grown (λ tells whole. absurd (true_not_false whole))
 
 pub returns-then-number-clause-grows : goal.returns-then-number-clause-grows
 returns-then-number-clause-grows g c = grows_none c.args.self.now

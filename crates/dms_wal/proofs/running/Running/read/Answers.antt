@@ -1,10 +1,11 @@
 use Rattle.std.proofs.Common.{refl, arith}
 use Rattle.std.specs.declared.result.Result.TheVariants.{Ok}
+use Rattle.dms_block.specs.declared.block_fault.BlockFault.TheVariants.{Disk}
 use Rattle.dms_block.specs.HeldLaws.{causes_on, looks_on}
 use Rattle.dms_wal.specs.Database.{held}
 use Rattle.dms_wal.specs.PaceLaws.{trail_none}
 use Rattle.dms_wal.proofs.Fetched.{asked_block, asked_none, usable_read}
-use Rattle.dms_wal.proofs.Grown.{disk_kept, grows_still, not_disk}
+use Rattle.dms_wal.proofs.Grown.{grows_still, never_failed}
 use Rattle.dms_wal.proofs.Stepped.{looks_sound}
 use Rattle.dms_wal.proofs.running.Running.read.Goals as goal
 
@@ -28,14 +29,16 @@ returns-in-None-clause-looks g c =
     (record { not_fewer = omega (arith, c.saturating_add-self.ensures); reads = omega (arith, c.saturating_add-self.ensures); not_less = omega arith; spent = omega arith; syncs = refl; outs = refl })) c.load.ensures.looks
 
 pub returns-in-Some-clause-grows : goal.returns-in-Some-clause-grows
-returns-in-Some-clause-grows g c = grows_still g.S.Site c.args.self.now _ refl (omega arith) (omega arith) (omega arith) (trail_none g.S.Site c.args.self.now) refl refl (λ tells stayed. refl)
+returns-in-Some-clause-grows g c =
+    grows_still g.S.Site c.args.self.now (record c.args.self.now { pool = c.get.new.self; reads = c.saturating_add-self.result }) c.requires.sound.unbroken (record { every = refl; limit = refl; total = refl; first = refl; schema = refl }) (omega arith) (omega arith) (omega arith) (omega arith) (trail_none g.S.Site c.args.self.now) (λ tells whole. refl)
 
 pub returns-in-None-clause-grows : goal.returns-in-None-clause-grows
 returns-in-None-clause-grows g c =
     let looks = c.load.ensures.looks in
     let uses = looks.uses in
-    grows_still g.S.Site c.args.self.now c.load.new.self c.load.ensures.pace.every uses.not_less (omega (arith, looks.passes.next)) (disk_kept c.load.result _ _ c.load.ensures.causes) c.load.ensures.grown uses.syncs uses.outs
-    (λ tells stayed. c.load.ensures.logs (λ is. not_disk c.load.result _ _ c.load.ensures.causes stayed is) tells)
+    let p = c.load.ensures.pace in
+    grows_still g.S.Site c.args.self.now c.load.new.self c.requires.sound.unbroken (record { every = p.every; limit = p.limit; total = p.total; first = p.first; schema = p.schema }) uses.not_less (omega (arith, uses.syncs)) (omega (arith, uses.outs)) (omega (arith, looks.passes.next)) c.load.ensures.grown
+    (λ tells whole. c.load.ensures.logs (never_failed c.load.result _ c.load.ensures.broken whole Disk) tells)
 
 pub returns-in-None-clause-causes : goal.returns-in-None-clause-causes
 returns-in-None-clause-causes g c =

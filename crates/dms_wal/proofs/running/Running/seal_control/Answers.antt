@@ -4,6 +4,7 @@ use Rattle.dms_audrec.specs.Spelling.{pair_bytes, count_file, count_blocks}
 use Rattle.dms_restore.specs.Counts.{file_counts}
 use Rattle.dms_restore.specs.Laying.{schema_control}
 use Rattle.dms_restore.specs.Endings.{ControlledAt}
+use Rattle.dms_restore.specs.GrowLaws.{log_grows_more}
 use Rattle.dms_restore.specs.Views.{view_of}
 use Rattle.dms_restore.proofs.CountBytes.{counts_entry, counts_few}
 use Rattle.dms_wal.proofs.Causes.{full_left, full_seen, seen_only}
@@ -67,3 +68,9 @@ pub returns-in-Err-clause-few : goal.returns-in-Err-clause-few
 returns-in-Err-clause-few g c off t =
     kept_append c.in-Err.fault c.append_fault.result _ _ _ c.in-Err.ensures.only c.append_fault.ensures
     (λ full. some_part 18 _ _ _ (control_few _ _ (subst (λ (d : List ℕ). length d ≤ 65535) (sym c.deref-2.ensures.value) c.requires.sound.described.1)) (c.in-Err.ensures.part full t)) (λ is. off (λ i. Err (is i)))
+
+pub returns-in-Ok-clause-grown : goal.returns-in-Ok-clause-grown
+returns-in-Ok-clause-grown g c = λ tells. log_grows_more _ 18 (view_of g.S.Site c.args.self.now.log) (view_of g.S.Site c.control.new.self) (control_few _ _ (subst (λ (d : List ℕ). length d ≤ 65535) (sym c.deref-2.ensures.value) c.requires.sound.described.1)) (c.control.ensures.grown tells)
+
+pub returns-in-Err-clause-grown : goal.returns-in-Err-clause-grown
+returns-in-Err-clause-grown g c = λ tells. log_grows_more _ 18 (view_of g.S.Site c.args.self.now.log) (view_of g.S.Site c.control.new.self) (control_few _ _ (subst (λ (d : List ℕ). length d ≤ 65535) (sym c.deref-2.ensures.value) c.requires.sound.described.1)) (c.control.ensures.grown tells)

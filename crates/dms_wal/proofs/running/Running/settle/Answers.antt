@@ -36,10 +36,10 @@ pub returns-in-Err-make_stable-clause-kind : goal.returns-in-Err-make_stable-cla
 returns-in-Err-make_stable-clause-kind g c = c.make_stable.ensures.passes.kind ∙ c.write_changed.ensures.kind
 
 pub returns-in-Ok-make_stable-clause-grown : goal.returns-in-Ok-make_stable-clause-grown
-returns-in-Ok-make_stable-clause-grown g c = trail_log g.S.Site c.args.self.now c.write_changed.new.self c.make_stable.new.log c.write_changed.ensures.kept.pace c.write_changed.ensures.grown c.make_stable.ensures.passes
+returns-in-Ok-make_stable-clause-grown g c = trail_log g.S.Site c.args.self.now c.write_changed.new.self c.make_stable.new.log c.write_changed.ensures.kept.pace (λ t. (c.in-Ok.ensures.tells t).entries_same) c.write_changed.ensures.grown c.make_stable.ensures.passes
 
 pub returns-in-Err-make_stable-clause-grown : goal.returns-in-Err-make_stable-clause-grown
-returns-in-Err-make_stable-clause-grown g c = trail_log g.S.Site c.args.self.now c.write_changed.new.self c.make_stable.new.log c.write_changed.ensures.kept.pace c.write_changed.ensures.grown c.make_stable.ensures.passes
+returns-in-Err-make_stable-clause-grown g c = trail_log g.S.Site c.args.self.now c.write_changed.new.self c.make_stable.new.log c.write_changed.ensures.kept.pace (λ t. (c.in-Ok.ensures.tells t).entries_same) c.write_changed.ensures.grown c.make_stable.ensures.passes
 
 pub make_stable-requires : goal.make_stable-requires
 make_stable-requires g c = record { runs = λ t. (c.in-Ok.ensures.looks.stays.sound.goes t).runs }

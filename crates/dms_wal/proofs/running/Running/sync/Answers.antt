@@ -1,15 +1,15 @@
-use Rattle.std.proofs.Common.{◌∙◌, sym, arith}
+use Rattle.std.proofs.Common.{◌∙◌, IsTrue, sym, arith}
 use Rattle.dms_wal.specs.Controls.{is_due_at}
-use Rattle.std.specs.declared.result.Result.TheVariants.{Ok, Err}
+use Rattle.dms_block.specs.declared.block_fault.BlockFault.TheVariants.{Disk}
 use Rattle.dms_block.specs.HeldLaws.{passes_on}
 use Rattle.dms_wal.proofs.Controlling.{durable_on, durable_stays, makes_on}
 use Rattle.dms_wal.specs.AgreeLaws.{agrees}
-use Rattle.dms_wal.specs.PaceLaws.{trail_then}
+use Rattle.dms_wal.specs.PaceLaws.{pace_on, trail_then}
 use Rattle.dms_restore.specs.Views.{view_of}
 use Rattle.dms_restore.proofs.Results.{one_ok}
 use Rattle.dms_wal.proofs.Keeping.{tells_sealed}
-use Rattle.dms_wal.specs.Database.{held}
-use Rattle.dms_wal.proofs.Grown.{disk_kept, grows_controlled, grows_synced, grows_void, not_disk, some_from}
+use Rattle.dms_wal.proofs.Grown.{grows_controlled, grows_still, never_failed, some_from}
+use Rattle.dms_wal.proofs.Marked.{true_not_false}
 use Rattle.dms_wal.proofs.running.Running.sync.Goals as goal
 
 pub returns-clause-passes : goal.returns-clause-passes
@@ -20,27 +20,28 @@ returns-clause-passes g c =
 pub returns-in-Err-clause-grows : goal.returns-in-Err-clause-grows
 returns-in-Err-clause-grows g c =
     let uses = c.in-Err.ensures.uses in
-    grows_void g.S.Site c.args.self.now c.seal.new.self c.seal.ensures.kept.pace.every (omega (arith, uses.spent)) (omega (arith, c.seal.ensures.kept.next)) (disk_kept {T = Unit {0}} (Err c.in-Err.fault) (held g.S.Site c.args.self.now) (held g.S.Site c.seal.new.self) c.in-Err.ensures.causes) c.seal.ensures.grown uses.few.0 (omega (arith, uses.outs))
-    (λ stayed. not_disk {T = Unit {0}} (Err c.in-Err.fault) (held g.S.Site c.args.self.now) (held g.S.Site c.seal.new.self) c.in-Err.ensures.causes stayed (λ i. Err (c.in-Err.ensures.only i)))
+    grows_still g.S.Site c.args.self.now c.seal.new.self c.requires.unbroken c.seal.ensures.kept.pace (omega (arith, uses.spent)) uses.few.0 (omega (arith, uses.outs)) (omega (arith, c.seal.ensures.kept.next)) c.seal.ensures.grown
+    (λ tells whole. absurd (true_not_false (sym c.in-Err.ensures.broken ∙ whole)))
 
 pub returns-then-not-follows-clause-grows : goal.returns-then-not-follows-clause-grows
 returns-then-not-follows-clause-grows g c =
     let uses = c.in-Ok.ensures.uses in
-    grows_synced g.S.Site c.args.self.now c.seal.new.self c.seal.ensures.kept.pace.every (omega (arith, uses.spent)) (omega (arith, c.seal.ensures.kept.next)) (disk_kept {T = Unit {0}} (Ok tt) (held g.S.Site c.args.self.now) (held g.S.Site c.seal.new.self) c.in-Ok.ensures.causes) c.seal.ensures.grown uses.few.0 uses.done uses.outs (λ tells. (c.in-Ok.ensures.seals tells).entries_same)
+    grows_still g.S.Site c.args.self.now c.seal.new.self c.requires.unbroken c.seal.ensures.kept.pace (omega (arith, uses.spent)) uses.few.0 (omega (arith, uses.outs)) (omega (arith, c.seal.ensures.kept.next)) c.seal.ensures.grown
+    (λ tells whole. (c.in-Ok.ensures.seals tells).entries_same)
 
 pub returns-clause-grows : goal.returns-clause-grows
 returns-clause-grows g c =
     let a = c.args.self.now in
     let b = c.seal.new.self in
     let d = c.control.new.self in
+    let one = c.seal.ensures.kept in
+    let two = c.control.ensures.kept in
     let uses = c.in-Ok.ensures.uses in
     let more = c.control.ensures.uses in
-    let one = disk_kept {T = Unit {0}} (Ok tt) (held g.S.Site a) (held g.S.Site b) c.in-Ok.ensures.causes in
-    let two = disk_kept c.control.result (held g.S.Site b) (held g.S.Site d) c.control.ensures.causes in
-    grows_controlled g.S.Site a d (c.control.ensures.kept.pace.every ∙ c.seal.ensures.kept.pace.every) (omega (arith, uses.spent, more.not_less)) (omega (arith, c.control.ensures.kept.next, c.seal.ensures.kept.next)) (omega (arith, one, two)) (trail_then g.S.Site a b d c.seal.ensures.kept.pace c.seal.ensures.grown c.control.ensures.grown) (omega (arith, uses.few.0, more.syncs)) (more.syncs ∙ uses.done) (more.outs ∙ uses.outs)
-    ((λ i. is_due_at (sym c.seal.ensures.kept.pace.every i) (sym uses.done i)) ∙ sym c.follows.ensures ∙ c.if-not-follows.false)
-    (λ tells stayed. some_from 18 (view_of g.S.Site a.log) (view_of g.S.Site b.log) (view_of g.S.Site d.log) (c.in-Ok.ensures.seals tells).entries_same
-    (c.control.ensures.few (λ is. not_disk c.control.result (held g.S.Site b) (held g.S.Site d) c.control.ensures.causes (omega (arith, one, stayed.0), stayed.1) is) tells))
+    let same = λ (tells : IsTrue g.S.Site.tells). (c.in-Ok.ensures.seals tells).entries_same in
+    grows_controlled g.S.Site a d c.requires.unbroken (pace_on one.pace two.pace) (omega (arith, uses.spent, more.not_less)) (omega (arith, uses.few.0, more.syncs)) (omega (arith, uses.outs, more.outs)) (omega (arith, one.next, two.next)) (more.syncs ∙ uses.done)
+    ((λ i. is_due_at (sym one.pace.every i) (sym uses.done i)) ∙ sym c.follows.ensures ∙ c.if-not-follows.false) (trail_then g.S.Site 18 a b d one.pace same c.seal.ensures.grown c.control.ensures.grown)
+    (λ tells whole. some_from 18 (view_of g.S.Site a.log) (view_of g.S.Site b.log) (view_of g.S.Site d.log) (same tells) (c.control.ensures.few (never_failed c.control.result d.broken c.control.ensures.broken whole Disk) tells))
 
 pub returns-clause-made : goal.returns-clause-made
 returns-clause-made g c =

@@ -26,7 +26,7 @@ loop-id-preserved g c =
       kept = keeps_on inv.kept c.write_out.ensures.kept;
       tells = λ t. tells_on (inv.tells t) (c.in-Ok.ensures.tells t);
       causes = c.in-Ok.ensures.causes ∙ inv.causes;
-      grown = trail_then g.S.Site c.args.self.now c.loop-id.self c.write_out.new.self inv.kept.pace inv.grown c.write_out.ensures.grown;
+      grown = trail_then g.S.Site 0 c.args.self.now c.loop-id.self c.write_out.new.self inv.kept.pace (λ t. (inv.tells t).entries_same) inv.grown c.write_out.ensures.grown;
       same = g.met.S.Site.same_then _ _ _ inv.same c.write_out.ensures.same;
     }
 
@@ -40,4 +40,4 @@ pub returns-in-Err-clause-kept : goal.returns-in-Err-clause-kept
 returns-in-Err-clause-kept g c = keeps_on c.loop-id.invariant.kept c.write_out.ensures.kept
 
 pub returns-in-Err-clause-grown : goal.returns-in-Err-clause-grown
-returns-in-Err-clause-grown g c = trail_then g.S.Site c.args.self.now c.loop-id.self c.write_out.new.self c.loop-id.invariant.kept.pace c.loop-id.invariant.grown c.write_out.ensures.grown
+returns-in-Err-clause-grown g c = trail_then g.S.Site 0 c.args.self.now c.loop-id.self c.write_out.new.self c.loop-id.invariant.kept.pace (λ t. (c.loop-id.invariant.tells t).entries_same) c.loop-id.invariant.grown c.write_out.ensures.grown

@@ -16,7 +16,7 @@ invariant-loop-id g l = record {
   kept : KeepsFields l.fn.self l.self;
   tells : IsTrue g.S.Site.tells → TellsSame (view_of g.S.Site l.fn.self.log) (view_of g.S.Site l.self.log);
   causes : faults_of g.S.Site l.self ≡ faults_of g.S.Site l.fn.self;
-  grown : TrailGrows g.S.Site l.fn.self l.self;
+  grown : TrailGrows g.S.Site 0 l.fn.self l.self;
   same : g.S.Site.same_site l.fn.self.log.site l.self.log.site;
 }
 
