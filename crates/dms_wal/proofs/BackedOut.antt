@@ -20,7 +20,7 @@ use Rattle.dms_running.proofs.Appending.{points_enough}
 use Rattle.dms_running.proofs.Framed.{holds_none}
 use Rattle.dms_restore.specs.declared.log.Log.{Log}
 use Rattle.dms_restore.specs.Logging as logs
-use Rattle.dms_restore.specs.Logging.{LogView, telling, state, points, durable, content, LogRuns, PrintsNothing, LogLeaves}
+use Rattle.dms_restore.specs.Logging.{LogView, telling, state, points, content, LogRuns, PrintsNothing, LogLeaves}
 use Rattle.dms_restore.specs.BackOuts.{WentBackTo, GoesBackBy, back_entries}
 use Rattle.dms_restore.specs.Views.{view_of}
 use Rattle.dms_restore.proofs.Logs as lemmas

@@ -24,7 +24,7 @@ use Rattle.dms_restore.specs.Laying.{schema_control}
 use Rattle.dms_restore.specs.Begins.{LeavesEach}
 use Rattle.dms_restore.specs.Endings.{ControlBy, ControlledAt}
 use Rattle.dms_restore.specs.Logging as logs
-use Rattle.dms_restore.specs.Logging.{LogView, telling, state, entries, points, durable, content, LogRuns, PrintsNothing}
+use Rattle.dms_restore.specs.Logging.{LogView, telling, state, entries, points, durable, content}
 use Rattle.dms_restore.specs.Views.{view_of}
 use Rattle.dms_restore.proofs.Logs.{Reads}
 use Rattle.dms_restore.proofs.Endings.{all_next}

@@ -13,7 +13,7 @@ use Rattle.dms_running.specs.Standing.{IsWhole}
 use Rattle.dms_running.specs.Points.{DescribedPoint, LeavesPointsPrefix, points_of}
 use Rattle.dms_running.proofs.Appending.{now_leaves}
 use Rattle.dms_restore.specs.Logging as logs
-use Rattle.dms_restore.specs.Logging.{Trail, telling_of, LogView, telling, state, points, durable, here, content, LogRuns, PrintsNothing}
+use Rattle.dms_restore.specs.Logging.{Trail, telling_of, LogView, telling, state, points, durable, LogRuns, PrintsNothing}
 use Rattle.dms_restore.proofs.Logs as lemmas
 use Rattle.dms_restore.proofs.Logs.{Reads}
 use Rattle.dms_wal.specs.AgreeLaws.{TellsText, front_lifted}

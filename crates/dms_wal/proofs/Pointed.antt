@@ -11,7 +11,7 @@ use Rattle.dms_running.specs.Points.{LeavesPointsPrefix, points_of, next_in}
 use Rattle.dms_running.specs.Standing.{IsWhole}
 use Rattle.dms_running.proofs.Appending.{now_leaves}
 use Rattle.dms_restore.specs.Logging as logs
-use Rattle.dms_restore.specs.Logging.{LogView, view, telling, state, points, durable, here, content, LogRuns, PrintsNothing, LogsQuiet, LogsNothing}
+use Rattle.dms_restore.specs.Logging.{LogView, telling, state, points, durable, here, content, LogRuns, PrintsNothing, LogsQuiet, LogsNothing}
 use Rattle.dms_restore.proofs.Logs as lemmas
 use Rattle.dms_restore.proofs.Logs.{Reads}
 use Rattle.dms_wal.specs.Lifting.{block_point, stop_of, lifted, last_blocks, held_of}

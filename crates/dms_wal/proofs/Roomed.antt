@@ -1,8 +1,6 @@
 -- A block is given up, and written first where it is changed.
 use Rattle.std.proofs.Common.{ℕ, ◌<◌, ◌≤◌, ◌≡◌, true, false, IsTrue, List, [], length, Option, Some, None, sym, ◌∙◌, ap, subst, arith}
 use Rattle.std.specs.Prelude.{option_map}
-use Rattle.std.specs.declared.result.Result.TheVariants.{Ok}
-use Rattle.dms_base.specs.Causes.{HasCause}
 use Rattle.dms_moments.specs.Moments.{Clock, Steps}
 use Rattle.dms_moments.specs.MomentLaws.{steps_on}
 use Rattle.dms_site.specs.declared.site.Site.{Ghosts}
@@ -56,9 +54,6 @@ then_leave a m b same first second points_same surer next_same =
 
 pub then_silent : {a b c : Clock Left} → Steps PrintsNothing a b → Steps PrintsNothing b c → Steps PrintsNothing a c
 then_silent one two = steps_on one two (λ x y z was now p q. q ∙ p) (λ x y was p. p)
-
-pub then_ok : {T U E F : Type 0} (x : T) (y : U) (a m n : ℕ) → m ≡ a → HasCause {T = T} {E = E} m n (Ok x) → HasCause {T = U} {E = F} a n (Ok y)
-then_ok {U = U} {F = F} x y a m n same c = subst (λ k. HasCause {T = U} {E = F} k n (Ok y)) same (record { later = c.later; failed = tt; once = tt; clean = c.clean })
 
 -- once what waits is sealed, the newest Image of a changed block is
 pub newest : (a m : LogView) → LogRuns m → Reads m → waits m.end ≡ [] → LogsNothing a m → (f k : ℕ) (bytes : List ℕ) → logs.IsChangedBlock a f k → block_in (content a) f k ≡ bytes → IsNewestSealed m f k bytes

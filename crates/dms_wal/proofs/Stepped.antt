@@ -16,7 +16,7 @@ use Rattle.dms_running.specs.Points.{DescribedPoint}
 use Rattle.dms_pool.specs.declared.pool.Pool.{Pool}
 use Rattle.dms_restore.specs.declared.log.Log.{Log}
 use Rattle.dms_restore.specs.Logging as logs
-use Rattle.dms_restore.specs.Logging.{LogView, telling, points, durable, content, LogRuns, PrintsNothing}
+use Rattle.dms_restore.specs.Logging.{telling, points, durable, content, PrintsNothing}
 use Rattle.dms_restore.specs.Views.{view_of}
 use Rattle.dms_restore.specs.Counts.{count_of}
 use Rattle.dms_wal.specs.declared.running.Running.{Running}

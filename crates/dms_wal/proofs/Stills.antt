@@ -1,5 +1,5 @@
 -- A database that runs on: after a call that keeps its files, and after calls of its log.
-use Rattle.std.proofs.Common.{ℕ, ◌+◌, ◌<◌, ◌≡◌, ◌^◌, List, [], ◌∷◌, ◌++◌, length, take, None, refl, sym, ◌∙◌, ap, subst, arith}
+use Rattle.std.proofs.Common.{ℕ, ◌+◌, ◌<◌, ◌≡◌, ◌^◌, List, [], ◌∷◌, ◌++◌, length, take, refl, sym, ◌∙◌, ap, subst, arith}
 use Rattle.dms_moments.specs.Moments.{Clock, Steps}
 use Rattle.dms_site.specs.Files.{Files, Left, stored_of}
 use Rattle.dms_history.specs.Events.{AllBlocks, Event, quiet}
@@ -16,17 +16,13 @@ use Rattle.dms_running.specs.Standing.{MayRun}
 use Rattle.dms_running.specs.Running.{entries_now, content_now, IsChanged}
 use Rattle.dms_running.specs.Frames.{Frames, FramesHold}
 use Rattle.dms_running.proofs.Appending.{now_runs}
-use Rattle.dms_running.proofs.Framed.{holds_same, holds_none}
+use Rattle.dms_running.proofs.Framed.{holds_same}
 use Rattle.dms_running.proofs.MayRun.{live_quiet}
 use Rattle.dms_restore.specs.Logging as logs
 use Rattle.dms_restore.specs.Logging.{LogView, view, telling, state, content, entries, LogRuns, LogsNothing, LogsQuiet}
 use Rattle.dms_restore.proofs.Logs as lemmas
 use Rattle.dms_restore.proofs.Logs.{Reads}
 use Rattle.dms_wal.specs.Database.{GoesWith, frames_of}
-use Rattle.dms_wal.specs.declared.running.Start.{Start}
-use Rattle.dms_wal.specs.Starting.{StartsFrom}
-use Rattle.dms_wal.proofs.Pooled.{holds_like, frames_empty}
-use Rattle.dms_pool.specs.Calls.{IsEmpty}
 
 -- the files stay, whatever is printed
 abbrev pub KeepsFiles : Left → Left → Type 0
@@ -102,12 +98,3 @@ module _ (pool : Pool) (next : ℕ) (counts : List ℕ) where
       numbered = ap (λ n. n + 1) g.numbered ∙ sym s.next_is;
       counted = λ f. g.counted f ∙ ap (λ (c : AllBlocks). length (c f)) (sym s.content_same);
     }
-
--- no block is in memory, and all stand
-pub goes_first : (pool : Pool) (a : LogView) (n : ℕ) (s : Start) → IsEmpty n pool → StartsFrom a s → GoesWith a pool s.next s.counts.items
-goes_first pool a n start empty s = record {
-  runs = s.runs;
-  holds = holds_like (telling a) (state a) (λ f b. None) (frames_of pool) (frames_empty n pool empty) (holds_none (telling a) (state a) s.written);
-  numbered = s.numbered;
-  counted = s.counted;
-}

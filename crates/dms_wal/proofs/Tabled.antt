@@ -1,21 +1,17 @@
 -- Tables of counts.
-use Rattle.std.proofs.Common.{ℕ, ◌+◌, ◌-◌, ◌≤◌, ◌<◌, ◌≡◌, ◌≢◌, inl, inr, IsTrue, List, length, set, get_or, max, sym, ◌∙◌, ap, subst, arith}
+use Rattle.std.proofs.Common.{ℕ, ◌+◌, ◌-◌, ◌≤◌, ◌<◌, ◌≡◌, ◌≢◌, inl, inr, List, length, set, get_or, max, sym, ◌∙◌, ap, arith}
 use Rattle.std.proofs.lemmas.Bool.{cases_lt, cases_eq}
 use Rattle.std.proofs.lemmas.Bool.Decides.{nat_tests}
 use Rattle.std.proofs.lemmas.List.{get_or-set_other}
 use Rattle.dms_block.specs.Content.{limit, raised}
 use Rattle.dms_restore.specs.Counts.{count_of}
-use Rattle.dms_wal.specs.Lifting.{owns_of, AreCounts}
+use Rattle.dms_wal.specs.Lifting.{AreCounts}
 
 pub count_at : (l : List ℕ) (f : ℕ) → 30000 < f → count_of l f ≡ get_or l (f - 30001) 0
 count_at l f structure = grind (arith, nat_tests, structure)
 
 pub count_low : (l : List ℕ) (f : ℕ) → f ≤ 30000 → count_of l f ≡ 0
 count_low l f low = grind (arith, nat_tests, low)
-
--- a file of the table
-pub owned_at : (l : List ℕ) (f : ℕ) → IsTrue (owns_of l f) → (30000 < f) × (f ≤ 30000 + length l)
-owned_at l f is = (grind (arith, nat_tests, is), grind (arith, nat_tests, is))
 
 raised_here : (c : ℕ → ℕ) (f b : ℕ) → raised c f b f ≡ max (c f) (b + 1)
 raised_here c f b = grind (arith, nat_tests)
@@ -29,16 +25,6 @@ module _ (l : List ℕ) (f b : ℕ) (structure : 30000 < f) where
     | inl high ↦ count_at (set l (f - 30001) n) g high ∙ get_or-set_other l (f - 30001) (g - 30001) n 0 (λ e. other (omega (arith, e, high, structure))) ∙ sym (count_at l g high)
     | inr low ↦ count_low (set l (f - 30001) n) g (omega (arith, low)) ∙ sym (count_low l g (omega (arith, low)))
   ]
-
-  -- one that is there
-  pub raised_old : b < get_or l (f - 30001) 0 → count_of l ≡ raised (count_of l) f b
-  raised_old low = λ i g. one g i
-    where
-      one : (g : ℕ) → count_of l g ≡ raised (count_of l) f b g
-      one g = elim (cases_eq g f) [
-        | inl same ↦ subst (λ h. count_of l h ≡ raised (count_of l) f b h) (sym same) (sym (raised_here (count_of l) f b ∙ omega (arith, count_at l f structure, low)))
-        | inr other ↦ sym (raised_other (count_of l) f b g other)
-      ]
 
 raised_cases : (c : ℕ → ℕ) (f b g : ℕ) → b < limit → c g ≤ limit → raised c f b g ≤ limit
 raised_cases c f b g low small = elim (cases_eq g f) [
