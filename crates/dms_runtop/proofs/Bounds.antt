@@ -1,36 +1,30 @@
 -- How much audit a run takes, step by step.
-use Rattle.std.proofs.Common.{ℕ, zero, suc, ◌+◌, ◌-◌, ◌*◌, ◌^◌, ◌<◌, ◌≤◌, ◌≡◌, ◌∙◌, inl, inr, true, IsTrue, List, [], ◌++◌, length, length-append, take, Option, Some, sym, ap, subst, arith}
+use Rattle.std.proofs.Common.{ℕ, zero, suc, ◌+◌, ◌-◌, ◌*◌, ◌^◌, ◌<◌, ◌≤◌, ◌≡◌, ◌⊎◌, ◌∙◌, inl, inr, false, true, IsTrue, List, [], ◌++◌, length, take, Option, Some, sym, ap, subst, arith}
 use Rattle.std.proofs.lemmas.List.{append-nil, take_all}
-use Rattle.dms_audfile.specs.TrailEntries.{trail_entries}
-use Rattle.dms_block.specs.Counts.{Faults}
 use Rattle.dms_block.specs.declared.block_fault.BlockFault.TheVariants as block
 use Rattle.dms_block.specs.Texts.{Prints, PrintsPrefix}
 use Rattle.dms_desc.specs.Shape.{Described}
 use Rattle.dms_history.specs.Entries.{Entry}
 use Rattle.dms_history.proofs.Order.{append_none}
 use Rattle.dms_model.specs.Seen.{Effort, Seen}
-use Rattle.dms_runner.specs.Blaming.{HasBlame}
-use Rattle.dms_runner.specs.Events.{RunEvent, SaidAtLeast, TakesEvents, TookPart, backs_of, blocks_of, quiets_of, syncs_of, text_of}
+use Rattle.dms_runner.specs.Events.{RunEvent, SaidAtLeast, TakesEvents, TookAll, TookOneMore, TookPart, backs_of, blocks_of, quiets_of, syncs_of, text_of}
 use Rattle.dms_runner.specs.declared.run.RunFault.{RunFault}
 use Rattle.dms_runner.specs.declared.run.RunFault.TheVariants.{Block}
 use Rattle.dms_runner.proofs.Texts.{front_all, front_none, prints_none}
 use Rattle.dms_running.specs.Telling.{Telling}
-use Rattle.dms_restore.specs.Logging.{entries, telling, waits}
+use Rattle.dms_restore.specs.Logging.{FilesGrew, entries, telling, waits}
 use Rattle.dms_restore.specs.Views.{view_of}
 use Rattle.dms_site.specs.declared.site.Site.{Ghosts}
 use Rattle.dms_site.specs.Files.{Files}
-use Rattle.dms_status.specs.declared.status.LimitKind.TheVariants.{AuditFile}
 use Rattle.dms_status.specs.declared.status.Status.{Status}
-use Rattle.dms_status.specs.declared.status.Status.TheVariants.{Ok, Limit, DiskFault, SayFault}
+use Rattle.dms_status.specs.declared.status.Status.TheVariants.{Ok, SayFault}
 use Rattle.dms_storeverbs.specs.Costs.{limit_if}
 use Rattle.dms_wal.specs.declared.running.Running.{Running}
 use Rattle.dms_wal.specs.Controls.{is_due_at}
-use Rattle.dms_wal.specs.Growing.{FilesGrew, GrowsBy, HasStayed, IsCounted, controls_among}
+use Rattle.dms_wal.specs.Growing.{GrowsBy, IsCounted, controls_among}
 use Rattle.dms_wal.proofs.Grown.{stays_or_rises}
-use Rattle.dms_opening.specs.Openings.{SealsFew}
-use Rattle.dms_runtop.specs.Bound.{AreCounted, BoundsAudit, PrintsEvents, audit_begun, audit_of}
+use Rattle.dms_runtop.specs.Bound.{AreCounted, BoundsAudit, GrewWithin, PrintsEvents, audit_begun, audit_of}
 use Rattle.dms_runtop.specs.Faults.{IsWithin, run_status}
-use Rattle.dms_runtop.proofs.Counted.{within_disk}
 use Rattle.dms_runtop.proofs.Endings.{run_not_ok}
 
 -- ---- the text
@@ -61,63 +55,59 @@ says_all cut events x y text =
 says_uncut : {cut cut' : Type 0} {k : ℕ} {events : List RunEvent} {x y : Option (List ℕ)} → ((cut' → ⊥) → cut → ⊥) → PrintsEvents cut k events x y → PrintsEvents cut' k events x y
 says_uncut whole p = record { text = λ off. p.text (whole off); whole = p.whole; near = p.near; least = p.least; most = p.most }
 
--- ---- statuses
-
-ok_not_disk : Ok ≡ DiskFault → ⊥
-ok_not_disk is = absurd cc
-
-full_not_disk : (f : ℕ) → Limit (AuditFile f) ≡ DiskFault → ⊥
-full_not_disk f is = absurd cc
-
-full_not_say : (f : ℕ) → Limit (AuditFile f) ≡ SayFault → ⊥
-full_not_say f is = absurd cc
-
--- where a call of the disk failed nothing is said
-pub bounds_disk : {n : ℕ} {P : Type 0} {t : Telling} {desc : Described} {events : List RunEvent} {a b : Files} {x y : Option (List ℕ)} {s : Status} → s ≡ DiskFault → BoundsAudit n P t desc events a b x y s
-bounds_disk is = record { at_ok = λ p ok. absurd (ok_not_disk (sym ok ∙ is)); at_end = λ p off. absurd (off is) }
-
--- nor where its count isn't known
-pub bounds_void : {n : ℕ} {P : Type 0} {t : Telling} {desc : Described} {events : List RunEvent} {a b : Files} {x y : Option (List ℕ)} {s : Status} → (P → ⊥) → BoundsAudit n P t desc events a b x y s
-bounds_void none = record { at_ok = λ p ok. absurd (none p); at_end = λ p off. absurd (none p) }
-
--- a part is as much of what the files of an earlier moment hold, where no more was added since than is allowed besides
-pub bounds_since : {n m : ℕ} {P Q : Type 0} {t : Telling} {desc : Described} {events : List RunEvent} {a0 a b : Files} {x y : Option (List ℕ)} {s : Status} → (Q → P) → length (t.entries a) + n ≤ length (t.entries a0) + m
-    → BoundsAudit n P t desc events a b x y s → BoundsAudit m Q t desc events a0 b x y s
-bounds_since counts grew bound = record {
-  at_ok = λ q is c. omega (arith, grew, bound.at_ok (counts q) is c);
-  at_end = λ q off. let p = bound.at_end (counts q) off in record { k = p.k; within = p.within; printed = p.printed; grew = λ c. omega (arith, grew, p.grew c) };
+-- and where the text is the same
+says_same : {cut : Type 0} {k : ℕ} {events : List RunEvent} {x y z : Option (List ℕ)} → z ≡ y → PrintsEvents cut k events x y → PrintsEvents cut k events x z
+says_same {k = k} {events = events} {x = x} same p = record {
+  text = λ off. subst (λ (o : Option (List ℕ)). Prints x o (text_of (take k events))) (sym same) (p.text off);
+  whole = p.whole;
+  near = p.near;
+  least = subst (λ (o : Option (List ℕ)). SaidAtLeast x o (text_of (take p.whole events))) (sym same) p.least;
+  most = subst (λ (o : Option (List ℕ)). PrintsPrefix x o (text_of (take k events))) (sym same) p.most;
 }
 
--- so it is after a later look, which changed nothing
-pub bounds_looked : {n : ℕ} {P : Type 0} {t : Telling} {desc : Described} {events : List RunEvent} {a b c : Files} {x y z : Option (List ℕ)} (k : ℕ) (s0 s : Status) → s0 ≡ Limit (AuditFile k) → (s ≡ Ok → ⊥) → c ≡ b → z ≡ y
-    → BoundsAudit n P t desc events a b x y s0 → BoundsAudit n P t desc events a c x z s
-bounds_looked {t = t} {events = events} {x = x} k s0 s full not_ok files said bound = record {
-  at_ok = λ p is. absurd (not_ok is);
-  at_end = λ p off.
-      let q = bound.at_end p (λ disk. full_not_disk k (sym full ∙ disk)) in
+-- ---- what was done before, and what is done since
+
+-- a part is as much of what the files of an earlier moment hold, where no more was added since than is allowed besides
+grew_since : (n m : ℕ) (t : Telling) (desc : Described) (whole k : ℕ) (events : List RunEvent) (a0 a b : Files) → length (t.entries a) + n ≤ length (t.entries a0) + m → GrewWithin n t desc whole k events a b → GrewWithin m t desc whole k events a0 b
+grew_since n m t desc whole k events a0 a b grew (inl all) = inl (omega (arith, grew, all))
+grew_since n m t desc whole k events a0 a b grew (inr more) = inr (more.0, omega (arith, grew, more.1))
+
+pub bounds_since : {n m : ℕ} {t : Telling} {desc : Described} {events : List RunEvent} {a0 a b : Files} {x y : Option (List ℕ)} {s : Status} → length (t.entries a) + n ≤ length (t.entries a0) + m → BoundsAudit n t desc events a b x y s
+    → BoundsAudit m t desc events a0 b x y s
+bounds_since {n} {m} {t} {desc} {events} {a0} {a} {b} grew bound = record {
+  at_ok = λ is c. omega (arith, grew, bound.at_ok is c);
+  at_end =
+      let p = bound.at_end in
+      let more : length (t.entries a) + (n + 18) ≤ length (t.entries a0) + (m + 18) = omega (arith, grew) in
+      record { k = p.k; within = p.within; printed = p.printed; grew = λ c. grew_since (n + 18) (m + 18) t desc p.printed.whole p.k events a0 a b more (p.grew c) };
+}
+
+-- so it is where the run ends with another status, and nothing was done since
+pub bounds_instead : {n : ℕ} {t : Telling} {desc : Described} {events : List RunEvent} {a b c : Files} {x y z : Option (List ℕ)} (s0 s : Status) → (s0 ≡ SayFault → ⊥) → (s ≡ Ok → ⊥) → c ≡ b → z ≡ y
+    → BoundsAudit n t desc events a b x y s0 → BoundsAudit n t desc events a c x z s
+unfolding says_same says_uncut
+bounds_instead {n} {t} {desc} {events} {a} {x = x} s0 s unsaid not_ok files said bound = record {
+  at_ok = λ is. absurd (not_ok is);
+  at_end =
+      let q = bound.at_end in
       record {
         k = q.k;
         within = q.within;
-        printed = subst (λ (o : Option (List ℕ)). PrintsEvents (s ≡ SayFault) q.k events x o) (sym said) (says_uncut (λ other cut. full_not_say k (sym full ∙ cut)) q.printed);
-        grew = λ c. omega (arith, q.grew c, ap (λ (l : Files). length (t.entries l)) files);
+        printed = says_same said (says_uncut (λ other cut. unsaid cut) q.printed);
+        grew = λ counted. subst (λ (f : Files). GrewWithin (n + 18) t desc q.printed.whole q.k events a f) (sym files) (q.grew counted);
       };
 }
 
 -- nothing was said, and the files have no more than an opening adds
-pub bounds_opening : {n : ℕ} {P : Type 0} {t : Telling} {desc : Described} {events : List RunEvent} {a b : Files} {x y : Option (List ℕ)} (s : Status) → (s ≡ Ok → ⊥) → ((s ≡ DiskFault → ⊥) → length (t.entries b) ≤ length (t.entries a) + n)
-    → y ≡ x → BoundsAudit n P t desc events a b x y s
+pub bounds_opening : {n : ℕ} {t : Telling} {desc : Described} {events : List RunEvent} {a b : Files} {x y : Option (List ℕ)} (s : Status) → (s ≡ Ok → ⊥) → length (t.entries b) ≤ length (t.entries a) + n → y ≡ x → BoundsAudit n t desc events a b x y s
 bounds_opening {events = events} {x = x} {y = y} s not_ok few same = record {
-  at_ok = λ p is. absurd (not_ok is);
-  at_end = λ p off. record { k = 0; within = omega arith; printed = says_none (s ≡ SayFault) events x y same; grew = λ c. omega (arith, few off) };
+  at_ok = λ is. absurd (not_ok is);
+  at_end = record { k = 0; within = omega arith; printed = says_none (s ≡ SayFault) events x y same; grew = λ c. inl (omega (arith, few)) };
 }
 
 -- nothing was done
-pub bounds_none : {n : ℕ} {P : Type 0} {t : Telling} {desc : Described} {events : List RunEvent} {a b : Files} {x y : Option (List ℕ)} (s : Status) → (s ≡ Ok → ⊥) → b ≡ a → y ≡ x → BoundsAudit n P t desc events a b x y s
-bounds_none {t = t} s not_ok files same = bounds_opening s not_ok (λ off. omega (arith, ap (λ (l : Files). length (t.entries l)) files)) same
-
--- what an opening makes
-pub sealed_few : (total first : ℕ) (old new : Files) → SealsFew total first old new → length (trail_entries total first new) ≤ length (trail_entries total first old) + 19
-sealed_few total first old new s = omega (arith, ap (λ (l : List Entry). length l) s.entries_are, length-append (trail_entries total first old) s.more, s.few)
+pub bounds_none : {n : ℕ} {t : Telling} {desc : Described} {events : List RunEvent} {a b : Files} {x y : Option (List ℕ)} (s : Status) → (s ≡ Ok → ⊥) → b ≡ a → y ≡ x → BoundsAudit n t desc events a b x y s
+bounds_none {t = t} s not_ok files same = bounds_opening s not_ok (omega (arith, ap (λ (l : Files). length (t.entries l)) files)) same
 
 -- ---- control points
 
@@ -154,77 +144,99 @@ module _ {S : Type 0} (g : Ghosts S) (d : Described) (r r' : Running S) (t : Tel
       let v = view_of g r.log in
       ap (λ (l : List Entry). length ((telling v).entries v.files ++ l)) nothing ∙ ap (λ (l : List Entry). length l) (append_none ((telling v).entries v.files)) ∙ ap (λ (k : Telling). length (k.entries v.files)) told
 
-  -- the entries of the log, by bounds of its uses
-  grown : HasStayed (g.disk_faults r.log.site) (g.disk_faults r'.log.site) → (blocks made synced backs : ℕ) → r'.spent ≤ blocks → r'.next ≤ r.next + made → r'.syncs ≤ synced → r'.outs ≤ backs → blocks < 2 ^ 64 - 1 → synced < 2 ^ 64 - 1 → backs < 2 ^ 64 - 1
-      → length (entries (view_of g r'.log)) ≤ length (t.entries (g.files r.log.site)) + (blocks + made + 18 * controls_among d.controlpoint synced + 19 * backs)
-  grown stayed blocks made synced backs one used two three low_one low_two low_three =
-      let counted : IsCounted r' = record { spent = omega (arith, one, low_one); syncs = omega (arith, two, low_two); outs = omega (arith, three, low_three) } in
-      let more = grows.grows tells stayed counted in
-      let same : controls_among r'.every r'.syncs ≡ controls_among d.controlpoint r'.syncs = ap (λ n. controls_among n r'.syncs) (grows.every ∙ every) in
-      omega (arith, more, entry_entries, same, controls_low d.controlpoint r'.syncs synced two, one, used, three)
+  -- by bounds of its uses
+  module _ (blocks made synced backs : ℕ) (one : r'.spent ≤ blocks) (used : r'.next ≤ r.next + made) (two : r'.syncs ≤ synced) (three : r'.outs ≤ backs) (low_one : blocks < 2 ^ 64 - 1) (low_two : synced < 2 ^ 64 - 1) (low_three : backs < 2 ^ 64 - 1) where
+    counted : IsCounted r'
+    counted = record { spent = omega (arith, one, low_one); syncs = omega (arith, two, low_two); outs = omega (arith, three, low_three) }
 
-  -- what the files hold is a part of it
-  exit_entries : length (t.entries (g.files r'.log.site)) ≤ length (entries (view_of g r'.log))
-  exit_entries =
-      let v = view_of g r'.log in
-      omega (arith, length-append ((telling v).entries v.files) (waits v.end), ap (λ (k : Telling). length (k.entries v.files)) told')
+    controls : controls_among r'.every r'.syncs ≤ controls_among d.controlpoint synced
+    controls = subst (λ n. controls_among n r'.syncs ≤ controls_among d.controlpoint synced) (sym (grows.every ∙ every)) (controls_low d.controlpoint r'.syncs synced two)
 
-  module _ (events : List RunEvent) (old new : Seen) (old_is : old.effort ≡ effort_is r) (new_is : new.effort ≡ effort_is r') (next_is : old.next ≡ r.next) (next_is' : new.next ≡ r'.next) (desc_is : old.desc ≡ d) (disk : old.faults.disk ≡ g.disk_faults r.log.site) (disk' : new.faults.disk ≡ g.disk_faults r'.log.site) where
-    stayed_by : new.faults.disk ≡ old.faults.disk → g.disk_faults r.log.site < 2 ^ 64 - 1 → HasStayed (g.disk_faults r.log.site) (g.disk_faults r'.log.site)
-    stayed_by same low = (omega (arith, same, disk, disk'), omega (arith, same, disk, disk', low))
+    -- the entries of the log, where no call of it failed
+    in_log : r'.broken ≡ false → length (entries (view_of g r'.log)) ≤ length (t.entries (g.files r.log.site)) + (blocks + made + 18 * controls_among d.controlpoint synced + 19 * backs)
+    in_log unbroken = omega (arith, grows.grows tells unbroken counted, entry_entries, controls, one, used, three)
 
+    -- and those of the files, whatever failed
+    in_files : length (t.entries (g.files r'.log.site)) ≤ length (t.entries (g.files r.log.site)) + (blocks + made + 18 * controls_among d.controlpoint synced + 19 * backs)
+    in_files = omega (arith, grows.sealed tells counted, ap (λ (k : Telling). length (k.entries (g.files r'.log.site))) told', entry_entries, controls, one, used, three)
+
+  module _ (events : List RunEvent) (old new : Seen) (old_is : old.effort ≡ effort_is r) (new_is : new.effort ≡ effort_is r') (next_is : old.next ≡ r.next) (next_is' : new.next ≡ r'.next) (desc_is : old.desc ≡ d) where
     blocks_same : (es : List RunEvent) → blocks_of old.desc es ≡ blocks_of d es
     blocks_same es = ap (λ (x : Described). blocks_of x es) desc_is
 
+    spent_now : new.effort.spent ≡ r'.spent
+    spent_now = ap (λ (x : Effort). x.spent) new_is
+
+    syncs_now : new.effort.syncs ≡ r'.syncs
+    syncs_now = ap (λ (x : Effort). x.syncs) new_is
+
+    outs_now : new.effort.outs ≡ r'.outs
+    outs_now = ap (λ (x : Effort). x.outs) new_is
+
+    spent_then : old.effort.spent ≡ 0
+    spent_then = ap (λ (x : Effort). x.spent) old_is ∙ spent
+
+    syncs_then : old.effort.syncs ≡ 0
+    syncs_then = ap (λ (x : Effort). x.syncs) old_is ∙ syncs
+
+    outs_then : old.effort.outs ≡ 0
+    outs_then = ap (λ (x : Effort). x.outs) old_is ∙ outs
+
+    -- no more was done than these events may take
+    log_all : (es : List RunEvent) → r'.broken ≡ false → TakesEvents old.desc es old.effort new.effort → new.next ≤ old.next + length (quiets_of es) → AreCounted d es
+        → length (entries (view_of g r'.log)) ≤ length (t.entries (g.files r.log.site)) + audit_of d es
+    log_all es unbroken takes numbers c =
+        in_log (blocks_of d es) (length (quiets_of es)) (syncs_of es) (backs_of es) (omega (arith, takes.spent, spent_now, spent_then, blocks_same es)) (omega (arith, numbers, next_is, next_is')) (omega (arith, takes.syncs, syncs_now, syncs_then))
+        (omega (arith, takes.outs, outs_now, outs_then)) (omega (arith, c.blocks)) (omega (arith, c.syncs)) (omega (arith, c.backs)) unbroken
+
+    files_all : (es : List RunEvent) → TookAll old new es → AreCounted d es → length (t.entries (g.files r'.log.site)) ≤ length (t.entries (g.files r.log.site)) + audit_of d es
+    files_all es took c =
+        let takes = took.effort in
+        in_files (blocks_of d es) (length (quiets_of es)) (syncs_of es) (backs_of es) (omega (arith, takes.spent, spent_now, spent_then, blocks_same es)) (omega (arith, took.next, next_is, next_is')) (omega (arith, takes.syncs, syncs_now, syncs_then))
+        (omega (arith, takes.outs, outs_now, outs_then)) (omega (arith, c.blocks)) (omega (arith, c.syncs)) (omega (arith, c.backs))
+
+    -- and one call more was under way
+    files_more : (whole k : ℕ) → TookOneMore old new whole k events → AreCounted d (take k events) → length (t.entries (g.files r'.log.site)) ≤ length (t.entries (g.files r.log.site)) + audit_begun d (take k events)
+    files_more whole k took c =
+        let es = take k events in
+        let made = in_files (blocks_of d es + limit_if true d) (length (quiets_of es) + 1) (syncs_of es + 1) (backs_of es + 1) (omega (arith, took.spent, spent_now, spent_then, blocks_same es, ap (λ (x : Described). limit_if true x) desc_is))
+        (omega (arith, took.next, next_is, next_is')) (omega (arith, took.syncs, syncs_now, syncs_then)) (omega (arith, took.outs, outs_now, outs_then)) c.blocks c.syncs c.backs in
+        omega (arith, made)
+
+    files_took : (whole k : ℕ) → TookAll old new (take k events) ⊎ TookOneMore old new whole k events → AreCounted d (take k events) → GrewWithin 18 t d whole k events (g.files r.log.site) (g.files r'.log.site)
+    files_took whole k (inl took) c = inl (omega (arith, files_all (take k events) took c))
+    files_took whole k (inr took) c = inr (record { said = took.said; more = took.more; answered = took.answered }, omega (arith, files_more whole k took c))
+
     -- the script stopped before its end
-    pub failed_bound : (last : ℕ) (fault then : RunFault) → IsWithin last fault then → HasBlame fault old.faults new.faults → TookPart (fault ≡ Block block.Say) old new events
-        → BoundsAudit 0 (g.disk_faults r.log.site < 2 ^ 64 - 1) t d events (g.files r.log.site) (g.files r'.log.site) old.said new.said (run_status then)
-    failed_bound last fault then within blame part = record {
-      at_ok = λ p is. absurd (run_not_ok then is);
-      at_end = λ p off.
-          let stayed = stayed_by ((within_disk last fault then old.faults new.faults within blame).clean off) p in
-          let es = take part.k events in
-          record {
-            k = part.k;
-            within = part.within;
-            printed = record { text = λ unsaid. part.text (λ cut. unsaid (say_within last fault then within cut)); whole = part.whole; near = part.near; least = part.least; most = part.most };
-            grew = λ c.
-                let all = grown stayed (blocks_of d es + limit_if true d) (length (quiets_of es) + 1) (syncs_of es + 1) (backs_of es + 1)
-                (omega (arith, part.spent, ap (λ (x : Effort). x.spent) old_is, ap (λ (x : Effort). x.spent) new_is, spent, blocks_same es, ap (λ (x : Described). limit_if true x) desc_is))
-                (omega (arith, part.next, next_is, next_is'))
-                (omega (arith, part.syncs, ap (λ (x : Effort). x.syncs) old_is, ap (λ (x : Effort). x.syncs) new_is, syncs))
-                (omega (arith, part.outs, ap (λ (x : Effort). x.outs) old_is, ap (λ (x : Effort). x.outs) new_is, outs)) c.blocks c.syncs c.backs in
-                omega (arith, all, exit_entries);
-          };
+    pub failed_bound : (last : ℕ) (fault then : RunFault) → IsWithin last fault then → TookPart (fault ≡ Block block.Say) old new events → BoundsAudit 0 t d events (g.files r.log.site) (g.files r'.log.site) old.said new.said (run_status then)
+    failed_bound last fault then within part = record {
+      at_ok = λ is. absurd (run_not_ok then is);
+      at_end = record {
+        k = part.k;
+        within = part.within;
+        printed = record { text = λ unsaid. part.text (λ cut. unsaid (say_within last fault then within cut)); whole = part.whole; near = part.near; least = part.least; most = part.most };
+        grew = files_took part.whole part.k part.took;
+      };
     }
 
-    -- the script was carried out, and then the database closed, or not closed
-    pub closed_bound : (status : Status) (files : Files) (said : Option (List ℕ)) → new.faults ≡ old.faults → TakesEvents old.desc events old.effort new.effort → new.next ≡ old.next + length (quiets_of events)
-        → ((status ≡ DiskFault → ⊥) → FilesGrew 37 (view_of g r'.log) files) → Prints old.said said (text_of events)
-        → BoundsAudit 0 (g.disk_faults r.log.site < 2 ^ 64 - 1) t d events (g.files r.log.site) files old.said said status
-    closed_bound status files said faults takes numbers few text = record {
-      at_ok = λ p is c. omega (arith, whole p c, closing (λ disk. ok_not_disk (sym is ∙ disk)));
-      at_end = λ p off.
+    module _ (takes : TakesEvents old.desc events old.effort new.effort) (numbers : new.next ≡ old.next + length (quiets_of events)) where
+      -- all events happened, and so many entries the files have then
+      all_bound : (status : Status) (files : Files) (said : Option (List ℕ)) → Prints old.said said (text_of events) → (AreCounted d events → length (t.entries files) ≤ length (t.entries (g.files r.log.site)) + audit_of d events + 18)
+          → BoundsAudit 0 t d events (g.files r.log.site) files old.said said status
+      all_bound status files said text few =
           let all : take (length events) events ≡ events = take_all (length events) events (omega arith) in
           record {
-            k = length events;
-            within = omega arith;
-            printed = says_all (status ≡ SayFault) events old.said said text;
-            grew = λ c.
-                let c' : AreCounted d events = subst (λ (es : List RunEvent). AreCounted d es) all c in
-                omega (arith, whole p c', closing off, ap (λ (es : List RunEvent). audit_begun d es) all, controls_low d.controlpoint (syncs_of events) (syncs_of events + 1) (omega arith));
-          };
-    }
-      where
-        -- what the log has
-        whole : g.disk_faults r.log.site < 2 ^ 64 - 1 → AreCounted d events → length (entries (view_of g r'.log)) ≤ length (t.entries (g.files r.log.site)) + audit_of d events
-        whole p c =
-            grown (stayed_by (ap (λ (x : Faults). x.disk) faults) p) (blocks_of d events) (length (quiets_of events)) (syncs_of events) (backs_of events)
-            (omega (arith, takes.spent, ap (λ (x : Effort). x.spent) old_is, ap (λ (x : Effort). x.spent) new_is, spent, blocks_same events))
-            (omega (arith, numbers, next_is, next_is'))
-            (omega (arith, takes.syncs, ap (λ (x : Effort). x.syncs) old_is, ap (λ (x : Effort). x.syncs) new_is, syncs))
-            (omega (arith, takes.outs, ap (λ (x : Effort). x.outs) old_is, ap (λ (x : Effort). x.outs) new_is, outs)) (omega (arith, c.blocks)) (omega (arith, c.syncs)) (omega (arith, c.backs))
+            at_ok = λ is c. omega (arith, few c);
+            at_end = record {
+              k = length events;
+              within = omega arith;
+              printed = says_all (status ≡ SayFault) events old.said said text;
+              grew = λ c. inl (omega (arith, few (subst (λ (es : List RunEvent). AreCounted d es) all c), ap (λ (es : List RunEvent). audit_of d es) all));
+            };
+          }
 
-        -- and what the files hold behind the close
-        closing : (status ≡ DiskFault → ⊥) → length (t.entries files) ≤ length (entries (view_of g r'.log)) + 37
-        closing off = subst (λ (k : Telling). length (k.entries files) ≤ length (entries (view_of g r'.log)) + 37) told' (few off)
+      -- the script was carried out, and then the database closed, or not closed
+      pub closed_bound : (status : Status) (files : Files) (said : Option (List ℕ)) → r'.broken ≡ false → FilesGrew 18 (view_of g r'.log) files → Prints old.said said (text_of events) → BoundsAudit 0 t d events (g.files r.log.site) files old.said said status
+      closed_bound status files said unbroken few text =
+          let closing : length (t.entries files) ≤ length (entries (view_of g r'.log)) + 18 = subst (λ (k : Telling). length (k.entries files) ≤ length (entries (view_of g r'.log)) + 18) told' few in
+          all_bound status files said text (λ c. omega (arith, closing, log_all events unbroken takes (omega (arith, numbers)) c))

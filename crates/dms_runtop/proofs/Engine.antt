@@ -39,7 +39,7 @@ use Rattle.dms_run.specs.States.{EndsWith, LivesEndWith}
 use Rattle.dms_run.specs.Stops.{RunLeaves, last_quiet_number}
 use Rattle.dms_status.specs.declared.status.Status.{Status}
 use Rattle.dms_status.specs.declared.status.Status.TheVariants.{Ok, Memory}
-use Rattle.dms_runtop.specs.Bound.{BoundsAudit, CountsFailures}
+use Rattle.dms_runtop.specs.Bound.{BoundsAudit}
 use Rattle.dms_runtop.specs.Faults.{IsWithin, run_status}
 use Rattle.dms_runtop.proofs.Bounds.{bounds_none}
 use Rattle.dms_runtop.specs.Over.{BeginsAt, ClosesOver, FilesEndWith, RunsOver, ScriptRuns, seen_site}
@@ -142,18 +142,18 @@ module _ {S : Type 0} (g : Ghosts S) (d e e' : Described) (r r' : Running S) (sa
       → PrintsPrefix entry (said_of g r'.log) (answers_text d db r.next (raw_lines all)) → ((fault ≡ Block block.Say → ⊥) → SaidWhole entry (said_of g r'.log) events)
       → (fault ≡ run.Lines → PassesLines d db r.next (raw_lines all) entry (said_of g r'.log)) → (fault ≡ run.Bytes → PassesBytes d db r.next (raw_lines all) entry (said_of g r'.log))
       → (fault ≡ run.Held → PassesWaiting d db r.next (raw_lines all) entry (said_of g r'.log)) → (fault ≡ run.Input → CutInput d db r.next all left' entry (said_of g r'.log))
-      → ((f k : ℕ) → fault ≡ Block (block.Damaged f k) → ⊥) → ((f : ℕ) → fault ≡ Block (block.Full f) → f ≡ r'.log.end.limit) → BoundsAudit 0 (CountsFailures g r.log.site (run_status fault)) t d events (g.files r.log.site) (g.files r'.log.site) entry (said_of g r'.log) (run_status fault)
-      → ScriptRuns 0 (CountsFailures g r.log.site) t d ps n db r.next all (seen_site g r.log.site) (seen_site g site) left' status
+      → ((f k : ℕ) → fault ≡ Block (block.Damaged f k) → ⊥) → ((f : ℕ) → fault ≡ Block (block.Full f) → f ≡ r'.log.end.limit) → BoundsAudit 0 t d events (g.files r.log.site) (g.files r'.log.site) entry (said_of g r'.log) (run_status fault)
+      → ScriptRuns 0 t d ps n db r.next all (seen_site g r.log.site) (seen_site g site) left' status
   failed_over left' fault status site status_is site_is leaves part whole lines bytes waits cut damaged full bound =
-      subst (λ (x : Status). ScriptRuns 0 (CountsFailures g r.log.site) t d ps n db r.next all (seen_site g r.log.site) (seen_site g site) left' x) (sym status_is)
-      (subst (λ (x : S). ScriptRuns 0 (CountsFailures g r.log.site) t d ps n db r.next all (seen_site g r.log.site) (seen_site g x) left' (run_status fault)) (sym site_is)
-      (ran_failed 0 (CountsFailures g r.log.site) t d ps n db r.next all (seen_site g r.log.site) (seen_site g r'.log.site) left' fault (moments_of leaves) part whole lines bytes waits cut damaged (λ f is. full f is ∙ pace.limit ∙ b.limit_is) bound))
+      subst (λ (x : Status). ScriptRuns 0 t d ps n db r.next all (seen_site g r.log.site) (seen_site g site) left' x) (sym status_is)
+      (subst (λ (x : S). ScriptRuns 0 t d ps n db r.next all (seen_site g r.log.site) (seen_site g x) left' (run_status fault)) (sym site_is)
+      (ran_failed 0 t d ps n db r.next all (seen_site g r.log.site) (seen_site g r'.log.site) left' fault (moments_of leaves) part whole lines bytes waits cut damaged (λ f is. full f is ∙ pace.limit ∙ b.limit_is) bound))
 
   -- the bound of one fault is that of the same one
-  bound_at : (then fault : RunFault) → then ≡ fault → BoundsAudit 0 (CountsFailures g r.log.site (run_status then)) t d events (g.files r.log.site) (g.files r'.log.site) entry (said_of g r'.log) (run_status then)
-      → BoundsAudit 0 (CountsFailures g r.log.site (run_status fault)) t d events (g.files r.log.site) (g.files r'.log.site) entry (said_of g r'.log) (run_status fault)
+  bound_at : (then fault : RunFault) → then ≡ fault → BoundsAudit 0 t d events (g.files r.log.site) (g.files r'.log.site) entry (said_of g r'.log) (run_status then)
+      → BoundsAudit 0 t d events (g.files r.log.site) (g.files r'.log.site) entry (said_of g r'.log) (run_status fault)
   bound_at then fault same bound =
-      subst (λ (x : RunFault). BoundsAudit 0 (CountsFailures g r.log.site (run_status x)) t d events (g.files r.log.site) (g.files r'.log.site) entry (said_of g r'.log) (run_status x)) same bound
+      subst (λ (x : RunFault). BoundsAudit 0 t d events (g.files r.log.site) (g.files r'.log.site) entry (said_of g r'.log) (run_status x)) same bound
 
   -- the same, where a full audit at another file counted as want of memory
   pub within_over : (left' : Option (List ℕ)) (last : ℕ) (fault then : RunFault) (status : Status) (site : S) → IsWithin last fault then → last ≡ r'.log.end.limit → status ≡ run_status then → site ≡ r'.log.site
@@ -161,8 +161,8 @@ module _ {S : Type 0} (g : Ghosts S) (d e e' : Described) (r r' : Running S) (sa
       → PrintsPrefix entry (said_of g r'.log) (answers_text d db r.next (raw_lines all)) → ((fault ≡ Block block.Say → ⊥) → SaidWhole entry (said_of g r'.log) events)
       → (fault ≡ run.Lines → PassesLines d db r.next (raw_lines all) entry (said_of g r'.log)) → (fault ≡ run.Bytes → PassesBytes d db r.next (raw_lines all) entry (said_of g r'.log))
       → (fault ≡ run.Held → PassesWaiting d db r.next (raw_lines all) entry (said_of g r'.log)) → (fault ≡ run.Input → CutInput d db r.next all left' entry (said_of g r'.log))
-      → ((f k : ℕ) → fault ≡ Block (block.Damaged f k) → ⊥) → BoundsAudit 0 (CountsFailures g r.log.site (run_status then)) t d events (g.files r.log.site) (g.files r'.log.site) entry (said_of g r'.log) (run_status then)
-      → ScriptRuns 0 (CountsFailures g r.log.site) t d ps n db r.next all (seen_site g r.log.site) (seen_site g site) left' status
+      → ((f k : ℕ) → fault ≡ Block (block.Damaged f k) → ⊥) → BoundsAudit 0 t d events (g.files r.log.site) (g.files r'.log.site) entry (said_of g r'.log) (run_status then)
+      → ScriptRuns 0 t d ps n db r.next all (seen_site g r.log.site) (seen_site g site) left' status
   within_over left' last fault then status site (inl within) last_is status_is site_is leaves part whole lines bytes waits cut damaged bound =
       failed_over left' fault status site (status_is ∙ ap run_status within.0) site_is leaves part whole lines bytes waits cut damaged (λ f is. within.1 f is ∙ last_is) (bound_at then fault within.0 bound)
   within_over left' last fault then status site (inr memory) last_is status_is site_is leaves part whole lines bytes waits cut damaged bound =
@@ -177,19 +177,19 @@ module _ {S : Type 0} (g : Ghosts S) (d e e' : Described) (r r' : Running S) (sa
       → EndsWith (map (point_of e') (held g r').points) (last_quiet_number n (quiets_of events)) (last_quiet db (quiets_of events))
       → Prints entry (said_of g r'.log) (answers_text d db r.next (raw_lines all)) → PrintsPrefix entry (said_of g r'.log) (answers_text d db r.next (raw_lines all)) → SaidWhole entry (said_of g r'.log) events
       → KeepsLimits d db r.next (raw_lines all) → r'.next ≡ (ended (script_run d db r.next (raw_lines all)).going.session).next
-      → BoundsAudit 0 (CountsFailures g r.log.site status) t d events (g.files r.log.site) (g.files site) entry (said_of g r'.log) status
-      → ScriptRuns 0 (CountsFailures g r.log.site) t d ps n db r.next all (seen_site g r.log.site) (seen_site g site) left' status
+      → BoundsAudit 0 t d events (g.files r.log.site) (g.files site) entry (said_of g r'.log) status
+      → ScriptRuns 0 t d ps n db r.next all (seen_site g r.log.site) (seen_site g site) left' status
   closed_over left' status site of closes said leaves behind ends prints part whole limits next_is bound =
       let text : (seen_site g site).said ≡ said_of g r'.log = told_text g.tells_said (g.said site) (g.said r'.log.site) said in
       let room : r'.next + 1 < 2 ^ 64 = room_after d db r.next r'.next (raw_lines all) b.room limits next_is in
-      ran_closed 0 (CountsFailures g r.log.site) t d ps n db r.next all (seen_site g r.log.site) (seen_site g site) left' status of
+      ran_closed 0 t d ps n db r.next all (seen_site g r.log.site) (seen_site g site) left' status of
       (runs_on (moments_of leaves) (closing_of site status closes behind room) (λ x l. l))
       (files_end site status closes (last_quiet_number n (quiets_of events)) (last_quiet db (quiets_of events)) ends (ended (script_run d db r.next (raw_lines all)).going.session).next next_is)
       (subst (λ (s : Option (List ℕ)). Prints entry s (answers_text d db r.next (raw_lines all))) (sym text) prints)
       (subst (λ (s : Option (List ℕ)). PrintsPrefix entry s (answers_text d db r.next (raw_lines all))) (sym text) part)
       (subst (λ (s : Option (List ℕ)). SaidWhole entry s events) (sym text) whole)
       limits
-      (subst (λ (s : Option (List ℕ)). BoundsAudit 0 (CountsFailures g r.log.site status) t d events (g.files r.log.site) (g.files site) entry s status) (sym text) bound)
+      (subst (λ (s : Option (List ℕ)). BoundsAudit 0 t d events (g.files r.log.site) (g.files site) entry s status) (sym text) bound)
 
 -- ---- before the script
 
@@ -200,6 +200,6 @@ fresh_over {St} seen v a b same stands x is = subst (λ (s : St). StandsFor v (f
 -- memory was refused before the first line, and the site was given back
 pub refused_over : {S : Type 0} (g : Ghosts S) (d : Described) (r : Running S) (site : S) (left left' : Option (List ℕ)) → site ≡ r.log.site → RunsOver g r d left left' Memory site
 refused_over {S} g d r site left left' same total first ps n db all b is =
-    subst (λ (x : S). ScriptRuns 0 (CountsFailures g r.log.site) (telling_of total first) d ps n db r.next all (seen_site g r.log.site) (seen_site g x) left' Memory) (sym same)
-    (ran_nothing 0 (CountsFailures g r.log.site) (telling_of total first) d ps n db r.next all (seen_site g r.log.site) (seen_site g r.log.site) left' Memory tt
+    subst (λ (x : S). ScriptRuns 0 (telling_of total first) d ps n db r.next all (seen_site g r.log.site) (seen_site g x) left' Memory) (sym same)
+    (ran_nothing 0 (telling_of total first) d ps n db r.next all (seen_site g r.log.site) (seen_site g r.log.site) left' Memory tt
     (runs_none (g.clock r.log.site) (RunLeavesFiles (telling_of total first) d (said_of g r.log) ps n db r.next (script_events d db r.next (raw_lines all)))) refl (bounds_none Memory (λ is. absurd cc) refl refl))

@@ -18,9 +18,7 @@ use Rattle.dms_running.specs.Standing.{IsWhole}
 use Rattle.dms_running.specs.Points.{DescribedPoint, described_in, points_of, next_in, schema_bytes}
 use Rattle.dms_site.specs.declared.site.Site.{Ghosts}
 use Rattle.dms_site.specs.Files.{Files, stored_of}
-use Rattle.dms_audfile.specs.declared.fault.AudFault.TheVariants as aud
 use Rattle.dms_opening.specs.declared.choosing.OpenFault.{OpenFault}
-use Rattle.dms_opening.specs.declared.choosing.OpenFault.TheVariants.{Audit}
 use Rattle.dms_restore.specs.Logging.{telling_of, telling}
 use Rattle.dms_restore.specs.Views.{view_of}
 use Rattle.dms_wal.specs.Marks.{last_number}
@@ -33,15 +31,13 @@ use Rattle.dms_run.specs.States.{LivesEndWith}
 use Rattle.dms_runlaws.specs.Held.{HoldsLast, NextIsOne, StatesAreHeld}
 use Rattle.dms_runlaws.specs.RunStands.{EndsStand, StopsStand}
 use Rattle.dms_status.specs.declared.status.Status.{Status}
-use Rattle.dms_status.specs.declared.status.Status.TheVariants.{DiskFault}
-use Rattle.dms_restore.specs.GrowLaws.{trail_grows_on}
-use Rattle.dms_runtop.specs.Bound.{CountsFailures, CountsUnguarded}
-use Rattle.dms_runtop.proofs.Bounds.{bounds_opening, sealed_few}
+use Rattle.dms_runtop.proofs.Bounds.{bounds_opening}
 use Rattle.dms_runtop.proofs.Refused.{open_ok}
-use Rattle.dms_runtop.specs.Command.{DatabaseState, GrowsOpened, HasNumbersLeft, HoldsState, HoldsTold, NeverRefuses, NeverRefusesState, RunsAlong, RunsCommand, RunsFound, RunsOpened, EndsInState, StandsOpened, StandsThroughout, StatesHold}
+use Rattle.dms_runtop.specs.Command.{DatabaseState, GrowsOpened, HasNumbersLeft, HoldsState, HoldsTold, NeverRefuses, NeverRefusesState, RunKeepsTrail, RunsAlong, RunsCommand, RunsOpened, EndsInState, StandsOpened, StandsThroughout, StatesHold}
 use Rattle.dms_runtop.specs.Faults.{open_status}
 use Rattle.dms_runtop.specs.Over.{ReachesFiles, ScriptRuns, seen_site}
 use Rattle.dms_runtop.proofs.Endings.{IsUndone}
+use Rattle.dms_runtop.proofs.Grows.{keeps_entered, keeps_opening}
 use Rattle.dms_runtop.proofs.Holding.{trail_of}
 use Rattle.dms_runtop.proofs.Ran.{ran_nothing}
 use Rattle.dms_runtop.proofs.Since.{last_is, reopens_leaves, runs_since}
@@ -110,10 +106,10 @@ module _ {S : Type 0} (g : Ghosts S) (old : S) (s : DatabaseState) where
 
   -- the run, from the opening on
   pub runs_entered : NextIsOne → (o : Opened S) → OpensAt o.log.end.total o.log.first (g.files old) o.point o.next o.schema.items o.counts.items
-      → (IsWhole (telling_of o.log.end.total o.log.first) (g.files old) → RunsFrom (g.files old) o.point o.next o.schema.items o.counts.items (view_of g o.log)) → ReopensSince g old o.log.site → OpeningGrows ⊥ (g.files old) (g.files o.log.site) → g.said o.log.site ≡ g.said old → g.disk_faults o.log.site ≡ g.disk_faults old
-      → (known : Bool) (left left' : Option (List ℕ)) (status : Status) (new : S) → RunsOpened g o known left left' status new → GrowsOpened g o known new → IsTrue g.tells → IsTrue known
-      → HoldsState (g.files old) s → (next : ℕ) → HasNext (g.files old) next → HasNumbersLeft next → (all : List ℕ) → left ≡ Some all → RunsAlong g (CountsFailures g old) s next all old new left' status
-  runs_entered one_next o opens runs since grows said disk known left left' status new ran grown told knows h next has_next room all is =
+      → (IsWhole (telling_of o.log.end.total o.log.first) (g.files old) → RunsFrom (g.files old) o.point o.next o.schema.items o.counts.items (view_of g o.log)) → ReopensSince g old o.log.site → OpeningGrows g old o.log.site → g.said o.log.site ≡ g.said old
+      → (known : Bool) (left left' : Option (List ℕ)) (status : Status) (new : S) → RunsOpened g o known left left' status new → IsTrue g.tells → IsTrue known
+      → HoldsState (g.files old) s → (next : ℕ) → HasNext (g.files old) next → HasNumbersLeft next → (all : List ℕ) → left ≡ Some all → RunsAlong g s next all old new left' status
+  runs_entered one_next o opens runs since grows said known left left' status new ran told knows h next has_next room all is =
       let files : Files = g.files old in
       let t : Telling = telling_of o.log.end.total o.log.first in
       let ps : List DescribedPoint = points_of t files in
@@ -121,19 +117,17 @@ module _ {S : Type 0} (g : Ghosts S) (old : S) (s : DatabaseState) where
       let state = state_here o opens h in
       let st = stands_opened o opens (runs whole) h state in
       let next_is : next_in t files ≡ next = one_next o.log.end.total o.log.first next files whole has_next in
-      let script : ScriptRuns 0 (CountsFailures g o.log.site) t s.desc ps s.point s.db next all (seen_site g o.log.site) (seen_site g new) left' status =
-      subst (λ m. ScriptRuns 0 (CountsFailures g o.log.site) t s.desc ps s.point s.db m all (seen_site g o.log.site) (seen_site g new) left' status) (sym opens.next_is ∙ next_is)
+      let script : ScriptRuns 0 t s.desc ps s.point s.db next all (seen_site g o.log.site) (seen_site g new) left' status =
+      subst (λ m. ScriptRuns 0 t s.desc ps s.point s.db m all (seen_site g o.log.site) (seen_site g new) left' status) (sym opens.next_is ∙ next_is)
       (ran told knows st s.point s.db all state (subst HasNumbersLeft (sym next_is ∙ opens.next_is) room) is) in
-      let few : length (t.entries (g.files o.log.site)) ≤ length (t.entries files) + 19 = sealed_few o.log.end.total o.log.first files (g.files o.log.site) (grows.few (λ failed. failed) o.log.end.total o.log.first opens.trail whole) in
+      let few : length (t.entries (g.files o.log.site)) ≤ length (t.entries files) + 19 = grows.few o.log.end.total o.log.first opens.trail whole in
       let before = runs_weaken (since o.log.end.total o.log.first opens.trail whole) (reopens_leaves t files (seen_site g old).said s.desc s.point s.db state next next_is (raw_lines all)) in
       record {
         total = o.log.end.total;
         first = o.log.first;
         trail = opens.trail;
-        runs = runs_since 0 19 (CountsFailures g o.log.site) (CountsFailures g old) t s.desc ps s.point s.db next all (seen_site g old) (seen_site g o.log.site) (seen_site g new) left' status
-            (ap (λ (l : List ℕ). cond g.tells_said (Some l) None) said) before (λ c. omega (arith, c, disk))
-            (omega (arith, few)) script;
-        grown = trail_grows_on o.log.end.total o.log.first files (g.files o.log.site) (g.files new) (grows.grown o.log.end.total o.log.first opens.trail) (grown told knows);
+        runs = runs_since 0 19 t s.desc ps s.point s.db next all (seen_site g old) (seen_site g o.log.site) (seen_site g new) left' status
+            (ap (λ (l : List ℕ). cond g.tells_said (Some l) None) said) before (omega (arith, few)) script;
       }
 
   -- ---- it wasn't opened
@@ -146,8 +140,8 @@ module _ {S : Type 0} (g : Ghosts S) (old : S) (s : DatabaseState) where
   undone_open fault (inl (inr is)) = subst (λ (f : OpenFault). IsUndone (open_status f)) (sym is) tt
   undone_open fault (inr is) = subst (λ (f : OpenFault). IsUndone (open_status f)) (sym is) refl
 
-  pub runs_unopened : NextIsOne → (fault : OpenFault) (new : S) → ((total first : ℕ) → IsOpenable total first (g.files old) → IsNoRefusal fault) → OpeningGrows (fault ≡ Audit aud.Disk) (g.files old) (g.files new) → ReopensSince g old new → g.said new ≡ g.said old → (left' : Option (List ℕ))
-      → HoldsState (g.files old) s → (next : ℕ) → HasNext (g.files old) next → (all : List ℕ) → RunsAlong g (CountsFailures g old) s next all old new left' (open_status fault)
+  pub runs_unopened : NextIsOne → (fault : OpenFault) (new : S) → ((total first : ℕ) → IsOpenable total first (g.files old) → IsNoRefusal fault) → OpeningGrows g old new → ReopensSince g old new → g.said new ≡ g.said old → (left' : Option (List ℕ))
+      → HoldsState (g.files old) s → (next : ℕ) → HasNext (g.files old) next → (all : List ℕ) → RunsAlong g s next all old new left' (open_status fault)
   runs_unopened one_next fault new none grows since said left' h next has_next all =
       let files : Files = g.files old in
       let t : Telling = telling_of h.total h.first in
@@ -155,13 +149,12 @@ module _ {S : Type 0} (g : Ghosts S) (old : S) (s : DatabaseState) where
         total = h.total;
         first = h.first;
         trail = h.trail;
-        runs = ran_nothing 19 (CountsFailures g old) t s.desc (points_of t files) s.point s.db next all (seen_site g old) (seen_site g new) left' (open_status fault)
+        runs = ran_nothing 19 t s.desc (points_of t files) s.point s.db next all (seen_site g old) (seen_site g new) left' (open_status fault)
             (undone_open fault (none h.total h.first (openable h)))
             (runs_weaken (since h.total h.first h.trail h.whole)
             (reopens_leaves t files (seen_site g old).said s.desc s.point s.db h.state next (one_next h.total h.first next files h.whole has_next) (raw_lines all)))
             (ap (λ (l : List ℕ). cond g.tells_said (Some l) None) said)
-            (bounds_opening (open_status fault) (open_ok fault) (λ off. sealed_few h.total h.first files (g.files new) (grows.few (λ disk. off (ap open_status disk)) h.total h.first h.trail h.whole)) (ap (λ (l : List ℕ). cond g.tells_said (Some l) None) said));
-        grown = grows.grown h.total h.first h.trail;
+            (bounds_opening (open_status fault) (open_ok fault) (grows.few h.total h.first h.trail h.whole) (ap (λ (l : List ℕ). cond g.tells_said (Some l) None) said));
       }
 
 -- what stands for a state isn't refused
@@ -186,17 +179,24 @@ module _ {S : Type 0} (g : Ghosts S) (old : S) (state : Option DatabaseState) wh
       by_state (Some s) knows holds = opened_stands g old s o opens runs (hold (g.files old) s (holds s refl))
 
   pub runs_found : StatesHold → NextIsOne → (IsTrue g.tells → HoldsTold state (g.files old)) → (o : Opened S) → (IsTrue g.tells → OpensAt o.log.end.total o.log.first (g.files old) o.point o.next o.schema.items o.counts.items)
-      → (IsTrue g.tells → IsWhole (telling_of o.log.end.total o.log.first) (g.files old) → RunsFrom (g.files old) o.point o.next o.schema.items o.counts.items (view_of g o.log)) → (IsTrue g.tells → ReopensSince g old o.log.site) → (IsTrue g.tells → OpeningGrows ⊥ (g.files old) (g.files o.log.site))
-      → g.said o.log.site ≡ g.said old → g.disk_faults o.log.site ≡ g.disk_faults old
-      → (left left' : Option (List ℕ)) (status : Status) (new : S) → RunsOpened g o (is_some state) left left' status new → GrowsOpened g o (is_some state) new → RunsFound g state old new left left' status
-  runs_found hold one_next told o opens runs since grows said disk left left' status new ran grown tells s is next has_next room all held =
-      runs_entered g old s one_next o (opens tells) (runs tells) (since tells) (grows tells) said disk (is_some state) left left' status new ran grown tells (some_told state s is) (hold (g.files old) s (told tells s is)) next has_next room all held
+      → (IsTrue g.tells → IsWhole (telling_of o.log.end.total o.log.first) (g.files old) → RunsFrom (g.files old) o.point o.next o.schema.items o.counts.items (view_of g o.log)) → (IsTrue g.tells → ReopensSince g old o.log.site) → (IsTrue g.tells → OpeningGrows g old o.log.site)
+      → g.said o.log.site ≡ g.said old → (left left' : Option (List ℕ)) (status : Status) (new : S) → RunsOpened g o (is_some state) left left' status new → RunsCommand g state old new left left' status
+  runs_found hold one_next told o opens runs since grows said left left' status new ran tells s is next has_next room all held =
+      runs_entered g old s one_next o (opens tells) (runs tells) (since tells) (grows tells) said (is_some state) left left' status new ran tells (some_told state s is) (hold (g.files old) s (told tells s is)) next has_next room all held
 
-  pub runs_refused : StatesHold → NextIsOne → (IsTrue g.tells → HoldsTold state (g.files old)) → (fault : OpenFault) (new : S) → (IsTrue g.tells → (total first : ℕ) → IsOpenable total first (g.files old) → IsNoRefusal fault) → (IsTrue g.tells → OpeningGrows (fault ≡ Audit aud.Disk) (g.files old) (g.files new))
-      → (IsTrue g.tells → ReopensSince g old new) → g.said new ≡ g.said old → (left left' : Option (List ℕ)) (status : Status) → status ≡ open_status fault → RunsFound g state old new left left' status
+  pub runs_refused : StatesHold → NextIsOne → (IsTrue g.tells → HoldsTold state (g.files old)) → (fault : OpenFault) (new : S) → (IsTrue g.tells → (total first : ℕ) → IsOpenable total first (g.files old) → IsNoRefusal fault) → (IsTrue g.tells → OpeningGrows g old new)
+      → (IsTrue g.tells → ReopensSince g old new) → g.said new ≡ g.said old → (left left' : Option (List ℕ)) (status : Status) → status ≡ open_status fault → RunsCommand g state old new left left' status
   runs_refused hold one_next told fault new none grows since said left left' status status_is tells s is next has_next room all held =
-      subst (λ (x : Status). RunsAlong g (CountsFailures g old) s next all old new left' x) (sym status_is)
+      subst (λ (x : Status). RunsAlong g s next all old new left' x) (sym status_is)
       (runs_unopened g old s one_next fault new (none tells) (grows tells) (since tells) said left' (hold (g.files old) s (told tells s is)) next has_next all)
+
+  -- and its trail stays
+  pub keeps_found : (o : Opened S) (new : S) → (IsTrue g.tells → OpensAt o.log.end.total o.log.first (g.files old) o.point o.next o.schema.items o.counts.items) → (IsTrue g.tells → OpeningGrows g old o.log.site) → GrowsOpened g o (is_some state) new
+      → RunKeepsTrail g state old new
+  keeps_found o new opens grows grown tells s is = keeps_entered g old new o (is_some state) (opens tells).trail (grows tells) grown tells (some_told state s is)
+
+  pub keeps_refused : (new : S) → (IsTrue g.tells → OpeningGrows g old new) → RunKeepsTrail g state old new
+  keeps_refused new grows tells s is = keeps_opening g old new (grows tells)
 
   -- each stop leaves a state
   pub stands_throughout : StatesAreHeld → StopsStand → (IsTrue g.tells → HoldsTold state (g.files old)) → (left left' : Option (List ℕ)) (status : Status) (new : S) → RunsCommand g state old new left left' status
@@ -204,7 +204,7 @@ module _ {S : Type 0} (g : Ghosts S) (old : S) (state : Option DatabaseState) wh
   stands_throughout held law told left left' status new ran tells s is start next has_next room all here =
       let files : Files = g.files old in
       let h : HoldsLast files s.point s.desc s.db = held files s.point s.desc s.db (told tells s is) in
-      let along : RunsAlong g (CountsUnguarded g old) s next all old new left' status = ran tells s is next has_next room all here in
+      let along : RunsAlong g s next all old new left' status = ran tells s is next has_next room all here in
       let one = trail_is_one along.total along.first h.total h.first files along.trail (trail_of h) in
       let each : Runs (g.clock old) (g.clock new) (λ x. RunLeavesFiles (telling_of h.total h.first) s.desc (seen_site g old).said (points_of (telling_of h.total h.first) files) s.point s.db next (script_events s.desc s.db next (raw_lines all)) x) =
       subst (λ k. Runs (g.clock old) (g.clock new) (RunLeavesFiles (telling_of k h.first) s.desc (seen_site g old).said (points_of (telling_of k h.first) files) s.point s.db next (script_events s.desc s.db next (raw_lines all)))) one.0
@@ -215,6 +215,6 @@ module _ {S : Type 0} (g : Ghosts S) (old : S) (state : Option DatabaseState) wh
   -- and so does the end
   pub stands_at_end : EndsStand → (IsTrue g.tells → HoldsTold state (g.files old)) → (left left' : Option (List ℕ)) (status : Status) (new : S) → RunsCommand g state old new left left' status → EndsInState g state old new left status
   stands_at_end law told left left' status new ran tells s is start next has_next room all here ok =
-      let along : RunsAlong g (CountsUnguarded g old) s next all old new left' status = ran tells s is next has_next room all here in
+      let along : RunsAlong g s next all old new left' status = ran tells s is next has_next room all here in
       let ends : ReachesFiles (telling_of along.total along.first) s.desc s.point s.db next (raw_lines all) (seen_site g new) = along.runs.at_ok ok in
       (law along.total along.first (g.files new) s.desc (told tells s is).at_point.well_formed s.point s.db start next (raw_lines all) ends.whole ends.state ends.next_is, ends.only)

@@ -1,43 +1,129 @@
--- The trail of a run grows behind that of entry.
-use Rattle.std.proofs.Common.{ℕ, ◌≡◌, ◌∙◌, Bool, IsTrue, sym, ap, subst}
-use Rattle.dms_audfile.specs.Ends.{Grown}
+-- The trail of a run stays behind that of entry, at each stop.
+use Rattle.std.proofs.Common.{ℕ, ◌≡◌, ◌∙◌, Bool, false, IsTrue, sym, ap, subst, arith}
+use Rattle.dms_moments.specs.Moments.{Clock, Steps}
+use Rattle.dms_moments.specs.MomentLaws.{runs_none, steps_weaken}
 use Rattle.dms_opening.specs.declared.opened.Opened.{Opened}
-use Rattle.dms_restore.specs.GrowLaws.{trail_grows_on, trail_stays}
-use Rattle.dms_runtop.specs.Command.{GrowsOpened}
-use Rattle.dms_runtop.specs.Over.{GrowsOver}
+use Rattle.dms_opening.specs.Openings.{IsTrailFound, OpeningGrows}
+use Rattle.dms_opening.proofs.Callers.{trail_is_one}
+use Rattle.dms_restore.specs.GrowLaws.{kept_none, kept_on, leaves_none, left_on, log_grows_more, log_grows_none, stays_none, stays_on}
+use Rattle.dms_restore.specs.Logging.{LeavesTrail, LogGrows, LogStays, TrailKept, telling}
+use Rattle.dms_restore.specs.Views.{view_of}
+use Rattle.dms_runtop.specs.Command.{GrowsOpened, KeepsTrail}
+use Rattle.dms_runtop.specs.Over.{ClosesOver, GrowsOver}
 use Rattle.dms_site.specs.declared.site.Site.{Ghosts}
-use Rattle.dms_site.specs.Files.{Files}
+use Rattle.dms_site.specs.Files.{Files, Left, Same}
+use Rattle.dms_status.specs.declared.status.Status.TheVariants.{Memory}
 use Rattle.dms_wal.specs.declared.running.Running.{Running}
 use Rattle.dms_wal.specs.Controls.{KeepsPace}
-use Rattle.dms_wal.specs.Growing.{GrowsBy}
+use Rattle.dms_wal.specs.Growing.{GrowsBy, close_limit, over_site}
+use Rattle.dms_wal.specs.Lifting.{lifted}
+
+-- a call that only looks leaves it
+left_looked : (total first : ℕ) (a b : Clock Left) → Steps Same a b → Steps (LeavesTrail total first) a b
+left_looked total first a b same = steps_weaken same (λ x y now is. subst (λ (z : Left). LeavesTrail total first x z) (sym is) (leaves_none total first x))
+
+-- the same trail, named otherwise
+kept_at : {total total' first first' : ℕ} {a b : Files} → total ≡ total' → first ≡ first' → TrailKept total first a b → TrailKept total' first' a b
+kept_at {total} {total'} {first} {first'} {a} {b} one two kept = subst (λ k. TrailKept total' k a b) two (subst (λ k. TrailKept k first a b) one kept)
+
+left_at : {total total' first first' : ℕ} {a b : Clock Left} → total ≡ total' → first ≡ first' → Steps (LeavesTrail total first) a b → Steps (LeavesTrail total' first') a b
+left_at {total} {total'} {first} {first'} {a} {b} one two left = subst (λ k. Steps (LeavesTrail total' k) a b) two (subst (λ k. Steps (LeavesTrail k first) a b) one left)
 
 module _ {S : Type 0} (g : Ghosts S) where
   -- behind a running database
   pub grows_over : (r r' : Running S) (site : S) → KeepsPace r r' → GrowsBy g r r' → GrowsOver g r' site → GrowsOver g r site
   grows_over r r' site pace grows closed tells =
-      trail_grows_on r.log.end.total r.log.first (g.files r.log.site) (g.files r'.log.site) (g.files site) (grows.grown tells)
-      (subst (λ k. Grown r.log.end.total k (g.files r'.log.site) (g.files site)) pace.first (subst (λ k. Grown k r'.log.first (g.files r'.log.site) (g.files site)) pace.total (closed tells)))
+      let two = closed tells in
+      stays_on (view_of g r.log) (view_of g r'.log) (over_site g (view_of g r.log) site) pace.total pace.first (grows.stays tells) (record { kept = two.kept; left = two.left })
 
   -- its site was given back
   pub grows_left : (r : Running S) (site : S) → site ≡ r.log.site → GrowsOver g r site
-  grows_left r site same tells = subst (λ x. Grown r.log.end.total r.log.first (g.files r.log.site) (g.files x)) (sym same) (trail_stays r.log.end.total r.log.first (g.files r.log.site))
+  grows_left r site same tells = subst (λ x. LogStays (view_of g r.log) (over_site g (view_of g r.log) x)) (sym same) (stays_none (view_of g r.log))
+
+  -- where nothing is changed since the last point, a close takes 18 entries
+  pub closed_few : (r : Running S) (site : S) → r.changed ≡ false → (IsTrue g.tells → LogGrows (close_limit r.changed) (view_of g r.log) (over_site g (view_of g r.log) site))
+      → IsTrue g.tells → LogGrows 18 (view_of g r.log) (over_site g (view_of g r.log) site)
+  closed_few r site is grown tells = subst (λ (b : Bool). LogGrows (close_limit b) (view_of g r.log) (over_site g (view_of g r.log) site)) is (grown tells)
+
+  -- a database that wasn't closed was left as it was
+  pub left_unclosed : (r : Running S) (site : S) → site ≡ r.log.site → ClosesOver g r Memory site
+  left_unclosed r site same =
+      let v = view_of g r.log in
+      subst (λ x. ClosesOver g r Memory x) (sym same) (record {
+        leaves = λ told room. runs_none (lifted (telling v) v.clock) _;
+        points_are = λ ok. absurd cc;
+        whole = λ ok. absurd cc;
+        next_is = λ ok. absurd cc;
+        only = λ ok. absurd cc;
+        grown = λ tells. log_grows_more 0 18 v (over_site g v r.log.site) (omega arith) (log_grows_none v);
+      })
 
   -- behind a database that was opened: before it a call that only looked
-  pub grows_looked : (o : Opened S) (site new : S) (known : Bool) → (IsTrue g.tells → g.files site ≡ g.files o.log.site) → GrowsOpened g (record o { log = record o.log { site = site } }) known new → GrowsOpened g o known new
-  grows_looked o site new known same grown told knows = subst (λ (f : Files). Grown o.log.end.total o.log.first f (g.files new)) (same told) (grown told knows)
+  pub grows_looked : (o : Opened S) (site new : S) (known : Bool) → (IsTrue g.tells → g.files site ≡ g.files o.log.site) → Steps Same (g.clock o.log.site) (g.clock site) → GrowsOpened g (record o { log = record o.log { site = site } }) known new → GrowsOpened g o known new
+  grows_looked o site new known same steps grown told knows =
+      let later = grown told knows in
+      let total = o.log.end.total in
+      let first = o.log.first in
+      record {
+        kept = subst (λ (f : Files). TrailKept total first f (g.files new)) (same told) later.kept;
+        left = left_on total first (g.clock o.log.site) (g.clock site) (g.clock new) (left_looked total first (g.clock o.log.site) (g.clock site) steps) later.left;
+      }
 
   -- and behind it
-  pub grows_upto : (o : Opened S) (new later : S) (known : Bool) → (IsTrue g.tells → g.files later ≡ g.files new) → GrowsOpened g o known new → GrowsOpened g o known later
-  grows_upto o new later known same grown told knows = subst (λ (f : Files). Grown o.log.end.total o.log.first (g.files o.log.site) f) (sym (same told)) (grown told knows)
+  pub grows_upto : (o : Opened S) (new later : S) (known : Bool) → (IsTrue g.tells → g.files later ≡ g.files new) → Steps Same (g.clock new) (g.clock later) → GrowsOpened g o known new → GrowsOpened g o known later
+  grows_upto o new later known same steps grown told knows =
+      let before = grown told knows in
+      let total = o.log.end.total in
+      let first = o.log.first in
+      record {
+        kept = subst (λ (f : Files). TrailKept total first (g.files o.log.site) f) (sym (same told)) before.kept;
+        left = left_on total first (g.clock o.log.site) (g.clock new) (g.clock later) before.left (left_looked total first (g.clock new) (g.clock later) steps);
+      }
 
   -- nothing was done
-  pub grows_none : (o : Opened S) (new : S) (known : Bool) → (IsTrue g.tells → g.files new ≡ g.files o.log.site) → GrowsOpened g o known new
-  grows_none o new known same told knows = subst (λ (f : Files). Grown o.log.end.total o.log.first (g.files o.log.site) f) (sym (same told)) (trail_stays o.log.end.total o.log.first (g.files o.log.site))
+  pub grows_none : (o : Opened S) (new : S) (known : Bool) → (IsTrue g.tells → g.files new ≡ g.files o.log.site) → Steps Same (g.clock o.log.site) (g.clock new) → GrowsOpened g o known new
+  grows_none o new known same steps told knows =
+      let total = o.log.end.total in
+      let first = o.log.first in
+      record {
+        kept = subst (λ (f : Files). TrailKept total first (g.files o.log.site) f) (sym (same told)) (kept_none total first (g.files o.log.site));
+        left = left_looked total first (g.clock o.log.site) (g.clock new) steps;
+      }
+
+  -- the site was given back
+  pub grows_same : (o : Opened S) (new : S) (known : Bool) → new ≡ o.log.site → GrowsOpened g o known new
+  grows_same o new known same told knows = subst (λ x. LogStays (view_of g o.log) (over_site g (view_of g o.log) x)) (sym same) (stays_none (view_of g o.log))
+
+  -- ---- from the opening on
+
+  -- it wasn't opened
+  pub keeps_opening : (old new : S) → OpeningGrows g old new → KeepsTrail g old new
+  keeps_opening old new grows = record { kept = grows.kept; left = grows.left }
+
+  -- a run behind it
+  pub keeps_entered : (old new : S) (o : Opened S) (known : Bool) → IsTrailFound o.log.end.total o.log.first (g.files old) → OpeningGrows g old o.log.site → GrowsOpened g o known new → IsTrue g.tells → IsTrue known → KeepsTrail g old new
+  keeps_entered old new o known trail grows grown told knows =
+      let then = grown told knows in
+      record {
+        kept = λ total first found.
+            let one = trail_is_one o.log.end.total o.log.first total first (g.files old) trail found in
+            kept_on total first (g.files old) (g.files o.log.site) (g.files new) (grows.kept total first found) (kept_at one.0 one.1 then.kept);
+        left = λ total first found.
+            let one = trail_is_one o.log.end.total o.log.first total first (g.files old) trail found in
+            left_on total first (g.clock old) (g.clock o.log.site) (g.clock new) (grows.left total first found) (left_at one.0 one.1 then.left);
+      }
 
 -- over a site whose files are told only where it is known what they stand for
-pub grows_unveiled : {S V : Type 0} (g : Ghosts S) (tells_v : Bool) (files_v : V → Files) (of : V → S) (known : Bool) → (IsTrue g.tells → IsTrue known → IsTrue tells_v) → ((v : V) → files_v v ≡ g.files (of v)) → (o : Opened S) (r : Running V) → of r.log.site ≡ o.log.site
-    → r.log.end.total ≡ o.log.end.total → r.log.first ≡ o.log.first → (v : V) (site : S) → site ≡ of v → (IsTrue tells_v → Grown r.log.end.total r.log.first (files_v r.log.site) (files_v v)) → GrowsOpened g o known site
-grows_unveiled g tells_v files_v of known tells seen o r entry total_is first_is v site same grown told knows =
-    let one : Grown r.log.end.total r.log.first (files_v r.log.site) (files_v v) = grown (tells told knows) in
-    let two = subst (λ k. Grown o.log.end.total k (files_v r.log.site) (files_v v)) first_is (subst (λ k. Grown k r.log.first (files_v r.log.site) (files_v v)) total_is one) in
-    subst (λ (f : Files). Grown o.log.end.total o.log.first (g.files o.log.site) f) (seen v ∙ ap g.files (sym same)) (subst (λ (f : Files). Grown o.log.end.total o.log.first f (files_v v)) (seen r.log.site ∙ ap g.files entry) two)
+pub grows_unveiled : {S V : Type 0} (g : Ghosts S) (tells_v : Bool) (files_v : V → Files) (clock_v : V → Clock Left) (of : V → S) (known : Bool) → (IsTrue g.tells → IsTrue known → IsTrue tells_v) → ((v : V) → files_v v ≡ g.files (of v)) → ((v : V) → clock_v v ≡ g.clock (of v))
+    → (o : Opened S) (r : Running V) → of r.log.site ≡ o.log.site → r.log.end.total ≡ o.log.end.total → r.log.first ≡ o.log.first → (v : V) (site : S) → site ≡ of v
+    → (IsTrue tells_v → TrailKept r.log.end.total r.log.first (files_v r.log.site) (files_v v)) → (IsTrue tells_v → Steps (LeavesTrail r.log.end.total r.log.first) (clock_v r.log.site) (clock_v v)) → GrowsOpened g o known site
+grows_unveiled g tells_v files_v clock_v of known tells seen times o r entry total_is first_is v site same kept left told knows =
+    let t = tells told knows in
+    let total = o.log.end.total in
+    let first = o.log.first in
+    let kept' : TrailKept total first (files_v r.log.site) (files_v v) = kept_at total_is first_is (kept t) in
+    let left' : Steps (LeavesTrail total first) (clock_v r.log.site) (clock_v v) = left_at total_is first_is (left t) in
+    record {
+      kept = subst (λ (f : Files). TrailKept total first (g.files o.log.site) f) (seen v ∙ ap g.files (sym same)) (subst (λ (f : Files). TrailKept total first f (files_v v)) (seen r.log.site ∙ ap g.files entry) kept');
+      left = subst (λ (c : Clock Left). Steps (LeavesTrail total first) (g.clock o.log.site) c) (times v ∙ ap g.clock (sym same)) (subst (λ (c : Clock Left). Steps (LeavesTrail total first) c (clock_v v)) (times r.log.site ∙ ap g.clock entry) left');
+    }

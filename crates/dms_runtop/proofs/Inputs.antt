@@ -4,43 +4,43 @@ use Rattle.std.specs.Prelude.{nat_le}
 use Rattle.dms_audfile.specs.declared.fault.AudFault.TheVariants as aud
 use Rattle.dms_opening.specs.declared.choosing.OpenFault.{OpenFault}
 use Rattle.dms_opening.specs.declared.choosing.OpenFault.TheVariants.{Audit, NoSuchPoint, Voided, ByDump}
-use Rattle.dms_runner.specs.Running.{HasTooManyBytes, HasTooManyLines, InputBreaks}
+use Rattle.dms_runner.specs.Running.{FitsScript, HasTooManyBytes, HasTooManyLines, InputBreaks}
 use Rattle.dms_runner.specs.declared.run.RunFault.{RunFault}
 use Rattle.dms_runner.specs.declared.run.RunFault.TheVariants as run
 use Rattle.dms_status.specs.declared.status.LimitKind.{LimitKind}
 use Rattle.dms_status.specs.declared.status.LimitKind.TheVariants as limit
 use Rattle.dms_status.specs.declared.status.Status.{Status}
-use Rattle.dms_status.specs.declared.status.Status.TheVariants.{Ok, InputFault, Memory, Limit, Damaged, DiskFault}
+use Rattle.dms_status.specs.declared.status.Status.TheVariants.{Ok, InputFault, Limit}
 use Rattle.dms_runtop.specs.Faults.{IsWithin, open_status, run_status}
 use Rattle.dms_runtop.specs.Full.{IsOfFull}
 use Rattle.dms_runtop.specs.Inputs.{BlamesInput}
 use Rattle.dms_runtop.specs.Statuses.{IsOfClosing}
 use Rattle.dms_runtop.proofs.Counted.{within_input}
-use Rattle.dms_runtop.proofs.Endings.{IsUndone, closing_input, damage_is, ok_not_limit, run_bytes_is, run_input, run_lines_is, undone_input, undone_limit}
-use Rattle.dms_runtop.proofs.Refused.{open_input}
+use Rattle.dms_runtop.proofs.Endings.{IsUndone, closing_input, damage_is, ok_not_limit, run_bytes_is, run_input, run_lines_is, run_not_ok, undone_input, undone_limit, undone_ok}
+use Rattle.dms_runtop.proofs.Refused.{open_input, open_ok}
 
 -- ---- a status that isn't of the input
 
-pub blames_none : {left left' : Option (List ℕ)} {s : Status} → (s ≡ Limit limit.Lines → ⊥) → (s ≡ Limit limit.Bytes → ⊥) → (s ≡ InputFault → ⊥) → BlamesInput left left' s
-blames_none lines bytes breaks = record { lines = λ is. absurd (lines is); bytes = λ is. absurd (bytes is); breaks = λ is. absurd (breaks is) }
+pub blames_none : {left left' : Option (List ℕ)} {s : Status} → (s ≡ Ok → ⊥) → (s ≡ Limit limit.Lines → ⊥) → (s ≡ Limit limit.Bytes → ⊥) → (s ≡ InputFault → ⊥) → BlamesInput left left' s
+blames_none not_ok lines bytes breaks = record { ok = λ is. absurd (not_ok is); lines = λ is. absurd (lines is); bytes = λ is. absurd (bytes is); breaks = λ is. absurd (breaks is) }
 
 -- that of what comes before the script's first line
 pub blames_undone : {left left' : Option (List ℕ)} (s : Status) → IsUndone s → BlamesInput left left' s
-blames_undone s undone = blames_none (undone_limit s undone limit.Lines) (undone_limit s undone limit.Bytes) (undone_input s undone)
+blames_undone s undone = blames_none (undone_ok s undone) (undone_limit s undone limit.Lines) (undone_limit s undone limit.Bytes) (undone_input s undone)
 
 -- that of a closing
 limit_of_closing : (s : Status) (k : LimitKind) → (s ≡ Ok) ⊎ IsOfClosing s → s ≡ Limit k → IsOfClosing (Limit k)
 limit_of_closing s k (inl ok) is = absurd (ok_not_limit k (sym ok ∙ is))
 limit_of_closing s k (inr of) is = subst IsOfClosing is of
 
-pub blames_closing : {left left' : Option (List ℕ)} (s : Status) → (s ≡ Ok) ⊎ IsOfClosing s → BlamesInput left left' s
-blames_closing s of = blames_none (limit_of_closing s limit.Lines of) (limit_of_closing s limit.Bytes of) (closing_input s of)
+pub blames_closing : {left left' : Option (List ℕ)} (s : Status) → (s ≡ Ok) ⊎ IsOfClosing s → ((all : List ℕ) → left ≡ Some all → FitsScript all) → BlamesInput left left' s
+blames_closing s of fits = record { ok = λ is. fits; lines = λ is. absurd (limit_of_closing s limit.Lines of is); bytes = λ is. absurd (limit_of_closing s limit.Bytes of is); breaks = λ is. absurd (closing_input s of is) }
 
 -- that of a full audit
 pub blames_full : {left left' : Option (List ℕ)} (k : ℕ) (s : Status) → IsOfFull k s → BlamesInput left left' s
-blames_full {left} {left'} k s (inl full) = subst (BlamesInput left left') (sym full) (blames_none (λ is. absurd cc) (λ is. absurd cc) (λ is. absurd cc))
-blames_full {left} {left'} k s (inr (inl disk)) = subst (BlamesInput left left') (sym disk) (blames_none (λ is. absurd cc) (λ is. absurd cc) (λ is. absurd cc))
-blames_full {left} {left'} k s (inr (inr memory)) = subst (BlamesInput left left') (sym memory) (blames_none (λ is. absurd cc) (λ is. absurd cc) (λ is. absurd cc))
+blames_full {left} {left'} k s (inl full) = subst (BlamesInput left left') (sym full) (blames_none (λ is. absurd cc) (λ is. absurd cc) (λ is. absurd cc) (λ is. absurd cc))
+blames_full {left} {left'} k s (inr (inl disk)) = subst (BlamesInput left left') (sym disk) (blames_none (λ is. absurd cc) (λ is. absurd cc) (λ is. absurd cc) (λ is. absurd cc))
+blames_full {left} {left'} k s (inr (inr memory)) = subst (BlamesInput left left') (sym memory) (blames_none (λ is. absurd cc) (λ is. absurd cc) (λ is. absurd cc) (λ is. absurd cc))
 
 -- that of an opening
 abbrev IsAuditKind : LimitKind → Type 0
@@ -63,7 +63,7 @@ open_limit (Voided n) k e = absurd cc
 open_limit (ByDump d) k e = absurd cc
 
 pub blames_opening : {left left' : Option (List ℕ)} (fault : OpenFault) (s : Status) → s ≡ open_status fault → BlamesInput left left' s
-blames_opening {left} {left'} fault s is = subst (BlamesInput left left') (sym is) (blames_none (open_limit fault limit.Lines) (open_limit fault limit.Bytes) (open_input fault))
+blames_opening {left} {left'} fault s is = subst (BlamesInput left left') (sym is) (blames_none (open_ok fault) (open_limit fault limit.Lines) (open_limit fault limit.Bytes) (open_input fault))
 
 -- ---- that of a script
 
@@ -75,6 +75,7 @@ behind last fault then other (inr memory) no_memory is = absurd (no_memory (sym 
 pub blames_script : {left left' : Option (List ℕ)} (last : ℕ) (fault then : RunFault) (s : Status) → IsWithin last fault then → s ≡ run_status then → (fault ≡ run.Lines → (all : List ℕ) → left ≡ Some all → HasTooManyLines all)
     → (fault ≡ run.Bytes → (all : List ℕ) → left ≡ Some all → HasTooManyBytes all) → (fault ≡ run.Input → (all : List ℕ) → left ≡ Some all → InputBreaks left' all) → BlamesInput left left' s
 blames_script last fault then s within status lines bytes breaks = record {
+  ok = λ is. absurd (run_not_ok then (sym status ∙ is));
   lines = λ is. lines (behind last fault then run.Lines within (λ e. absurd cc) (run_lines_is then (sym status ∙ is)));
   bytes = λ is. bytes (behind last fault then run.Bytes within (λ e. absurd cc) (run_bytes_is then (sym status ∙ is)));
   breaks = λ is. breaks (within_input last fault then within (run_input then (sym status ∙ is)));

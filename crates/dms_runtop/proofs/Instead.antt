@@ -19,11 +19,10 @@ use Rattle.dms_status.specs.declared.status.LimitKind.{LimitKind}
 use Rattle.dms_status.specs.declared.status.LimitKind.TheVariants.{AuditFile}
 use Rattle.dms_status.specs.declared.status.Status.{Status}
 use Rattle.dms_status.specs.declared.status.Status.TheVariants.{Ok, Limit, DiskFault, InputFault, Damaged, Memory, SayFault}
-use Rattle.dms_runtop.specs.Bound.{BoundsAudit, CountsFailures, CountsUnguarded}
 use Rattle.dms_runtop.specs.Command.{DatabaseState, RunsCommand, RunsOpened}
 use Rattle.dms_runtop.specs.Full.{IsOfFull}
 use Rattle.dms_runtop.specs.Over.{PassesScript, ScriptRuns, SiteSeen, seen_site}
-use Rattle.dms_runtop.proofs.Bounds.{bounds_looked, bounds_void}
+use Rattle.dms_runtop.proofs.Bounds.{bounds_instead}
 use Rattle.dms_runtop.proofs.Looked.{said_seen}
 
 -- ---- the status
@@ -67,12 +66,10 @@ refused_place s was = subst (λ (x : Status). TakesPlace x Memory) (sym was) (me
 -- ---- the run
 
 -- it ended with one status, and no later call did more than look
-pub ran_instead : (opening : ℕ) (counts : Status → Type 0) (t : Telling) (d : Described) (ps : List DescribedPoint) (n : ℕ) (db : Db) (next : ℕ) (all : List ℕ) (a b c : SiteSeen) (left' : Option (List ℕ)) (s then : Status) → TakesPlace s then
-    → Runs b.clock c.clock (RunLeavesFiles t d a.said ps n db next (script_events d db next (raw_lines all))) → c.said ≡ b.said
-    → (BoundsAudit opening (counts s) t d (script_events d db next (raw_lines all)) a.files b.files a.said b.said s → BoundsAudit opening (counts then) t d (script_events d db next (raw_lines all)) a.files c.files a.said c.said then)
-    → ScriptRuns opening counts t d ps n db next all a b left' s → ScriptRuns opening counts t d ps n db next all a c left' then
-ran_instead opening counts t d ps n db next all a b c left' s then place moments same bound r = record {
-  bound = bound r.bound;
+pub ran_instead : (opening : ℕ) (t : Telling) (d : Described) (ps : List DescribedPoint) (n : ℕ) (db : Db) (next : ℕ) (all : List ℕ) (a b c : SiteSeen) (left' : Option (List ℕ)) (s then : Status) → TakesPlace s then
+    → Runs b.clock c.clock (RunLeavesFiles t d a.said ps n db next (script_events d db next (raw_lines all))) → c.said ≡ b.said → c.files ≡ b.files → ScriptRuns opening t d ps n db next all a b left' s → ScriptRuns opening t d ps n db next all a c left' then
+ran_instead opening t d ps n db next all a b c left' s then place moments same files r = record {
+  bound = bounds_instead s then place.unsaid place.not_ok files same r.bound;
   every_moment = runs_on r.every_moment moments (λ x l. l);
   at_ok = λ is. absurd (place.not_ok is);
   prints = λ is. absurd (place.not_ok is);
@@ -86,10 +83,9 @@ ran_instead opening counts t d ps n db next all a b c left' s then place moments
 
 module _ {S : Type 0} (g : Ghosts S) where
   pub opened_instead : ((x : S) (t : ℕ) (l : Left) → t ≤ (g.clock x).now → Now (g.clock x) l → (g.clock x).left t l) → (o : Opened S) (x y : S) (known : Bool) (left left' : Option (List ℕ)) (s then : Status) → TakesPlace s then
-      → Steps Same (g.clock x) (g.clock y) → g.said y ≡ g.said x → (k : ℕ) → s ≡ Limit (AuditFile k) → (IsTrue g.tells → g.files y ≡ g.files x) → RunsOpened g o known left left' s x → RunsOpened g o known left left' then y
-  opened_instead counts o x y known left left' s then place steps said k full files ran told knows st n db all state room is =
-      ran_instead 0 (CountsFailures g o.log.site) _ _ _ _ _ _ _ (seen_site g o.log.site) (seen_site g x) (seen_site g y) left' s then place (runs_looking (counts x) steps) (said_seen g x y said)
-      (bounds_looked k s then full place.not_ok (files told) (said_seen g x y said)) (ran told knows st n db all state room is)
+      → Steps Same (g.clock x) (g.clock y) → g.said y ≡ g.said x → (IsTrue g.tells → g.files y ≡ g.files x) → RunsOpened g o known left left' s x → RunsOpened g o known left left' then y
+  opened_instead counts o x y known left left' s then place steps said files ran told knows st n db all state room is =
+      ran_instead 0 _ _ _ _ _ _ _ (seen_site g o.log.site) (seen_site g x) (seen_site g y) left' s then place (runs_looking (counts x) steps) (said_seen g x y said) (files told) (ran told knows st n db all state room is)
 
   -- a call was refused
   pub command_instead : (state : Option DatabaseState) (old x : S) (left left' : Option (List ℕ)) (s : Status) → TakesPlace s Memory → RunsCommand g state old x left left' s → RunsCommand g state old x left left' Memory
@@ -99,6 +95,5 @@ module _ {S : Type 0} (g : Ghosts S) where
         total = r.total;
         first = r.first;
         trail = r.trail;
-        runs = ran_instead 19 (CountsUnguarded g old) _ _ _ _ _ _ _ (seen_site g old) (seen_site g x) (seen_site g x) left' s Memory place (runs_none _ _) refl (λ bound. bounds_void (λ c. c.1 refl)) r.runs;
-        grown = r.grown;
+        runs = ran_instead 19 _ _ _ _ _ _ _ (seen_site g old) (seen_site g x) (seen_site g x) left' s Memory place (runs_none _ _) refl refl r.runs;
       }

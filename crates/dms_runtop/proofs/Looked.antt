@@ -15,7 +15,6 @@ use Rattle.dms_descfile.specs.declared.fault.FileFault.{FileFault}
 use Rattle.dms_descfile.specs.declared.fault.FileFault.TheVariants as file
 use Rattle.dms_status.specs.declared.status.Status.{Status}
 use Rattle.dms_status.specs.declared.status.Status.TheVariants.{DiskFault, Memory}
-use Rattle.dms_runtop.specs.Bound.{CountsFailures}
 use Rattle.dms_runtop.specs.Command.{RunsOpened, StandsOpened}
 use Rattle.dms_runtop.proofs.Bounds.{bounds_none}
 use Rattle.dms_runtop.specs.Over.{seen_site}
@@ -54,18 +53,18 @@ module _ {S : Type 0} (g : Ghosts S) where
 
   -- a run behind a call that only looked
   pub runs_looked : ((s : S) (t : ℕ) (x : Left) → t ≤ (g.clock s).now → Now (g.clock s) x → (g.clock s).left t x) → (o : Opened S) (site new : S) (known : Bool) (left left' : Option (List ℕ)) (status : Status)
-      → (IsTrue g.tells → g.files site ≡ g.files o.log.site) → g.said site ≡ g.said o.log.site → g.disk_faults site ≡ g.disk_faults o.log.site → Steps Same (g.clock o.log.site) (g.clock site)
+      → (IsTrue g.tells → g.files site ≡ g.files o.log.site) → g.said site ≡ g.said o.log.site → Steps Same (g.clock o.log.site) (g.clock site)
       → RunsOpened g (record o { log = record o.log { site = site } }) known left left' status new → RunsOpened g o known left left' status new
-  runs_looked counts o site new known left left' status same said disk steps ran t k st n db all state room is =
-      runs_since 0 0 (CountsFailures g site) (CountsFailures g o.log.site) (telling (view_of g o.log)) st.desc (points_of (telling (view_of g o.log)) st.files) n db o.next all (seen_site g o.log.site) (seen_site g site) (seen_site g new) left' status
-      (said_seen o.log.site site said) (runs_looking (counts o.log.site) steps) (λ c. omega (arith, c, disk)) (omega (arith, ap (λ (f : Files). length ((telling (view_of g o.log)).entries f)) (same t)))
+  runs_looked counts o site new known left left' status same said steps ran t k st n db all state room is =
+      runs_since 0 0 (telling (view_of g o.log)) st.desc (points_of (telling (view_of g o.log)) st.files) n db o.next all (seen_site g o.log.site) (seen_site g site) (seen_site g new) left' status
+      (said_seen o.log.site site said) (runs_looking (counts o.log.site) steps) (omega (arith, ap (λ (f : Files). length ((telling (view_of g o.log)).entries f)) (same t)))
       (ran t k (stands_looked o site (same t) steps st) n db all state room is)
 
   -- no line was run
   pub runs_undone : (o : Opened S) (new : S) (known : Bool) (left left' : Option (List ℕ)) (status : Status) → IsUndone status → (IsTrue g.tells → g.files new ≡ g.files o.log.site)
       → ((P : Left → Type 0) → Runs (g.clock o.log.site) (g.clock new) P) → g.said new ≡ g.said o.log.site → RunsOpened g o known left left' status new
   runs_undone o new known left left' status undone files moments said t k st n db all state room is =
-      ran_nothing 0 (CountsFailures g o.log.site) (telling (view_of g o.log)) st.desc (points_of (telling (view_of g o.log)) st.files) n db o.next all (seen_site g o.log.site) (seen_site g new) left' status undone
+      ran_nothing 0 (telling (view_of g o.log)) st.desc (points_of (telling (view_of g o.log)) st.files) n db o.next all (seen_site g o.log.site) (seen_site g new) left' status undone
       (moments _) (said_seen o.log.site new said) (bounds_none status (undone_ok status undone) (files t) (said_seen o.log.site new said))
 
 -- a fault of the description

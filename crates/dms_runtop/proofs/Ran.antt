@@ -1,5 +1,5 @@
 -- What a run over a store on a running database is of the files below.
-use Rattle.std.proofs.Common.{inl, inr, ◌⊎◌, ℕ, ◌≡◌, ◌<◌, ◌+◌, ◌^◌, ◌∙◌, Bool, true, false, IsTrue, List, map, length, Option, Some, sym, ap, subst, arith}
+use Rattle.std.proofs.Common.{inl, inr, ◌⊎◌, ℕ, ◌≡◌, ◌<◌, ◌+◌, ◌^◌, ◌∙◌, Bool, true, false, IsTrue, List, map, length, Option, Some, sym, ap, subst}
 use Rattle.std.proofs.lemmas.List.{length-map, append-nil}
 use Rattle.dms_block.specs.Held.{Held}
 use Rattle.dms_block.specs.Texts.{Prints, PrintsPrefix}
@@ -41,7 +41,6 @@ use Rattle.dms_status.specs.declared.status.LimitKind.TheVariants.{AuditFile, Li
 use Rattle.dms_status.specs.declared.status.Status.{Status}
 use Rattle.dms_status.specs.declared.status.Status.TheVariants.{Ok, Limit}
 use Rattle.dms_runtop.specs.Bound.{BoundsAudit}
-use Rattle.dms_runtop.proofs.Bounds.{bounds_since}
 use Rattle.dms_runtop.specs.Faults.{run_status}
 use Rattle.dms_runtop.specs.Over.{ReachesFiles, PassesScript, ScriptRuns, SiteSeen}
 use Rattle.dms_runtop.specs.Statuses.{IsOfAuditLimit, IsOfClosing}
@@ -134,9 +133,9 @@ said_nothing said events = (0, λ t is. is ∙ ap (λ (s : List ℕ). Some s) (s
 
 -- ---- a run, by how it ended
 
-module _ (opening : ℕ) (counts : Status → Type 0) (t : Telling) (d : Described) (ps : List DescribedPoint) (n : ℕ) (db : Db) (next : ℕ) (all : List ℕ) (a b : SiteSeen) (left' : Option (List ℕ)) where
+module _ (opening : ℕ) (t : Telling) (d : Described) (ps : List DescribedPoint) (n : ℕ) (db : Db) (next : ℕ) (all : List ℕ) (a b : SiteSeen) (left' : Option (List ℕ)) where
   abbrev Bound : Status → Type 0
-  Bound status = BoundsAudit opening (counts status) t d (script_events d db next (raw_lines all)) a.files b.files a.said b.said status
+  Bound status = BoundsAudit opening t d (script_events d db next (raw_lines all)) a.files b.files a.said b.said status
 
   abbrev events : List RunEvent
   events = script_events d db next (raw_lines all)
@@ -148,7 +147,7 @@ module _ (opening : ℕ) (counts : Status → Type 0) (t : Telling) (d : Describ
   of_audit limits.Held is = absurd is
 
   -- nothing was done: the status is none of a script
-  pub ran_nothing : (status : Status) → IsUndone status → Runs a.clock b.clock (RunLeavesFiles t d a.said ps n db next events) → b.said ≡ a.said → Bound status → ScriptRuns opening counts t d ps n db next all a b left' status
+  pub ran_nothing : (status : Status) → IsUndone status → Runs a.clock b.clock (RunLeavesFiles t d a.said ps n db next events) → b.said ≡ a.said → Bound status → ScriptRuns opening t d ps n db next all a b left' status
   ran_nothing status undone moments same bound = record {
     bound = bound;
     every_moment = moments;
@@ -167,7 +166,7 @@ module _ (opening : ℕ) (counts : Status → Type 0) (t : Telling) (d : Describ
       → PrintsPrefix a.said b.said (answers_text d db next (raw_lines all)) → ((fault ≡ Block Say → ⊥) → SaidWhole a.said b.said events)
       → (fault ≡ run.Lines → PassesLines d db next (raw_lines all) a.said b.said) → (fault ≡ run.Bytes → PassesBytes d db next (raw_lines all) a.said b.said)
       → (fault ≡ run.Held → PassesWaiting d db next (raw_lines all) a.said b.said) → (fault ≡ run.Input → CutInput d db next all left' a.said b.said)
-      → ((f k : ℕ) → fault ≡ Block (block.Damaged f k) → ⊥) → ((f : ℕ) → fault ≡ Block (block.Full f) → f ≡ d.files) → Bound (run_status fault) → ScriptRuns opening counts t d ps n db next all a b left' (run_status fault)
+      → ((f k : ℕ) → fault ≡ Block (block.Damaged f k) → ⊥) → ((f : ℕ) → fault ≡ Block (block.Full f) → f ≡ d.files) → Bound (run_status fault) → ScriptRuns opening t d ps n db next all a b left' (run_status fault)
   ran_failed fault moments part whole lines bytes waits cut damaged full bound = record {
     bound = bound;
     every_moment = moments;
@@ -193,7 +192,7 @@ module _ (opening : ℕ) (counts : Status → Type 0) (t : Telling) (d : Describ
   pub ran_closed : (status : Status) → (status ≡ Ok) ⊎ IsOfClosing status → Runs a.clock b.clock (RunLeavesFiles t d a.said ps n db next events)
       → (status ≡ Ok → ReachesFiles t d n db next (raw_lines all) b)
       → Prints a.said b.said (answers_text d db next (raw_lines all)) → PrintsPrefix a.said b.said (answers_text d db next (raw_lines all)) → SaidWhole a.said b.said events
-      → KeepsLimits d db next (raw_lines all) → Bound status → ScriptRuns opening counts t d ps n db next all a b left' status
+      → KeepsLimits d db next (raw_lines all) → Bound status → ScriptRuns opening t d ps n db next all a b left' status
   ran_closed status of moments ends prints part whole limits bound = record {
     bound = bound;
     every_moment = moments;
@@ -210,19 +209,3 @@ module _ (opening : ℕ) (counts : Status → Type 0) (t : Telling) (d : Describ
       closing_limit : (s : Status) → (s ≡ Ok) ⊎ IsOfClosing s → (k : LimitKind) → s ≡ Limit k → PassesScript k d db next (raw_lines all) a.said b.said
       closing_limit s (inl ok) k is = absurd (ok_not_limit k (sym ok ∙ is))
       closing_limit s (inr of) k is = of_audit k (subst IsOfClosing is of)
-
--- where less is asked for to bound the audit
-pub script_with : {opening : ℕ} {P Q : Status → Type 0} {t : Telling} {d : Described} {ps : List DescribedPoint} {n : ℕ} {db : Db} {next : ℕ} {all : List ℕ} {a b : SiteSeen} {left' : Option (List ℕ)} {status : Status} → (Q status → P status)
-    → ScriptRuns opening P t d ps n db next all a b left' status → ScriptRuns opening Q t d ps n db next all a b left' status
-script_with counts r = record {
-  every_moment = r.every_moment;
-  at_ok = r.at_ok;
-  prints = r.prints;
-  part = r.part;
-  whole_answers = r.whole_answers;
-  within = r.within;
-  limit = r.limit;
-  bound = bounds_since counts (omega arith) r.bound;
-  input_cut = r.input_cut;
-  undamaged = r.undamaged;
-}

@@ -52,19 +52,19 @@ module _ (t : Telling) (files : Files) (said : Option (List ℕ)) (desc : Descri
         are = refl;
         each = tt;
         next_is = omega (arith, next_is, r.not_fallen);
-        text = λ b is. record { before = []; at = f.one; rest = f.rest; all = f.are; printed = 0; said_is = r.text b is ∙ sym (append-nil b); enough = omega arith };
+        text = λ b is. record { before = []; at = f.one; rest = f.rest; all = f.are; printed = 0; said_is = r.text b is ∙ sym (append-nil b); enough = omega arith; few = omega arith };
         whole = r.whole;
       }
 
 -- ---- a run since the opening
 
-module _ (opening opening0 : ℕ) (counts counts0 : Status → Type 0) (t : Telling) (d : Described) (ps : List DescribedPoint) (n : ℕ) (db : Db) (next : ℕ) (all : List ℕ) (a0 a b : SiteSeen) (left' : Option (List ℕ)) (status : Status) where
-  same_said : a.said ≡ a0.said → ScriptRuns opening counts t d ps n db next all a b left' status → ScriptRuns opening counts t d ps n db next all (record { files = a.files; clock = a.clock; said = a0.said }) b left' status
-  same_said same ran = subst (λ (s : Option (List ℕ)). ScriptRuns opening counts t d ps n db next all (record { files = a.files; clock = a.clock; said = s }) b left' status) same ran
+module _ (opening opening0 : ℕ) (t : Telling) (d : Described) (ps : List DescribedPoint) (n : ℕ) (db : Db) (next : ℕ) (all : List ℕ) (a0 a b : SiteSeen) (left' : Option (List ℕ)) (status : Status) where
+  same_said : a.said ≡ a0.said → ScriptRuns opening t d ps n db next all a b left' status → ScriptRuns opening t d ps n db next all (record { files = a.files; clock = a.clock; said = a0.said }) b left' status
+  same_said same ran = subst (λ (s : Option (List ℕ)). ScriptRuns opening t d ps n db next all (record { files = a.files; clock = a.clock; said = s }) b left' status) same ran
 
   pub runs_since : a.said ≡ a0.said → Runs a0.clock a.clock (RunLeavesFiles t d a0.said ps n db next (script_events d db next (raw_lines all)))
-      → (counts0 status → counts status) → length (t.entries a.files) + opening ≤ length (t.entries a0.files) + opening0 → ScriptRuns opening counts t d ps n db next all a b left' status → ScriptRuns opening0 counts0 t d ps n db next all a0 b left' status
-  runs_since same before counted grew ran =
+      → length (t.entries a.files) + opening ≤ length (t.entries a0.files) + opening0 → ScriptRuns opening t d ps n db next all a b left' status → ScriptRuns opening0 t d ps n db next all a0 b left' status
+  runs_since same before grew ran =
       let r = same_said same ran in
       record {
         every_moment = runs_on before r.every_moment (λ x l. l);
@@ -74,7 +74,7 @@ module _ (opening opening0 : ℕ) (counts counts0 : Status → Type 0) (t : Tell
         whole_answers = r.whole_answers;
         within = r.within;
         limit = r.limit;
-        bound = bounds_since counted grew r.bound;
+        bound = bounds_since grew r.bound;
         input_cut = r.input_cut;
         undamaged = r.undamaged;
       }

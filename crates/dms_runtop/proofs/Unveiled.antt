@@ -1,5 +1,5 @@
 -- A run over a site whose files are told only where it is known what they stand for.
-use Rattle.std.proofs.Common.{ℕ, ◌≡◌, ◌+◌, ◌<◌, ◌^◌, ◌∙◌, Bool, IsTrue, List, [], map, Option, sym, ap, subst, arith}
+use Rattle.std.proofs.Common.{ℕ, ◌≡◌, ◌+◌, ◌<◌, ◌^◌, ◌∙◌, Bool, IsTrue, List, [], map, Option, sym, ap, subst}
 use Rattle.dms_desc.specs.Shape.{Described}
 use Rattle.dms_desc_bytes.specs.Spelling.{spelling}
 use Rattle.dms_desc_bytes.specs.WellFormed.{IsWellFormed}
@@ -20,8 +20,6 @@ use Rattle.dms_run.specs.States.{LivesEndWith}
 use Rattle.dms_runtop.specs.Command.{RunsOpened, StandsOpened}
 use Rattle.dms_runtop.specs.Describing.{IsUnderSchema}
 use Rattle.dms_runtop.specs.Over.{BeginsAt, RunsOver, ScriptRuns, SiteSeen, seen_site}
-use Rattle.dms_runtop.specs.Bound.{CountsFailures}
-use Rattle.dms_runtop.proofs.Ran.{script_with}
 use Rattle.dms_runtop.proofs.Opened.{same_description, spells_last}
 
 -- it runs under the bytes of the description that is used
@@ -31,7 +29,7 @@ under_bytes g one o desc formed under bytes bytes_are st =
     let same : desc ≡ st.desc = same_description one o.schema.items desc st.desc formed under st.formed st.spelled in
     subst (λ (b : List ℕ). RunsFrom st.files o.point o.next b o.counts.items (view_of g o.log)) (sym st.spelled ∙ ap spelling (sym same) ∙ sym bytes_are) st.runs
 
-module _ {S V : Type 0} (g : Ghosts S) (gv : Ghosts V) (of : V → S) (known : Bool) (tells : IsTrue g.tells → IsTrue known → IsTrue gv.tells) (seen : (v : V) → seen_site gv v ≡ seen_site g (of v)) (disk : (v : V) → gv.disk_faults v ≡ g.disk_faults (of v))
+module _ {S V : Type 0} (g : Ghosts S) (gv : Ghosts V) (of : V → S) (known : Bool) (tells : IsTrue g.tells → IsTrue known → IsTrue gv.tells) (seen : (v : V) → seen_site gv v ≡ seen_site g (of v))
     (one : (d e : Described) → IsWellFormed d → IsWellFormed e → spelling d ≡ spelling e → d ≡ e) (o : Opened S) (desc : Described) (formed : IsWellFormed desc) (under : IsUnderSchema o.schema.items desc)
     (bytes : List ℕ) (bytes_are : bytes ≡ spelling desc)
     (r : Running V) (site_is : of r.log.site ≡ o.log.site) (total_is : r.log.end.total ≡ o.log.end.total) (first_is : r.log.first ≡ o.log.first) (next_is : r.next ≡ o.next) (limit_is : r.log.end.limit ≡ desc.files)
@@ -66,11 +64,10 @@ module _ {S V : Type 0} (g : Ghosts S) (gv : Ghosts V) (of : V → S) (known : B
       let same : desc ≡ st.desc = same_description one o.schema.items desc st.desc formed under st.formed st.spelled in
       let over : RunsOver gv r st.desc left left' status v = subst (λ (d : Described). RunsOver gv r d left left' status v) same ran in
       let ps : List DescribedPoint = points_of t st.files in
-      let script : ScriptRuns 0 (CountsFailures gv r.log.site) t st.desc ps n db r.next all (seen_site gv r.log.site) (seen_site gv v) left' status = over o.log.end.total o.log.first ps n db all (begins_opened told knows st n db state room) is in
-      script_with (λ c. omega (arith, c, disk r.log.site, ap g.disk_faults site_is))
-      (subst (λ (m : ℕ). ScriptRuns 0 (CountsFailures gv r.log.site) t st.desc ps n db m all (seen_site g o.log.site) (seen_site g (of v)) left' status) next_is
-      (subst (λ (x : SiteSeen). ScriptRuns 0 (CountsFailures gv r.log.site) t st.desc ps n db r.next all x (seen_site g (of v)) left' status) (seen r.log.site ∙ ap (seen_site g) site_is)
-      (subst (λ (x : SiteSeen). ScriptRuns 0 (CountsFailures gv r.log.site) t st.desc ps n db r.next all (seen_site gv r.log.site) x left' status) (seen v) script)))
+      let script : ScriptRuns 0 t st.desc ps n db r.next all (seen_site gv r.log.site) (seen_site gv v) left' status = over o.log.end.total o.log.first ps n db all (begins_opened told knows st n db state room) is in
+      subst (λ (m : ℕ). ScriptRuns 0 t st.desc ps n db m all (seen_site g o.log.site) (seen_site g (of v)) left' status) next_is
+      (subst (λ (x : SiteSeen). ScriptRuns 0 t st.desc ps n db r.next all x (seen_site g (of v)) left' status) (seen r.log.site ∙ ap (seen_site g) site_is)
+      (subst (λ (x : SiteSeen). ScriptRuns 0 t st.desc ps n db r.next all (seen_site gv r.log.site) x left' status) (seen v) script))
 
 -- the files under which it runs
 pub files_under : {S : Type 0} (g : Ghosts S) (one : (d e : Described) → IsWellFormed d → IsWellFormed e → spelling d ≡ spelling e → d ≡ e) (o : Opened S) (desc : Described) → IsWellFormed desc → IsUnderSchema o.schema.items desc

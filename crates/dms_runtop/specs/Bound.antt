@@ -1,14 +1,13 @@
 -- How much audit a run takes.
-use Rattle.std.specs.Prelude.{ℕ, ◌≡◌, ◌+◌, ◌-◌, ◌*◌, ◌^◌, ◌<◌, ◌≤◌, true, List, length, take}
+use Rattle.std.specs.Prelude.{ℕ, ◌≡◌, ◌⊎◌, ◌+◌, ◌-◌, ◌*◌, ◌^◌, ◌<◌, ◌≤◌, true, List, length, take}
 use Rattle.std.specs.declared.option.Option.{Option}
 use Rattle.dms_block.specs.Texts.{Prints, PrintsPrefix}
 use Rattle.dms_desc.specs.Shape.{Described}
-use Rattle.dms_runner.specs.Events.{RunEvent, SaidAtLeast, backs_of, blocks_of, quiets_of, syncs_of, text_of}
+use Rattle.dms_runner.specs.Events.{RunEvent, EndsAnswered, SaidAtLeast, backs_of, blocks_of, quiets_of, syncs_of, text_of}
 use Rattle.dms_running.specs.Telling.{Telling}
-use Rattle.dms_site.specs.declared.site.Site.{Ghosts}
 use Rattle.dms_site.specs.Files.{Files}
 use Rattle.dms_status.specs.declared.status.Status.{Status}
-use Rattle.dms_status.specs.declared.status.Status.TheVariants.{Ok, Memory, DiskFault, SayFault}
+use Rattle.dms_status.specs.declared.status.Status.TheVariants.{Ok, SayFault}
 use Rattle.dms_storeverbs.specs.Costs.{limit_if}
 use Rattle.dms_wal.specs.Growing.{controls_among}
 
@@ -41,27 +40,32 @@ pub record PrintsEvents (cut : Type 0) (k : ℕ) (events : List RunEvent) (said 
   pub least : SaidAtLeast said said' (text_of (take whole events))
   pub most : PrintsPrefix said said' (text_of (take k events))
 
--- So much was printed, and the audit grew by no more than the first k events make, one call that was under way, an opening and a close. The call of a
--- verb is an event before the one that says its answer: so the last of the k may be a call, too, whose answer wasn't printed.
+-- Behind the first k of these events one call more was under way: their text was printed whole, the last of them takes nothing, so no call that does
+-- waits for its answer, and there are more of them.
+pub record IsUnderWay (whole k : ℕ) (events : List RunEvent) : Type 0 where
+  pub said : whole ≡ k
+  pub more : k < length events
+  pub answered : EndsAnswered (take k events)
+
+-- The audit grew by no more than n entries and those that the first k of these events make; or one call more was under way, and it grew by no more than
+-- n, those, and those of that call.
+abbrev pub GrewWithin : ℕ → Telling → Described → ℕ → ℕ → List RunEvent → Files → Files → Type 0
+GrewWithin n t desc whole k events then now =
+    AuditGrew t (n + audit_of desc (take k events)) then now ⊎ (IsUnderWay whole k events × AuditGrew t (n + audit_begun desc (take k events)) then now)
+
+-- So much was printed, and the audit grew by no more than an opening, a close and the first k events make. The call of a verb is an event before the one
+-- that says its answer: so the last of the k may be a call whose answer wasn't printed. Where each call that takes something was answered, one may have
+-- been under way behind them. So there is one such call at most whose answer wasn't printed.
 pub record GrewByPart (cut : Type 0) (n : ℕ) (t : Telling) (desc : Described) (events : List RunEvent) (then now : Files) (said said' : Option (List ℕ)) : Type 0 where
   pub k : ℕ
   pub within : k ≤ length events
   pub printed : PrintsEvents cut k events said said'
-  pub grew : AreCounted desc (take k events) → AuditGrew t (n + audit_begun desc (take k events) + 37) then now
+  pub grew : AreCounted desc (take k events) → GrewWithin (n + 18) t desc printed.whole k events then now
 
--- So much audit a run takes, where an opening before it took at most n entries. A close takes at most 37: a back-out and a control point. P says that
--- a failed call of the disk would have been counted.
-pub record BoundsAudit (n : ℕ) (P : Type 0) (t : Telling) (desc : Described) (events : List RunEvent) (then now : Files) (said said' : Option (List ℕ)) (status : Status) : Type 0 where
+-- So much audit a run takes, whatever failed, where an opening before it took at most n entries. A close takes at most 18: a Schema, in 17 parts, and a
+-- Control.
+pub record BoundsAudit (n : ℕ) (t : Telling) (desc : Described) (events : List RunEvent) (then now : Files) (said said' : Option (List ℕ)) (status : Status) : Type 0 where
   -- at status 0 no more than all events make
-  pub at_ok : P → status ≡ Ok → AreCounted desc events → AuditGrew t (n + audit_of desc events + 37) then now
-  -- at each status but 5 no more than those make whose text was printed, a call whose answer wasn't, and the one that was under way; at 10 the last
-  -- answer may be cut off
-  pub at_end : P → (status ≡ DiskFault → ⊥) → GrewByPart (status ≡ SayFault) n t desc events then now said said'
-
--- A failed call of the disk would be counted, whatever the status is: the count isn't at its type's end.
-abbrev pub CountsFailures : {S : Type 0} → Ghosts S → S → Status → Type 0
-CountsFailures g site status = g.disk_faults site < 2 ^ 64 - 1
-
--- So it is at each status but 7, which may stand for a call that the guard refused (`Guarded`): no run makes one, but no clause says so.
-abbrev pub CountsUnguarded : {S : Type 0} → Ghosts S → S → Status → Type 0
-CountsUnguarded g site status = CountsFailures g site status × (status ≡ Memory → ⊥)
+  pub at_ok : status ≡ Ok → AreCounted desc events → AuditGrew t (n + audit_of desc events + 18) then now
+  -- at each status no more than those make whose text was printed, and one call whose answer wasn't; at 10 the last answer may be cut off
+  pub at_end : GrewByPart (status ≡ SayFault) n t desc events then now said said'

@@ -12,13 +12,13 @@ use Rattle.dms_desc_bytes.specs.WellFormed.{IsWellFormed}
 use Rattle.dms_model.specs.Db.{Db}
 use Rattle.dms_site.specs.declared.site.Site.{Ghosts}
 use Rattle.dms_site.specs.Files.{Files, Only, Same}
-use Rattle.dms_audfile.specs.Ends.{Grown}
 use Rattle.dms_audfile.specs.TrailEntries.{trail_entries}
 use Rattle.dms_running.specs.Standing.{IsWhole}
 use Rattle.dms_running.specs.Points.{points_of}
 use Rattle.dms_opening.specs.declared.choosing.OpenFault.{OpenFault}
-use Rattle.dms_restore.specs.Logging.{telling_of, telling}
+use Rattle.dms_restore.specs.Logging.{LeavesTrail, LogStays, TrailKept, telling_of, telling}
 use Rattle.dms_restore.specs.Views.{view_of}
+use Rattle.dms_wal.specs.Growing.{over_site}
 use Rattle.dms_run.specs.State.{StateOf, HasNext}
 use Rattle.dms_run.specs.States.{LivesEndWith}
 use Rattle.dms_opening.specs.declared.opened.Opened.{Opened}
@@ -26,7 +26,6 @@ use Rattle.dms_opening.specs.Laws.{LastIsDescribed}
 use Rattle.dms_opening.specs.Openings.{IsTrailFound, IsOpenable, RunsFrom, RefusesFiles, CanOpen, StaysUnopened}
 use Rattle.dms_status.specs.declared.status.Status.{Status}
 use Rattle.dms_status.specs.declared.status.Status.TheVariants.{Ok}
-use Rattle.dms_runtop.specs.Bound.{CountsFailures, CountsUnguarded}
 use Rattle.dms_runtop.specs.Faults.{open_status}
 use Rattle.dms_runtop.specs.Over.{ScriptRuns, seen_site}
 use Rattle.dms_runtop.specs.Statuses.{IsRefusal}
@@ -72,33 +71,33 @@ module _ {S : Type 0} (g : Ghosts S) where
   abbrev pub RunsOpened : Opened S → Bool → Option (List ℕ) → Option (List ℕ) → Status → S → Type 0
   RunsOpened o known left left' status site =
       IsTrue g.tells → IsTrue known → (st : StandsOpened o) (n : ℕ) (db : Db) (all : List ℕ) → LivesEndWith st.desc (points_of (telling (view_of g o.log)) st.files) n db → o.next + 1000003 < 2 ^ 64 → left ≡ Some all
-      → ScriptRuns 0 (CountsFailures g o.log.site) (telling (view_of g o.log)) st.desc (points_of (telling (view_of g o.log)) st.files) n db o.next all (seen_site g o.log.site) (seen_site g site) left' status
+      → ScriptRuns 0 (telling (view_of g o.log)) st.desc (points_of (telling (view_of g o.log)) st.files) n db o.next all (seen_site g o.log.site) (seen_site g site) left' status
 
-  -- where that is known, the trail is the one of the opening and blocks behind it, each of which is in its grammar and holds an entry
+  -- where that is known, the trail is the one of the opening and blocks behind it, each of which is in its grammar and holds an entry, now and at each stop
   abbrev pub GrowsOpened : Opened S → Bool → S → Type 0
-  GrowsOpened o known site = IsTrue g.tells → IsTrue known → Grown o.log.end.total o.log.first (g.files o.log.site) (g.files site)
+  GrowsOpened o known site = IsTrue g.tells → IsTrue known → LogStays (view_of g o.log) (over_site g (view_of g o.log) site)
 
-  -- A run of the script over the database that the files of a site stand for, whose next number is this one, along their trail. At each status the trail
-  -- is the old one and blocks behind it, each of which is in its grammar and holds an entry: so no more blocks are sealed than entries.
-  pub record RunsAlong (counts : Status → Type 0) (s : DatabaseState) (next : ℕ) (all : List ℕ) (old new : S) (left' : Option (List ℕ)) (status : Status) : Type 0 where
+  -- A run of the script over the database that the files of a site stand for, whose next number is this one, along their trail.
+  pub record RunsAlong (s : DatabaseState) (next : ℕ) (all : List ℕ) (old new : S) (left' : Option (List ℕ)) (status : Status) : Type 0 where
     pub total : ℕ
     pub first : ℕ
     pub trail : IsTrailFound total first (g.files old)
-    pub runs : ScriptRuns 19 counts (telling_of total first) s.desc (points_of (telling_of total first) (g.files old)) s.point s.db next all (seen_site g old) (seen_site g new) left' status
-    pub grown : Grown total first (g.files old) (g.files new)
-
-  abbrev pub RunsTold : (S → Status → Type 0) → Option DatabaseState → S → S → Option (List ℕ) → Option (List ℕ) → Status → Type 0
-  RunsTold counts state old new left left' status =
-      IsTrue g.tells → (s : DatabaseState) → state ≡ Some s → (next : ℕ) → HasNext (g.files old) next → HasNumbersLeft next → (all : List ℕ) → left ≡ Some all
-      → RunsAlong (counts old) s next all old new left' status
+    pub runs : ScriptRuns 19 (telling_of total first) s.desc (points_of (telling_of total first) (g.files old)) s.point s.db next all (seen_site g old) (seen_site g new) left' status
 
   -- so it is of the state that is told, whatever the status is
-  abbrev pub RunsFound : Option DatabaseState → S → S → Option (List ℕ) → Option (List ℕ) → Status → Type 0
-  RunsFound state old new left left' status = RunsTold (CountsFailures g) state old new left left' status
-
-  -- and so of the whole command, where 7 may stand for a call that the guard refused
   abbrev pub RunsCommand : Option DatabaseState → S → S → Option (List ℕ) → Option (List ℕ) → Status → Type 0
-  RunsCommand state old new left left' status = RunsTold (CountsUnguarded g) state old new left left' status
+  RunsCommand state old new left left' status =
+      IsTrue g.tells → (s : DatabaseState) → state ≡ Some s → (next : ℕ) → HasNext (g.files old) next → HasNumbersLeft next → (all : List ℕ) → left ≡ Some all → RunsAlong s next all old new left' status
+
+  -- The trail of the files of entry stays: now and at each stop it is the old one, with the same tag, and blocks behind it, each of which is in its
+  -- grammar and holds an entry. A stop leaves the audit files before it as they were.
+  pub record KeepsTrail (old new : S) : Type 0 where
+    pub kept : (total first : ℕ) → IsTrailFound total first (g.files old) → TrailKept total first (g.files old) (g.files new)
+    pub left : (total first : ℕ) → IsTrailFound total first (g.files old) → Steps (LeavesTrail total first) (g.clock old) (g.clock new)
+
+  -- so it is where a state is told, whatever is known of the input and of the numbers, and whatever the status is
+  abbrev pub RunKeepsTrail : Option DatabaseState → S → S → Type 0
+  RunKeepsTrail state old new = IsTrue g.tells → (s : DatabaseState) → state ≡ Some s → KeepsTrail old new
 
   -- Where a run may begin with the database, at every moment a stop leaves files that stand for it or for that of one quiet point, no earlier than the printed
   -- text tells, and each point up to it has its own state. With that database, too, a run may begin.

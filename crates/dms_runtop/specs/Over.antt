@@ -2,7 +2,6 @@
 use Rattle.std.specs.Prelude.{ℕ, ◌≡◌, ◌⊎◌, ◌+◌, ◌<◌, ◌^◌, List, [], length, map, Some, None, IsTrue, if◌then◌else◌}
 use Rattle.std.specs.declared.option.Option.{Option}
 use Rattle.dms_moments.specs.Moments.{Clock, Runs}
-use Rattle.dms_audfile.specs.Ends.{Grown}
 use Rattle.dms_block.specs.Texts.{Prints, PrintsPrefix}
 use Rattle.dms_desc.specs.Shape.{Described}
 use Rattle.dms_feed.specs.Lines.{raw_lines}
@@ -13,14 +12,14 @@ use Rattle.dms_site.specs.Files.{Files, Left, Only}
 use Rattle.dms_running.specs.Telling.{Telling}
 use Rattle.dms_running.specs.Standing.{IsWhole}
 use Rattle.dms_running.specs.Points.{DescribedPoint, points_of, next_in}
-use Rattle.dms_restore.specs.Logging.{telling_of, telling, points, waits}
+use Rattle.dms_restore.specs.Logging.{LogGrows, LogStays, telling_of, telling, points, waits}
 use Rattle.dms_restore.specs.Views.{view_of}
 use Rattle.dms_wal.specs.declared.running.Running.{Running}
 use Rattle.dms_wal.specs.Closing.{LeavesUntil}
 use Rattle.dms_wal.specs.Database.{held}
-use Rattle.dms_wal.specs.Growing.{FilesGrew}
+use Rattle.dms_wal.specs.Growing.{over_site}
 use Rattle.dms_wal.specs.Lifting.{lifted}
-use Rattle.dms_runtop.specs.Bound.{BoundsAudit, CountsFailures}
+use Rattle.dms_runtop.specs.Bound.{BoundsAudit}
 use Rattle.dms_store.specs.Lifted.{point_of}
 use Rattle.dms_store.specs.Spelled.{spelled}
 use Rattle.dms_runner.specs.Answers.{answers_quiets, answers_text, left_by, script_events, script_run}
@@ -33,7 +32,7 @@ use Rattle.dms_run.specs.Stops.{last_quiet_number}
 use Rattle.dms_status.specs.declared.status.LimitKind.{LimitKind}
 use Rattle.dms_status.specs.declared.status.LimitKind.TheVariants.{AuditFile, Lines, Bytes, Held}
 use Rattle.dms_status.specs.declared.status.Status.{Status}
-use Rattle.dms_status.specs.declared.status.Status.TheVariants.{Ok, Limit, DiskFault, InputFault, Damaged, SayFault}
+use Rattle.dms_status.specs.declared.status.Status.TheVariants.{Ok, Limit, InputFault, Damaged, SayFault}
 
 -- what a read of a site gives, what a stop leaves of it, and the text so far, where it is told
 pub record SiteSeen : Type 1 where
@@ -67,8 +66,8 @@ ReachesFiles t desc n db next lines s =
 
 -- A run of the script that an input has, over a database that at point n is db, whose next number is this one. These were the points before the run,
 -- so the site was seen before it and behind it, so much of the input was left, and so the run ended. An opening before it took at most so many entries
--- of the audit, and a failed call would be counted, as far as the status tells.
-pub record ScriptRuns (opening : ℕ) (counts : Status → Type 0) (t : Telling) (desc : Described) (ps : List DescribedPoint) (n : ℕ) (db : Db) (next : ℕ) (all : List ℕ) (a b : SiteSeen) (left' : Option (List ℕ)) (status : Status) : Type 0 where
+-- of the audit.
+pub record ScriptRuns (opening : ℕ) (t : Telling) (desc : Described) (ps : List DescribedPoint) (n : ℕ) (db : Db) (next : ℕ) (all : List ℕ) (a b : SiteSeen) (left' : Option (List ℕ)) (status : Status) : Type 0 where
   -- a stop at each moment left what a run leaves: the database of one quiet point, none before those that syncpoints made durable before what
   -- was printed last, and each point as it was
   pub every_moment : Runs a.clock b.clock (RunLeavesFiles t desc a.said ps n db next (script_events desc db next (raw_lines all)))
@@ -84,9 +83,8 @@ pub record ScriptRuns (opening : ℕ) (counts : Status → Type 0) (t : Telling)
   pub within : status ≡ Ok → KeepsLimits desc db next (raw_lines all)
   -- at status 8 by the script it passes that limit, and none before
   pub limit : (k : LimitKind) → status ≡ Limit k → PassesScript k desc db next (raw_lines all) a.said b.said
-  -- at each status but 5, and where a failed call would be counted, it took no more of the audit than what is answered may take, a call whose answer
-  -- wasn't printed, and the one that was under way
-  pub bound : BoundsAudit opening (counts status) t desc (script_events desc db next (raw_lines all)) a.files b.files a.said b.said status
+  -- at each status it took no more of the audit than an opening, what is answered, one call whose answer wasn't printed, and a close may take
+  pub bound : BoundsAudit opening t desc (script_events desc db next (raw_lines all)) a.files b.files a.said b.said status
   -- at status 6 what the whole lines that were taken answer was printed
   pub input_cut : status ≡ InputFault → CutInput desc db next all left' a.said b.said
   -- no block of a structure file is found damaged
@@ -114,20 +112,19 @@ module _ {S : Type 0} (g : Ghosts S) where
   abbrev pub RunsOver : Running S → Described → Option (List ℕ) → Option (List ℕ) → Status → S → Type 0
   RunsOver r desc left left' status site =
       (total first : ℕ) (ps : List DescribedPoint) (n : ℕ) (db : Db) (all : List ℕ) → BeginsAt r total first ps desc n db → left ≡ Some all
-      → ScriptRuns 0 (CountsFailures g r.log.site) (telling_of total first) desc ps n db r.next all (seen_site g r.log.site) (seen_site g site) left' status
+      → ScriptRuns 0 (telling_of total first) desc ps n db r.next all (seen_site g r.log.site) (seen_site g site) left' status
 
-  -- the trail is the one of before and blocks behind it, each of which is in its grammar and holds an entry
+  -- the trail is the one of before and blocks behind it, each of which is in its grammar and holds an entry, now and at each stop
   abbrev pub GrowsOver : Running S → S → Type 0
-  GrowsOver r site = IsTrue g.tells → Grown r.log.end.total r.log.first (g.files r.log.site) (g.files site)
+  GrowsOver r site = IsTrue g.tells → LogStays (view_of g r.log) (over_site g (view_of g r.log) site)
 
   -- The database was closed: at status 0 the files hold it, with all its points and its next number, and a stop leaves no other files. Until then each
-  -- stop left the first so many of its points, at least the durable ones, and no other text. Unless a call of the disk failed the audit took at most 37
-  -- entries, and whatever failed they stand in blocks behind the old ones.
+  -- stop left the first so many of its points, at least the durable ones, and no other text. Whatever failed the audit took at most 18 entries, and they
+  -- stand in blocks behind the old ones.
   pub record ClosesOver (r : Running S) (status : Status) (site : S) : Type 0 where
     pub leaves : LeavesUntil (held g r) (lifted (telling (view_of g r.log)) (g.clock site))
     pub points_are : status ≡ Ok → IsTrue g.tells → points_of (telling (view_of g r.log)) (g.files site) ≡ points (view_of g r.log)
     pub whole : status ≡ Ok → IsTrue g.tells → IsWhole (telling (view_of g r.log)) (g.files site)
     pub next_is : status ≡ Ok → IsTrue g.tells → next_in (telling (view_of g r.log)) (g.files site) ≡ r.next
     pub only : status ≡ Ok → IsTrue g.tells → Only (g.files site) (g.clock site)
-    pub few : (status ≡ DiskFault → ⊥) → IsTrue g.tells → FilesGrew 37 (view_of g r.log) (g.files site)
-    pub grown : GrowsOver r site
+    pub grown : IsTrue g.tells → LogGrows 18 (view_of g r.log) (over_site g (view_of g r.log) site)

@@ -6,7 +6,7 @@ ghost use Rattle.dms_desc.specs.Shape.{described};
 ghost use Rattle.dms_desc_bytes.specs.Spelling.{spelling};
 ghost use Rattle.dms_desc_bytes.specs.WellFormed.{IsWellFormed};
 ghost use Rattle.dms_opening.specs.Openings.{NamesStructures};
-ghost use Rattle.dms_runtop.specs.Command.{DatabaseState, HoldsTold, NeverRefuses, NeverRefusesState, EndsInState, GrowsOpened, StandsOpened, StandsThroughout, RunsCommand, RunsFound, RunsOpened, RefusesRun, OpensOrStays};
+ghost use Rattle.dms_runtop.specs.Command.{DatabaseState, HoldsTold, NeverRefuses, NeverRefusesState, EndsInState, GrowsOpened, StandsOpened, StandsThroughout, RunKeepsTrail, RunsCommand, RunsOpened, RefusesRun, OpensOrStays};
 ghost use Rattle.dms_runtop.specs.Describing.{IsUnderSchema};
 ghost use Rattle.dms_runtop.specs.Full.{HasNoRoom, PassesAtFull};
 ghost use Rattle.dms_runtop.specs.Guard.{StaysBeside};
@@ -240,7 +240,8 @@ fn run_found<S: Site, I: Source>(alloc: Global, site: S, source: &mut I) -> Ende
     ghost state: { Option DatabaseState }
     requires told { IsTrue S.tells → HoldsTold state (S.files site) }
     ensures complete { NeverRefuses S.Site site result.status }
-    ensures ran { RunsFound S.Site state site result.site (I.left source.old) (I.left source.new) result.status }
+    ensures ran { RunsCommand S.Site state site result.site (I.left source.old) (I.left source.new) result.status }
+    ensures trail { RunKeepsTrail S.Site state site result.site }
     ensures by_input { BlamesInput (I.left source.old) (I.left source.new) result.status }
     ensures refused { IsRefusal result.status → RefusesRun S.Site site result.site result.status }
     ensures opens { OpensOrStays S.Site site result.site result.status }
@@ -271,6 +272,7 @@ fn run_guarded<S: Site, I: Source>(alloc: Global, site: S, source: &mut I) -> En
     requires told { IsTrue S.tells → HoldsTold state (S.files site) }
     ensures complete { NeverRefuses S.Site site result.status }
     ensures ran { RunsCommand S.Site state site result.site (I.left source.old) (I.left source.new) result.status }
+    ensures trail { RunKeepsTrail S.Site state site result.site }
     ensures by_input { BlamesInput (I.left source.old) (I.left source.new) result.status }
     ensures refused { IsRefusal result.status → RefusesRun S.Site site result.site result.status }
     ensures opens { OpensOrStays S.Site site result.site result.status }
@@ -310,6 +312,7 @@ pub fn run_command<S: Site, I: Source>(alloc: Global, site: &mut S, source: &mut
     ensures complete { NeverRefuses S.Site site.old result }
     ensures complete_state { NeverRefusesState S.Site site.old result }
     ensures ran { RunsCommand S.Site state site.old site.new (I.left source.old) (I.left source.new) result }
+    ensures trail { RunKeepsTrail S.Site state site.old site.new }
     ensures by_input { BlamesInput (I.left source.old) (I.left source.new) result }
     ensures refused { IsRefusal result → RefusesRun S.Site site.old site.new result }
     ensures opens { OpensOrStays S.Site site.old site.new result }

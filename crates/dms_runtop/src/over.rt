@@ -36,7 +36,7 @@ fn running_under<S: Site>(engine: Engine<BlockStore<Running<S>>>) -> Running<S>
     engine.into_store().into_below()
 }
 
-/// Closes a database, and gives the site.
+/// Closes a database in which nothing is changed since the last point, and gives the site.
 fn close_over<S: Site>(alloc: Global, running: Running<S>) -> Ended<S>
     requires { (held S.Site running).sound }
     ensures closes { ClosesOver S.Site running result.status result.site }
@@ -46,6 +46,14 @@ fn close_over<S: Site>(alloc: Global, running: Running<S>) -> Ended<S>
     ensures say_faults { S.say_faults result.site ≡ S.say_faults running.log.site }
     ensures same { S.same_site running.log.site result.site }
 {
+    // A script's end goes back from what was open, so nothing is changed then. Where something were, that counts as want of memory, and the next
+    // opening goes back from it.
+    if running.changed {
+        return Ended {
+            status: Status::Memory,
+            site: running.into_site(),
+        };
+    }
     match running.close(alloc) {
         Ok(site) => Ended {
             status: Status::Ok,

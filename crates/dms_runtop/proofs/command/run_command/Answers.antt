@@ -1,6 +1,6 @@
 use Rattle.std.proofs.Common.{◌⊎◌, rules, MutBor, refl, sym, subst}
 use Rattle.dms_opening.specs.Openings.{CanOpen}
-use Rattle.dms_runtop.specs.Command.{IsUnopened, RunsCommand}
+use Rattle.dms_runtop.specs.Command.{IsUnopened, RunKeepsTrail, RunsCommand}
 use Rattle.dms_runtop.proofs.Opening.{opens_below}
 use Rattle.dms_runtop.proofs.Entered.{refuses_no_state, stands_at_end, stands_throughout}
 use Rattle.dms_runtop.proofs.command.run_command.Goals as goal
@@ -9,7 +9,12 @@ pub returns-clause-ran : goal.returns-clause-ran
 returns-clause-ran g c =
     subst (λ (x : g.row.S.Denot). RunsCommand g.S.Site g.state c.args.site.now x (g.I.Source.left c.args.source.now) (g.I.Source.left c.run_guarded-ended.new.source) c.run_guarded-ended.result.status) (search rules)
     (subst (λ (x : MutBor g.row.S.Denot). RunsCommand g.S.Site g.state c.args.site.now x.now (g.I.Source.left c.args.source.now) (g.I.Source.left c.run_guarded-ended.new.source) c.run_guarded-ended.result.status) (sym c.into_site-site.ensures)
-    (λ tells s is next has room all held. let r = c.run_guarded-ended.ensures.ran tells s is next has room all held in record { total = r.total; first = r.first; trail = r.trail; runs = r.runs; grown = r.grown }))
+    (λ tells s is next has room all held. let r = c.run_guarded-ended.ensures.ran tells s is next has room all held in record { total = r.total; first = r.first; trail = r.trail; runs = r.runs }))
+
+pub returns-clause-trail : goal.returns-clause-trail
+returns-clause-trail g c =
+    subst (λ (x : g.row.S.Denot). RunKeepsTrail g.S.Site g.state c.args.site.now x) (search rules)
+    (subst (λ (x : MutBor g.row.S.Denot). RunKeepsTrail g.S.Site g.state c.args.site.now x.now) (sym c.into_site-site.ensures) (λ tells s is. let k = c.run_guarded-ended.ensures.trail tells s is in record { kept = k.kept; left = k.left }))
 
 pub returns-clause-stands : goal.returns-clause-stands
 returns-clause-stands g c = stands_throughout g.S.Site c.args.site.now g.state c.held_law.ensures.state c.stands_law.ensures.stops c.requires.1.1 (g.I.Source.left c.args.source.now) (g.I.Source.left c.run_guarded-ended.new.source) c.run_guarded-ended.result.status _ (returns-clause-ran g c)

@@ -14,12 +14,13 @@ returns-in-Limit-AuditFile-clause-ran g c =
     opened_instead g.S.Site g.met.S.Site.counts_now c.args.opened c.run_opened-ended.result.site c.status_of_full-status.new.site g.K.Knows.known _ _ c.run_opened-ended.result.status c.status_of_full-status.result
     (full_place c.in-Limit-AuditFile.limit c.run_opened-ended.result.status c.status_of_full-status.result was c.status_of_full-status.ensures.kind)
     (subst (λ x. Steps Same (g.S.Site.clock x) (g.S.Site.clock c.status_of_full-status.new.site)) c.into_site-site.ensures c.status_of_full-status.ensures.moments)
-    (c.status_of_full-status.ensures.said ∙ ap g.S.Site.said c.into_site-site.ensures) c.in-Limit-AuditFile.limit was (λ tells. c.status_of_full-status.ensures.files tells ∙ ap g.S.Site.files c.into_site-site.ensures)
+    (c.status_of_full-status.ensures.said ∙ ap g.S.Site.said c.into_site-site.ensures) (λ tells. c.status_of_full-status.ensures.files tells ∙ ap g.S.Site.files c.into_site-site.ensures)
     c.run_opened-ended.ensures.ran
 
 pub returns-in-Limit-AuditFile-clause-grown : goal.returns-in-Limit-AuditFile-clause-grown
 returns-in-Limit-AuditFile-clause-grown g c =
-    grows_upto g.S.Site c.args.opened c.run_opened-ended.result.site c.status_of_full-status.new.site g.K.Knows.known (λ tells. c.status_of_full-status.ensures.files tells ∙ ap g.S.Site.files c.into_site-site.ensures) c.run_opened-ended.ensures.grown
+    grows_upto g.S.Site c.args.opened c.run_opened-ended.result.site c.status_of_full-status.new.site g.K.Knows.known (λ tells. c.status_of_full-status.ensures.files tells ∙ ap g.S.Site.files c.into_site-site.ensures)
+    (subst (λ x. Steps Same (g.S.Site.clock x) (g.S.Site.clock c.status_of_full-status.new.site)) c.into_site-site.ensures c.status_of_full-status.ensures.moments) c.run_opened-ended.ensures.grown
 
 pub returns-in-Limit-AuditFile-clause-by_input : goal.returns-in-Limit-AuditFile-clause-by_input
 returns-in-Limit-AuditFile-clause-by_input g c = blames_full c.in-Limit-AuditFile.limit c.status_of_full-status.result c.status_of_full-status.ensures.kind

@@ -7,7 +7,7 @@ use Rattle.dms_wal.specs.Marks.{IsDescription}
 use Rattle.dms_runtop.specs.Both.{first_of, second_of, both_of}
 use Rattle.dms_runtop.specs.Inputs.{BlamesInput}
 use Rattle.dms_runtop.proofs.Formed.{bytes_fit, files_of, frames_of}
-use Rattle.dms_runtop.proofs.Grows.{grows_none, grows_unveiled}
+use Rattle.dms_runtop.proofs.Grows.{grows_same, grows_unveiled}
 use Rattle.dms_runtop.proofs.Inputs.{blames_undone}
 use Rattle.dms_runtop.proofs.Looked.{runs_left}
 use Rattle.dms_runtop.proofs.Serving.{counts_each, serves_by}
@@ -51,7 +51,7 @@ run_over-requires-clause-mark g c = λ tells.
 pub returns-in-Ok-clause-ran : goal.returns-in-Ok-clause-ran
 returns-in-Ok-clause-ran g c =
     same_end g.S.Site c.args.opened g.K.Knows.known _ _ _ _ _ _ c.unveil.ensures.0 c.unveil.ensures.1
-    (runs_unveiled g.S.Site _ (λ v. v.site) g.K.Knows.known (both_of g.S.Site.tells g.K.Knows.known) (λ v. refl) (λ v. refl) c.spelling_law.ensures c.args.opened (described c.args.desc.now) c.requires.formed c.requires.under
+    (runs_unveiled g.S.Site _ (λ v. v.site) g.K.Knows.known (both_of g.S.Site.tells g.K.Knows.known) (λ v. refl) c.spelling_law.ensures c.args.opened (described c.args.desc.now) c.requires.formed c.requires.under
     _ c.in-Some.ensures c.in-Ok.running (ap (λ v. v.site) c.in-Ok.ensures.log.0) c.in-Ok.ensures.log.2 c.in-Ok.ensures.log.1 c.in-Ok.ensures.kept.2 (c.in-Ok.ensures.log.3 ∙ c.from-3.ensures) c.in-Ok.ensures.tells (c.in-Ok.ensures.kept.4 ∙ c.from-2.ensures) (c.in-Ok.ensures.kept.7, c.in-Ok.ensures.kept.6, c.in-Ok.ensures.kept.8) c.in-Ok.ensures.nothing c.run_over.result.site _ _ c.run_over.result.status c.run_over.ensures.ran)
 
 pub returns-clause-ran : goal.returns-clause-ran
@@ -64,14 +64,14 @@ returns-in_default-clause-ran g c = runs_left g.S.Site c.args.opened c.site_of.r
 
 pub returns-in-Ok-clause-grown : goal.returns-in-Ok-clause-grown
 returns-in-Ok-clause-grown g c =
-    grows_unveiled g.S.Site _ _ (λ v. v.site) g.K.Knows.known (both_of g.S.Site.tells g.K.Knows.known) (λ v. refl) c.args.opened c.in-Ok.running (ap (λ v. v.site) c.in-Ok.ensures.log.0) c.in-Ok.ensures.log.2 c.in-Ok.ensures.log.1
-    c.run_over.result.site _ c.unveil.ensures.1 c.run_over.ensures.grown
+    grows_unveiled g.S.Site _ _ _ (λ v. v.site) g.K.Knows.known (both_of g.S.Site.tells g.K.Knows.known) (λ v. refl) (λ v. refl) c.args.opened c.in-Ok.running (ap (λ v. v.site) c.in-Ok.ensures.log.0) c.in-Ok.ensures.log.2 c.in-Ok.ensures.log.1
+    c.run_over.result.site _ c.unveil.ensures.1 (λ tells. (c.run_over.ensures.grown tells).kept) (λ tells. (c.run_over.ensures.grown tells).left)
 
 pub returns-clause-grown : goal.returns-clause-grown
-returns-clause-grown g c = grows_none g.S.Site c.args.opened _ g.K.Knows.known (λ tells. ap g.S.Site.files (c.unveil-in-Err.ensures.1 ∙ ap (λ v. v.site) c.in-Err.ensures.site))
+returns-clause-grown g c = grows_same g.S.Site c.args.opened _ g.K.Knows.known (c.unveil-in-Err.ensures.1 ∙ ap (λ v. v.site) c.in-Err.ensures.site)
 
 pub returns-in_default-clause-grown : goal.returns-in_default-clause-grown
-returns-in_default-clause-grown g c = grows_none g.S.Site c.args.opened c.site_of.result g.K.Knows.known (λ tells. ap g.S.Site.files c.site_of.ensures)
+returns-in_default-clause-grown g c = grows_same g.S.Site c.args.opened c.site_of.result g.K.Knows.known c.site_of.ensures
 
 pub returns-in_default-clause-by_input : goal.returns-in_default-clause-by_input
 returns-in_default-clause-by_input g c = blames_undone Memory tt

@@ -6,7 +6,7 @@ use Rattle.dms_status.specs.declared.status.Status.TheVariants.{DiskFault}
 use Rattle.dms_runtop.specs.Faults.{open_status}
 use Rattle.dms_runtop.specs.Statuses.{IsOfRun, IsRefusal}
 use Rattle.dms_runtop.proofs.Counted.{on_from, on_status}
-use Rattle.dms_runtop.proofs.Entered.{opened_known, runs_found, runs_refused}
+use Rattle.dms_runtop.proofs.Entered.{keeps_found, keeps_refused, opened_known, runs_found, runs_refused}
 use Rattle.dms_runtop.proofs.Fulls.{full_entered, full_opening}
 use Rattle.dms_runtop.proofs.Inputs.{blames_opening}
 use Rattle.dms_runtop.proofs.Refused.{not_written, no_refusal, script_no_refusal, of_run, open_of_run, counts_open, open_say, open_input, open_ok}
@@ -69,7 +69,13 @@ run_confirmed-requires-clause-known g c = λ tells knows.
 
 pub returns-in-Ok-clause-ran : goal.returns-in-Ok-clause-ran
 returns-in-Ok-clause-ran g c =
-    runs_found g.S.Site c.args.site g.state c.states_law.ensures c.held_law.ensures.next c.requires.1.1 c.in-Ok.opened c.in-Ok.ensures.opens c.in-Ok.ensures.runs c.in-Ok.ensures.moments c.in-Ok.ensures.grows c.in-Ok.ensures.said c.in-Ok.ensures.clean.0 _ _ c.run_confirmed.result.status c.run_confirmed.result.site c.run_confirmed.ensures.ran c.run_confirmed.ensures.grown
+    runs_found g.S.Site c.args.site g.state c.states_law.ensures c.held_law.ensures.next c.requires.1.1 c.in-Ok.opened c.in-Ok.ensures.opens c.in-Ok.ensures.runs c.in-Ok.ensures.moments c.in-Ok.ensures.grows c.in-Ok.ensures.said _ _ c.run_confirmed.result.status c.run_confirmed.result.site c.run_confirmed.ensures.ran
+
+pub returns-in-Ok-clause-trail : goal.returns-in-Ok-clause-trail
+returns-in-Ok-clause-trail g c = keeps_found g.S.Site c.args.site g.state c.in-Ok.opened c.run_confirmed.result.site c.in-Ok.ensures.opens c.in-Ok.ensures.grows c.run_confirmed.ensures.grown
+
+pub returns-in-Err-clause-trail : goal.returns-in-Err-clause-trail
+returns-in-Err-clause-trail g c = keeps_refused g.S.Site c.args.site g.state c.in-Err.site c.in-Err.ensures.grows_then
 
 pub returns-in-Err-clause-ran : goal.returns-in-Err-clause-ran
 returns-in-Err-clause-ran g c =

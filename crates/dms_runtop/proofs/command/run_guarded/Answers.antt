@@ -1,9 +1,8 @@
-use Rattle.std.proofs.Common.{◌<◌, ◌⊎◌, refl, sym, subst, arith}
-use Rattle.dms_runtop.proofs.Ran.{script_with}
+use Rattle.std.proofs.Common.{◌<◌, ◌⊎◌, refl, sym, subst}
 use Rattle.dms_status.specs.declared.status.Status.TheVariants.{Memory}
 use Rattle.dms_runtop.proofs.Inputs.{blames_undone}
 use Rattle.dms_opening.specs.Openings.{CanOpen}
-use Rattle.dms_runtop.specs.Command.{IsUnopened, RunsCommand}
+use Rattle.dms_runtop.specs.Command.{IsUnopened, RunKeepsTrail, RunsCommand}
 use Rattle.dms_runtop.proofs.Opening.{opens_below, unopened_memory}
 use Rattle.dms_runtop.proofs.Guarding.{refused_counts}
 use Rattle.dms_runtop.proofs.Instead.{command_instead, refused_place}
@@ -16,12 +15,19 @@ returns-then-refused-gt0-clause-ran g c =
     (subst (λ x. 0 < x.refused) c.into_site-site.ensures c.if-refused-gt0.true) ended.disk in
     command_instead g.S.Site g.state c.args.site c.into_site-site.result.site _ _ c.run_found-ended.result.status (refused_place c.run_found-ended.result.status counted.0)
     (subst (λ x. RunsCommand g.S.Site g.state c.args.site x.site (g.I.Source.left c.args.source.now) (g.I.Source.left c.run_found-ended.new.source) c.run_found-ended.result.status) (sym c.into_site-site.ensures)
-    (λ tells s is next has room all held. let r = ended.ran tells s is next has room all held in record { total = r.total; first = r.first; trail = r.trail; runs = script_with (λ c. omega (arith, c.0)) r.runs; grown = r.grown }))
+    (λ tells s is next has room all held. let r = ended.ran tells s is next has room all held in record { total = r.total; first = r.first; trail = r.trail; runs = r.runs }))
 
 pub returns-clause-ran : goal.returns-clause-ran
 returns-clause-ran g c =
     subst (λ x. RunsCommand g.S.Site g.state c.args.site x.site (g.I.Source.left c.args.source.now) (g.I.Source.left c.run_found-ended.new.source) c.run_found-ended.result.status) (sym c.into_site-site.ensures)
-    (λ tells s is next has room all held. let r = c.run_found-ended.ensures.ran tells s is next has room all held in record { total = r.total; first = r.first; trail = r.trail; runs = script_with (λ c. omega (arith, c.0)) r.runs; grown = r.grown })
+    (λ tells s is next has room all held. let r = c.run_found-ended.ensures.ran tells s is next has room all held in record { total = r.total; first = r.first; trail = r.trail; runs = r.runs })
+
+pub returns-then-refused-gt0-clause-trail : goal.returns-then-refused-gt0-clause-trail
+returns-then-refused-gt0-clause-trail g c =
+    subst (λ x. RunKeepsTrail g.S.Site g.state c.args.site x.site) (sym c.into_site-site.ensures) (λ tells s is. let k = c.run_found-ended.ensures.trail tells s is in record { kept = k.kept; left = k.left })
+
+pub returns-clause-trail : goal.returns-clause-trail
+returns-clause-trail g c = subst (λ x. RunKeepsTrail g.S.Site g.state c.args.site x.site) (sym c.into_site-site.ensures) (λ tells s is. let k = c.run_found-ended.ensures.trail tells s is in record { kept = k.kept; left = k.left })
 
 pub returns-clause-opens : goal.returns-clause-opens
 returns-clause-opens g c tells =

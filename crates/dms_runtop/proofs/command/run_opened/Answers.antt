@@ -13,7 +13,7 @@ returns-in-Ok-clause-same g c = g.met.S.Site.same_then c.args.opened.log.site c.
 pub returns-in-Ok-clause-ran : goal.returns-in-Ok-clause-ran
 returns-in-Ok-clause-ran g c =
     runs_looked g.S.Site g.met.S.Site.counts_now c.args.opened c.describe.new.site c.run_described.result.site g.K.Knows.known (g.I.Source.left c.args.source.now) (g.I.Source.left c.run_described.new.source) c.run_described.result.status
-    c.describe.ensures.files c.describe.ensures.said (c.in-Ok.ensures.disk.clean (λ is. absurd cc)) c.describe.ensures.moments c.run_described.ensures.ran
+    c.describe.ensures.files c.describe.ensures.said c.describe.ensures.moments c.run_described.ensures.ran
 
 pub returns-in-Err-clause-ran : goal.returns-in-Err-clause-ran
 returns-in-Err-clause-ran g c =
@@ -23,10 +23,10 @@ returns-in-Err-clause-ran g c =
     (λ P. runs_looking (g.met.S.Site.counts_now c.args.opened.log.site) c.describe.ensures.moments) c.describe.ensures.said
 
 pub returns-in-Ok-clause-grown : goal.returns-in-Ok-clause-grown
-returns-in-Ok-clause-grown g c = grows_looked g.S.Site c.args.opened c.describe.new.site c.run_described.result.site g.K.Knows.known c.describe.ensures.files c.run_described.ensures.grown
+returns-in-Ok-clause-grown g c = grows_looked g.S.Site c.args.opened c.describe.new.site c.run_described.result.site g.K.Knows.known c.describe.ensures.files c.describe.ensures.moments c.run_described.ensures.grown
 
 pub returns-in-Err-clause-grown : goal.returns-in-Err-clause-grown
-returns-in-Err-clause-grown g c = grows_none g.S.Site c.args.opened c.describe.new.site g.K.Knows.known c.describe.ensures.files
+returns-in-Err-clause-grown g c = grows_none g.S.Site c.args.opened c.describe.new.site g.K.Knows.known c.describe.ensures.files c.describe.ensures.moments
 
 pub returns-in-Err-clause-by_input : goal.returns-in-Err-clause-by_input
 returns-in-Err-clause-by_input g c =

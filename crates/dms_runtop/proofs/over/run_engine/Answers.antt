@@ -14,12 +14,11 @@ use Rattle.dms_runtop.specs.Over.{ClosesOver, GrowsOver}
 use Rattle.dms_runtop.proofs.Ran.{db_under, state_under, all_durable}
 use Rattle.dms_runtop.proofs.Engine.{no_damage, within_over, closed_over}
 use Rattle.dms_feed.specs.Lines.{raw_lines}
-use Rattle.dms_restore.specs.Logging.{telling_of}
+use Rattle.dms_restore.specs.Logging.{FilesGrew, telling_of}
 use Rattle.dms_restore.specs.Views.{view_of}
 use Rattle.dms_runner.specs.Answers.{script_events}
 use Rattle.dms_storeverbs.specs.View.{seen}
 use Rattle.dms_wal.specs.Database.{held}
-use Rattle.dms_wal.specs.Growing.{FilesGrew}
 use Rattle.dms_runtop.proofs.Bounds.{closed_bound, failed_bound}
 use Rattle.dms_runtop.proofs.Grows.{grows_left, grows_over}
 use Rattle.dms_runtop.proofs.Inputs.{blames_closing, blames_script}
@@ -54,8 +53,10 @@ returns-in-Ok-clause-ran g c = λ total first ps n db all b left.
     (c.in-Ok.ensures.within db r.next all stands b.room fed)
     (c.in-Ok.ensures.ended db r.next all stands b.room fed).next
     (closed_bound g.S.Site (described e.desc) r r' (telling_of total first) (λ i. telling_of (b.total_is i) (b.first_is i)) (λ i. telling_of ((pace.total ∙ b.total_is) i) ((pace.first ∙ b.first_is) i)) b.nothing b.every b.unused.0 b.unused.1 b.unused.2 b.tells c.in-Ok.ensures.lasts.same.2
-    (script_events (described e.desc) db r.next (raw_lines all)) (seen e) (seen e') refl refl refl refl e.under refl refl c.close_over.result.status (g.S.Site.files c.close_over.result.site) _ c.in-Ok.ensures.lasts.cause (c.in-Ok.ensures.effort db r.next all stands b.room fed) (c.in-Ok.ensures.numbers db r.next all stands b.room fed)
-    (λ off. subst (λ (x : Running g.row.S.Denot). FilesGrew 37 (view_of g.S.Site x.log) (g.S.Site.files c.close_over.result.site)) c.running_under-running.ensures (c.close_over.ensures.closes.few off b.tells)) (c.in-Ok.ensures.prints db r.next all stands b.room fed))
+    (script_events (described e.desc) db r.next (raw_lines all)) (seen e) (seen e') refl refl refl refl e.under (c.in-Ok.ensures.effort db r.next all stands b.room fed) (c.in-Ok.ensures.numbers db r.next all stands b.room fed) c.close_over.result.status (g.S.Site.files c.close_over.result.site) _
+    c.in-Ok.ensures.lasts.sound.sound.unbroken
+    (subst (λ (x : Running g.row.S.Denot). FilesGrew 18 (view_of g.S.Site x.log) (g.S.Site.files c.close_over.result.site)) c.running_under-running.ensures (c.close_over.ensures.closes.grown b.tells).few)
+    (c.in-Ok.ensures.prints db r.next all stands b.room fed))
 
 pub returns-in-Err-clause-ran : goal.returns-in-Err-clause-ran
 returns-in-Err-clause-ran g c = λ total first ps n db all b left.
@@ -86,13 +87,13 @@ returns-in-Err-clause-ran g c = λ total first ps n db all b left.
     (λ is. c.in-Err.ensures.failed (an_error c.in-Err.fault Input is) db r.next all stands b.room fed)
     (no_damage c.in-Err.fault _ _ c.requires.found (c.in-Err.ensures.undamaged db r.next all stands b.room fed (record { db = db; mark = db; db_is = stands.db; mark_is = stands.mark })) c.in-Err.ensures.lasts.cause)
     (failed_bound g.S.Site (described e.desc) r r' (telling_of total first) (λ i. telling_of (b.total_is i) (b.first_is i)) (λ i. telling_of ((pace.total ∙ b.total_is) i) ((pace.first ∙ b.first_is) i)) b.nothing b.every b.unused.0 b.unused.1 b.unused.2 b.tells c.in-Err.ensures.lasts.same.2
-    (script_events (described e.desc) db r.next (raw_lines all)) (seen e) (seen e') refl refl refl refl e.under refl refl c.running_under-running-in-Err.result.log.end.limit c.in-Err.fault c.fault_within-fault.result c.fault_within-fault.ensures c.in-Err.ensures.lasts.cause (c.in-Err.ensures.took db r.next all stands b.room fed))
+    (script_events (described e.desc) db r.next (raw_lines all)) (seen e) (seen e') refl refl refl refl e.under c.running_under-running-in-Err.result.log.end.limit c.in-Err.fault c.fault_within-fault.result c.fault_within-fault.ensures (c.in-Err.ensures.took db r.next all stands b.room fed))
 
 pub returns-in-Ok-clause-grown : goal.returns-in-Ok-clause-grown
 returns-in-Ok-clause-grown g c =
     let same = c.in-Ok.ensures.lasts.same in
     grows_over g.S.Site c.args.engine.store.over.below c.run_script.new.engine.store.over.below c.close_over.result.site same.1 same.2
-    (subst (λ (x : Running g.row.S.Denot). GrowsOver g.S.Site x c.close_over.result.site) c.running_under-running.ensures c.close_over.ensures.closes.grown)
+    (subst (λ (x : Running g.row.S.Denot). GrowsOver g.S.Site x c.close_over.result.site) c.running_under-running.ensures (λ tells. (c.close_over.ensures.closes.grown tells).stays))
 
 pub returns-in-Err-clause-grown : goal.returns-in-Err-clause-grown
 returns-in-Err-clause-grown g c =
@@ -102,7 +103,7 @@ returns-in-Err-clause-grown g c =
     (grows_left g.S.Site r' c.into_site.result (c.into_site.ensures ∙ ap (λ (x : Running g.row.S.Denot). x.log.site) c.running_under-running-in-Err.ensures))
 
 pub returns-in-Ok-clause-by_input : goal.returns-in-Ok-clause-by_input
-returns-in-Ok-clause-by_input g c = blames_closing c.close_over.result.status c.close_over.ensures.statuses
+returns-in-Ok-clause-by_input g c = blames_closing c.close_over.result.status c.close_over.ensures.statuses (λ all held. c.in-Ok.ensures.fits all (held_nothing _ _ all c.new-feed.ensures held))
 
 pub returns-in-Err-clause-by_input : goal.returns-in-Err-clause-by_input
 returns-in-Err-clause-by_input g c =
