@@ -225,6 +225,22 @@ took_all a b x ran =
     took_by a b x (length x) (omega arith) (subst (λ (e : List RunEvent). Prints a.said b.said (text_of e)) all ran.text) (subst (λ (e : List RunEvent). TakesEvents a.desc e a.effort b.effort) all ran.effort)
     (subst (λ (e : List RunEvent). b.next ≤ a.next + length (quiets_of e)) all ran.next_high)
 
+-- one call more behind the first of them
+more_of_first : (a b : Seen) (whole k : ℕ) (x y : List RunEvent) → take k (x ++ y) ≡ take k x → TookOneMore a b whole k x → TookOneMore a b whole k (x ++ y)
+more_of_first a b whole k x y front p = record {
+  said = p.said;
+  more = omega (arith, p.more, length-append x y);
+  answered = subst (λ (e : List RunEvent). EndsAnswered e) (sym front) p.answered;
+  spent = omega (arith, p.spent, ap (blocks_of a.desc) front);
+  next = omega (arith, p.next, ap (λ (e : List RunEvent). length (quiets_of e)) front);
+  syncs = omega (arith, p.syncs, ap syncs_of front);
+  outs = omega (arith, p.outs, ap backs_of front);
+}
+
+either_of_first : (a b : Seen) (whole k : ℕ) (x y : List RunEvent) → take k (x ++ y) ≡ take k x → TookAll a b (take k x) ⊎ TookOneMore a b whole k x → TookAll a b (take k (x ++ y)) ⊎ TookOneMore a b whole k (x ++ y)
+either_of_first a b whole k x y front (inl all) = inl (subst (λ (e : List RunEvent). TookAll a b e) (sym front) all)
+either_of_first a b whole k x y front (inr more) = inr (more_of_first a b whole k x y front more)
+
 took_of_first : {cut : Type 0} (a b : Seen) (x y : List RunEvent) → TookPart cut a b x → TookPart cut a b (x ++ y)
 took_of_first a b x y p =
     let front : take p.k (x ++ y) ≡ take p.k x = take-append-le p.k x y p.within in
@@ -237,7 +253,7 @@ took_of_first a b x y p =
       near = p.near;
       least = subst (λ (e : List RunEvent). SaidAtLeast a.said b.said (text_of e)) (sym whole) p.least;
       most = subst (λ (e : List RunEvent). PrintsPrefix a.said b.said (text_of e)) (sym front) p.most;
-      took = subst (λ (e : List RunEvent). TookAll a b e ⊎ TookOneMore a b e) (sym front) p.took;
+      took = either_of_first a b p.whole p.k x y front p.took;
     }
 
 -- where the last of the first events takes nothing, and that of those behind them, that of all does
@@ -255,24 +271,32 @@ all_on a b c x y first next = record {
 }
 
 -- one call more behind events
-more_on : (a b c : Seen) (x y : List RunEvent) → Performs a b x → EndsAnswered x → TookOneMore b c y → TookOneMore a c (x ++ y)
-more_on a b c x y first answered next =
-    let spent : c.effort.spent ≤ b.effort.spent + blocks_of a.desc y + limit_if true a.desc =
-    subst (λ (d : Described). c.effort.spent ≤ b.effort.spent + blocks_of d y + limit_if true d) first.desc next.spent in
+more_on : (a b c : Seen) (whole k : ℕ) (x y : List RunEvent) → Performs a b x → EndsAnswered x → TookOneMore b c whole k y → TookOneMore a c (length x + whole) (length x + k) (x ++ y)
+more_on a b c whole k x y first answered next =
+    let front : take (length x + k) (x ++ y) ≡ x ++ take k y = take-append-add x y k in
+    let spent : c.effort.spent ≤ b.effort.spent + blocks_of a.desc (take k y) + limit_if true a.desc =
+    subst (λ (d : Described). c.effort.spent ≤ b.effort.spent + blocks_of d (take k y) + limit_if true d) first.desc next.spent in
     record {
-      answered = answered_on x y answered next.answered;
-      spent = omega (arith, first.effort.spent, spent, blocks_on a.desc x y);
-      next = omega (arith, first.next_high, next.next, count_of_both x y);
-      syncs = omega (arith, first.effort.syncs, next.syncs, syncs_on x y);
-      outs = omega (arith, first.effort.outs, next.outs, backs_on x y);
+      said = omega (arith, next.said);
+      more = omega (arith, next.more, length-append x y);
+      answered = subst (λ (e : List RunEvent). EndsAnswered e) (sym front) (answered_on x (take k y) answered next.answered);
+      spent = omega (arith, first.effort.spent, spent, blocks_on a.desc x (take k y), ap (blocks_of a.desc) front);
+      next = omega (arith, first.next_high, next.next, count_of_both x (take k y), ap (λ (e : List RunEvent). length (quiets_of e)) front);
+      syncs = omega (arith, first.effort.syncs, next.syncs, syncs_on x (take k y), ap syncs_of front);
+      outs = omega (arith, first.effort.outs, next.outs, backs_on x (take k y), ap backs_of front);
     }
 
-took_either : (a b c : Seen) (x y : List RunEvent) → Performs a b x → EndsAnswered x → TookAll b c y ⊎ TookOneMore b c y → TookAll a c (x ++ y) ⊎ TookOneMore a c (x ++ y)
-took_either a b c x y first answered (inl all) = inl (all_on a b c x y first all)
-took_either a b c x y first answered (inr more) = inr (more_on a b c x y first answered more)
+took_either : (a b c : Seen) (whole k : ℕ) (x y : List RunEvent) → Performs a b x → EndsAnswered x → TookAll b c (take k y) ⊎ TookOneMore b c whole k y
+    → TookAll a c (x ++ take k y) ⊎ TookOneMore a c (length x + whole) (length x + k) (x ++ y)
+took_either a b c whole k x y first answered (inl all) = inl (all_on a b c x (take k y) first all)
+took_either a b c whole k x y first answered (inr more) = inr (more_on a b c whole k x y first answered more)
+
+all_behind : (a c : Seen) (whole k : ℕ) (x y : List RunEvent) → TookAll a c (x ++ take k y) ⊎ TookOneMore a c whole (length x + k) (x ++ y) → TookAll a c (take (length x + k) (x ++ y)) ⊎ TookOneMore a c whole (length x + k) (x ++ y)
+all_behind a c whole k x y (inl all) = inl (subst (λ (e : List RunEvent). TookAll a c e) (sym (take-append-add x y k)) all)
+all_behind a c whole k x y (inr more) = inr more
 
 -- events, and a part of those behind them, by what they took together
-took_behind : {cut : Type 0} (a b c : Seen) (x y : List RunEvent) → Performs a b x → (p : TookPart cut b c y) → TookAll a c (x ++ take p.k y) ⊎ TookOneMore a c (x ++ take p.k y) → TookPart cut a c (x ++ y)
+took_behind : {cut : Type 0} (a b c : Seen) (x y : List RunEvent) → Performs a b x → (p : TookPart cut b c y) → TookAll a c (x ++ take p.k y) ⊎ TookOneMore a c (length x + p.whole) (length x + p.k) (x ++ y) → TookPart cut a c (x ++ y)
 took_behind a b c x y first next took =
     let front : take (length x + next.k) (x ++ y) ≡ x ++ take next.k y = take-append-add x y next.k in
     let whole : take (length x + next.whole) (x ++ y) ≡ x ++ take next.whole y = take-append-add x y next.whole in
@@ -285,11 +309,11 @@ took_behind a b c x y first next took =
       near = (omega (arith, next.near.0), omega (arith, next.near.1));
       least = subst (λ (t : List ℕ). SaidAtLeast a.said c.said t) (sym (ap text_of whole ∙ text_on x (take next.whole y))) (least_on a.said b.said c.said (text_of x) (text_of (take next.whole y)) first.text next.least);
       most = subst (λ (t : List ℕ). PrintsPrefix a.said c.said t) (sym text) (front_on a.said b.said c.said (text_of x) (text_of (take next.k y)) first.text next.most);
-      took = subst (λ (e : List RunEvent). TookAll a c e ⊎ TookOneMore a c e) (sym front) took;
+      took = all_behind a c (length x + next.whole) next.k x y took;
     }
 
 took_on : {cut : Type 0} (a b c : Seen) (x y : List RunEvent) → Performs a b x → EndsAnswered x → TookPart cut b c y → TookPart cut a c (x ++ y)
-took_on a b c x y first answered next = took_behind a b c x y first next (took_either a b c x (take next.k y) first answered next.took)
+took_on a b c x y first answered next = took_behind a b c x y first next (took_either a b c next.whole next.k x y first answered next.took)
 
 -- behind the events nothing more was done
 took_on_said : {cut : Type 0} (a b c : Seen) (x y : List RunEvent) → Performs a b x → c.effort ≡ b.effort → c.next ≡ b.next → TookPart cut b c y → TookPart cut a c (x ++ y)
@@ -458,8 +482,8 @@ limit_low true desc = omega arith
 limit_low false desc = omega arith
 
 -- or of one that was under way
-took_call : {cut : Type 0} (a b : Seen) (verb : Verb) (x : List RunEvent) (result : Result Answer BlockFault) → IsMute a b → Costs (block_limit a.desc verb) (asks_back_out verb) result a.effort b.effort → TookPart cut a b x
-took_call a b verb x result mute costs = record {
+took_call : {cut : Type 0} (a b : Seen) (verb : Verb) (call : RunEvent) (result : Result Answer BlockFault) → IsMute a b → Costs (block_limit a.desc verb) (asks_back_out verb) result a.effort b.effort → TookPart cut a b (call ∷ [])
+took_call a b verb call result mute costs = record {
   k = 0;
   within = omega arith;
   text = λ uncut. prints_none a.said b.said mute.said;
@@ -468,6 +492,8 @@ took_call a b verb x result mute costs = record {
   least = least_all a.said b.said [] (prints_none a.said b.said mute.said);
   most = front_none a.said b.said [] mute.said;
   took = inr (record {
+    said = refl;
+    more = omega arith;
     answered = tt;
     spent = omega (arith, costs.spent, limit_low (stores verb) a.desc);
     next = omega (arith, mute.one_number);
@@ -496,7 +522,7 @@ ran_calls a b verb o answer tells whole desc costs idle same mute next did = rec
 pub part_calls : {cut : Type 0} (a b : Seen) (v : View) (verb : Verb) (o : Outcome) {result : Result Answer BlockFault} → Costs (block_limit a.desc verb) (asks_back_out verb) result a.effort b.effort → CausedBy result a.faults b.faults → IsMute a b → PerformsCall o a b v result → PerformsPrefix cut a b (calls verb o ∷ [])
 part_calls a b v verb o {result} costs cause mute did = record {
   said_whole = λ uncut. whole_none a.said b.said (calls verb o ∷ []) mute.said;
-  took = took_call a b verb (calls verb o ∷ []) result mute costs;
+  took = took_call a b verb (calls verb o) result mute costs;
   undamaged = λ t. damaged_same result a.faults b.faults did.undamaged cause;
   text = front_none a.said b.said [] mute.said;
   moments = λ t. runs_weaken (did.leaves t) (stopped_calls a verb o);

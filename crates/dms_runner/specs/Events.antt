@@ -1,5 +1,5 @@
 -- What a run does, event by event, and what a stop on the way leaves.
-use Rattle.std.specs.Prelude.{ℕ, ◌≡◌, ◌≤◌, ◌+◌, ◌⊎◌, Bool, true, false, not, ◌&&◌, is_some, List, [], ◌∷◌, ◌++◌, length, take, Some, None}
+use Rattle.std.specs.Prelude.{ℕ, ◌≡◌, ◌≤◌, ◌<◌, ◌+◌, ◌⊎◌, Bool, true, false, not, ◌&&◌, is_some, List, [], ◌∷◌, ◌++◌, length, take, Some, None}
 use Rattle.std.specs.declared.option.Option.{Option}
 use Rattle.std.specs.declared.result.Result.{Result}
 use Rattle.std.specs.declared.result.Result.TheVariants.{Ok, Err}
@@ -158,16 +158,19 @@ pub record TookAll (b a : Seen) (events : List RunEvent) : Type 0 where
   pub effort : TakesEvents b.desc events b.effort a.effort
   pub next : a.next ≤ b.next + length (quiets_of events)
 
--- Behind these events one call more was under way: the blocks of one record, one quiet point, one sync and one way back.
-pub record TookOneMore (b a : Seen) (events : List RunEvent) : Type 0 where
-  pub answered : EndsAnswered events
-  pub spent : a.effort.spent ≤ b.effort.spent + blocks_of b.desc events + limit_if true b.desc
-  pub next : a.next ≤ b.next + length (quiets_of events) + 1
-  pub syncs : a.effort.syncs ≤ b.effort.syncs + syncs_of events + 1
-  pub outs : a.effort.outs ≤ b.effort.outs + backs_of events + 1
+-- Behind the first k events one call more was under way, that of the next event, where no text was cut off: the blocks of one record, one quiet
+-- point, one sync and one way back.
+pub record TookOneMore (b a : Seen) (whole k : ℕ) (events : List RunEvent) : Type 0 where
+  pub said : whole ≡ k
+  pub more : k < length events
+  pub answered : EndsAnswered (take k events)
+  pub spent : a.effort.spent ≤ b.effort.spent + blocks_of b.desc (take k events) + limit_if true b.desc
+  pub next : a.next ≤ b.next + length (quiets_of (take k events)) + 1
+  pub syncs : a.effort.syncs ≤ b.effort.syncs + syncs_of (take k events) + 1
+  pub outs : a.effort.outs ≤ b.effort.outs + backs_of (take k events) + 1
 
 -- The text of the first k events was said. Where it was cut off, that of all these or of all but the last was said whole, and of the last one's a
--- prefix. No more was done than these may take; or the last of them takes nothing, and one call more was under way.
+-- prefix. No more was done than these may take; or all their text was said, the last of them takes nothing, and one call more was under way.
 pub record TookPart (cut : Type 0) (b a : Seen) (events : List RunEvent) : Type 0 where
   pub k : ℕ
   pub within : k ≤ length events
@@ -176,7 +179,7 @@ pub record TookPart (cut : Type 0) (b a : Seen) (events : List RunEvent) : Type 
   pub near : (whole ≤ k) × (k ≤ whole + 1)
   pub least : SaidAtLeast b.said a.said (text_of (take whole events))
   pub most : PrintsPrefix b.said a.said (text_of (take k events))
-  pub took : TookAll b a (take k events) ⊎ TookOneMore b a (take k events)
+  pub took : TookAll b a (take k events) ⊎ TookOneMore b a whole k events
 
 -- a prefix of the text of these events was said, that of whole events where no text was cut off, and a stop on the way lies
 -- within them. No more was done than that prefix may take. Of what stands afterwards it says nothing else
