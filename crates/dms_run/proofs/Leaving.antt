@@ -39,7 +39,7 @@ each_behind points front (c ∷ cs) (q ∷ qs) are same =
 -- ---- how many are left
 
 -- what is left of the quiet points behind points that were all durable
-record Cut (whole : StopFiles → Type 0) (points : List Point) (durable next : ℕ) (quiets : List Quiet) (stop : Stop) : Type 0 where
+record QuietsLeft (whole : StopFiles → Type 0) (points : List Point) (durable next : ℕ) (quiets : List Quiet) (stop : Stop) : Type 0 where
   made : List Quiet
   rest : List Quiet
   more : List Point
@@ -55,7 +55,7 @@ map_take f zero l = grind arith
 map_take f (suc k) [] = refl
 map_take f (suc k) (x ∷ xs) = ap (λ (t : List _). f x ∷ t) (map_take f k xs)
 
-cut_of : (whole : StopFiles → Type 0) (points : List Point) (durable next : ℕ) (quiets : List Quiet) (stop : Stop) → length points ≤ durable → LeavesQuiets whole durable points next quiets stop → Cut whole points durable next quiets stop
+cut_of : (whole : StopFiles → Type 0) (points : List Point) (durable next : ℕ) (quiets : List Quiet) (stop : Stop) → length points ≤ durable → LeavesQuiets whole durable points next quiets stop → QuietsLeft whole points durable next quiets stop
 cut_of whole points durable next quiets stop le left =
     let g = left.grew in
     let f = left.front in
@@ -105,6 +105,8 @@ module _ (whole : StopFiles → Type 0) (entry : Option (List ℕ)) (points : Li
       sym (append_assoc c.made c.rest (quiets_of s.rest)) ∙ ap (λ (l : List Quiet). l ++ quiets_of s.rest) c.front_of
       ∙ append_assoc (quiets_of s.before) s.at.quiets (quiets_of s.rest) ∙ split in
       let enough : d ≤ length c.made = omega (arith, c.enough, shift) in
+      let few : length c.made ≤ length (quiets_of s.before) + length s.at.quiets =
+      omega (arith, ap length c.front_of, length-append c.made c.rest, length-append (quiets_of s.before) s.at.quiets) in
       record {
         made = c.made;
         rest = c.rest ++ quiets_of s.rest;
@@ -117,7 +119,7 @@ module _ (whole : StopFiles → Type 0) (entry : Option (List ℕ)) (points : Li
         next_is = c.next_is;
         text = λ t is.
             let x = s.text t is in
-            record { before = s.before; at = s.at; rest = s.rest; all = s.all; printed = x.0; said_is = x.1 ∙ append_assoc t (text_of s.before) (take x.0 s.at.text); enough = enough };
+            record { before = s.before; at = s.at; rest = s.rest; all = s.all; printed = x.0; said_is = x.1 ∙ append_assoc t (text_of s.before) (take x.0 s.at.text); enough = enough; few = few };
         files = c.files;
       }
 

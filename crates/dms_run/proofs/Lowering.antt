@@ -48,14 +48,14 @@ map_both [] ys = refl
 map_both (x ∷ xs) ys = ap (λ (l : List DescribedPoint). bare x ∷ l) (map_both xs ys)
 
 -- a point that is seen somewhere stands there
-record Found (desc : Described) (ps : List DescribedPoint) (p : Point) : Type 0 where
+record PointStands (desc : Described) (ps : List DescribedPoint) (p : Point) : Type 0 where
   front : List DescribedPoint
   point : DescribedPoint
   after : List DescribedPoint
   are : ps ≡ front ++ point ∷ after
   is : shown desc point ≡ p
 
-found : (desc : Described) (ps : List DescribedPoint) (before after : List Point) (p : Point) → points_seen desc ps ≡ before ++ p ∷ after → Found desc ps p
+found : (desc : Described) (ps : List DescribedPoint) (before after : List Point) (p : Point) → points_seen desc ps ≡ before ++ p ∷ after → PointStands desc ps p
 found desc [] [] after p e = absurd (cc)
 found desc [] (b ∷ bs) after p e = absurd (cc)
 found desc (x ∷ xs) [] after p e = record { front = []; point = x; after = xs; are = refl; is = cc }

@@ -14,7 +14,8 @@ last_quiet_number n [] = n
 last_quiet_number n (q ∷ qs) = last_quiet_number q.0 qs
 
 -- Behind the text of entry stands what the events before one of these said, and a prefix of what that one says. As many quiet points are
--- left as the syncpoints before it made durable, or more: so a SYNCPOINT that was printed has its quiet point.
+-- left as the syncpoints before it made durable, or more: so a SYNCPOINT that was printed has its quiet point. No more are left than those of the
+-- events before and of this one: so a call whose answer isn't printed is the only one that may be ahead.
 pub record PrintedUpTo (entry : List ℕ) (events : List RunEvent) (left : ℕ) (said : List ℕ) : Type 0 where
   pub before : List RunEvent
   pub at : RunEvent
@@ -23,6 +24,7 @@ pub record PrintedUpTo (entry : List ℕ) (events : List RunEvent) (left : ℕ) 
   pub printed : ℕ
   pub said_is : said ≡ entry ++ (text_of before ++ take printed at.text)
   pub enough : durable_after 0 0 before ≤ left
+  pub few : left ≤ length (quiets_of before) + length at.quiets
 
 -- What a stop within a run leaves. At entry the points ended with database db at point n, and next was the next number; the run does
 -- these events. The stop leaves the points of entry as they were and behind them exactly the first so many of the quiet points, each with its

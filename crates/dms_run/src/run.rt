@@ -5,7 +5,7 @@ ghost use Rattle.dms_feed.specs.Feeds.{Remains};
 ghost use Rattle.dms_feed.specs.Lines.{raw_lines};
 ghost use Rattle.dms_runner.specs.Blaming.{CutRun, LastsRun};
 ghost use Rattle.dms_runner.specs.Starting.{AtStart, EffortOfPart, EffortWithin, OnInput, StandsAtEnd, StopsAtBytes, StopsAtInput, StopsAtLines, StopsAtWaiting, UsesNumbers};
-ghost use Rattle.dms_runner.specs.Running.{HasTooManyBytes, HasTooManyLines, InputBreaks};
+ghost use Rattle.dms_runner.specs.Running.{FitsScript, HasTooManyBytes, HasTooManyLines, InputBreaks};
 ghost use Rattle.dms_storeverbs.specs.View.{seen};
 ghost use Rattle.dms_run.specs.Ending.{EndsLeave, KeepsLimits, StaysUndamaged};
 ghost use Rattle.dms_run.specs.Starting.{OfScript, ReachesEnd, SaysAll, SaysPrefix, SaysWholeAnswers, StopsLeave};
@@ -42,6 +42,7 @@ pub fn run_script<St: Store, I: Source>(
     ensures bytes { IsErrOf result RunFault.Bytes → AtStart engine.old feed.old (I.left source.old) (StopsAtBytes engine.old engine.new) }
     ensures full_list { IsErrOf result RunFault.Held → AtStart engine.old feed.old (I.left source.old) (StopsAtWaiting engine.old engine.new) }
     ensures failed { IsErrOf result RunFault.Input → AtStart engine.old feed.old (I.left source.old) (StopsAtInput (I.left source.new) engine.old engine.new) }
+    ensures fits { OnOk result (OnInput feed.old (I.left source.old) FitsScript) }
     ensures too_many_lines { IsErrOf result RunFault.Lines → OnInput feed.old (I.left source.old) HasTooManyLines }
     ensures too_many_bytes { IsErrOf result RunFault.Bytes → OnInput feed.old (I.left source.old) HasTooManyBytes }
     ensures breaks { IsErrOf result RunFault.Input → OnInput feed.old (I.left source.old) (InputBreaks (I.left source.new)) }
