@@ -20,9 +20,6 @@ pub damage_is : (b : Bool) (f k : ℕ) (P : Status → Type 0) → P (Damaged f 
 damage_is true f k P one two = one
 damage_is false f k P one two = two
 
-IsNot : Status → Status → Type 0
-IsNot s x = x ≡ s → ⊥
-
 damaged_not_ok : (f k : ℕ) → damaged_status f k ≡ Ok → ⊥
 damaged_not_ok f k = damage_is (is_structure_file f) f k (λ x. x ≡ Ok → ⊥) (λ e. absurd cc) (λ e. absurd cc)
 
