@@ -23,12 +23,12 @@ made (Ok x) d is = ap Ok (ap (or_else x) is)
 made (Err e) d is = absurd (cc)
 
 -- the schema that was read, and the description that it gives
-record Read (r : Result Schema ParseFault) (d : Described) : Type 0 where
+record SchemaRead (r : Result Schema ParseFault) (d : Described) : Type 0 where
   schema : Schema
   read : r ≡ Ok schema
   made_of : compiled schema.parameters schema.declarations ≡ Ok d
 
-read_as : (r : Result Schema ParseFault) (d : Described) → parsed_as r ≡ Ok d → Read r d
+read_as : (r : Result Schema ParseFault) (d : Described) → parsed_as r ≡ Ok d → SchemaRead r d
 read_as (Ok s) d is = record { schema = s; read = refl; made_of = made (compiled s.parameters s.declarations) d is }
 read_as (Err e) d is = absurd (cc)
 

@@ -124,7 +124,7 @@ too_long all old new kept n some is len small other added long =
     omega (arith, long, ap length added, length-append old kept, ap length w, length-append old (schema_text all), ap length (text_on all some o), length-append (first_line all) (schema_text (after_line all)))
 
 -- so much of the text was taken in so many lines
-pub record Reaches (n : ℕ) (text all held : List ℕ) (left : Option (List ℕ)) : Type 0 where
+pub record TextReaches (n : ℕ) (text all held : List ℕ) (left : Option (List ℕ)) : Type 0 where
   pub rest : List ℕ
   pub remains : Remains held left rest
   pub is : schema_text all ≡ text ++ schema_text rest
@@ -134,10 +134,10 @@ pub record Reaches (n : ℕ) (text all held : List ℕ) (left : Option (List ℕ
   pub leaves : LeavesLines done all rest
   pub before : (ls : List (List ℕ)) → script_part (done ++ ls) ≡ script_part ls
 
-pub reaches_start : (all held : List ℕ) (left : Option (List ℕ)) → Remains held left all → Reaches 0 [] all held left
+pub reaches_start : (all held : List ℕ) (left : Option (List ℕ)) → Remains held left all → TextReaches 0 [] all held left
 reaches_start all held left remains = record { rest = all; remains = remains; is = refl; script = refl; grown = omega arith; done = []; leaves = record { lines = refl; whole = refl }; before = λ ls. refl }
 
-pub reaches_on : (n : ℕ) (old new all held held' : List ℕ) (left left' : Option (List ℕ)) (r : Reaches n old all held left) → TakesTextLine old new r.rest held' left' → Reaches (n + 1) new all held' left'
+pub reaches_on : (n : ℕ) (old new all held held' : List ℕ) (left left' : Option (List ℕ)) (r : TextReaches n old all held left) → TakesTextLine old new r.rest held' left' → TextReaches (n + 1) new all held' left'
 reaches_on n old new all held held' left left' r g =
     let l = first_line r.rest in
     record {
@@ -151,7 +151,7 @@ reaches_on n old new all held held' left left' r g =
       before = λ ls. ap script_part (append_assoc r.done (l ∷ []) ls) ∙ r.before (l ∷ ls) ∙ ap (λ (t : Bool). cond t ls (script_part ls)) g.other;
     }
 
-pub reaches_end : (n : ℕ) (old new all held held' : List ℕ) (left left' : Option (List ℕ)) (r : Reaches n old all held left) → EndsText old new r.rest held' left' → IsWholeText new all held' left'
+pub reaches_end : (n : ℕ) (old new all held held' : List ℕ) (left left' : Option (List ℕ)) (r : TextReaches n old all held left) → EndsText old new r.rest held' left' → IsWholeText new all held' left'
 reaches_end n old new all held held' left left' r e = record {
   is = e.text ∙ sym (r.is ∙ ap (λ (t : List ℕ). old ++ t) e.none ∙ append-nil old);
   rest = e.rest;
@@ -165,7 +165,7 @@ reaches_end n old new all held held' left left' r e = record {
 }
 
 -- taking failed
-pub reaches_cut : (n : ℕ) (old all held : List ℕ) (left left' : Option (List ℕ)) (r : Reaches n old all held left) → CutLine 1000008 left' r.rest → CutText all left'
+pub reaches_cut : (n : ℕ) (old all held : List ℕ) (left left' : Option (List ℕ)) (r : TextReaches n old all held left) → CutLine 1000008 left' r.rest → CutText all left'
 reaches_cut n old all held left left' r cut = record {
   done = r.done;
   rest = r.rest;
@@ -174,8 +174,8 @@ reaches_cut n old all held left left' r cut = record {
   cut = cut;
 }
 
-pub reaches_long : (n : ℕ) (old all held : List ℕ) (left : Option (List ℕ)) (r : Reaches n old all held left) → IsLong old r.rest → 1000000 < length (schema_text all)
+pub reaches_long : (n : ℕ) (old all held : List ℕ) (left : Option (List ℕ)) (r : TextReaches n old all held left) → IsLong old r.rest → 1000000 < length (schema_text all)
 reaches_long n old all held left r long = omega (arith, long, ap length r.is)
 
-pub reaches_over : (n : ℕ) (old all held : List ℕ) (left : Option (List ℕ)) → Reaches n old all held left → 1000000 < n → 1000000 < length (schema_text all)
+pub reaches_over : (n : ℕ) (old all held : List ℕ) (left : Option (List ℕ)) → TextReaches n old all held left → 1000000 < n → 1000000 < length (schema_text all)
 reaches_over n old all held left r over = omega (arith, over, r.grown, ap length r.is, length-append old (schema_text r.rest))

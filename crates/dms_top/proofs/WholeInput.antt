@@ -4,13 +4,13 @@ use Rattle.dms_feed.specs.Feeds.{Remains}
 use Rattle.dms_top.proofs.Judgements.{no_more, at_start}
 
 -- so many bytes were taken
-pub record Taken (n : ℕ) (text all held : List ℕ) (left : Option (List ℕ)) : Type 0 where
+pub record InputTaken (n : ℕ) (text all held : List ℕ) (left : Option (List ℕ)) : Type 0 where
   pub rest : List ℕ
   pub remains : Remains held left rest
   pub is : all ≡ text ++ rest
   pub many : length text ≡ n
 
-pub taken_start : (text all held : List ℕ) (left : Option (List ℕ)) → text ≡ [] → held ≡ [] → left ≡ Some all → Taken 0 text all held left
+pub taken_start : (text all held : List ℕ) (left : Option (List ℕ)) → text ≡ [] → held ≡ [] → left ≡ Some all → InputTaken 0 text all held left
 taken_start text all held left none empty is = record {
   rest = all;
   remains = at_start held left all empty is;
@@ -27,7 +27,7 @@ none_of [] h = refl
 none_of (x ∷ xs) h = absurd (cc)
 
 -- one more byte was taken
-pub taken_on : (n b : ℕ) (old new all held held' : List ℕ) (left left' : Option (List ℕ)) (t : Taken n old all held left) → Some b ≡ slice_get t.rest 0 → Remains held' left' (drop 1 t.rest) → new ≡ old ++ b ∷ [] → Taken (n + 1) new all held' left'
+pub taken_on : (n b : ℕ) (old new all held held' : List ℕ) (left left' : Option (List ℕ)) (t : InputTaken n old all held left) → Some b ≡ slice_get t.rest 0 → Remains held' left' (drop 1 t.rest) → new ≡ old ++ b ∷ [] → InputTaken (n + 1) new all held' left'
 taken_on n b old new all held held' left left' t first remains added = record {
   rest = drop 1 t.rest;
   remains = remains;
@@ -35,12 +35,12 @@ taken_on n b old new all held held' left left' t first remains added = record {
   many = omega (arith, t.many, ap length added, length-append old (b ∷ []));
 }
 
-pub taken_all : (n : ℕ) (text all held : List ℕ) (left : Option (List ℕ)) (t : Taken n text all held left) → None ≡ slice_get t.rest 0 → text ≡ all
+pub taken_all : (n : ℕ) (text all held : List ℕ) (left : Option (List ℕ)) (t : InputTaken n text all held left) → None ≡ slice_get t.rest 0 → text ≡ all
 taken_all n text all held left t none = sym (t.is ∙ ap (λ (l : List ℕ). text ++ l) (none_of t.rest none) ∙ append-nil text)
 
-pub taken_end : (n : ℕ) (text all held held' : List ℕ) (left left' : Option (List ℕ)) (t : Taken n text all held left) → None ≡ slice_get t.rest 0 → Remains held' left' (drop 1 t.rest) → left' ≡ Some []
+pub taken_end : (n : ℕ) (text all held held' : List ℕ) (left left' : Option (List ℕ)) (t : InputTaken n text all held left) → None ≡ slice_get t.rest 0 → Remains held' left' (drop 1 t.rest) → left' ≡ Some []
 taken_end n text all held held' left left' t none remains =
     no_more held' left' (subst (λ (l : List ℕ). Remains held' left' (drop 1 l)) (none_of t.rest none) remains)
 
-pub taken_over : (n : ℕ) (text all held : List ℕ) (left : Option (List ℕ)) → Taken n text all held left → 1000000 < n → 1000000 < length all
+pub taken_over : (n : ℕ) (text all held : List ℕ) (left : Option (List ℕ)) → InputTaken n text all held left → 1000000 < n → 1000000 < length all
 taken_over n text all held left t over = omega (arith, over, t.many, ap length t.is, length-append text t.rest)

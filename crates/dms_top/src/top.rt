@@ -19,7 +19,7 @@ ghost use Rattle.dms_top.specs.Answering.{Printed, PrintedPrefix, PrintedWhole, 
 ghost use Rattle.dms_status.specs.declared.status.LimitKind.{LimitKind as Kind};
 ghost use Rattle.dms_top.specs.Premises.{OnTry, OnCompile, OnInitialize, OnPrintAudit, OnOthers, OnReading, OnRun, OfInput, OfSchema, OfSealed, OfNoSchema, OfTriedScript, OfNoScript};
 ghost use Rattle.dms_audfile.specs.Counting.{CountedAt};
-ghost use Rattle.dms_runtop.specs.Command.{DatabaseState, HoldsTold, NeverRefuses, NeverRefusesState, RefusesRun, RunsCommand, EndsInState, StandsThroughout, OpensOrStays};
+ghost use Rattle.dms_runtop.specs.Command.{DatabaseState, HoldsTold, NeverRefuses, NeverRefusesState, RefusesRun, RunKeepsTrail, RunsCommand, EndsInState, StandsThroughout, OpensOrStays};
 ghost use Rattle.dms_runtop.specs.Full.{HasNoRoom};
 ghost use Rattle.dms_runtop.specs.Guard.{StaysBeside};
 ghost use Rattle.dms_runtop.specs.Inputs.{BlamesInput};
@@ -268,15 +268,18 @@ pub fn dms<S: Site, I: Source>(
     ensures run_complete_state { OnRun words.now (NeverRefusesState S.Site site.old result) }
     // status 8 of an audit file comes only where the trail of entry goes on behind that file: it begins behind it, or all gates of that file are open
     ensures run_full { OnRun words.now (HasNoRoom S.Site site.old site.new result) }
-    // whatever the files stand for, status 8 of lines or bytes comes only where the input has more of them than a script may have, and at status 6 taking
-    // failed behind so many whole lines and a part of the next one
+    // whatever the files stand for, at status 0 the input has no more lines and bytes than a script may have, status 8 of either comes only where it has
+    // more of them, before it has too many of the other, and at status 6 taking failed behind so many whole lines and a part of the next one
     ensures run_by_input { OnRun words.now (BlamesInput (I.left input.old) (I.left input.new) result) }
     // only audit files and structure files change: the description and the dumps read as they did, and each stop left them as one at entry could
     ensures run_beside { OnRun words.now (StaysBeside S.Site site.old site.new) }
     // of the state that is told: at every moment a stop leaves the database of one quiet point, at status 0 the last one's, and exactly the answers or a
-    // prefix of them were printed. At each status the trail is the old one and blocks that hold an entry, and at each but 5 and 7 it has no more new entries
-    // than these may make: an opening, what was answered, up to two calls whose answers weren't printed, and a close
+    // prefix of them were printed. The trail has no more new entries than these may make, at each status: an opening, what was answered, one call whose
+    // answer wasn't printed, and a close
     ensures run { OnRun words.now (RunsCommand S.Site state site.old site.new (I.left input.old) (I.left input.new) result) }
+    // and of its files, whatever the input is: at every moment a stop leaves their trail, with the same tag, and blocks behind it that hold an entry; the
+    // audit files before it stay
+    ensures run_trail { OnRun words.now (RunKeepsTrail S.Site state site.old site.new) }
     // where a run may begin with that database, each stop leaves files that stand for it or for that of one quiet point, no earlier than the printed text
     // tells, with which a run may begin again
     ensures run_stands { OnRun words.now (StandsThroughout S.Site state site.old site.new (I.left input.old)) }
