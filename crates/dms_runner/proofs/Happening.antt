@@ -530,10 +530,10 @@ part_calls a b v verb o {result} costs cause mute did = record {
 
 -- the way back
 
-stopped_back : (a : Seen) (stop : Stop) → LeavesPrefix a.whole a.durable a.points a.next stop × StopTextIs a.said stop → CrashesFrom a (goes_back ∷ []) stop
-stopped_back a stop p = record {
+stopped_back : (works : Bool) (a : Seen) (stop : Stop) → LeavesPrefix a.whole a.durable a.points a.next stop × StopTextIs a.said stop → CrashesFrom a (goes_back works ∷ []) stop
+stopped_back works a stop p = record {
   before = [];
-  at = goes_back;
+  at = goes_back works;
   rest = [];
   all = refl;
   left = stays [] p.0;
@@ -541,12 +541,12 @@ stopped_back a stop p = record {
 }
 
 -- where nobody works nothing is done
-pub back_takes : {T : Type 0} (r : Result T BlockFault) (works : Bool) (desc : Described) {a b : Effort} → (works ≡ true → GoesBack r a b) → (works ≡ false → b ≡ a) → TakesEvents desc (goes_back ∷ []) a b
+pub back_takes : {T : Type 0} (r : Result T BlockFault) (works : Bool) (desc : Described) {a b : Effort} → (works ≡ true → GoesBack r a b) → (works ≡ false → b ≡ a) → TakesEvents desc (goes_back works ∷ []) a b
 back_takes r true desc back stays = let p = back refl in record { spent = omega (arith, p.spent); syncs = omega (arith, p.syncs); outs = omega (arith, p.few.1) }
-back_takes r false desc back stays = takes_still desc (goes_back ∷ []) (stays refl)
+back_takes r false desc back stays = takes_still desc (goes_back false ∷ []) (stays refl)
 
-pub ran_back : (a b : Seen) → (a.tells → b.tells) → ((files : StopFiles) → b.whole files → a.whole files) → b.desc ≡ a.desc → TakesEvents a.desc (goes_back ∷ []) a.effort b.effort → (IsTold a → IsTold b) → FindsNoDamage a b → IsSilent a b → StaysDurable a b → a.next + 1 < 2 ^ 64 → Performs a b (goes_back ∷ [])
-ran_back a b tells whole desc takes told undamaged silent points room = record {
+pub ran_back : (works : Bool) (a b : Seen) → (a.tells → b.tells) → ((files : StopFiles) → b.whole files → a.whole files) → b.desc ≡ a.desc → TakesEvents a.desc (goes_back works ∷ []) a.effort b.effort → (IsTold a → IsTold b) → FindsNoDamage a b → IsSilent a b → StaysDurable a b → a.next + 1 < 2 ^ 64 → Performs a b (goes_back works ∷ [])
+ran_back works a b tells whole desc takes told undamaged silent points room = record {
   text = prints_none a.said b.said silent.said;
   tells = tells;
   whole = whole;
@@ -556,22 +556,22 @@ ran_back a b tells whole desc takes told undamaged silent points room = record {
   next_high = omega (arith, silent.next);
   grew = λ t. record { more = []; is = (points t room).0 ∙ sym (append-nil a.points); spells = refl };
   durable = λ t. (points t room).1;
-  moments = λ t. runs_weaken (silent.leaves t room) (stopped_back a);
+  moments = λ t. runs_weaken (silent.leaves t room) (stopped_back works a);
   desc = desc;
   effort = takes;
 }
 
 -- it may be done in part
-took_back : {cut : Type 0} (a b : Seen) → TakesEvents a.desc (goes_back ∷ []) a.effort b.effort → IsSilent a b → TookPart cut a b (goes_back ∷ [])
-took_back a b takes silent = took_by a b (goes_back ∷ []) 1 (omega arith) (prints_none a.said b.said silent.said) takes (omega (arith, silent.next))
+took_back : {cut : Type 0} (works : Bool) (a b : Seen) → TakesEvents a.desc (goes_back works ∷ []) a.effort b.effort → IsSilent a b → TookPart cut a b (goes_back works ∷ [])
+took_back works a b takes silent = took_by a b (goes_back works ∷ []) 1 (omega arith) (prints_none a.said b.said silent.said) takes (omega (arith, silent.next))
 
-pub part_back : {cut : Type 0} (a b : Seen) → TakesEvents a.desc (goes_back ∷ []) a.effort b.effort → FindsNoDamage a b → IsSilent a b → a.next + 1 < 2 ^ 64 → PerformsPrefix cut a b (goes_back ∷ [])
-part_back a b takes undamaged silent room = record {
-  took = took_back a b takes silent;
-  said_whole = λ uncut. whole_none a.said b.said (goes_back ∷ []) silent.said;
+pub part_back : {cut : Type 0} (works : Bool) (a b : Seen) → TakesEvents a.desc (goes_back works ∷ []) a.effort b.effort → FindsNoDamage a b → IsSilent a b → a.next + 1 < 2 ^ 64 → PerformsPrefix cut a b (goes_back works ∷ [])
+part_back works a b takes undamaged silent room = record {
+  took = took_back works a b takes silent;
+  said_whole = λ uncut. whole_none a.said b.said (goes_back works ∷ []) silent.said;
   undamaged = undamaged;
   text = front_none a.said b.said [] silent.said;
-  moments = λ t. runs_weaken (silent.leaves t room) (stopped_back a);
+  moments = λ t. runs_weaken (silent.leaves t room) (stopped_back works a);
 }
 
 -- the end of a run leaves the databases told

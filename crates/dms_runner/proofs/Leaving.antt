@@ -145,4 +145,4 @@ left_law desc db first lines =
     let run = lines_run desc (first_state db first) lines in
     let leads = run_leads desc (first_state db first) lines in
     ended_db run.going.session (someone_works run.going.session.programs) refl (leads.rests (λ idle. refl)) ∙ leads.mark
-    ∙ ap (last_quiet db) (sym (quiets_on run.events (end_events run.going.waiting) ∙ ap (λ (q : List Quiet). quiets_of run.events ++ q) (quiets_on (unanswered_events run.going.waiting) _ ∙ ap (λ (q : List Quiet). q ++ []) (unanswered_quiets run.going.waiting)) ∙ append-nil (quiets_of run.events)))
+    ∙ ap (last_quiet db) (sym (quiets_on run.events (end_events (someone_works run.going.session.programs) run.going.waiting) ∙ ap (λ (q : List Quiet). quiets_of run.events ++ q) (quiets_on (unanswered_events run.going.waiting) _ ∙ ap (λ (q : List Quiet). q ++ []) (unanswered_quiets run.going.waiting)) ∙ append-nil (quiets_of run.events)))

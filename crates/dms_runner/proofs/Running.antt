@@ -8,7 +8,8 @@ use Rattle.dms_feed.specs.Feeds.{Remains}
 use Rattle.dms_feed.specs.Lines.{raw_lines, first_line, after_line, onto_first}
 use Rattle.dms_model.specs.Db.{Db}
 use Rattle.dms_block.specs.Texts.{Prints}
-use Rattle.dms_model.specs.Session.{Session, ended}
+use Rattle.dms_model.specs.Programs.{Program}
+use Rattle.dms_model.specs.Session.{Session, ended, someone_works}
 use Rattle.dms_storeverbs.specs.View.{View, StandsFor}
 use Rattle.dms_runner.specs.declared.waiting.WaitingLine.{WaitingLine}
 use Rattle.dms_laws.specs.Exclusive.{IsExclusive}
@@ -322,16 +323,17 @@ lines_none rest none = ap raw_lines none
 
 -- the input's end: what happens now ends the run
 pub runs_ran : (desc : Described) (db : Db) (first : ℕ) (i room : ℕ) (all : List ℕ) (v : View) (waiting : List WaitingLine) (feed : List ℕ) (left : Option (List ℕ)) (before mid after : Seen)
-    (r : RunsLines desc (first_state db first) i room all v waiting feed left before mid) → r.read.rest ≡ [] → Performs mid after (end_events waiting) → Performs before after (script_events desc db first (raw_lines all))
+    (r : RunsLines desc (first_state db first) i room all v waiting feed left before mid) → r.read.rest ≡ [] → Performs mid after (end_events (someone_works v.programs) waiting) → Performs before after (script_events desc db first (raw_lines all))
 unfolding script_events
 runs_ran desc db first i room all v waiting feed left before mid after r none last =
     let g = first_state db first in
     let whole : raw_lines all ≡ r.read.done = r.read.split ∙ ap (λ (ls : List (List ℕ)). r.read.done ++ ls) (lines_none r.read.rest none) ∙ append-nil r.read.done in
-    subst (λ (ls : List (List ℕ)). Performs before after ((script_run desc db first ls).events ++ end_events (script_run desc db first ls).going.waiting)) (sym whole)
-    (ran_on before mid after (lines_run desc g r.read.done).events (end_events (lines_run desc g r.read.done).going.waiting) r.ran (subst (λ (hs : List WaitingLine). Performs mid after (end_events hs)) r.waiting_is last))
+    subst (λ (ls : List (List ℕ)). Performs before after ((script_run desc db first ls).events ++ end_events (someone_works (script_run desc db first ls).going.session.programs) (script_run desc db first ls).going.waiting)) (sym whole)
+    (ran_on before mid after (lines_run desc g r.read.done).events (end_events (someone_works (lines_run desc g r.read.done).going.session.programs) (lines_run desc g r.read.done).going.waiting) r.ran (subst (λ (ps : List Program). Performs mid after (end_events (someone_works ps) (lines_run desc g r.read.done).going.waiting)) r.stands.programs
+    (subst (λ (hs : List WaitingLine). Performs mid after (end_events (someone_works v.programs) hs)) r.waiting_is last)))
 
 pub runs_end : (desc : Described) (db : Db) (first : ℕ) (i room : ℕ) (all : List ℕ) (v : View) (waiting : List WaitingLine) (feed : List ℕ) (left : Option (List ℕ)) (before mid after : Seen)
-    (r : RunsLines desc (first_state db first) i room all v waiting feed left before mid) → i ≤ 1000000 → r.read.rest ≡ [] → Performs mid after (end_events waiting) → AnswersWhole desc db first (raw_lines all) before.said after.said
+    (r : RunsLines desc (first_state db first) i room all v waiting feed left before mid) → i ≤ 1000000 → r.read.rest ≡ [] → Performs mid after (end_events (someone_works v.programs) waiting) → AnswersWhole desc db first (raw_lines all) before.said after.said
 runs_end desc db first i room all v waiting feed left before mid after r small none last =
     let whole : raw_lines all ≡ r.read.done = r.read.split ∙ ap (λ (ls : List (List ℕ)). r.read.done ++ ls) (lines_none r.read.rest none) ∙ append-nil r.read.done in
     record {
@@ -356,19 +358,20 @@ unfolding script_events
 runs_part {cut} desc db first i room all v waiting feed left before mid after r part =
     let g = first_state db first in
     let e : lines_run desc g (raw_lines all) ≡ lines_before (lines_run desc g r.read.done) (lines_run desc (lines_run desc g r.read.done).going (raw_lines r.read.rest)) = ap (lines_run desc g) r.read.split ∙ run_on desc g r.read.done (raw_lines r.read.rest) r.roomy in
-    part_of_first before after (lines_run desc g (raw_lines all)).events (end_events (lines_run desc g (raw_lines all)).going.waiting)
+    part_of_first before after (lines_run desc g (raw_lines all)).events (end_events (someone_works (lines_run desc g (raw_lines all)).going.session.programs) (lines_run desc g (raw_lines all)).going.waiting)
     (subst (λ (t : List RunEvent). PerformsPrefix cut before after t) (sym (ap (λ (l : LineEffect). l.events) e)) (part_on before mid after (lines_run desc g r.read.done).events (lines_run desc (lines_run desc g r.read.done).going (raw_lines r.read.rest)).events r.ran (run_answered desc g r.read.done r.roomy) part))
 
 -- a prefix of what happens at the end
 pub runs_end_part : {cut : Type 0} (desc : Described) (db : Db) (first : ℕ) (i room : ℕ) (all : List ℕ) (v : View) (waiting : List WaitingLine) (feed : List ℕ) (left : Option (List ℕ)) (before mid after : Seen)
-    (r : RunsLines desc (first_state db first) i room all v waiting feed left before mid) → r.read.rest ≡ [] → PerformsPrefix cut mid after (end_events waiting) → PerformsPrefix cut before after (script_events desc db first (raw_lines all))
+    (r : RunsLines desc (first_state db first) i room all v waiting feed left before mid) → r.read.rest ≡ [] → PerformsPrefix cut mid after (end_events (someone_works v.programs) waiting) → PerformsPrefix cut before after (script_events desc db first (raw_lines all))
 unfolding script_events
 runs_end_part {cut} desc db first i room all v waiting feed left before mid after r none part =
     let g = first_state db first in
     let whole : raw_lines all ≡ r.read.done = r.read.split ∙ ap (λ (ls : List (List ℕ)). r.read.done ++ ls) (lines_none r.read.rest none) ∙ append-nil r.read.done in
-    subst (λ (ls : List (List ℕ)). PerformsPrefix cut before after ((script_run desc db first ls).events ++ end_events (script_run desc db first ls).going.waiting)) (sym whole)
-    (part_on before mid after (lines_run desc g r.read.done).events (end_events (lines_run desc g r.read.done).going.waiting) r.ran (run_answered desc g r.read.done r.roomy)
-    (subst (λ (hs : List WaitingLine). PerformsPrefix cut mid after (end_events hs)) r.waiting_is part))
+    subst (λ (ls : List (List ℕ)). PerformsPrefix cut before after ((script_run desc db first ls).events ++ end_events (someone_works (script_run desc db first ls).going.session.programs) (script_run desc db first ls).going.waiting)) (sym whole)
+    (part_on before mid after (lines_run desc g r.read.done).events (end_events (someone_works (lines_run desc g r.read.done).going.session.programs) (lines_run desc g r.read.done).going.waiting) r.ran (run_answered desc g r.read.done r.roomy)
+    (subst (λ (ps : List Program). PerformsPrefix cut mid after (end_events (someone_works ps) (lines_run desc g r.read.done).going.waiting)) r.stands.programs
+    (subst (λ (hs : List WaitingLine). PerformsPrefix cut mid after (end_events (someone_works v.programs) hs)) r.waiting_is part)))
 
 -- a prefix of what a line does is one of what it and those behind it do
 pub line_part : {cut : Type 0} (desc : Described) (g : RunState) (all : List ℕ) (before after : Seen) → all ≢ [] → PerformsPrefix cut before after (line_step desc g (first_line all)).events → PerformsPrefix cut before after (lines_run desc g (raw_lines all)).events

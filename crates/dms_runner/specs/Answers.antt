@@ -6,7 +6,7 @@ use Rattle.dms_laws.specs.Exclusive.{IsExclusive}
 use Rattle.dms_model.specs.declared.verb.Verb.{Verb}
 use Rattle.dms_model.specs.Db.{Db}
 use Rattle.dms_model.specs.Points.{Quiet}
-use Rattle.dms_model.specs.Session.{Session, Outcome, step, fresh_session, is_waits}
+use Rattle.dms_model.specs.Session.{Session, Outcome, step, fresh_session, someone_works, is_waits}
 use Rattle.dms_script.specs.declared.line.Line.{Line}
 use Rattle.dms_script.specs.declared.line.Line.TheVariants.{Empty, Verb as Spoken, Bad}
 use Rattle.dms_script.specs.Lines.{line_of}
@@ -90,9 +90,9 @@ abbrev pub unanswered_events : List WaitingLine → List RunEvent
 unanswered_events [] = []
 unanswered_events (h ∷ hs) = says (unanswered_text h.line h.program) ∷ unanswered_events hs
 
--- the end of a run
-abbrev pub end_events : List WaitingLine → List RunEvent
-end_events waiting = unanswered_events waiting ++ goes_back ∷ []
+-- the end of a run; works: whether a program is in transaction state then
+abbrev pub end_events : Bool → List WaitingLine → List RunEvent
+end_events works waiting = unanswered_events waiting ++ goes_back works ∷ []
 
 -- at the beginning: no program, nothing held
 abbrev pub first_state : Db → ℕ → RunState
@@ -103,10 +103,10 @@ first_state db first = record { session = fresh_session db first; waiting = []; 
 abbrev pub script_run : Described → Db → ℕ → List (List ℕ) → LineEffect
 script_run desc db first lines = lines_run desc (first_state db first) lines
 
--- what a script does: its lines, then each line that is still held is answered, and the database goes back to the last quiet
--- point
+-- what a script does: its lines, then each line that is still held is answered, and where a program is in transaction state the
+-- database goes back to the last quiet point
 unfoldable pub script_events : Described → Db → ℕ → List (List ℕ) → List RunEvent
-script_events desc db first lines = (script_run desc db first lines).events ++ end_events (script_run desc db first lines).going.waiting
+script_events desc db first lines = (script_run desc db first lines).events ++ end_events (someone_works (script_run desc db first lines).going.session.programs) (script_run desc db first lines).going.waiting
 
 -- what it answers
 abbrev pub answers_text : Described → Db → ℕ → List (List ℕ) → List ℕ

@@ -40,9 +40,10 @@ calls verb o = record { quiets = o.quiets; sync = o.sync; text = []; stores = ma
 abbrev pub says : List ℕ → RunEvent
 says text = record { quiets = []; sync = None; text = text; stores = false; backs = false }
 
--- the database goes back to the last quiet point: nothing is said, and no quiet point is made
-abbrev pub goes_back : RunEvent
-goes_back = record { quiets = []; sync = None; text = []; stores = false; backs = true }
+-- the script ends: where a program is in transaction state, the database goes back to the last quiet point; nothing is said, and no quiet point is
+-- made
+abbrev pub goes_back : Bool → RunEvent
+goes_back works = record { quiets = []; sync = None; text = []; stores = false; backs = works }
 
 -- all that is said
 abbrev pub text_of : List RunEvent → List ℕ

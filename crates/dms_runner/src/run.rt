@@ -6,7 +6,7 @@ ghost use Rattle.dms_feed.specs.Feeds.{Remains};
 ghost use Rattle.dms_feed.specs.Lines.{first_line};
 ghost use Rattle.dms_feed.specs.Raws.{CutLine};
 ghost use Rattle.dms_block.specs.Texts.{Prints, PrintsPrefix};
-ghost use Rattle.dms_model.specs.Session.{Session, ended};
+ghost use Rattle.dms_model.specs.Session.{Session, ended, someone_works};
 ghost use Rattle.dms_storeverbs.specs.View.{EngineLasts, SameSession, StandsFor, seen, view};
 ghost use Rattle.dms_runner.specs.Events.{text_of, IsCutShort, Performs, PerformsPrefix};
 ghost use Rattle.dms_runner.specs.Answers.{unanswered_events, end_events};
@@ -62,6 +62,7 @@ fn say_waiting<St: Store>(
     ensures ran { OnOk result ((seen engine.old).next + 1 < 2 ^ 64 → Performs (seen engine.old) (seen engine.new) (unanswered_events waiting.now)) }
     ensures part { (seen engine.old).next + 1 < 2 ^ 64 → PerformsPrefix (IsCutShort result) (seen engine.old) (seen engine.new) (unanswered_events waiting.now) }
     ensures number { (seen engine.new).next ≡ (seen engine.old).next }
+    ensures programs { engine.new.programs ≡ engine.old.programs }
     ensures stands { OnOk result (SameSession engine.old engine.new) }
     ensures lasts { EngineLasts result engine.old engine.new }
 {
@@ -82,8 +83,8 @@ fn end_run<St: Store>(
     requires sound { (seen engine.old).sound }
     ensures text { OnOk result (Prints (seen engine.old).said (seen engine.new).said (text_of (unanswered_events waiting.now))) }
     ensures front { PrintsPrefix (seen engine.old).said (seen engine.new).said (text_of (unanswered_events waiting.now)) }
-    ensures ran { OnOk result ((seen engine.old).next + 1 < 2 ^ 64 → Performs (seen engine.old) (seen engine.new) (end_events waiting.now)) }
-    ensures part { (seen engine.old).next + 1 < 2 ^ 64 → PerformsPrefix (CutRun result) (seen engine.old) (seen engine.new) (end_events waiting.now) }
+    ensures ran { OnOk result ((seen engine.old).next + 1 < 2 ^ 64 → Performs (seen engine.old) (seen engine.new) (end_events (someone_works engine.old.programs.items) waiting.now)) }
+    ensures part { (seen engine.old).next + 1 < 2 ^ 64 → PerformsPrefix (CutRun result) (seen engine.old) (seen engine.new) (end_events (someone_works engine.old.programs.items) waiting.now) }
     ensures ended { OnOk result ((s : Session) → StandsFor (view engine.old) s → StandsFor (view engine.new) (ended s)) }
     ensures limits { (IsErrOf result RunFault.Lines → ⊥) × (IsErrOf result RunFault.Bytes → ⊥) × (IsErrOf result RunFault.Held → ⊥) }
     ensures lasts { LastsRun result engine.old engine.new }

@@ -4,6 +4,7 @@ use Rattle.std.proofs.Common.{◌+◌, ◌<◌, ◌^◌, ◌∙◌, ap, refl, sy
 use Rattle.dms_desc.specs.declared.description.Description.{Description}
 use Rattle.dms_desc.specs.Shape.{described}
 use Rattle.dms_feed.specs.Lines.{raw_lines}
+use Rattle.dms_model.specs.Session.{someone_works}
 use Rattle.dms_storeverbs.specs.declared.engine.Engine.{Engine}
 use Rattle.dms_storeverbs.specs.View.{seen, view, StandsFor}
 use Rattle.dms_runner.specs.declared.waiting.WaitingLine.{WaitingLine}
@@ -80,7 +81,7 @@ returns-in-Ok-false-clause-answers g c = then_on c.end_run.result _ _ (λ ran. �
     let none = (rw c.in-Ok-false.field-0-test at c.in-Ok-false.ensures.none) refl in
     let r = c.loop-line.invariant.runs db first all stands small remains in
     let room' : (seen c.one_line.new.engine).next + 1 < 2 ^ 64 = omega (arith, ap (λ (e : Engine g.row.St.Denot g.St.Store). (seen e).next) none.0, r.stands.next, runs_next _ db first _ _ all _ _ _ _ _ _ r c.loop-line.invariant.few small) in
-    let last : Performs (seen c.loop-line.engine) (seen c.end_run.new.engine) (end_events c.loop-line.waiting.items) = subst (λ (e : Engine g.row.St.Denot g.St.Store). Performs (seen e) (seen c.end_run.new.engine) (end_events c.loop-line.waiting.items)) none.0 (subst (λ (l : List WaitingLine). Performs (seen c.one_line.new.engine) (seen c.end_run.new.engine) (end_events l)) (c.as_slice.ensures.value ∙ ap (λ (v : Vec WaitingLine Global). v.items) none.1) (ran room')) in
+    let last : Performs (seen c.loop-line.engine) (seen c.end_run.new.engine) (end_events (someone_works c.loop-line.engine.programs.items) c.loop-line.waiting.items) = subst (λ (e : Engine g.row.St.Denot g.St.Store). Performs (seen e) (seen c.end_run.new.engine) (end_events (someone_works e.programs.items) c.loop-line.waiting.items)) none.0 (subst (λ (l : List WaitingLine). Performs (seen c.one_line.new.engine) (seen c.end_run.new.engine) (end_events (someone_works c.one_line.new.engine.programs.items) l)) (c.as_slice.ensures.value ∙ ap (λ (v : Vec WaitingLine Global). v.items) none.1) (ran room')) in
     runs_end _ db first _ _ all _ _ _ _ _ _ _ r c.loop-line.invariant.few (none.2 r.read.rest r.read.remains).0 last) c.end_run.ensures.ran
 
 pub returns-in-Ok-false-clause-ended : goal.returns-in-Ok-false-clause-ended
@@ -94,7 +95,7 @@ returns-in-Ok-false-clause-ran g c = then_on c.end_run.result _ _ (λ ran. λ db
     let none = (rw c.in-Ok-false.field-0-test at c.in-Ok-false.ensures.none) refl in
     let r = c.loop-line.invariant.runs db first all stands small remains in
     let room' : (seen c.one_line.new.engine).next + 1 < 2 ^ 64 = omega (arith, ap (λ (e : Engine g.row.St.Denot g.St.Store). (seen e).next) none.0, r.stands.next, runs_next _ db first _ _ all _ _ _ _ _ _ r c.loop-line.invariant.few small) in
-    let last : Performs (seen c.loop-line.engine) (seen c.end_run.new.engine) (end_events c.loop-line.waiting.items) = subst (λ (e : Engine g.row.St.Denot g.St.Store). Performs (seen e) (seen c.end_run.new.engine) (end_events c.loop-line.waiting.items)) none.0 (subst (λ (l : List WaitingLine). Performs (seen c.one_line.new.engine) (seen c.end_run.new.engine) (end_events l)) (c.as_slice.ensures.value ∙ ap (λ (v : Vec WaitingLine Global). v.items) none.1) (ran room')) in
+    let last : Performs (seen c.loop-line.engine) (seen c.end_run.new.engine) (end_events (someone_works c.loop-line.engine.programs.items) c.loop-line.waiting.items) = subst (λ (e : Engine g.row.St.Denot g.St.Store). Performs (seen e) (seen c.end_run.new.engine) (end_events (someone_works e.programs.items) c.loop-line.waiting.items)) none.0 (subst (λ (l : List WaitingLine). Performs (seen c.one_line.new.engine) (seen c.end_run.new.engine) (end_events (someone_works c.one_line.new.engine.programs.items) l)) (c.as_slice.ensures.value ∙ ap (λ (v : Vec WaitingLine Global). v.items) none.1) (ran room')) in
     runs_ran _ db first _ _ all _ _ _ _ _ _ _ r (none.2 r.read.rest r.read.remains).0 last) c.end_run.ensures.ran
 
 pub returns-in-Ok-false-clause-part : goal.returns-in-Ok-false-clause-part
@@ -102,7 +103,7 @@ returns-in-Ok-false-clause-part g c = λ db first all stands small remains.
     let none = (rw c.in-Ok-false.field-0-test at c.in-Ok-false.ensures.none) refl in
     let r = c.loop-line.invariant.runs db first all stands small remains in
     let room' : (seen c.one_line.new.engine).next + 1 < 2 ^ 64 = omega (arith, ap (λ (e : Engine g.row.St.Denot g.St.Store). (seen e).next) none.0, r.stands.next, runs_next _ db first _ _ all _ _ _ _ _ _ r c.loop-line.invariant.few small) in
-    let last : PerformsPrefix (CutRun c.end_run.result) (seen c.loop-line.engine) (seen c.end_run.new.engine) (end_events c.loop-line.waiting.items) = subst (λ (e : Engine g.row.St.Denot g.St.Store). PerformsPrefix (CutRun c.end_run.result) (seen e) (seen c.end_run.new.engine) (end_events c.loop-line.waiting.items)) none.0 (subst (λ (l : List WaitingLine). PerformsPrefix (CutRun c.end_run.result) (seen c.one_line.new.engine) (seen c.end_run.new.engine) (end_events l)) (c.as_slice.ensures.value ∙ ap (λ (v : Vec WaitingLine Global). v.items) none.1) (c.end_run.ensures.part room')) in
+    let last : PerformsPrefix (CutRun c.end_run.result) (seen c.loop-line.engine) (seen c.end_run.new.engine) (end_events (someone_works c.loop-line.engine.programs.items) c.loop-line.waiting.items) = subst (λ (e : Engine g.row.St.Denot g.St.Store). PerformsPrefix (CutRun c.end_run.result) (seen e) (seen c.end_run.new.engine) (end_events (someone_works e.programs.items) c.loop-line.waiting.items)) none.0 (subst (λ (l : List WaitingLine). PerformsPrefix (CutRun c.end_run.result) (seen c.one_line.new.engine) (seen c.end_run.new.engine) (end_events (someone_works c.one_line.new.engine.programs.items) l)) (c.as_slice.ensures.value ∙ ap (λ (v : Vec WaitingLine Global). v.items) none.1) (c.end_run.ensures.part room')) in
     let p = runs_end_part _ db first _ _ all _ _ _ _ _ _ _ r (none.2 r.read.rest r.read.remains).0 last in
     p
 
@@ -200,7 +201,7 @@ pub returns-clause-answers : goal.returns-clause-answers
 returns-clause-answers g c = then_on c.end_run-2.result _ _ (λ ran. λ db first all stands small remains.
     let r = c.loop-line.invariant.runs db first all stands small remains in
     let room' : (seen c.loop-line.engine).next + 1 < 2 ^ 64 = omega (arith, r.stands.next, runs_next _ db first _ _ all _ _ _ _ _ _ r c.loop-line.invariant.few small) in
-    let last : Performs (seen c.loop-line.engine) (seen c.end_run-2.new.engine) (end_events c.loop-line.waiting.items) = subst (λ (l : List WaitingLine). Performs (seen c.loop-line.engine) (seen c.end_run-2.new.engine) (end_events l)) c.as_slice-2.ensures.value (ran room') in
+    let last : Performs (seen c.loop-line.engine) (seen c.end_run-2.new.engine) (end_events (someone_works c.loop-line.engine.programs.items) c.loop-line.waiting.items) = subst (λ (l : List WaitingLine). Performs (seen c.loop-line.engine) (seen c.end_run-2.new.engine) (end_events (someone_works c.loop-line.engine.programs.items) l)) c.as_slice-2.ensures.value (ran room') in
     runs_end _ db first _ _ all _ _ _ _ _ _ _ r c.loop-line.invariant.few (c.in-Ok.ensures.end r.read.rest r.read.remains).0 last) c.end_run-2.ensures.ran
 
 pub returns-clause-ended : goal.returns-clause-ended
@@ -212,14 +213,14 @@ pub returns-clause-ran : goal.returns-clause-ran
 returns-clause-ran g c = then_on c.end_run-2.result _ _ (λ ran. λ db first all stands small remains.
     let r = c.loop-line.invariant.runs db first all stands small remains in
     let room' : (seen c.loop-line.engine).next + 1 < 2 ^ 64 = omega (arith, r.stands.next, runs_next _ db first _ _ all _ _ _ _ _ _ r c.loop-line.invariant.few small) in
-    let last : Performs (seen c.loop-line.engine) (seen c.end_run-2.new.engine) (end_events c.loop-line.waiting.items) = subst (λ (l : List WaitingLine). Performs (seen c.loop-line.engine) (seen c.end_run-2.new.engine) (end_events l)) c.as_slice-2.ensures.value (ran room') in
+    let last : Performs (seen c.loop-line.engine) (seen c.end_run-2.new.engine) (end_events (someone_works c.loop-line.engine.programs.items) c.loop-line.waiting.items) = subst (λ (l : List WaitingLine). Performs (seen c.loop-line.engine) (seen c.end_run-2.new.engine) (end_events (someone_works c.loop-line.engine.programs.items) l)) c.as_slice-2.ensures.value (ran room') in
     runs_ran _ db first _ _ all _ _ _ _ _ _ _ r (c.in-Ok.ensures.end r.read.rest r.read.remains).0 last) c.end_run-2.ensures.ran
 
 pub returns-clause-part : goal.returns-clause-part
 returns-clause-part g c = λ db first all stands small remains.
     let r = c.loop-line.invariant.runs db first all stands small remains in
     let room' : (seen c.loop-line.engine).next + 1 < 2 ^ 64 = omega (arith, r.stands.next, runs_next _ db first _ _ all _ _ _ _ _ _ r c.loop-line.invariant.few small) in
-    let last : PerformsPrefix (CutRun c.end_run-2.result) (seen c.loop-line.engine) (seen c.end_run-2.new.engine) (end_events c.loop-line.waiting.items) = subst (λ (l : List WaitingLine). PerformsPrefix (CutRun c.end_run-2.result) (seen c.loop-line.engine) (seen c.end_run-2.new.engine) (end_events l)) c.as_slice-2.ensures.value (c.end_run-2.ensures.part room') in
+    let last : PerformsPrefix (CutRun c.end_run-2.result) (seen c.loop-line.engine) (seen c.end_run-2.new.engine) (end_events (someone_works c.loop-line.engine.programs.items) c.loop-line.waiting.items) = subst (λ (l : List WaitingLine). PerformsPrefix (CutRun c.end_run-2.result) (seen c.loop-line.engine) (seen c.end_run-2.new.engine) (end_events (someone_works c.loop-line.engine.programs.items) l)) c.as_slice-2.ensures.value (c.end_run-2.ensures.part room') in
     let p = runs_end_part _ db first _ _ all _ _ _ _ _ _ _ r (c.in-Ok.ensures.end r.read.rest r.read.remains).0 last in
     p
 

@@ -16,6 +16,7 @@ loop-line-init g c = record {
   lasts = lasts_none g.met.St.Store.same_again _ c.requires.sound;
   stands = λ s stands. stands;
   next = refl;
+  programs = refl;
   text = prints_none _ _ refl;
   ran = λ room. ran_none _;
 }
@@ -36,6 +37,7 @@ loop-line-preserved g c = record {
   lasts = lasts_on g.met.St.Store.same_then c.loop-line.invariant.lasts c.in_ok-say.ensures.lasts;
   stands = λ s stands. c.in_ok-say.ensures.stands s (c.loop-line.invariant.stands s stands);
   next = c.say.ensures.part.next ∙ c.loop-line.invariant.next;
+  programs = c.say.ensures.programs ∙ c.loop-line.invariant.programs;
   text = subst (λ (t : List ℕ). Prints (seen c.args.engine.now).said (seen c.say.new.self).said t) (sym (text_more c.args.waiting.now c.loop-line.line-index c.line-item.result c.loop-line-test.true (sym c.line-item.is)))
       (prints_on _ _ _ _ _ c.loop-line.invariant.text (subst (λ (t : List ℕ). Prints (seen c.loop-line.engine).said (seen c.say.new.self).said t) (c.as_slice.ensures ∙ c.in_ok-text.ensures) c.in_ok-say.ensures.text));
   ran = λ room.

@@ -11,6 +11,7 @@ invariant-loop-line g l = record {
   lasts : Lasted l.fn.engine l.engine;
   stands : (s : Session) → StandsFor (view l.fn.engine) s → StandsFor (view l.engine) s;
   next : (seen l.engine).next ≡ (seen l.fn.engine).next;
+  programs : l.engine.programs ≡ l.fn.engine.programs;
   text : Prints (seen l.fn.engine).said (seen l.engine).said (text_of (unanswered_events (take l.line-index l.waiting)));
   ran : (seen l.fn.engine).next + 1 < 2 ^ 64 → Performs (seen l.fn.engine) (seen l.engine) (unanswered_events (take l.line-index l.waiting));
 }
