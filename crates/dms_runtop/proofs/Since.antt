@@ -4,6 +4,7 @@ use Rattle.std.proofs.lemmas.List.{append-nil}
 use Rattle.dms_desc.specs.Shape.{Described}
 use Rattle.dms_feed.specs.Lines.{raw_lines}
 use Rattle.dms_model.specs.Db.{Db}
+use Rattle.dms_model.specs.Session.{someone_works}
 use Rattle.dms_moments.specs.Moments.{Runs}
 use Rattle.dms_moments.specs.MomentLaws.{runs_on}
 use Rattle.dms_runner.specs.Answers.{script_run, script_events, unanswered_events}
@@ -33,7 +34,8 @@ first_of (x ∷ xs) ys y = record { one = x; rest = xs ++ (ys ++ y ∷ []); are 
 
 first_event : (desc : Described) (db : Db) (next : ℕ) (lines : List (List ℕ)) → First (script_events desc db next lines)
 unfolding script_events
-first_event desc db next lines = first_of (script_run desc db next lines).events (unanswered_events (script_run desc db next lines).going.waiting) goes_back
+first_event desc db next lines = first_of (script_run desc db next lines).events (unanswered_events (script_run desc db next lines).going.waiting)
+    (goes_back (someone_works (script_run desc db next lines).going.session.programs))
 
 -- ---- the opening
 

@@ -9,7 +9,7 @@ use Rattle.dms_model.specs.declared.verb.Verb.{Verb}
 use Rattle.dms_model.specs.declared.reply.Reply.{Reply}
 use Rattle.dms_model.specs.Db.{Db}
 use Rattle.dms_model.specs.Points.{Quiet}
-use Rattle.dms_model.specs.Session.{Session, Outcome, step, is_waits, fresh_session}
+use Rattle.dms_model.specs.Session.{Session, Outcome, step, is_waits, fresh_session, someone_works}
 use Rattle.dms_model.proofs.Rises.{step_small}
 use Rattle.dms_script.specs.declared.line.Line.{Line}
 use Rattle.dms_script.specs.declared.line.Line.TheVariants.{Empty, Verb as Spoken, Bad}
@@ -242,8 +242,8 @@ module _ (desc : Described) (K : Session → Type 0) (V : List ℕ → Verb → 
   unanswered_tells s [] k a = tells_none s k
   unanswered_tells s (h ∷ hs) k a = tells_on s s s (says (unanswered_text h.line h.program) ∷ []) (unanswered_events hs) (tells_says s _ k (p.waiting h.line h.program h.verb a.0)) (unanswered_tells s hs k a.1)
 
-  back_tells : (s : Session) → K s → Tells s s (goes_back ∷ [])
-  back_tells s k = record { clean = k; next = omega arith; numbered = tt; points = tt; honest = λ first count durable at within. (refl, (tt, tt)) }
+  back_tells : (works : Bool) (s : Session) → K s → Tells s s (goes_back works ∷ [])
+  back_tells works s k = record { clean = k; next = omega arith; numbered = tt; points = tt; honest = λ first count durable at within. (refl, (tt, tt)) }
 
   whole_run : (db : Db) (first : ℕ) (lines : List (List ℕ)) → K (fresh_session db first) → Tells (fresh_session db first) (script_run desc db first lines).going.session (script_events desc db first lines)
   unfolding script_events
@@ -251,7 +251,7 @@ module _ (desc : Described) (K : Session → Type 0) (V : List ℕ → Verb → 
       let r = script_run desc db first lines in
       let f = run_leads (first_state db first) lines k tt in
       let s = r.going.session in
-      let u = tells_on s s s _ _ (unanswered_tells s r.going.waiting f.tells.clean f.waiting) (back_tells s f.tells.clean) in
+      let u = tells_on s s s _ _ (unanswered_tells s r.going.waiting f.tells.clean f.waiting) (back_tells (someone_works s.programs) s f.tells.clean) in
       tells_on (fresh_session db first) s s _ _ f.tells u
 
   pub true_run : (db : Db) (first : ℕ) (lines : List (List ℕ)) → K (fresh_session db first) → IsTrueRun first Q (script_events desc db first lines)
