@@ -55,15 +55,6 @@ pub set_clean : (k id : BlockId) (es : Entries) (f : BufferFrame) → lookup (is
     → lookup (is_key k) (set_value (is_key id) es (washed f)) ≡ (if is_id k id then option_map washed (lookup (is_key k) es) else lookup (is_key k) es)
 set_clean k id es f is = clean_turn (is_id k id) k id es f refl is
 
-none_turn : (t : Bool) (k id : BlockId) (es : Entries) → is_id k id ≡ t → lookup (is_key id) es ≡ None → lookup (is_key k) es ≡ (if t then option_map washed (lookup (is_key k) es) else lookup (is_key k) es)
-none_turn true k id es on is =
-    let none : lookup (is_key k) es ≡ None = sym (ap (λ (x : BlockId). lookup (is_key x) es) (same_id k id on)) ∙ is in
-    none ∙ sym (ap (option_map washed) none)
-none_turn false k id es off is = refl
-
-pub none_clean : (k id : BlockId) (es : Entries) → lookup (is_key id) es ≡ None → lookup (is_key k) es ≡ (if is_id k id then option_map washed (lookup (is_key k) es) else lookup (is_key k) es)
-none_clean k id es is = none_turn (is_id k id) k id es refl is
-
 -- the frames that are to be written
 
 -- the first of them
