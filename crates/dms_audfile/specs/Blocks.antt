@@ -1,7 +1,7 @@
 -- The entries of a sealed block.
 use Rattle.std.specs.Prelude.{ℕ, zero, suc, ◌+◌, ◌-◌, ◌==◌, ◌&&◌, nat_le, if◌then◌else◌, Bool, true, false, List, [], ◌∷◌, length, take, drop, Option, Some, None}
 use Rattle.std.specs.Int.{w16, from_be_bytes}
-use Rattle.dms_history.specs.Entries.{Entry, schema_part, image, byte_range, quiet_point, control_point, begin_restore}
+use Rattle.dms_history.specs.Entries.{Entry, is_begin}
 use Rattle.dms_fields.specs.Prefix.{◌>>=◌}
 use Rattle.dms_audrec.specs.Reading.{entry_at}
 use Rattle.dms_audfile.specs.Header.{all_zero}
@@ -10,14 +10,6 @@ use Rattle.dms_audfile.specs.Header.{all_zero}
 pub record EntryInBlock : Type 0 where
   pub offset : ℕ
   pub entry : Entry
-
-abbrev pub is_begin : Entry → Bool
-is_begin (schema_part part parts bytes) = false
-is_begin (image f b before after) = false
-is_begin (byte_range f b place bytes) = false
-is_begin (quiet_point n) = false
-is_begin (control_point n next counts) = false
-is_begin (begin_restore n kind) = true
 
 -- Begin stands alone in its block: it is the first, and nothing follows
 abbrev pub stands_there : ℕ → Entry → List ℕ → Bool

@@ -6,11 +6,11 @@ use Rattle.dms_history.specs.Images.{last_after}
 use Rattle.dms_history.specs.Lists.{has, until_first}
 use Rattle.dms_history.specs.Places.{is_point, is_described}
 use Rattle.dms_history.specs.Ranges.{Logged, event, range, range_change, changes_of, changes_from, all_changes}
-use Rattle.dms_history.specs.Entries.{Entry, schema_part, image, byte_range, quiet_point, control_point, begin_restore}
+use Rattle.dms_history.specs.Entries.{Entry, schema_part, image, byte_range, quiet_point, control_point, begin_restore, is_begin}
 use Rattle.dms_history.specs.Schemas.{no_parts, after_entry, parts_from, is_whole, parts_of_schema, schema_entries}
 use Rattle.dms_history.specs.EntryEvents.{logged_from, logged, is_place, live_after, live_entries_from, live_entries, live_of}
 use Rattle.dms_history.specs.SchemaAt.{SchemaRead, no_schema, after_schema, last_schema, schema_of, schema_at, joined}
-use Rattle.dms_history.specs.LawsOfSchemas.{EachSchema, is_begun, SchemaStays, SchemaOfNew, LiveHasSchema}
+use Rattle.dms_history.specs.LawsOfSchemas.{EachSchema, SchemaStays, SchemaOfNew, LiveHasSchema}
 use Rattle.dms_history.proofs.AtPoints.{bool_cases, true_or, or_true_right, or_no}
 use Rattle.dms_history.proofs.Base.{has_append}
 use Rattle.dms_history.proofs.HalfDone.{or_at}
@@ -87,7 +87,7 @@ live_push : (xs : List Entry) (live : List Entry) (e : Entry) → live_entries_f
 live_push [] live e = refl
 live_push (x ∷ xs) live e = live_push xs (live_after live x) e
 
-live_grows : (live : List Entry) (e : Entry) → is_begun e ≡ false → live_after live e ≡ live ++ e ∷ []
+live_grows : (live : List Entry) (e : Entry) → is_begin e ≡ false → live_after live e ≡ live ++ e ∷ []
 live_grows live (schema_part part parts bytes) off = refl
 live_grows live (image f b before after) off = refl
 live_grows live (byte_range f b place bytes) off = refl
@@ -174,7 +174,7 @@ schema_of_new entries n off =
     same : (n : ℕ) → (n == n) ≡ true
     same n = grind (arith, nat_tests)
 
-    new : (e : Entry) → is_begun e ≡ false → is_place n e ≡ true → ((r : SchemaRead) → is_whole (after_schema r e).parts ≡ false) → schema_of (until_first (is_place n) (live_entries (entries ++ e ∷ []))) ≡ schema_of (live_entries entries)
+    new : (e : Entry) → is_begin e ≡ false → is_place n e ≡ true → ((r : SchemaRead) → is_whole (after_schema r e).parts ≡ false) → schema_of (until_first (is_place n) (live_entries (entries ++ e ∷ []))) ≡ schema_of (live_entries entries)
     new e goes on none =
         let live = live_entries entries in
         ap (λ (l : List Entry). schema_of (until_first (is_place n) l)) (live_push entries [] e ∙ live_grows live e goes) ∙ ap schema_of (until_end (is_place n) live e off on)

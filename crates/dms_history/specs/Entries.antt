@@ -1,5 +1,5 @@
 -- The entries of the audit, as its sealed blocks hold them one after another.
-use Rattle.std.specs.Prelude.{ℕ, ◌+◌, ◌*◌, ◌==◌, ◌&&◌, nat_le, nat_lt, if◌then◌else◌, Bool, List, [], ◌∷◌, Option}
+use Rattle.std.specs.Prelude.{ℕ, ◌+◌, ◌*◌, ◌==◌, ◌&&◌, nat_le, nat_lt, if◌then◌else◌, Bool, true, false, List, [], ◌∷◌, Option}
 use Rattle.dms_history.specs.Events.{BlockBytes, Counts, How, halt_load, back_out, roll_back, rebuild, reconstruct}
 use Rattle.dms_history.specs.Lists.{has}
 use Rattle.dms_history.specs.declared.event.FileCount.{FileCount}
@@ -24,6 +24,14 @@ pub data Entry : Type 0 where
   quiet_point : ℕ → Entry
   control_point : ℕ → ℕ → List FileCount → Entry
   begin_restore : ℕ → Kind → Entry
+
+abbrev pub is_begin : Entry → Bool
+is_begin (schema_part part parts bytes) = false
+is_begin (image f b before after) = false
+is_begin (byte_range f b place bytes) = false
+is_begin (quiet_point n) = false
+is_begin (control_point n next counts) = false
+is_begin (begin_restore n kind) = true
 
 -- the counts that a list says; a file that isn't named has count 0
 abbrev pub counts_in : List FileCount → Counts

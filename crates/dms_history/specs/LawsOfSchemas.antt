@@ -3,7 +3,7 @@ use Rattle.std.specs.Prelude.{ℕ, ◌≡◌, Bool, true, false, List, [], ◌�
 use Rattle.dms_history.specs.Lists.{has, until_first}
 use Rattle.dms_history.specs.Places.{IsLive}
 use Rattle.dms_history.specs.declared.event.FileCount.{FileCount}
-use Rattle.dms_history.specs.Entries.{Kind, Entry, schema_part, image, byte_range, quiet_point, control_point, begin_restore}
+use Rattle.dms_history.specs.Entries.{Kind, Entry, quiet_point, control_point, begin_restore, is_begin}
 use Rattle.dms_history.specs.Schemas.{no_parts, parts_from, is_whole, schema_entries}
 use Rattle.dms_history.specs.EntryEvents.{is_place, live_entries, live_of}
 use Rattle.dms_history.specs.SchemaAt.{schema_of, schema_at, joined}
@@ -16,18 +16,10 @@ pub record ReadsSchema (entries : List Entry) : Type 0 where
 abbrev pub EachSchema : Type 0
 EachSchema = (entries : List Entry) → ReadsSchema entries
 
-abbrev pub is_begun : Entry → Bool
-is_begun (schema_part part parts bytes) = false
-is_begun (image f b before after) = false
-is_begun (byte_range f b place bytes) = false
-is_begun (quiet_point n) = false
-is_begun (control_point n next counts) = false
-is_begun (begin_restore n kind) = true
-
 -- The Schema at a point that has its place stays, whatever is appended, and wherever a Begin cuts behind that place.
 abbrev pub SchemaStays : Type 0
 SchemaStays = (entries : List Entry) (n : ℕ)
-    → ((e : Entry) → is_begun e ≡ false → has (is_place n) (live_entries entries) ≡ true → schema_at (entries ++ e ∷ []) n ≡ schema_at entries n)
+    → ((e : Entry) → is_begin e ≡ false → has (is_place n) (live_entries entries) ≡ true → schema_at (entries ++ e ∷ []) n ≡ schema_at entries n)
     × ((m : ℕ) (kind : Kind) → has (is_place n) (until_first (is_place m) (live_entries entries)) ≡ true → schema_at (entries ++ begin_restore m kind ∷ []) n ≡ schema_at entries n)
 
 -- A new point gets the last live Schema.

@@ -14,11 +14,10 @@ use Rattle.dms_history.specs.Places.{is_point}
 use Rattle.dms_history.specs.Ranges.{told_events}
 use Rattle.dms_history.specs.History.{History, history}
 use Rattle.dms_history.specs.declared.event.FileCount.{FileCount}
-use Rattle.dms_history.specs.Entries.{counts_in, how_of, Entry, Kind, schema_part, image, byte_range, quiet_point, control_point, begin_restore}
+use Rattle.dms_history.specs.Entries.{counts_in, how_of, Entry, Kind, schema_part, image, byte_range, quiet_point, control_point, begin_restore, is_begin}
 use Rattle.dms_history.specs.Schemas.{Parts, no_parts, after_entry, parts_from, is_whole}
 use Rattle.dms_history.specs.EntryEvents.{is_place, live_after, live_entries_from, live_entries, live_of}
 use Rattle.dms_history.specs.SchemaAt.{SchemaRead, no_schema, after_schema, last_schema, schema_of, schema_at}
-use Rattle.dms_history.specs.LawsOfSchemas.{is_begun}
 use Rattle.dms_history.proofs.AtPoints.{bool_cases}
 use Rattle.dms_history.proofs.HalfDone.{until_until, has_front}
 use Rattle.dms_history.proofs.Stops.{until_append}
@@ -115,7 +114,7 @@ live_push : (xs live : List Entry) (e : Entry) → live_entries_from live (xs ++
 live_push [] live e = refl
 live_push (x ∷ xs) live e = live_push xs (live_after live x) e
 
-live_grows : (live : List Entry) (e : Entry) → is_begun e ≡ false → live_after live e ≡ live ++ e ∷ []
+live_grows : (live : List Entry) (e : Entry) → is_begin e ≡ false → live_after live e ≡ live ++ e ∷ []
 live_grows live (schema_part part parts bytes) off = refl
 live_grows live (image f b before after) off = refl
 live_grows live (byte_range f b place bytes) off = refl
@@ -156,7 +155,7 @@ until_some p (e ∷ es) found = go (p e) (has p es) found
 
 -- ---- an entry that is no part of a Schema and no Begin
 
-module _ (entries : List Entry) (e : Entry) (ev : Event) (old new : SchemaHistory) (t : IsSchemaTraced entries old) (goes : is_begun e ≡ false) (ends : (r : SchemaRead) → after_schema r e ≡ no_schema)
+module _ (entries : List Entry) (e : Entry) (ev : Event) (old new : SchemaHistory) (t : IsSchemaTraced entries old) (goes : is_begin e ≡ false) (ends : (r : SchemaRead) → after_schema r e ≡ no_schema)
     (lives : live_of (entries ++ e ∷ []) ≡ live_of entries ++ ev ∷ [])
     (fresh : (n : ℕ) → is_point n ev ≡ true → has (is_place n) (live_entries entries) ≡ false → schema_at (entries ++ e ∷ []) n ≡ schema_of (live_entries entries))
     (before : new.before.items ≡ old.before.items ++ old.last ∷ []) (last : new.last ≡ old.last) (read : new.read ≡ 0) (all : new.all ≡ 0) where

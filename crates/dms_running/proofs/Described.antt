@@ -5,12 +5,11 @@ use Rattle.dms_history.specs.Lists.{has, until_first}
 use Rattle.dms_history.specs.Places.{is_point, IsLive}
 use Rattle.dms_history.specs.Ranges.{Logged, all_changes}
 use Rattle.dms_history.specs.declared.event.FileCount.{FileCount}
-use Rattle.dms_history.specs.Entries.{Kind, Entry, schema_part, image, byte_range, quiet_point, control_point, begin_restore}
+use Rattle.dms_history.specs.Entries.{Kind, Entry, schema_part, image, byte_range, quiet_point, control_point, begin_restore, is_begin}
 use Rattle.dms_history.specs.Schemas.{Parts, no_parts, after_entry, parts_from, is_whole, parts_of_schema, schema_entries}
 use Rattle.dms_history.specs.EntryEvents.{logged, is_place, live_after, live_entries_from, live_entries, live_of}
 use Rattle.dms_history.specs.SchemaAt.{schema_of, schema_at, joined}
 use Rattle.dms_history.specs.LawsOfEntries.{IsSchemaPart, AllSchemaParts}
-use Rattle.dms_history.specs.LawsOfSchemas.{is_begun}
 use Rattle.dms_history.specs.Points.{LivePoint, AllLive}
 use Rattle.dms_history.proofs.AtPoints.{bool_cases, true_or, or_true_right}
 use Rattle.dms_history.proofs.HalfDone.{or_at}
@@ -96,7 +95,7 @@ live_push : (xs : List Entry) (live : List Entry) (e : Entry) → live_entries_f
 live_push [] live e = refl
 live_push (x ∷ xs) live e = live_push xs (live_after live x) e
 
-live_grows : (live : List Entry) (e : Entry) → is_begun e ≡ false → live_after live e ≡ live ++ e ∷ []
+live_grows : (live : List Entry) (e : Entry) → is_begin e ≡ false → live_after live e ≡ live ++ e ∷ []
 live_grows live (schema_part part parts bytes) off = refl
 live_grows live (image f b before after) off = refl
 live_grows live (byte_range f b place bytes) off = refl
@@ -104,7 +103,7 @@ live_grows live (quiet_point n) off = refl
 live_grows live (control_point n next counts) off = refl
 live_grows live (begin_restore n kind) off = absurd (true_not_false off)
 
-pub live_more : (es : List Entry) (e : Entry) → is_begun e ≡ false → live_entries (es ++ e ∷ []) ≡ live_entries es ++ e ∷ []
+pub live_more : (es : List Entry) (e : Entry) → is_begin e ≡ false → live_entries (es ++ e ∷ []) ≡ live_entries es ++ e ∷ []
 live_more es e goes = live_push es [] e ∙ live_grows (live_entries es) e goes
 
 pub live_begun : (es : List Entry) (m : ℕ) (kind : Kind) → live_entries (es ++ begin_restore m kind ∷ []) ≡ until_first (is_place m) (live_entries es)
@@ -113,9 +112,9 @@ live_begun es m kind = live_push es [] (begin_restore m kind)
 -- none of them is a Begin
 abbrev pub AllGoOn : List Entry → Type 0
 AllGoOn [] = Unit {0}
-AllGoOn (e ∷ es) = (is_begun e ≡ false) × AllGoOn es
+AllGoOn (e ∷ es) = (is_begin e ≡ false) × AllGoOn es
 
-plain_one : (e : Entry) → IsPlainEntry e → is_begun e ≡ false
+plain_one : (e : Entry) → IsPlainEntry e → is_begin e ≡ false
 plain_one (schema_part part parts bytes) plain = refl
 plain_one (image f b before after) plain = refl
 plain_one (byte_range f b place bytes) plain = refl
@@ -127,7 +126,7 @@ pub plain_on : (es : List Entry) → AllPlain es → AllGoOn es
 plain_on [] plain = tt
 plain_on (e ∷ es) plain = (plain_one e plain.0, plain_on es plain.1)
 
-part_one : (e : Entry) → IsSchemaPart e → is_begun e ≡ false
+part_one : (e : Entry) → IsSchemaPart e → is_begin e ≡ false
 part_one (schema_part part parts bytes) is = refl
 part_one (image f b before after) is = absurd is
 part_one (byte_range f b place bytes) is = absurd is
@@ -161,14 +160,14 @@ has_more p (x ∷ xs) ys found = elim (or_at (p x) (has p xs) found) [
   | inr more ↦ or_true_right (p x) (has p (xs ++ ys)) (has_more p xs ys more.1)
 ]
 
-placed_more : (es : List Entry) (e : Entry) → is_begun e ≡ false → (ps : List LivePoint) → AllPlaced es ps → AllPlaced (es ++ e ∷ []) ps
+placed_more : (es : List Entry) (e : Entry) → is_begin e ≡ false → (ps : List LivePoint) → AllPlaced es ps → AllPlaced (es ++ e ∷ []) ps
 placed_more es e goes [] all = tt
 placed_more es e goes (p ∷ ps) all = (
   ap (λ (l : List Entry). has (is_place p.number) l) (live_more es e goes) ∙ has_more (is_place p.number) (live_entries es) (e ∷ []) all.0,
   placed_more es e goes ps all.1,
 )
 
-described_one : (es : List Entry) (e : Entry) → is_begun e ≡ false → (ps : List LivePoint) → AllPlaced es ps → map (described_in (es ++ e ∷ [])) ps ≡ map (described_in es) ps
+described_one : (es : List Entry) (e : Entry) → is_begin e ≡ false → (ps : List LivePoint) → AllPlaced es ps → map (described_in (es ++ e ∷ [])) ps ≡ map (described_in es) ps
 described_one es e goes [] all = refl
 described_one es e goes (p ∷ ps) all =
     λ i. record { number = p.number; blocks = p.blocks; schema = schema_bytes ((schema_stays es p.number).0 e goes all.0 i) } ∷ described_one es e goes ps all.1 i
@@ -205,7 +204,7 @@ live_all_more es (e ∷ ys) goes =
     ap live_entries (sym (append_assoc es (e ∷ []) ys)) ∙ live_all_more (es ++ e ∷ []) ys goes.1
     ∙ ap (λ (l : List Entry). l ++ ys) (live_more es e goes.0) ∙ append_assoc (live_entries es) (e ∷ []) ys
 
-last_stays : (es : List Entry) (e : Entry) → is_begun e ≡ false → ((p : Parts) → after_entry p e ≡ no_parts) → schema_of (live_entries (es ++ e ∷ [])) ≡ schema_of (live_entries es)
+last_stays : (es : List Entry) (e : Entry) → is_begin e ≡ false → ((p : Parts) → after_entry p e ≡ no_parts) → schema_of (live_entries (es ++ e ∷ [])) ≡ schema_of (live_entries es)
 last_stays es e goes none =
     ap schema_of (live_more es e goes)
     ∙ (each_schema (live_entries es)).stays e (ap is_whole (parts_append (live_entries es) (e ∷ []) no_parts ∙ none (parts_from no_parts (live_entries es))))
