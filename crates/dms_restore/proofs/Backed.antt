@@ -34,7 +34,7 @@ use Rattle.dms_restore.specs.Endings.{EndsBy}
 use Rattle.dms_restore.specs.BackOuts.{StandsAll, GoesBackBy, IsBackFault, IsDiskOrMemory}
 use Rattle.dms_restore.proofs.Trails.{is_telling, first_low}
 use Rattle.dms_restore.proofs.Logs as logs
-use Rattle.dms_restore.proofs.Logs.{Reads}
+use Rattle.dms_restore.proofs.Logs.{ReadsNow}
 
 same_error : {T : Type 0} (fault e : AudFault) → IsErrOf {T = T} (Err fault) e → fault ≡ e
 same_error fault e is = cc
@@ -66,7 +66,7 @@ back_fault (Ok x) limit old same only = tt
 back_fault (Err e) limit old same only = elim only [ inl disk ↦ inr (inl disk) | inr full ↦ inl (full ∙ ap (λ n. Full n) same) ]
 
 -- what a stop leaves within a call that leaves each point, behind others
-pub then_each : (a b c : LogView) → LogRuns a → Reads a → telling b ≡ telling a → points_of (telling b) b.files ≡ points a → next_in (telling b) b.files ≡ next a
+pub then_each : (a b c : LogView) → LogRuns a → ReadsNow a → telling b ≡ telling a → points_of (telling b) b.files ≡ points a → next_in (telling b) b.files ≡ next a
     → LogLeaves a b (points a) (next a) → LeavesEach b c → LogLeaves a c (points a) (next a)
 then_each a b c r read same points_are next_is first run = runs_on first run (λ x p. record {
   count = p.count;
@@ -102,7 +102,7 @@ module _ (a b c : LogView) (m number : ℕ) (counts : List ℕ) (by : GoesBackBy
 -- ---- entries
 
 -- an entry stands behind those that there were
-pub begin_logs : (a : LogView) (r : LogRuns a) (read : Reads a) (b : LogView) (kind : b.end.total ≡ a.end.total) (start : b.first ≡ a.first) (e : Entry)
+pub begin_logs : (a : LogView) (r : LogRuns a) (read : ReadsNow a) (b : LogView) (kind : b.end.total ≡ a.end.total) (start : b.first ≡ a.first) (e : Entry)
     (steps : (first : ℕ) (waiting : List Entry) → AreNoBegins waiting → EndsAt a.end first waiting a.files a.clock → Steps (ends.Seals a.end.total a.end.tag first (waiting ++ e ∷ [])) a.clock b.clock)
     (appends : (first : ℕ) (waiting : List Entry) → AreNoBegins waiting → EndsAt a.end first waiting a.files a.clock → Appends b.end first (waiting ++ e ∷ []) a.files b.files b.clock)
     (behind : (g : ℕ) → b.end.file < g → b.files g ≡ a.files g) → entries b ≡ entries a ++ e ∷ []
@@ -112,7 +112,7 @@ begin_logs a r read b kind start e steps appends behind =
     ∙ sym (append_assoc ((telling a).entries a.files) (waits a.end) (e ∷ []))
 
 -- blocks alone were written
-pub told_entries : (p : Pending) (a : LogView) (r : BegunAt p a) → Reads a → (files : Files) (clock : Clock Left) → Rewritten (IsKept p.entries p.point) a.files files → entries (view a.end a.first files clock) ≡ entries a
+pub told_entries : (p : Pending) (a : LogView) (r : BegunAt p a) → ReadsNow a → (files : Files) (clock : Clock Left) → Rewritten (IsKept p.entries p.point) a.files files → entries (view a.end a.first files clock) ≡ entries a
 told_entries p a r read files clock written =
     ap (λ (l : List Entry). l ++ waits a.end)
     (same_entries (telling a) (is_telling a.end.total a.first (first_low a.end a.first (waits a.end) a.files a.clock r.ends)) p (state a) r.begun read (record { waiting = waits a.end; files = files; clock = clock }) written)

@@ -28,7 +28,7 @@ use Rattle.dms_restore.specs.declared.told.Told.{Told}
 use Rattle.dms_restore.specs.Table.{IsTable, AllStandAsTold}
 use Rattle.dms_restore.proofs.Trails.{is_telling, first_low, waits_is}
 use Rattle.dms_restore.proofs.Tables.{table_stands}
-use Rattle.dms_restore.proofs.Logs.{Reads, tells, plain, entry_steps, same_telling, appended, ends_then, settles, sealing}
+use Rattle.dms_restore.proofs.Logs.{ReadsNow, tells, plain, entry_steps, same_telling, appended, ends_then, settles, sealing}
 
 -- a restore by the audit has a spelling
 pub kind_is : (kind : Kind) → ByAudit (how_of kind) → IsRestoreKind kind
@@ -72,7 +72,7 @@ begin_sealed total first m kind old new clock end same appends =
     (appends.sealed ∙ ap (λ (l : List Entry). trail_entries end.total first old ++ l) (begin_taken m kind appends.some appends.plain))
 
 -- the first so many entries are sealed, whatever was answered
-pub sealed_part : (a b : LogView) (tag : ℕ) (es : List Entry) → Only a.files a.clock → Reads b → Steps (ends.Seals a.end.total tag a.first es) a.clock b.clock → SealsPart a b es
+pub sealed_part : (a b : LogView) (tag : ℕ) (es : List Entry) → Only a.files a.clock → ReadsNow b → Steps (ends.Seals a.end.total tag a.first es) a.clock b.clock → SealsPart a b es
 sealed_part a b tag es only read steps =
     let y = steps.follows read.0 read.1 in
     let trail : Files → List Entry = trail_entries a.end.total a.first in
@@ -81,7 +81,7 @@ sealed_part a b tag es only read steps =
 pub begin_ends : (end : AuditEnd) (first m : ℕ) (kind : Kind) (old new : Files) (clock : Clock Left) → Appends end first (begin_restore m kind ∷ []) old new clock → EndsAt end first [] new clock
 begin_ends end first m kind old new clock appends = subst (λ (l : List Entry). EndsAt end first l new clock) (none_waits [] m kind appends.some appends.plain) appends.ends
 
-module _ (a : LogView) (r : LogRuns a) (read : Reads a) (m : ℕ) (kind : Kind) (by_audit : ByAudit (how_of kind)) (at : LastIs a m) where
+module _ (a : LogView) (r : LogRuns a) (read : ReadsNow a) (m : ℕ) (kind : Kind) (by_audit : ByAudit (how_of kind)) (at : LastIs a m) where
   abbrev pub the_begin : Entry
   the_begin = begin_restore m kind
 
@@ -135,7 +135,7 @@ ends_kept a w keeps files clock ends steps written = record {
   kind = ends.kind;
 }
 
-module _ (p : Pending) (a : LogView) (r : BegunAt p a) (read : Reads a) (table : List Told) (is : IsTable p.entries p.point a.files table) where
+module _ (p : Pending) (a : LogView) (r : BegunAt p a) (read : ReadsNow a) (table : List Told) (is : IsTable p.entries p.point a.files table) where
   abbrev pub tells_it : IsTelling (telling a)
   tells_it = is_telling a.end.total a.first (first_low a.end a.first (waits a.end) a.files a.clock r.ends)
 

@@ -25,7 +25,7 @@ use Rattle.dms_restore.specs.Logging.{telling_of, waits, LogView, telling, state
 use Rattle.dms_restore.specs.Laying.{schema_control, IsAtStart, SealsSince}
 use Rattle.dms_restore.specs.Endings.{EndsBy, EndedAt, ControlBy, ControlledAt, KeepsBlocks}
 use Rattle.dms_restore.proofs.Trails.{is_telling, first_low, waits_is, ends_waiting}
-use Rattle.dms_restore.proofs.Logs.{Reads}
+use Rattle.dms_restore.proofs.Logs.{ReadsNow}
 use Rattle.dms_restore.proofs.Laid.{some_bodies}
 
 pub starts_of : (v : LogView) → Ends v → waits v.end ≡ [] → Only v.files v.clock → IsAtStart v.end v.first v.files v.clock
@@ -80,7 +80,7 @@ planned_part t es start now old new only counts read runs = elim (runs_since run
 ]
 
 -- and where nothing waits afterwards no more than these were logged
-pub part_logged : (a b : LogView) → b.end.total ≡ a.end.total → b.first ≡ a.first → (es : List Entry) → Only a.files a.clock → ((k : ℕ) (x : Left) → k ≤ b.clock.now → Now b.clock x → b.clock.left k x) → Reads b → waits a.end ≡ [] → waits b.end ≡ []
+pub part_logged : (a b : LogView) → b.end.total ≡ a.end.total → b.first ≡ a.first → (es : List Entry) → Only a.files a.clock → ((k : ℕ) (x : Left) → k ≤ b.clock.now → Now b.clock x → b.clock.left k x) → ReadsNow b → waits a.end ≡ [] → waits b.end ≡ []
     → Runs a.clock b.clock (Planned (telling a) es a.files) → LogsPart a b es
 part_logged a b kind start es only counts read none empty runs =
     let p = planned_part (telling a) es a.files b.files a.clock b.clock only counts read runs in
@@ -124,7 +124,7 @@ module _ (a b : LogView) (kind : b.end.total ≡ a.end.total) (start : b.first �
     pub by_durable : durable b ≡ length (points_of (telling a) a.files)
     by_durable = ap (λ (l : List DescribedPoint). length l) (sym (all_points (telling b) (state b) empty) ∙ same_points)
 
-module _ (p : Pending) (a : LogView) (read : Reads a) (description : List ℕ) (some : 0 < length description) (point next_ : ℕ) (counts : List ℕ) (e : EndsBy p a point next_ counts) where
+module _ (p : Pending) (a : LogView) (read : ReadsNow a) (description : List ℕ) (some : 0 < length description) (point next_ : ℕ) (counts : List ℕ) (e : EndsBy p a point next_ counts) where
   tells : IsTelling (telling a)
   tells = is_telling a.end.total a.first (first_low a.end a.first (waits a.end) a.files a.clock e.begun.ends)
 
@@ -159,7 +159,7 @@ module _ (p : Pending) (a : LogView) (read : Reads a) (description : List ℕ) (
         only = s.starts.only;
       }
 
-module _ (a : LogView) (r : LogRuns a) (read : Reads a) (description : List ℕ) (some : 0 < length description) (point next_ : ℕ) (counts : List ℕ) (c : ControlBy a point next_ counts) where
+module _ (a : LogView) (r : LogRuns a) (read : ReadsNow a) (description : List ℕ) (some : 0 < length description) (point next_ : ℕ) (counts : List ℕ) (c : ControlBy a point next_ counts) where
   tells_running : IsTelling (telling a)
   tells_running = is_telling a.end.total a.first (first_low a.end a.first (waits a.end) a.files a.clock r.ends)
 

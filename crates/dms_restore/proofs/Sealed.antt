@@ -33,7 +33,7 @@ use Rattle.dms_restore.specs.declared.tracing.TrailHistory.{TrailHistory}
 use Rattle.dms_restore.specs.Logging.{LogView, view, telling, state, waits, Ends, LogRuns, points, durable, next, entries, LogsNothing, LogLeaves}
 use Rattle.dms_restore.specs.BackOuts.{GoesBackBy, WentBackTo, SealedAlone, FilesStay, ServesBehind, IsBackFault}
 use Rattle.dms_restore.proofs.Logs as logs
-use Rattle.dms_restore.proofs.Logs.{Reads}
+use Rattle.dms_restore.proofs.Logs.{ReadsNow}
 use Rattle.dms_restore.proofs.Trails.{ends_waiting, seals_as}
 use Rattle.dms_restore.proofs.PendingTables.{Tables}
 use Rattle.dms_restore.proofs.Traced.{whole_take, whole_drop}
@@ -93,7 +93,7 @@ module _ (a m : LogView) (runs : LogRuns m) (same : LogsNothing a m) (nothing : 
     steps = seals_on;
   })
 
-  pub looked_leaves : LogRuns a → Reads a → LogLeaves a (view m.end m.first files clock) (points a) (next a)
+  pub looked_leaves : LogRuns a → ReadsNow a → LogLeaves a (view m.end m.first files clock) (points a) (next a)
   looked_leaves r read = sync_leaves (telling a) (logs.tells a r read) (state a) r.runs read clock (seals_as a.end a.first (waits a.end) a.files a.clock r.ends (waits a.end) clock seals_on)
 
 -- the files stay where nothing waited

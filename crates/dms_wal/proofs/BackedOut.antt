@@ -24,7 +24,7 @@ use Rattle.dms_restore.specs.Logging.{LogView, telling, state, points, content, 
 use Rattle.dms_restore.specs.BackOuts.{WentBackTo, GoesBackBy, back_entries}
 use Rattle.dms_restore.specs.Views.{view_of}
 use Rattle.dms_restore.proofs.Logs as lemmas
-use Rattle.dms_restore.proofs.Logs.{Reads}
+use Rattle.dms_restore.proofs.Logs.{ReadsNow}
 use Rattle.dms_wal.specs.declared.running.Running.{Running}
 use Rattle.dms_wal.specs.Lifting.{AreCounts, last_blocks}
 use Rattle.dms_wal.specs.BackOuts.{entries_back}
@@ -38,7 +38,7 @@ use Rattle.dms_wal.specs.AgreeLaws.{text}
 use Rattle.dms_wal.proofs.Under.{under_back}
 
 -- the content is that of the mark
-pub content_mark : (a b : LogView) (m : ℕ) (marks : List ℕ) → LogRuns a → Reads a → IsMarkOf (points a) m marks → (es : List Entry) → WentBackTo m a b es → content b ≡ last_blocks (λ f. []) (points a)
+pub content_mark : (a b : LogView) (m : ℕ) (marks : List ℕ) → LogRuns a → ReadsNow a → IsMarkOf (points a) m marks → (es : List Entry) → WentBackTo m a b es → content b ≡ last_blocks (λ f. []) (points a)
 content_mark a b m marks runs read mark es w = w.content_is ∙ mark_is a runs read m mark.number
 
 module _ {S : Type 0} (g : Ghosts S) (stay : (s : S) → IsTrue g.tells → (x : Left) × Now (g.clock s) x × (x.files ≡ g.files s)) (now_said : (s : S) (x : Left) → IsTrue g.tells_said → Now (g.clock s) x → x.said ≡ g.said s)
@@ -86,7 +86,7 @@ module _ {S : Type 0} (g : Ghosts S) (stay : (s : S) → IsTrue g.tells → (x :
         ))
 
 -- the restore to the mark ends by its counts
-pub back_by : (v : LogView) → LogRuns v → Reads v → (point next : ℕ) (marks bytes : List ℕ) → next ≡ logs.next v → IsMarkOf (points v) point marks → AreCounts marks → bytes ≡ pair_bytes count_file count_blocks (file_counts 30001 marks) → GoesBackBy v point next bytes
+pub back_by : (v : LogView) → LogRuns v → ReadsNow v → (point next : ℕ) (marks bytes : List ℕ) → next ≡ logs.next v → IsMarkOf (points v) point marks → AreCounts marks → bytes ≡ pair_bytes count_file count_blocks (file_counts 30001 marks) → GoesBackBy v point next bytes
 back_by v runs read point next marks bytes numbered mark t is = record {
   last = last_is v runs read point mark.number;
   next_is = numbered;

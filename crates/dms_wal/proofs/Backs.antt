@@ -14,7 +14,7 @@ use Rattle.dms_running.proofs.MayRun.{content_sized}
 use Rattle.dms_running.proofs.Framed.{holds_with}
 use Rattle.dms_restore.specs.Logging.{LogView, telling, state, content, entries, LogRuns, LogsNothing, LogsWrite}
 use Rattle.dms_restore.proofs.Logs as lemmas
-use Rattle.dms_restore.proofs.Logs.{Reads}
+use Rattle.dms_restore.proofs.Logs.{ReadsNow}
 use Rattle.dms_wal.specs.Writing.{WritesBack}
 use Rattle.dms_wal.proofs.Stills.{changed_same}
 
@@ -41,7 +41,7 @@ writes_back a m b f k bytes structure sized first then written =
       content_same = then.content_same ∙ first.content_same;
     }
 
-pub all_sized : (a : LogView) → LogRuns a → Reads a → AllSized (content a)
+pub all_sized : (a : LogView) → LogRuns a → ReadsNow a → AllSized (content a)
 all_sized a r read =
     let t = lemmas.tells a r read in
     subst AllSized (sym (content_is (telling a) t (state a) r.runs read))

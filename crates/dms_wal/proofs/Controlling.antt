@@ -26,7 +26,7 @@ use Rattle.dms_restore.specs.Endings.{ControlBy, ControlledAt}
 use Rattle.dms_restore.specs.Logging as logs
 use Rattle.dms_restore.specs.Logging.{LogView, telling, state, entries, points, durable, content}
 use Rattle.dms_restore.specs.Views.{view_of}
-use Rattle.dms_restore.proofs.Logs.{Reads}
+use Rattle.dms_restore.proofs.Logs.{ReadsNow}
 use Rattle.dms_restore.proofs.Endings.{all_next}
 use Rattle.dms_restore.proofs.Callers.{each_leave}
 use Rattle.dms_restore.proofs.CountBytes.{IsCountTable, counts_read, counts_told}
@@ -48,7 +48,7 @@ pub count_table : (counts : List ℕ) → AreCounts counts → IsCountTable coun
 count_table counts t = record { few = t.few; small = t.small }
 
 -- what is asked of the Control
-pub control_by : (v : LogView) (pool : Pool) (next point : ℕ) (counts marks : List ℕ) → AreCounts counts → GoesWith v pool next counts → Reads v → IsMarkOf (points v) point marks → IsSettled v → (bytes : List ℕ)
+pub control_by : (v : LogView) (pool : Pool) (next point : ℕ) (counts marks : List ℕ) → AreCounts counts → GoesWith v pool next counts → ReadsNow v → IsMarkOf (points v) point marks → IsSettled v → (bytes : List ℕ)
     → bytes ≡ pair_bytes count_file count_blocks (file_counts 30001 counts) → ControlBy v point next bytes
 control_by v pool next point counts marks table k read mark s bytes is = record {
   nothing = s.nothing;

@@ -28,7 +28,7 @@ use Rattle.dms_running.proofs.Framed.{frame_here, holds_changed}
 use Rattle.dms_restore.specs.declared.log.Log.{Log}
 use Rattle.dms_restore.specs.Logging as logs
 use Rattle.dms_restore.specs.Logging.{LogView, telling, state, points, content, LogRuns, LogsImage}
-use Rattle.dms_restore.proofs.Logs.{Reads}
+use Rattle.dms_restore.proofs.Logs.{ReadsNow}
 use Rattle.dms_wal.specs.declared.running.Running.{Running}
 use Rattle.dms_wal.specs.Lifting.{owns_of}
 use Rattle.dms_wal.specs.Marks.{IsMarkOf}
@@ -87,7 +87,7 @@ module _ (id : BlockId) (block : Block) (a : LogView) (first second : Pool) (im 
   full = with_frame (frames_of first) id.file id.block dirty
 
   -- it isn't held, and is written
-  pub keeps_back : (third : Pool) → third.frames ≡ second.frames → frame_of id second ≡ None → (b : LogView) → telling b ≡ telling a → Reads a → LogRuns b → WritesBack a b id.file id.block block.0 → KeepsLog a b third
+  pub keeps_back : (third : Pool) → third.frames ≡ second.frames → frame_of id second ≡ None → (b : LogView) → telling b ≡ telling a → ReadsNow a → LogRuns b → WritesBack a b id.file id.block block.0 → KeepsLog a b third
   keeps_back third same none b kind read runs w = record {
     runs = runs;
     holds = holds_like (telling b) (state b) (with_frame full id.file id.block None) (frames_of third) each

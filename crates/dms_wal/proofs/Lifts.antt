@@ -15,7 +15,7 @@ use Rattle.dms_running.proofs.Appending.{now_leaves}
 use Rattle.dms_restore.specs.Logging as logs
 use Rattle.dms_restore.specs.Logging.{Trail, telling_of, LogView, telling, state, points, durable, LogRuns, PrintsNothing}
 use Rattle.dms_restore.proofs.Logs as lemmas
-use Rattle.dms_restore.proofs.Logs.{Reads}
+use Rattle.dms_restore.proofs.Logs.{ReadsNow}
 use Rattle.dms_wal.specs.AgreeLaws.{TellsText, front_lifted}
 use Rattle.dms_wal.specs.Lifting.{block_point, stop_of, lifted, last_blocks, held_of}
 
@@ -47,7 +47,7 @@ leaves_lifted a b same ps next said text leaves silent =
     (λ x p. (front_lifted (telling a) ps (durable a) next x p.0, λ s is. p.1.2 ∙ text p.1.0 p.1.1 s is))))
 
 -- no fewer points are durable after a call than before it
-module _ (a b : LogView) (same : telling b ≡ telling a) (r : LogRuns a) (read : Reads a) (then_ : Reads b) (counts : (t : ℕ) (x : Left) → t ≤ b.clock.now → Now b.clock x → b.clock.left t x) where
+module _ (a b : LogView) (same : telling b ≡ telling a) (r : LogRuns a) (read : ReadsNow a) (then_ : ReadsNow b) (counts : (t : ℕ) (x : Left) → t ≤ b.clock.now → Now b.clock x → b.clock.left t x) where
   enough_of : (ps : List DescribedPoint) (next : ℕ) (x : Left) → LeavesPointsPrefix (telling a) ps (durable a) next x → durable a ≤ length (points_of (telling a) x.files)
   enough_of ps next x p = omega (arith, p.enough, p.within, ap (λ (l : List DescribedPoint). length l) p.is, length-take p.count ps)
 

@@ -13,7 +13,7 @@ use Rattle.dms_running.proofs.Appending.{now_leaves}
 use Rattle.dms_restore.specs.Logging as logs
 use Rattle.dms_restore.specs.Logging.{LogView, telling, state, points, durable, here, content, LogRuns, PrintsNothing, LogsQuiet, LogsNothing}
 use Rattle.dms_restore.proofs.Logs as lemmas
-use Rattle.dms_restore.proofs.Logs.{Reads}
+use Rattle.dms_restore.proofs.Logs.{ReadsNow}
 use Rattle.dms_wal.specs.Lifting.{block_point, stop_of, lifted, last_blocks, held_of}
 use Rattle.dms_wal.specs.Marks.{StandsUnder}
 use Rattle.dms_wal.specs.AgreeLaws.{TellsText, front_lifted}
@@ -52,7 +52,7 @@ module _ (tells : Bool) (sound sound' : Type 0) (a b : LogView) (schema : List �
   }
 
 -- the text grows, and the files stay
-module _ (a : LogView) (r : LogRuns a) (read : Reads a) (schema : List ℕ) (next : ℕ) (numbered : next ≡ logs.next a) (said : Option (List ℕ)) (text : TellsText said a.clock) (later : Clock Left) (bytes : List ℕ) (steps : Steps (PrintsPartOf bytes) a.clock later) where
+module _ (a : LogView) (r : LogRuns a) (read : ReadsNow a) (schema : List ℕ) (next : ℕ) (numbered : next ≡ logs.next a) (said : Option (List ℕ)) (text : TellsText said a.clock) (later : Clock Left) (bytes : List ℕ) (steps : Steps (PrintsPartOf bytes) a.clock later) where
   said_one : (x y : Left) → Now a.clock y → PrintsPartOf bytes y x → Prefix (IsWhole (telling a)) (durable a) (map block_point (points a)) next (stop_of (telling a) x) × TextGrows said bytes (stop_of (telling a) x)
   said_one x y now p = (
     front_lifted (telling a) (points a) (durable a) next x (

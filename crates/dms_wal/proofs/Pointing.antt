@@ -24,7 +24,7 @@ use Rattle.dms_restore.specs.Logging.{LogView, telling, state, entries, points, 
 use Rattle.dms_restore.specs.Begins.{LastIs}
 use Rattle.dms_restore.specs.Counts.{count_of}
 use Rattle.dms_restore.proofs.Logs as lemmas
-use Rattle.dms_restore.proofs.Logs.{Reads}
+use Rattle.dms_restore.proofs.Logs.{ReadsNow}
 use Rattle.dms_wal.specs.Lifting.{last_blocks}
 use Rattle.dms_wal.proofs.Lifts.{last_here}
 use Rattle.dms_wal.specs.Marks.{IsMarkOf, number_from, last_number}
@@ -73,7 +73,7 @@ module _ (live : List Event) (counted_ : Stored) (es : List Entry) where
   top_is none [] n rises lives is = absurd (none_not_some n is)
   top_is none (p ∷ ps) n rises lives is = (top_of none p ps n rises lives is).0
 
-module _ (v : LogView) (r : LogRuns v) (read : Reads v) (n : ℕ) (is : last_number (points v) ≡ Some n) where
+module _ (v : LogView) (r : LogRuns v) (read : ReadsNow v) (n : ℕ) (is : last_number (points v) ≡ Some n) where
   abbrev pub es : List Entry
   es = entries v
 

@@ -31,7 +31,7 @@ use Rattle.dms_restore.specs.Logging as logs
 use Rattle.dms_restore.specs.Logging.{waits, LogView, view, telling, state, entries, points, content, LogRuns}
 use Rattle.dms_restore.specs.Views.{view_of}
 use Rattle.dms_restore.proofs.Logs as lemmas
-use Rattle.dms_restore.proofs.Logs.{Reads}
+use Rattle.dms_restore.proofs.Logs.{ReadsNow}
 use Rattle.dms_restore.proofs.Endings.{all_points, all_next}
 use Rattle.dms_pool.specs.declared.pool.Pool.{Pool}
 use Rattle.dms_wal.specs.declared.running.Running.{Running}
@@ -160,7 +160,7 @@ closes_counted n e a b (inr is) c =
     not_both n is = absurd cc
 
 -- all stands, and nothing waits: so the files hold it
-pub closes : (a v : LogView) (schema : List ℕ) (point next : ℕ) (counts : List ℕ) → telling v ≡ telling a → points v ≡ points a → logs.next v ≡ logs.next a → content v ≡ content a → LogRuns v → Reads v → MakesControl a v schema point next counts
+pub closes : (a v : LogView) (schema : List ℕ) (point next : ℕ) (counts : List ℕ) → telling v ≡ telling a → points v ≡ points a → logs.next v ≡ logs.next a → content v ≡ content a → LogRuns v → ReadsNow v → MakesControl a v schema point next counts
     → FilesStand a (entries_control point schema next counts) (content a) v.files v.clock
 closes a v schema point next counts same ps nexts contents runs read m =
     let s = m.settled in

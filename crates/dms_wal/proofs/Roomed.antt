@@ -35,7 +35,7 @@ use Rattle.dms_restore.specs.Logging as logs
 use Rattle.dms_restore.specs.Logging.{LogView, telling, state, points, durable, content, waits, LogRuns, LogsNothing, IsNewestSealed, PrintsNothing}
 use Rattle.dms_restore.specs.Views.{view_of}
 use Rattle.dms_restore.specs.Counts.{count_of}
-use Rattle.dms_restore.proofs.Logs.{Reads}
+use Rattle.dms_restore.proofs.Logs.{ReadsNow}
 use Rattle.dms_wal.specs.declared.running.Running.{Running}
 use Rattle.dms_wal.specs.Marks.{IsMarkOf}
 use Rattle.dms_wal.specs.Database.{frame_seen, frames_of, IsRunningUsable}
@@ -56,7 +56,7 @@ pub then_silent : {a b c : Clock Left} → Steps PrintsNothing a b → Steps Pri
 then_silent one two = steps_on one two (λ x y z was now p q. q ∙ p) (λ x y was p. p)
 
 -- once what waits is sealed, the newest Image of a changed block is
-pub newest : (a m : LogView) → LogRuns m → Reads m → waits m.end ≡ [] → LogsNothing a m → (f k : ℕ) (bytes : List ℕ) → logs.IsChangedBlock a f k → block_in (content a) f k ≡ bytes → IsNewestSealed m f k bytes
+pub newest : (a m : LogView) → LogRuns m → ReadsNow m → waits m.end ≡ [] → LogsNothing a m → (f k : ℕ) (bytes : List ℕ) → logs.IsChangedBlock a f k → block_in (content a) f k ≡ bytes → IsNewestSealed m f k bytes
 newest a m runs read nothing s f k bytes changed is =
     changed_newest m runs read nothing f k bytes (λ none. changed (ap (λ (l : List Entry). last_after f k (after_last is_control (live_of l))) (sym s.entries_same) ∙ none)) (ap (λ (c : AllBlocks). block_in c f k) s.content_same ∙ is)
 
@@ -119,7 +119,7 @@ module _ {S : Type 0} (g : Ghosts S) (r : Running S) (u : IsRunningUsable g r) (
     pub held_block : IsTrue g.tells → block_in (content (view_of g r.log)) id.file id.block ≡ x.block.0
     held_block t = sym ((((u.goes t).holds id.file id.block).held (frame_seen x) frame_at).1)
 
-  pub usable_back : (id : BlockId) (block : Block) → GivesUp id (framed block true) r.pool p → (l : Log S) → telling (view_of g l) ≡ telling (view_of g r.log) → (IsTrue g.tells → LogRuns (view_of g l)) → (IsTrue g.tells → Reads (view_of g r.log))
+  pub usable_back : (id : BlockId) (block : Block) → GivesUp id (framed block true) r.pool p → (l : Log S) → telling (view_of g l) ≡ telling (view_of g r.log) → (IsTrue g.tells → LogRuns (view_of g l)) → (IsTrue g.tells → ReadsNow (view_of g r.log))
       → (IsTrue g.tells → WritesBack (view_of g r.log) (view_of g l) id.file id.block block.0) → IsRunningUsable g (record r { log = l; pool = p })
   usable_back id block up l kind runs read back = record {
     unbroken = u.unbroken;

@@ -22,7 +22,7 @@ use Rattle.dms_restore.specs.declared.log.Log.{Log}
 use Rattle.dms_restore.specs.Logging as logs
 use Rattle.dms_restore.specs.Logging.{LogView, view, telling, state, waits, points, content, LogRuns, LogsNothing, PrintsNothing}
 use Rattle.dms_restore.specs.Views.{view_of}
-use Rattle.dms_restore.proofs.Logs.{Reads}
+use Rattle.dms_restore.proofs.Logs.{ReadsNow}
 use Rattle.dms_wal.specs.declared.running.Running.{Running}
 use Rattle.dms_wal.specs.Controls.{IsSettled}
 use Rattle.dms_wal.specs.Marks.{IsMarkOf}
@@ -38,7 +38,7 @@ use Rattle.dms_wal.proofs.Under.{under_on}
 -- ---- a block was written, and stays in the pool
 
 module _ {S : Type 0} (g : Ghosts S) (r : Running S) (u : IsRunningUsable g r) where
-  pub usable_washed : (p : Pool) (id : BlockId) (block : Block) → frame_of id r.pool ≡ Some (framed block true) → Cleans id r.pool p → (l : Log S) → telling (view_of g l) ≡ telling (view_of g r.log) → (IsTrue g.tells → LogRuns (view_of g l)) → (IsTrue g.tells → Reads (view_of g r.log))
+  pub usable_washed : (p : Pool) (id : BlockId) (block : Block) → frame_of id r.pool ≡ Some (framed block true) → Cleans id r.pool p → (l : Log S) → telling (view_of g l) ≡ telling (view_of g r.log) → (IsTrue g.tells → LogRuns (view_of g l)) → (IsTrue g.tells → ReadsNow (view_of g r.log))
       → (IsTrue g.tells → WritesBack (view_of g r.log) (view_of g l) id.file id.block block.0) → IsRunningUsable g (record r { log = l; pool = p })
   usable_washed p id block was c l kind runs read back = record {
     unbroken = u.unbroken;

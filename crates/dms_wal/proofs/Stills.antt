@@ -21,7 +21,7 @@ use Rattle.dms_running.proofs.MayRun.{live_quiet}
 use Rattle.dms_restore.specs.Logging as logs
 use Rattle.dms_restore.specs.Logging.{LogView, view, telling, state, content, entries, LogRuns, LogsNothing, LogsQuiet}
 use Rattle.dms_restore.proofs.Logs as lemmas
-use Rattle.dms_restore.proofs.Logs.{Reads}
+use Rattle.dms_restore.proofs.Logs.{ReadsNow}
 use Rattle.dms_wal.specs.Database.{GoesWith, frames_of}
 
 -- the files stay, whatever is printed
@@ -78,7 +78,7 @@ module _ (pool : Pool) (next : ℕ) (counts : List ℕ) where
   }
 
   -- a quiet point was made
-  module _ (a b : LogView) (same : telling b ≡ telling a) (g : GoesWith a pool next counts) (read : Reads a) (s : LogsQuiet a b) (room : next + 1 < 2 ^ 64) where
+  module _ (a b : LogView) (same : telling b ≡ telling a) (g : GoesWith a pool next counts) (read : ReadsNow a) (s : LogsQuiet a b) (room : next + 1 < 2 ^ 64) where
     may : MayRun (telling a).first (entries a) ((telling a).dumps a.files) g.runs.runs.base (stored_of a.files)
     may = now_runs (telling a) (lemmas.tells a g.runs read) (state a) g.runs.runs read
 

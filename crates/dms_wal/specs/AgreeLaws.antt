@@ -18,7 +18,7 @@ use Rattle.dms_restore.specs.Logging.{LogView, telling, state, points, durable, 
 use Rattle.dms_restore.specs.Views.{view_of}
 use Rattle.dms_restore.specs.Counts.{count_of}
 use Rattle.dms_restore.proofs.Logs as lemmas
-use Rattle.dms_restore.proofs.Logs.{Reads}
+use Rattle.dms_restore.proofs.Logs.{ReadsNow}
 use Rattle.dms_wal.specs.declared.running.Running.{Running}
 use Rattle.dms_wal.specs.Lifting.{block_point, stop_of, held_of}
 use Rattle.dms_wal.specs.Database.{held, said_of, faults_of, uses_of, IsRunningUsable}
@@ -44,7 +44,7 @@ TellsText said clock = (y : Left) → Now clock y → (s : List ℕ) → said �
 
 -- what is told hangs together
 pub agrees_by : (tells : Bool) (sound : Type 0) (v : LogView) (schema : List ℕ) (next : ℕ) (counts : List ℕ) (said : Option (List ℕ)) (faults : Faults) (uses : Uses)
-    → (IsTrue tells → LogRuns v) → (IsTrue tells → Reads v) → (IsTrue tells → next ≡ logs.next v) → (IsTrue tells → (f : ℕ) → count_of counts f ≡ length (content v f)) → TellsText said v.clock
+    → (IsTrue tells → LogRuns v) → (IsTrue tells → ReadsNow v) → (IsTrue tells → next ≡ logs.next v) → (IsTrue tells → (f : ℕ) → count_of counts f ≡ length (content v f)) → TellsText said v.clock
     → BlocksAgree (held_of tells sound v schema next counts said faults uses)
 agrees_by tells sound v schema next counts said faults uses runs read numbered counted text = record {
   counted = counted;
