@@ -21,7 +21,7 @@ use Rattle.dms_audfile.specs.Unsealed.{block_with}
 use Rattle.dms_audfile.specs.Trail.{trail_from}
 use Rattle.dms_audfile.specs.TrailEntries.{entry_of, entries_of, entries_in, trail_entries}
 use Rattle.dms_audfile.specs.Ends as ends
-use Rattle.dms_audfile.specs.Ends.{unsealed, EndsAt, Appends}
+use Rattle.dms_audfile.specs.Ends.{EndsAt, Appends}
 use Rattle.dms_audfile.specs.Sealing.{IsWrittenUpTo}
 use Rattle.dms_audfile.specs.Scanning as scan
 use Rattle.dms_audfile.specs.Scanning.{Placed, entry_in}

@@ -1,5 +1,5 @@
 -- New blocks in memory serve a store.
-use Rattle.std.proofs.Common.{◌≡◌, ◌∙◌, ◌+◌, ◌-◌, ◌≤◌, ℕ, zero, suc, List, [], ◌∷◌, Bool, true, false, IsTrue, Some, None, nat_lt, nat_le, refl, sym, ap, subst, cond, length, slice_get, arith}
+use Rattle.std.proofs.Common.{◌≡◌, ◌∙◌, ◌+◌, ◌-◌, ◌≤◌, ℕ, zero, suc, List, [], ◌∷◌, Bool, true, false, Some, None, nat_lt, nat_le, refl, sym, ap, subst, cond, length, slice_get, arith}
 use Rattle.std.specs.Prelude.{◌&&◌, ◌==◌, IsSome}
 use Rattle.std.proofs.lemmas.Bool.Decides.{nat_tests}
 use Rattle.dms_block.specs.Content.{Content}
@@ -8,7 +8,7 @@ use Rattle.dms_desc.specs.Lookups.{structure_at}
 use Rattle.dms_desc.specs.Shape.{Shape, Described}
 use Rattle.dms_desc_bytes.specs.Spelling.{spelling}
 use Rattle.dms_memblocks.specs.View.{IsNew}
-use Rattle.dms_model.specs.Db.{Db, empty_db}
+use Rattle.dms_model.specs.Db.{empty_db}
 use Rattle.dms_store.specs.Lifted.{Serves, db_of}
 use Rattle.dms_store.specs.Serving.{IsServed}
 use Rattle.dms_store.specs.Spelled.{spelled}
