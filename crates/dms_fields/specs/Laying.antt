@@ -1,6 +1,6 @@
 -- Fields that are written one behind another.
-use Rattle.std.proofs.Common.{◌≡◌, ℕ, ◌+◌, ◌≤◌, List, [], ◌++◌, length, take, drop, refl, sym, arith, length-append, length-take, length-drop, ◌∙◌}
-use Rattle.std.proofs.lemmas.List.{take_at, ext_get_or, places}
+use Rattle.std.proofs.Common.{◌≡◌, ℕ, ◌+◌, ◌≤◌, List, ◌++◌, length, take, drop, sym, arith, length-append, length-take, length-drop, ◌∙◌}
+use Rattle.std.proofs.lemmas.List.{ext_get_or, places}
 use Rattle.dms_fields.specs.Fields.{laid}
 
 -- what was written over other bytes is as long as they were
@@ -23,8 +23,3 @@ laid_on at next first then old is room =
 pub laid_whole : (bytes old : List ℕ) → length bytes ≡ length old → laid 0 bytes old ≡ bytes
 unfolding laid
 laid_whole bytes old size = ext_get_or 0 (laid 0 bytes old) bytes (laid_length 0 bytes old (omega (arith, size)) ∙ sym size) (λ k h. grind (arith, places, size, h))
-
--- what was written stands in front of what follows it
-pub laid_prefix : (bytes old : List ℕ) → length bytes ≤ length old → take (length bytes) (laid 0 bytes old) ≡ bytes
-unfolding laid
-laid_prefix bytes old room = take_at bytes (drop (0 + length bytes) old) (length bytes) refl

@@ -1,6 +1,6 @@
 -- What stands after a Begin, among entries and among their events.
 use Rattle.std.proofs.Common.{ℕ, ◌≡◌, inl, inr, true, false, List, [], ◌∷◌, ◌++◌, Option, Some, None, refl, sym, ◌∙◌, ap, subst, append_assoc}
-use Rattle.dms_history.specs.Events.{BlockBytes, How, Event, change, begin}
+use Rattle.dms_history.specs.Events.{BlockBytes, How, Event, begin}
 use Rattle.dms_history.specs.Images.{last_after}
 use Rattle.dms_history.specs.History.{History, history_from, history}
 use Rattle.dms_history.specs.Agrees.{ends_restore, BeginsAloneEvents}
@@ -21,9 +21,6 @@ next_ends : (xs : List Logged) (h : History) (e : Event) (vs : List Event) → e
 next_ends [] h e vs is first = absurd (not_empty [] vs e (sym is))
 next_ends (event d ∷ xs) h e vs is first = let head : d ≡ e = cc in subst (λ (k : Event). ends_restore k ≡ true) head (first (event d) xs refl)
 next_ends (range f b place bytes ∷ xs) h e vs is first = absurd (true_not_false (sym (first (range f b place bytes) xs refl)))
-
-change_not_begin : (f b : ℕ) (before : Option BlockBytes) (after : BlockBytes) (m : ℕ) (how : How) → change f b before after ≡ begin m how → ⊥
-change_not_begin f b before after m how is = absurd cc
 
 alone_from : (xs : List Logged) (h : History) → BeginsAlone xs → BeginsAloneEvents (events_from h xs)
 alone_from [] h alone us vs m how e is = absurd (not_empty us (e ∷ vs) (begin m how) (sym is))

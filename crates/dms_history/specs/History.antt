@@ -1,5 +1,5 @@
 -- The live entries, and the restore that is pending.
-use Rattle.std.specs.Prelude.{ℕ, ◌+◌, ◌-◌, ◌^◌, ◌≡◌, min, max, List, [], ◌∷◌, ◌++◌, Option, Some, None}
+use Rattle.std.specs.Prelude.{ℕ, ◌+◌, ◌-◌, ◌^◌, min, max, List, [], ◌∷◌, ◌++◌, Option, Some, None}
 use Rattle.dms_history.specs.Events.{How, Event, change, quiet, control, begin}
 use Rattle.dms_history.specs.Lists.{until_first}
 use Rattle.dms_history.specs.Places.{is_point}
@@ -33,9 +33,6 @@ history events = history_from (record { live = []; pending = None }) events
 -- the live entries
 abbrev pub live : List Event → List Event
 live events = (history events).live
-
-abbrev pub IsPending : List Event → Pending → Type 0
-IsPending events p = (history events).pending ≡ Some p
 
 -- the number of the last Quiet or Control of a list
 abbrev pub last_number : Option ℕ → List Event → Option ℕ

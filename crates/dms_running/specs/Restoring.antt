@@ -5,7 +5,6 @@ use Rattle.dms_history.specs.Events.{BlockBytes, Event}
 use Rattle.dms_history.specs.Pick.{count_at}
 use Rattle.dms_history.specs.Told.{told_block}
 use Rattle.dms_history.specs.declared.event.FileCount.{FileCount}
-use Rattle.dms_history.specs.Entries.{counts_in}
 
 -- The audit tells nothing of the block, which is there at the point: a restore leaves it as it is stored.
 abbrev pub IsKept : List Event → ℕ → ℕ → ℕ → Type 0
@@ -34,7 +33,3 @@ RestoredTo live m files f k = (b : ℕ) → b < k → StandsAsTold live m files 
 abbrev pub Rising : ℕ → List FileCount → Type 0
 Rising low [] = Unit {0}
 Rising low (c ∷ cs) = (low < c.file) × (c.blocks ≤ 2 ^ 21) × Rising c.file cs
-
--- in each file as many blocks as the counts say stand as the audit tells them
-abbrev pub AllRestored : List Event → ℕ → Files → List FileCount → Type 0
-AllRestored live m files counts = (f : ℕ) → RestoredTo live m files f (counts_in counts f)
