@@ -1,4 +1,4 @@
-ghost use Rattle.std.specs.Prelude.{◌≡◌, ◌↔◌, None, Some, map, string_bytes};
+ghost use Rattle.std.specs.Prelude.{◌≡◌, ◌⊎◌, ◌↔◌, IfErr, None, Some, map, string_bytes};
 ghost use Rattle.dms_top.specs.Words.{IsTry, IsCompile, IsPrintAudit, IsRun, IsInitialize, IsCommand};
 
 use dms_top::{Status, initialize_tag, is_print_audit};
@@ -24,7 +24,9 @@ pub enum Request {
 }
 
 /// The words behind the program's name. BadWords where one is long or no UTF-8, Memory where memory is refused.
-pub fn words_of(rt: &HostRuntime, alloc: Global) -> Result<Vec<String>, Status> {
+pub fn words_of(rt: &HostRuntime, alloc: Global) -> Result<Vec<String>, Status>
+    ensures { IfErr result (λ status. (status ≡ Status.BadWords) ⊎ (status ≡ Status.Memory)) }
+{
     let mut words = Vec::new(alloc);
     let mut buffer = [0u8; LONG_WORD];
     for place in 1..usize::MAX {

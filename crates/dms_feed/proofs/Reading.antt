@@ -4,7 +4,7 @@ use Rattle.std.proofs.lemmas.List.{append-nil, take-append-le, take_all}
 use Rattle.std.proofs.lemmas.Bool.Decides.{nat_tests}
 use Rattle.std.proofs.lemmas.Option.{same_Some}
 use Rattle.dms_feed.specs.Lines.{first_line, after_line}
-use Rattle.dms_feed.specs.Raws.{IsTaken, IsUnended}
+use Rattle.dms_feed.specs.Raws.{IsTaken, IsUnended, has_end}
 use Rattle.std.proofs.lemmas.List.Folds.{list_any-append}
 
 -- cap: so many bytes are kept
@@ -71,7 +71,7 @@ module _ (cap : ℕ) where
 
   -- the line feed that ends it
   pub Reads-feed : (kept : List ℕ) (n : ℕ) (rest all : List ℕ) → Some 10 ≡ slice_get rest 0 → Reads kept n rest all
-      → (all ≢ []) × (cond (nat_lt n cap) (kept ++ 10 ∷ []) kept ≡ take cap (first_line all)) × (n + 1 ≡ length (first_line all)) × (drop 1 rest ≡ after_line all)
+      → (all ≢ []) × (cond (nat_lt n cap) (kept ++ 10 ∷ []) kept ≡ take cap (first_line all)) × (n + 1 ≡ length (first_line all)) × (true ≡ has_end (first_line all)) × (drop 1 rest ≡ after_line all)
   Reads-feed kept n rest all is r =
       let at : rest ≡ 10 ∷ drop 1 rest = split_front rest 10 is in
       let front : first_line all ≡ r.taken ++ 10 ∷ [] = r.front ∙ ap (λ (l : List ℕ). r.taken ++ first_line l) at in
@@ -79,6 +79,7 @@ module _ (cap : ℕ) where
         λ none. not_empty r.taken (drop 1 rest) 10 (sym whole ∙ none),
         kept_on (nat_lt n cap) kept r.taken 10 (ap (λ (k : ℕ). nat_lt k cap) (sym r.count)) r.keeps ∙ ap (take cap) (sym front),
         omega (arith, length-append r.taken (10 ∷ []), r.count, ap length front),
+        sym (ap has_end front ∙ list_any-append (λ (x : ℕ). eqb x 10) r.taken (10 ∷ []) ∙ rw r.unended refl),
         sym (r.after ∙ ap after_line at),
       )
 
@@ -95,26 +96,26 @@ module _ (cap : ℕ) where
       some_line : (b : ℕ) (bs : List ℕ) → 0 < length (first_line (b ∷ bs))
       some_line b bs = some_test (eqb b 10) b bs
 
-  ended : (t : Bool) (kept : List ℕ) (n room : ℕ) (all : List ℕ) → t ≡ eqb n 0 → all ≡ first_line all → kept ≡ take cap (first_line all) → n ≡ length (first_line all) → n ≤ room
-      → IsTaken cap (cond t None (Some (record { kept = kept; length = n }))) room all
-  ended true kept n room all is whole keeps count small =
+  ended : (t : Bool) (kept : List ℕ) (n room : ℕ) (all : List ℕ) → t ≡ eqb n 0 → all ≡ first_line all → kept ≡ take cap (first_line all) → n ≡ length (first_line all) → n ≤ room → false ≡ has_end (first_line all)
+      → IsTaken cap (cond t None (Some (record { kept = kept; length = n; ended = false }))) room all
+  ended true kept n room all is whole keeps count small unended =
       let none : n ≡ 0 = grind (arith, nat_tests) in
       empty_of all (omega (arith, ap length whole, count, none))
     where
       empty_of : (l : List ℕ) → length l ≡ 0 → l ≡ []
       empty_of [] h = refl
       empty_of (x ∷ xs) h = absurd (omega (arith, h))
-  ended false kept n room all is whole keeps count small =
+  ended false kept n room all is whole keeps count small unended =
       let some : n ≢ 0 = grind (arith, nat_tests) in
-      (λ none. some (count ∙ ap (λ (l : List ℕ). length (first_line l)) none), keeps, count, small)
+      (λ none. some (count ∙ ap (λ (l : List ℕ). length (first_line l)) none), keeps, count, small, unended)
 
   -- the input's end
   pub Reads-end : (kept : List ℕ) (n room : ℕ) (rest all : List ℕ) → None ≡ slice_get rest 0 → n ≤ room → Reads kept n rest all
-      → IsTaken cap (cond (eqb n 0) None (Some (record { kept = kept; length = n }))) room all × (drop 1 rest ≡ after_line all)
+      → IsTaken cap (cond (eqb n 0) None (Some (record { kept = kept; length = n; ended = false }))) room all × (drop 1 rest ≡ after_line all)
   Reads-end kept n room rest all none small r =
       let is : rest ≡ [] = no_front rest none in
       let front : first_line all ≡ r.taken = r.front ∙ ap (λ (l : List ℕ). r.taken ++ first_line l) is ∙ append-nil r.taken in
       let whole : all ≡ r.taken = r.whole ∙ ap (λ (l : List ℕ). r.taken ++ l) is ∙ append-nil r.taken in (
-        ended (eqb n 0) kept n room all refl (whole ∙ sym front) (r.keeps ∙ ap (take cap) (sym front)) (sym r.count ∙ ap length (sym front)) small,
+        ended (eqb n 0) kept n room all refl (whole ∙ sym front) (r.keeps ∙ ap (take cap) (sym front)) (sym r.count ∙ ap length (sym front)) small (sym (ap has_end front ∙ r.unended)),
         ap (drop 1) is ∙ sym (r.after ∙ ap after_line is),
       )

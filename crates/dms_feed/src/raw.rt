@@ -1,4 +1,4 @@
-ghost use Rattle.std.specs.Prelude.{◌≡◌, ◌≤◌, ◌<◌, ◌+◌, ◌^◌, [], ◌++◌, length, take, IfOk, IsErrOf, IfSome, IsNone, List, ℕ, ◌⊎◌, ◌↔◌, ◌∷◌, OnOk, nat_lt, if◌then◌else◌, ◌==◌, Some, None};
+ghost use Rattle.std.specs.Prelude.{◌≡◌, ◌≤◌, ◌<◌, ◌+◌, ◌^◌, [], ◌++◌, length, take, IfOk, IsErrOf, IfSome, IsNone, List, ℕ, ◌⊎◌, ◌↔◌, ◌∷◌, OnOk, nat_lt, if◌then◌else◌, ◌==◌, Some, None, false};
 ghost use Rattle.dms_base.specs.Causes.{HasCause, Rose};
 ghost use Rattle.dms_feed.specs.Feeds.{Remains};
 ghost use Rattle.dms_feed.specs.Lines.{first_line, after_line, is_end, line_text};
@@ -16,6 +16,8 @@ pub struct Raw {
     pub kept: Bytes,
     /// How many bytes it has.
     pub length: u64,
+    /// Whether a line feed ends it. Only the last line of an input may have none.
+    pub ended: bool,
 }
 
 /// Why a line can't be taken.
@@ -39,12 +41,16 @@ fn keep(kept: &mut Bytes, place: u64, byte: u8, cap: u64) -> Result<(), Memory>
 
 /// The line at the input's end, if it has bytes.
 fn at_end(kept: Bytes, length: u64) -> Option<Raw>
-    ensures { result ≡ (if length == 0 then None else Some (record { kept = kept; length = length })) }
+    ensures { result ≡ (if length == 0 then None else Some (record { kept = kept; length = length; ended = false })) }
 {
     if length == 0 {
         return None;
     }
-    Some(Raw { kept, length })
+    Some(Raw {
+        kept,
+        length,
+        ended: false,
+    })
 }
 
 /// Whether a line ends with these bytes.
@@ -106,6 +112,7 @@ pub fn next_raw<I: Source>(
                     return Ok(Some(Raw {
                         kept,
                         length: turn + 1,
+                        ended: true,
                     }));
                 }
             }

@@ -17,13 +17,13 @@ use Rattle.dms_runner.specs.Running.{AnswersWhole}
 use Rattle.dms_runner.specs.Starting.{AtStart, EffortWithin, UsesNumbers, events_at}
 use Rattle.dms_run.specs.Starting.{OfScript, ReachesEnd, SaysAll}
 use Rattle.dms_runner.specs.Answers.{last_quiet, script_events}
-use Rattle.dms_runner.specs.Events.{RunEvent, quiets_of, CrashesWithin, Performs, PerformsPrefix}
+use Rattle.dms_runner.specs.Events.{Fate, RunEvent, quiets_of, CrashesWithin, Performs, PerformsPrefix}
 use Rattle.dms_run.specs.States.{EndsWith}
 use Rattle.dms_run.specs.Stops.{last_quiet_number, RunLeaves}
 use Rattle.dms_run.proofs.Leaving.{stop_leaves, ends}
 
 module _ {b a : Seen} (db : Db) (first : ℕ) (events : List RunEvent) (n : ℕ) (state : EndsWith b.points n db) (tells : b.tells) where
-  pub moments_of : {cut : Type 0} → b.durable ≡ length b.points → b.next ≡ first → PerformsPrefix cut b a events → Runs b.clock a.clock (RunLeaves b.whole b.said b.points n db first events)
+  pub moments_of : {fate : Fate} → b.durable ≡ length b.points → b.next ≡ first → PerformsPrefix fate b a events → Runs b.clock a.clock (RunLeaves b.whole b.said b.points n db first events)
   moments_of durable next did =
       runs_weaken (did.moments tells) (λ stop s. stop_leaves b.whole b.said b.points n db first events stop state
       (subst (λ (k : ℕ). CrashesWithin b.whole b.said b.points (length b.points) k events stop) next

@@ -5,7 +5,7 @@ use Rattle.dms_model.specs.declared.store.Store.{Ghosts}
 use Rattle.dms_model.specs.Db.{Db}
 use Rattle.dms_model.specs.Points.{Stop, LeavesPrefix, StopTextIs}
 use Rattle.dms_runner.specs.Answers.{script_run}
-use Rattle.dms_runner.specs.Events.{IsTold, RunEvent}
+use Rattle.dms_runner.specs.Events.{RunEvent}
 use Rattle.dms_runner.specs.Running.{bytes_of}
 use Rattle.dms_storeverbs.specs.declared.engine.Engine.{Engine}
 use Rattle.dms_storeverbs.specs.View.{seen}
@@ -22,7 +22,3 @@ pub record KeepsLimits (desc : Described) (db : Db) (first : ℕ) (lines : List 
   pub few : length lines ≤ 1000000
   pub short : bytes_of lines ≤ 2147483648
   pub room : (script_run desc db first lines).full ≡ false
-
--- No block was found damaged, and where the database was told it still is.
-abbrev pub StaysUndamaged : {St : Type 0} {g : Ghosts St} → Engine St g → Engine St g → Type 0
-StaysUndamaged old new = IsTold (seen old) → (seen new).faults.damaged ≡ (seen old).faults.damaged

@@ -1,7 +1,8 @@
 -- Where a run of a script begins, and what it does, by the engine before and after it.
 use Rattle.std.specs.Prelude.{ℕ, ◌≡◌, ◌<◌, ◌+◌, ◌^◌, List, length}
 use Rattle.std.specs.declared.option.Option.{Option}
-use Rattle.dms_block.specs.Texts.{Prints, PrintsPrefix}
+use Rattle.std.specs.declared.result.Result.{Result}
+use Rattle.dms_block.specs.Texts.{Prints}
 use Rattle.dms_desc.specs.Shape.{described}
 use Rattle.dms_feed.specs.Feeds.{Remains}
 use Rattle.dms_feed.specs.Lines.{raw_lines}
@@ -10,7 +11,9 @@ use Rattle.dms_model.specs.Db.{Db}
 use Rattle.dms_model.specs.Session.{fresh_session}
 use Rattle.dms_moments.specs.Moments.{Runs}
 use Rattle.dms_runner.specs.Answers.{answers_text, last_quiet, script_events}
-use Rattle.dms_runner.specs.Events.{RunEvent, quiets_of, SaidWhole}
+use Rattle.dms_runner.specs.Events.{RunEvent, quiets_of}
+use Rattle.dms_runner.specs.Starting.{CarriesOut}
+use Rattle.dms_runner.specs.declared.run.RunFault.{RunFault}
 use Rattle.dms_storeverbs.specs.declared.engine.Engine.{Engine}
 use Rattle.dms_storeverbs.specs.View.{StandsFor, seen, view}
 use Rattle.dms_run.specs.States.{EndsWith}
@@ -26,6 +29,10 @@ module _ {St : Type 0} {g : Ghosts St} where
     pub state : EndsWith (seen e).points n db
     pub durable : (seen e).durable ≡ length (seen e).points
 
+  -- It holds of the point, the database, the first number and the input that a run begins with.
+  abbrev pub AtBegin : Engine St g → List ℕ → Option (List ℕ) → (ℕ → Db → ℕ → List ℕ → Type 0) → Type 0
+  AtBegin e feed left P = (n : ℕ) (db : Db) (first : ℕ) (all : List ℕ) → BeginsWith e n db first → Remains feed left all → P n db first all
+
   -- It holds of the point and the database that a run begins with, and of the events of its script.
   abbrev pub OfScript : Engine St g → List ℕ → Option (List ℕ) → (ℕ → Db → ℕ → List RunEvent → Type 0) → Type 0
   OfScript e feed left P = (n : ℕ) (db : Db) (first : ℕ) (all : List ℕ) → BeginsWith e n db first → Remains feed left all
@@ -35,17 +42,15 @@ module _ {St : Type 0} {g : Ghosts St} where
   abbrev pub StopsLeave : Engine St g → Engine St g → ℕ → Db → ℕ → List RunEvent → Type 0
   StopsLeave old new n db first events = Runs (seen old).clock (seen new).clock (RunLeaves (seen old).whole (seen old).said (seen old).points n db first events)
 
+  -- So much of its script was carried out, and a stop on the way left what a run of that leaves.
+  pub record RunsCarried {T : Type 0} (result : Result T RunFault) (left : Option (List ℕ)) (old new : Engine St g) (n : ℕ) (db : Db) (first : ℕ) (all : List ℕ) : Type 0 where
+    pub carried : CarriesOut result left old new db first all
+    pub leaves : StopsLeave old new n db first carried.events
+
   -- the points end with the last quiet point, or with that of entry
   abbrev pub ReachesEnd : Engine St g → ℕ → Db → ℕ → List RunEvent → Type 0
   ReachesEnd new n db first events = EndsWith (seen new).points (last_quiet_number n (quiets_of events)) (last_quiet db (quiets_of events))
 
-  -- the answers were printed, or a prefix of them
+  -- the answers were printed
   abbrev pub SaysAll : Engine St g → Engine St g → Db → ℕ → List ℕ → Type 0
   SaysAll old new db first all = Prints (seen old).said (seen new).said (answers_text (described old.desc) db first (raw_lines all))
-
-  abbrev pub SaysPrefix : Engine St g → Engine St g → Db → ℕ → List ℕ → Type 0
-  SaysPrefix old new db first all = PrintsPrefix (seen old).said (seen new).said (answers_text (described old.desc) db first (raw_lines all))
-
-  -- whole answers were printed, and no part of one
-  abbrev pub SaysWholeAnswers : Engine St g → Engine St g → Db → ℕ → List ℕ → Type 0
-  SaysWholeAnswers old new db first all = SaidWhole (seen old).said (seen new).said (script_events (described old.desc) db first (raw_lines all))

@@ -3,12 +3,12 @@ ghost use Rattle.dms_base.specs.Causes.{Rose};
 ghost use Rattle.dms_desc.specs.Shape.{described};
 ghost use Rattle.dms_feed.specs.Feeds.{Remains};
 ghost use Rattle.dms_feed.specs.Lines.{raw_lines};
-ghost use Rattle.dms_runner.specs.Blaming.{CutRun, LastsRun};
-ghost use Rattle.dms_runner.specs.Starting.{AtStart, EffortOfPart, EffortWithin, OnInput, StandsAtEnd, StopsAtBytes, StopsAtInput, StopsAtLines, StopsAtWaiting, UsesNumbers};
+ghost use Rattle.dms_runner.specs.Blaming.{LastsRun};
+ghost use Rattle.dms_runner.specs.Starting.{AtStart, CarriesOut, EffortWithin, OnInput, StandsAtEnd, UsesNumbers};
 ghost use Rattle.dms_runner.specs.Running.{FitsScript, HasTooManyBytes, HasTooManyLines, InputBreaks};
 ghost use Rattle.dms_storeverbs.specs.View.{seen};
-ghost use Rattle.dms_run.specs.Ending.{EndsLeave, KeepsLimits, StaysUndamaged};
-ghost use Rattle.dms_run.specs.Starting.{OfScript, ReachesEnd, SaysAll, SaysPrefix, SaysWholeAnswers, StopsLeave};
+ghost use Rattle.dms_run.specs.Ending.{EndsLeave, KeepsLimits};
+ghost use Rattle.dms_run.specs.Starting.{AtBegin, OfScript, ReachesEnd, RunsCarried, SaysAll};
 
 use dms_feed::Feed;
 use dms_model::Store;
@@ -26,22 +26,15 @@ pub fn run_script<St: Store, I: Source>(
     source: &mut I,
 ) -> Result<(), RunFault>
     requires sound { (seen engine.old).sound }
-    ensures every_moment { OfScript engine.old feed.old (I.left source.old) (StopsLeave engine.old engine.new) }
+    ensures every_moment { AtBegin engine.old feed.old (I.left source.old) (RunsCarried result (I.left source.new) engine.old engine.new) }
+    ensures carried { AtStart engine.old feed.old (I.left source.old) (CarriesOut result (I.left source.new) engine.old engine.new) }
     ensures at_ok { OnOk result (OfScript engine.old feed.old (I.left source.old) (ReachesEnd engine.new)) }
     ensures closes { OnOk result (OfScript engine.old feed.old (I.left source.old) (EndsLeave engine.old engine.new)) }
     ensures effort { OnOk result (AtStart engine.old feed.old (I.left source.old) (EffortWithin engine.old engine.new)) }
     ensures numbers { OnOk result (AtStart engine.old feed.old (I.left source.old) (UsesNumbers engine.old engine.new)) }
-    ensures took { AtStart engine.old feed.old (I.left source.old) (EffortOfPart result engine.old engine.new) }
     ensures within { OnOk result (AtStart engine.old feed.old (I.left source.old) (λ db first all. KeepsLimits (described engine.old.desc) db first (raw_lines all))) }
-    ensures undamaged { AtStart engine.old feed.old (I.left source.old) (λ db first all. StaysUndamaged engine.old engine.new) }
     ensures prints { OnOk result (AtStart engine.old feed.old (I.left source.old) (SaysAll engine.old engine.new)) }
-    ensures part { AtStart engine.old feed.old (I.left source.old) (SaysPrefix engine.old engine.new) }
-    ensures whole_answers { (CutRun result → ⊥) → AtStart engine.old feed.old (I.left source.old) (SaysWholeAnswers engine.old engine.new) }
     ensures ended { OnOk result (AtStart engine.old feed.old (I.left source.old) (StandsAtEnd engine.old engine.new)) }
-    ensures lines { IsErrOf result RunFault.Lines → AtStart engine.old feed.old (I.left source.old) (StopsAtLines engine.old engine.new) }
-    ensures bytes { IsErrOf result RunFault.Bytes → AtStart engine.old feed.old (I.left source.old) (StopsAtBytes engine.old engine.new) }
-    ensures full_list { IsErrOf result RunFault.Held → AtStart engine.old feed.old (I.left source.old) (StopsAtWaiting engine.old engine.new) }
-    ensures failed { IsErrOf result RunFault.Input → AtStart engine.old feed.old (I.left source.old) (StopsAtInput (I.left source.new) engine.old engine.new) }
     ensures fits { OnOk result (OnInput feed.old (I.left source.old) FitsScript) }
     ensures too_many_lines { IsErrOf result RunFault.Lines → OnInput feed.old (I.left source.old) HasTooManyLines }
     ensures too_many_bytes { IsErrOf result RunFault.Bytes → OnInput feed.old (I.left source.old) HasTooManyBytes }

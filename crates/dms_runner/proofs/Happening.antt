@@ -1,19 +1,20 @@
 -- Events, one behind another.
-use Rattle.std.specs.Prelude.{IsErrAnd, IsOkUnless, OnOk, ◌<◌, ◌^◌, nat_le, not, ◌&&◌, is_some}
+use Rattle.std.specs.Prelude.{IsErrAnd, IsOkUnless, OnOk, ◌<◌, ◌^◌, nat_le, not, ◌&&◌, is_some, slice_get}
 use Rattle.std.specs.declared.result.Result.{Result}
 use Rattle.std.specs.declared.result.Result.TheVariants.{Ok, Err}
 use Rattle.dms_block.specs.declared.block_fault.BlockFault.{BlockFault}
 use Rattle.dms_block.specs.declared.block_fault.BlockFault.TheVariants.{Disk, Memory, Full, Damaged, Say}
 use Rattle.dms_block.specs.Counts.{Faults, CausedBy}
-use Rattle.dms_block.specs.Faults.{Undamaged}
+use Rattle.dms_block.specs.Faults.{NotFull, Undamaged}
 use Rattle.dms_model.specs.Programs.{Program, Wait}
 use Rattle.dms_model.specs.BackOut.{asks_back_out}
 use Rattle.dms_model.specs.declared.reply.Reply.{Reply}
 use Rattle.dms_model.specs.Seen.{Effort, GoesBack, Seen, IsMute, IsSilent, Keeps, SaysPart, StaysDurable}
-use Rattle.dms_storeverbs.specs.Costs.{Costs, block_limit, limit_if, stores, up_if}
-use Rattle.std.proofs.Common.{ℕ, ◌≡◌, ◌≤◌, ◌+◌, ◌⊎◌, inl, inr, List, [], ◌∷◌, ◌++◌, length, take, map, Some, None, refl, sym, ◌∙◌, ap, subst, arith, append_assoc, length-append, Bool, true, false}
+use Rattle.dms_storeverbs.specs.Costs.{Costs, block_limit, changes, limit_if, stores, up_if}
+use Rattle.std.proofs.Common.{ℕ, zero, suc, ◌≡◌, ◌≤◌, ◌+◌, ◌⊎◌, inl, inr, List, [], ◌∷◌, ◌++◌, length, take, map, Some, None, refl, sym, ◌∙◌, ap, subst, arith, append_assoc, length-append, Bool, true, false}
 use Rattle.std.specs.declared.option.Option.{Option}
 use Rattle.std.proofs.lemmas.List.{append-nil, map-append, length-map, take-append-le, take_all}
+use Rattle.std.proofs.lemmas.Option.{slice_get_within}
 use Rattle.std.proofs.Math.Seq.{take-append-add}
 use Rattle.std.proofs.lemmas.Bool.Decides.{nat_tests}
 use Rattle.dms_moments.specs.MomentLaws.{runs_none, runs_on, runs_weaken}
@@ -28,7 +29,9 @@ use Rattle.dms_storeverbs.specs.Laws.{MakesWhereQuiet}
 use Rattle.dms_storeverbs.proofs.Quiet.{quiet_rule}
 use Rattle.dms_storeverbs.specs.View.{View, PerformsCall, PointsGrow, LeavesQuiets, StandsFor, view_of}
 use Rattle.dms_storeverbs.proofs.Calls.{lower, stays}
-use Rattle.dms_runner.specs.Events.{IsTold, RunEvent, calls, says, goes_back, text_of, quiets_of, durable_by, durable_after, CrashesFrom, IsCutShort, SaidWhole, Performs, PerformsPrefix, SaidAtLeast, TakesEvents, TookAll, TookOneMore, TookPart, EndsAnswered, blocks_of, syncs_of, backs_of, may_store, one_if}
+use Rattle.dms_runner.specs.Events.{IsTold, RunEvent, calls, says, goes_back, text_of, quiets_of, durable_by, durable_after, CrashesFrom, IsCutShort, Fate, fate_of, IsDue, SaidWhole, Performs, PerformsPrefix, SaidAtLeast, TakesEvents, TookAll, TookOneMore, TookPart, EndsAnswered, blocks_of, syncs_of, backs_of, may_store, one_if}
+use Rattle.dms_runner.specs.Blaming.{run_fate}
+use Rattle.dms_runner.specs.declared.run.RunFault.TheVariants.{Block}
 use Rattle.dms_runner.proofs.Texts.{prints_none, prints_on, front_none, front_all, front_of_first, front_on}
 use Rattle.dms_laws.specs.Exclusive.{is_done}
 
@@ -323,56 +326,129 @@ took_on_said a b c x y first same number next =
 took_cut : {cut cut' : Type 0} (a b : Seen) (x : List RunEvent) → (cut → cut') → TookPart cut a b x → TookPart cut' a b x
 took_cut a b x f p = record { k = p.k; within = p.within; text = λ uncut. p.text (λ is. uncut (f is)); whole = p.whole; near = p.near; least = p.least; most = p.most; took = p.took }
 
+-- where the audit had no room
+
+get_front : (x y : List RunEvent) (k : ℕ) (e : RunEvent) → slice_get x k ≡ Some e → slice_get (x ++ y) k ≡ Some e
+get_front [] y k e is = absurd (cc is)
+get_front (f ∷ x) y zero e is = is
+get_front (f ∷ x) y (suc k) e is = get_front x y k e is
+
+get_behind : (x y : List RunEvent) (k : ℕ) → slice_get (x ++ y) (length x + k) ≡ slice_get y k
+get_behind [] y k = let e : 0 + k ≡ k = omega arith in ap (slice_get y) e
+get_behind (f ∷ x) y k = let e : suc (length x) + k ≡ suc (length x + k) = omega arith in ap (slice_get (f ∷ (x ++ y))) e ∙ get_behind x y k
+
+-- what is due in the first events is due in all
+pub due_front : (a b : Option (List ℕ)) (x y : List RunEvent) → IsDue a b x → IsDue a b (x ++ y)
+due_front a b x y d = record {
+  k = d.k;
+  at = d.at;
+  is = get_front x y d.k d.at d.is;
+  appends = d.appends;
+  text = subst (λ (e : List RunEvent). Prints a b (text_of e)) (sym (take-append-le d.k x y (omega (arith, slice_get_within x d.k d.at d.is)))) d.text;
+}
+
+-- what is due behind events is due in all
+pub due_on : (a b c : Option (List ℕ)) (x y : List RunEvent) → Prints a b (text_of x) → IsDue b c y → IsDue a c (x ++ y)
+due_on a b c x y first d = record {
+  k = length x + d.k;
+  at = d.at;
+  is = get_behind x y d.k ∙ d.is;
+  appends = d.appends;
+  text = subst (λ (t : List ℕ). Prints a c t) (sym (ap text_of (take-append-add x y d.k) ∙ text_on x (take d.k y))) (prints_on a b c (text_of x) (text_of (take d.k y)) first d.text);
+}
+
+-- nothing was said, and the only event appends
+due_first : (a b : Option (List ℕ)) (e : RunEvent) → b ≡ a → e.appends ≡ true → IsDue a b (e ∷ [])
+due_first a b e same appends = record { k = 0; at = e; is = refl; appends = appends; text = prints_none a b same }
+
 -- no event of them happened
-pub part_none : {cut : Type 0} (a : Seen) (x : List RunEvent) → PerformsPrefix cut a a x
-part_none a x = record { text = front_none a.said a.said (text_of x) refl; said_whole = λ uncut. whole_none a.said a.said x refl; undamaged = λ t. refl; moments = λ t. runs_none a.clock (CrashesFrom a x); took = took_none a a x refl refl refl }
+pub part_none : {fate : Fate} → (fate.full → ⊥) → (a : Seen) (x : List RunEvent) → PerformsPrefix fate a a x
+part_none room a x = record { text = front_none a.said a.said (text_of x) refl; said_whole = λ uncut. whole_none a.said a.said x refl; due = λ full. absurd (room full); undamaged = λ t. refl; moments = λ t. runs_none a.clock (CrashesFrom a x); took = took_none a a x refl refl refl }
 
 -- all of them happened
-pub part_all : {cut : Type 0} (a b : Seen) (x : List RunEvent) → Performs a b x → PerformsPrefix cut a b x
-part_all a b x ran = record { text = front_all a.said b.said (text_of x) ran.text; said_whole = λ uncut. whole_all a.said b.said x ran.text; undamaged = ran.undamaged; moments = ran.moments; took = took_all a b x ran }
+pub part_all : {fate : Fate} → (fate.full → ⊥) → (a b : Seen) (x : List RunEvent) → Performs a b x → PerformsPrefix fate a b x
+part_all room a b x ran = record { text = front_all a.said b.said (text_of x) ran.text; said_whole = λ uncut. whole_all a.said b.said x ran.text; due = λ full. absurd (room full); undamaged = ran.undamaged; moments = ran.moments; took = took_all a b x ran }
 
 -- a prefix of the first events is a prefix of all
-pub part_of_first : {cut : Type 0} (a b : Seen) (x y : List RunEvent) → PerformsPrefix cut a b x → PerformsPrefix cut a b (x ++ y)
+pub part_of_first : {fate : Fate} (a b : Seen) (x y : List RunEvent) → PerformsPrefix fate a b x → PerformsPrefix fate a b (x ++ y)
 part_of_first a b x y part = record {
   text = subst (λ (t : List ℕ). PrintsPrefix a.said b.said t) (sym (text_on x y)) (front_of_first a.said b.said (text_of x) (text_of y) part.text);
   said_whole = λ uncut. whole_of_first a.said b.said x y (part.said_whole uncut);
+  due = λ full. due_front a.said b.said x y (part.due full);
   undamaged = part.undamaged;
   moments = λ t. runs_weaken (part.moments t) (stopped_first a x y);
   took = took_of_first a b x y part.took;
 }
 
-part_behind : {cut : Type 0} (a b c : Seen) (x y : List RunEvent) → Performs a b x → PerformsPrefix cut b c y → TookPart cut a c (x ++ y) → PerformsPrefix cut a c (x ++ y)
+part_behind : {fate : Fate} (a b c : Seen) (x y : List RunEvent) → Performs a b x → PerformsPrefix fate b c y → TookPart fate.cut a c (x ++ y) → PerformsPrefix fate a c (x ++ y)
 part_behind a b c x y first next took = record {
   text = subst (λ (t : List ℕ). PrintsPrefix a.said c.said t) (sym (text_on x y)) (front_on a.said b.said c.said (text_of x) (text_of y) first.text next.text);
   said_whole = λ uncut. whole_on a.said b.said c.said x y first.text (next.said_whole uncut);
+  due = λ full. due_on a.said b.said c.said x y first.text (next.due full);
   undamaged = λ t. next.undamaged (first.told t) ∙ first.undamaged t;
   moments = λ t. runs_on (runs_weaken (first.moments t) (stopped_first a x y)) (next.moments (told_on first t)) (λ stop s. stopped_on a b x y stop t first s);
   took = took;
 }
 
 -- events, the last of which takes nothing, and a prefix of those behind them
-pub part_on : {cut : Type 0} (a b c : Seen) (x y : List RunEvent) → Performs a b x → EndsAnswered x → PerformsPrefix cut b c y → PerformsPrefix cut a c (x ++ y)
+pub part_on : {fate : Fate} (a b c : Seen) (x y : List RunEvent) → Performs a b x → EndsAnswered x → PerformsPrefix fate b c y → PerformsPrefix fate a c (x ++ y)
 part_on a b c x y first answered next = part_behind a b c x y first next (took_on a b c x y first answered next.took)
 
 -- events, and a prefix of those behind them, where nothing but text came behind them
-pub part_on_said : {cut : Type 0} (a b c : Seen) (x y : List RunEvent) → Performs a b x → c.effort ≡ b.effort → c.next ≡ b.next → PerformsPrefix cut b c y → PerformsPrefix cut a c (x ++ y)
+pub part_on_said : {fate : Fate} (a b c : Seen) (x y : List RunEvent) → Performs a b x → c.effort ≡ b.effort → c.next ≡ b.next → PerformsPrefix fate b c y → PerformsPrefix fate a c (x ++ y)
 part_on_said a b c x y first same number next = part_behind a b c x y first next (took_on_said a b c x y first same number next.took)
 
 -- the same events, told otherwise
 pub ran_as : (a b : Seen) (x y : List RunEvent) → x ≡ y → Performs a b x → Performs a b y
 ran_as a b x y is ran = subst (λ (l : List RunEvent). Performs a b l) is ran
 
-pub part_as : {cut : Type 0} (a b : Seen) (x y : List RunEvent) → x ≡ y → PerformsPrefix cut a b x → PerformsPrefix cut a b y
-part_as {cut} a b x y is part = subst (λ (l : List RunEvent). PerformsPrefix cut a b l) is part
+pub part_as : {fate : Fate} (a b : Seen) (x y : List RunEvent) → x ≡ y → PerformsPrefix fate a b x → PerformsPrefix fate a b y
+part_as {fate} a b x y is part = subst (λ (l : List RunEvent). PerformsPrefix fate a b l) is part
 
--- where one is cut off the other is, too
-pub part_cut : {cut cut' : Type 0} (a b : Seen) (x : List RunEvent) → (cut → cut') → PerformsPrefix cut a b x → PerformsPrefix cut' a b x
-part_cut a b x f part = record { text = part.text; said_whole = λ uncut. part.said_whole (λ is. uncut (f is)); undamaged = part.undamaged; moments = part.moments; took = took_cut a b x f part.took }
+-- where one is cut off the other is, too, and where the other had no room the one had none
+pub part_cut : {fate fate' : Fate} (a b : Seen) (x : List RunEvent) → (fate.cut → fate'.cut) → (fate'.full → fate.full) → PerformsPrefix fate a b x → PerformsPrefix fate' a b x
+part_cut a b x f room part = record { text = part.text; said_whole = λ uncut. part.said_whole (λ is. uncut (f is)); due = λ full. part.due (room full); undamaged = part.undamaged; moments = part.moments; took = took_cut a b x f part.took }
 
 -- the same fault, of whatever else would be answered
 pub cut_as : {T : Type 0} (r : Result T BlockFault) (f : BlockFault) → IsErrAnd r (λ x. x ≡ f) → f ≡ Say → IsCutShort r
 cut_as (Ok x) f same is = absurd same
 cut_as (Err e) f same is = same ∙ is
+
+room_as : (T U : Type 0) (f : BlockFault) → NotFull {T = T} (Err f) → NotFull {T = U} (Err f)
+room_as T U Disk p = tt
+room_as T U Memory p = tt
+room_as T U (Full f) p = p
+room_as T U (Damaged f d) p = tt
+room_as T U Say p = tt
+
+-- a fault that isn't a lack of room
+pub had_room : {T : Type 0} (r : Result T BlockFault) (f : BlockFault) → IsErrAnd r (λ x. x ≡ f) → NotFull {T = T} (Err f) → (NotFull r → ⊥) → ⊥
+had_room (Ok x) f same room full = absurd same
+had_room {T} (Err e) f same room full = full (subst (λ (y : BlockFault). NotFull {T = T} (Err y)) (sym same) room)
+
+pub full_as : {T : Type 0} (U : Type 0) (r : Result T BlockFault) (f : BlockFault) → IsErrAnd r (λ x. x ≡ f) → (NotFull r → ⊥) → NotFull {T = U} (Err f) → ⊥
+full_as {T} U r f same full room = had_room r f same (room_as U T f room) full
+
+-- the same fault, and the same events
+pub part_err : {T : Type 0} (U : Type 0) (r : Result T BlockFault) (f : BlockFault) (a b : Seen) (x : List RunEvent) → IsErrAnd r (λ y. y ≡ f) → PerformsPrefix (fate_of {T = U} (Err f)) a b x → PerformsPrefix (fate_of r) a b x
+part_err U r f a b x same part = part_cut a b x (cut_as r f same) (full_as U r f same) part
+
+-- in a run
+pub part_run : (U : Type 0) (f : BlockFault) (a b : Seen) (x : List RunEvent) → PerformsPrefix (fate_of {T = U} (Err f)) a b x → PerformsPrefix (run_fate {T = Unit {0}} (Err (Block f))) a b x
+part_run U f a b x part = part_cut a b x (λ is. ap Block is) (λ full room. full (room_as U (Unit {0}) f room)) part
+
+-- a call that prints had room
+pub says_room : {T : Type 0} (r : Result T BlockFault) → IsOkUnless r Say → (NotFull r → ⊥) → ⊥
+says_room (Ok x) only full = full tt
+says_room {T} (Err f) only full = full (subst (λ (y : BlockFault). NotFull {T = T} (Err y)) (sym only) tt)
+
+pub say_failed : {T : Type 0} (r : Result T BlockFault) (f : BlockFault) → IsErrAnd r (λ x. x ≡ f) → f ≡ Say → (NotFull r → ⊥) → ⊥
+say_failed {T} r f same is full = had_room r f same (subst (λ (y : BlockFault). NotFull {T = T} (Err y)) (sym is) tt) full
+
+-- a call that had no room was of a verb that changes something
+pub full_changes : (b : Bool) (P : Type 0) → (b ≡ false → P) → (P → ⊥) → b ≡ true
+full_changes true P room full = refl
+full_changes false P room full = absurd (full (room refl))
 
 -- a fault of printing is the only one of a call that prints
 pub unless_cut : {T : Type 0} (r : Result T BlockFault) (P : Type 0) → IsOkUnless r Say → OnOk r P → (IsCutShort r → ⊥) → P
@@ -421,8 +497,9 @@ took_says a b x y is same part whole =
       took = inl (record { effort = takes_still a.desc (says y ∷ []) same; next = omega (arith, part.next) });
     }
 
-pub part_says : {cut : Type 0} (a b : Seen) (x y : List ℕ) → x ≡ y → b.effort ≡ a.effort → FindsNoDamage a b → SaysPart a b x → ((cut → ⊥) → Prints a.said b.said x) → a.next + 1 < 2 ^ 64 → PerformsPrefix cut a b (says y ∷ [])
-part_says a b x y is same undamaged part whole room = record {
+pub part_says : {fate : Fate} → (fate.full → ⊥) → (a b : Seen) (x y : List ℕ) → x ≡ y → b.effort ≡ a.effort → FindsNoDamage a b → SaysPart a b x → ((fate.cut → ⊥) → Prints a.said b.said x) → a.next + 1 < 2 ^ 64 → PerformsPrefix fate a b (says y ∷ [])
+part_says fits a b x y is same undamaged part whole room = record {
+  due = λ full. absurd (fits full);
   took = took_says a b x y is same part whole;
   said_whole = λ uncut. whole_all a.said b.said (says y ∷ []) (subst (λ (t : List ℕ). Prints a.said b.said t) (is ∙ sym (append-nil y)) (whole uncut));
   undamaged = undamaged;
@@ -519,8 +596,9 @@ ran_calls a b verb o answer tells whole desc costs idle same mute next did = rec
   effort = call_takes a.desc verb o answer did.answers.reply did.answers.sync costs idle;
 }
 
-pub part_calls : {cut : Type 0} (a b : Seen) (v : View) (verb : Verb) (o : Outcome) {result : Result Answer BlockFault} → Costs (block_limit a.desc verb) (asks_back_out verb) result a.effort b.effort → CausedBy result a.faults b.faults → IsMute a b → PerformsCall o a b v result → PerformsPrefix cut a b (calls verb o ∷ [])
-part_calls a b v verb o {result} costs cause mute did = record {
+pub part_calls : {fate : Fate} (a b : Seen) (v : View) (verb : Verb) (o : Outcome) {result : Result Answer BlockFault} → (fate.full → changes verb ≡ true) → Costs (block_limit a.desc verb) (asks_back_out verb) result a.effort b.effort → CausedBy result a.faults b.faults → IsMute a b → PerformsCall o a b v result → PerformsPrefix fate a b (calls verb o ∷ [])
+part_calls a b v verb o {result} changed costs cause mute did = record {
+  due = λ full. due_first a.said b.said (calls verb o) mute.said (changed full);
   said_whole = λ uncut. whole_none a.said b.said (calls verb o ∷ []) mute.said;
   took = took_call a b verb (calls verb o) result mute costs;
   undamaged = λ t. damaged_same result a.faults b.faults did.undamaged cause;
@@ -565,8 +643,9 @@ ran_back works a b tells whole desc takes told undamaged silent points room = re
 took_back : {cut : Type 0} (works : Bool) (a b : Seen) → TakesEvents a.desc (goes_back works ∷ []) a.effort b.effort → IsSilent a b → TookPart cut a b (goes_back works ∷ [])
 took_back works a b takes silent = took_by a b (goes_back works ∷ []) 1 (omega arith) (prints_none a.said b.said silent.said) takes (omega (arith, silent.next))
 
-pub part_back : {cut : Type 0} (works : Bool) (a b : Seen) → TakesEvents a.desc (goes_back works ∷ []) a.effort b.effort → FindsNoDamage a b → IsSilent a b → a.next + 1 < 2 ^ 64 → PerformsPrefix cut a b (goes_back works ∷ [])
-part_back works a b takes undamaged silent room = record {
+pub part_back : {fate : Fate} (works : Bool) (a b : Seen) → (fate.full → works ≡ true) → TakesEvents a.desc (goes_back works ∷ []) a.effort b.effort → FindsNoDamage a b → IsSilent a b → a.next + 1 < 2 ^ 64 → PerformsPrefix fate a b (goes_back works ∷ [])
+part_back works a b backs takes undamaged silent room = record {
+  due = λ full. due_first a.said b.said (goes_back works) silent.said (backs full);
   took = took_back works a b takes silent;
   said_whole = λ uncut. whole_none a.said b.said (goes_back works ∷ []) silent.said;
   undamaged = undamaged;

@@ -1,7 +1,9 @@
 pub mod Always
 pub mod Answered
 pub mod Blames
+pub mod Counting
 pub mod Exclusive
+pub mod Fronts
 pub mod Happening
 pub mod Leaving
 pub mod LineVerbs
@@ -9,6 +11,7 @@ pub mod Lining
 pub mod Passes
 pub mod Rooms
 pub mod Running
+pub mod Stopping
 pub mod Texts
 pub mod Tried
 pub mod Turns

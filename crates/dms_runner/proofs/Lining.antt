@@ -16,7 +16,7 @@ use Rattle.dms_script.specs.Lines.{line_of}
 use Rattle.dms_storeverbs.specs.View.{View, StandsFor}
 use Rattle.dms_runner.specs.declared.waiting.WaitingLine.{WaitingLine}
 use Rattle.dms_runner.specs.Waiting.{has_line, answer_text, retries, events_before}
-use Rattle.dms_runner.specs.Events.{RunEvent, Performs, PerformsPrefix, calls, says, text_of}
+use Rattle.dms_runner.specs.Events.{Fate, RunEvent, Performs, PerformsPrefix, calls, says, text_of}
 use Rattle.dms_runner.specs.Answers.{RunState, LineEffect, nothing_done, after_retries, put_to_wait, first_line, first_try_effect, line_effect, one_line_more, line_step}
 use Rattle.dms_runner.specs.Trying.{PerformsRetries, MatchesLine}
 use Rattle.dms_runner.proofs.Happening.{ran_none, ran_on}
@@ -128,9 +128,9 @@ pub retries_from : (d e : Described) (s : Session) (l m : List WaitingLine) (v :
 retries_from d e s l m v waiting before after p q x =
     subst (λ (k : List WaitingLine). PerformsRetries (retries (length k) e s k) v waiting before after) q (subst (λ (k : Described). PerformsRetries (retries (length l) k s l) v waiting before after) p x)
 
-pub retries_part_from : {cut : Type 0} (d e : Described) (s : Session) (l m : List WaitingLine) (before after : Seen) → d ≡ e → l ≡ m → PerformsPrefix cut before after (retries (length l) d s l).events → PerformsPrefix cut before after (retries (length m) e s m).events
-retries_part_from {cut} d e s l m before after p q x =
-    subst (λ (k : List WaitingLine). PerformsPrefix cut before after (retries (length k) e s k).events) q (subst (λ (k : Described). PerformsPrefix cut before after (retries (length l) k s l).events) p x)
+pub retries_part_from : {fate : Fate} (d e : Described) (s : Session) (l m : List WaitingLine) (before after : Seen) → d ≡ e → l ≡ m → PerformsPrefix fate before after (retries (length l) d s l).events → PerformsPrefix fate before after (retries (length m) e s m).events
+retries_part_from {fate} d e s l m before after p q x =
+    subst (λ (k : List WaitingLine). PerformsPrefix fate before after (retries (length k) e s k).events) q (subst (λ (k : Described). PerformsPrefix fate before after (retries (length l) k s l).events) p x)
 
 pub says_answer : (l m : ℕ) (name : List ℕ) (r q : Reply) (s t : Option ℕ) → l ≡ m → r ≡ q → s ≡ t → says (answer_text l name r s) ∷ [] ≡ says (answer_text m name q t) ∷ []
 says_answer l m name r q s t a b c =

@@ -12,7 +12,7 @@ use Rattle.dms_runner.specs.declared.waiting.WaitingLine.{WaitingLine}
 use Rattle.dms_runner.proofs.Exclusive.{step_exclusive}
 use Rattle.dms_runner.proofs.Answered.{tries_answered}
 use Rattle.dms_runner.proofs.Happening.{answered_on, ran_none, ran_on, part_on, part_of_first}
-use Rattle.dms_runner.specs.Events.{RunEvent, EndsAnswered, Performs, PerformsPrefix}
+use Rattle.dms_runner.specs.Events.{Fate, RunEvent, EndsAnswered, Performs, PerformsPrefix}
 use Rattle.dms_runner.specs.Trying.{PerformsTry, PerformsRetry}
 use Rattle.dms_runner.specs.Waiting.{has_line, tries, said_to_wait, RetryEffect, events_before, answer_effect, retry, retries}
 
@@ -143,19 +143,19 @@ passing_end desc s first now i v before after end p =
     }
 
 -- a try that failed did a prefix of what the retry does
-pub passing_part : {cut : Type 0} (desc : Described) (s : Session) (first now : List WaitingLine) (i : ℕ) (v : View) (before mid after : Seen) (h : WaitingLine) → slice_get now i ≡ Some h → has_line (take i now) h.program ≡ false
-    → (p : Passing desc s first now i v before mid) → PerformsPrefix cut mid after (tries h (step desc p.at h.program h.verb)) → PerformsPrefix cut before after (retry desc s [] first).events
-passing_part {cut} desc s first now i v before mid after h here has p part =
+pub passing_part : {fate : Fate} (desc : Described) (s : Session) (first now : List WaitingLine) (i : ℕ) (v : View) (before mid after : Seen) (h : WaitingLine) → slice_get now i ≡ Some h → has_line (take i now) h.program ≡ false
+    → (p : Passing desc s first now i v before mid) → PerformsPrefix fate mid after (tries h (step desc p.at h.program h.verb)) → PerformsPrefix fate before after (retry desc s [] first).events
+passing_part {fate} desc s first now i v before mid after h here has p part =
     by_reply (is_waits (step desc p.at h.program h.verb).reply) refl
   where
     o : Outcome
     o = step desc p.at h.program h.verb
 
-    from : (x : RetryEffect) (rest : List RunEvent) → retry desc p.at (take i now) (drop i now) ≡ x → x.events ≡ tries h o ++ rest → PerformsPrefix cut before after (retry desc s [] first).events
-    from x rest e more = subst (λ (t : List RunEvent). PerformsPrefix cut before after t) (sym (ap (λ (y : RetryEffect). y.events) (p.is ∙ ap (λ (y : RetryEffect). events_before p.events y) e) ∙ ap (λ (t : List RunEvent). p.events ++ t) more))
+    from : (x : RetryEffect) (rest : List RunEvent) → retry desc p.at (take i now) (drop i now) ≡ x → x.events ≡ tries h o ++ rest → PerformsPrefix fate before after (retry desc s [] first).events
+    from x rest e more = subst (λ (t : List RunEvent). PerformsPrefix fate before after t) (sym (ap (λ (y : RetryEffect). y.events) (p.is ∙ ap (λ (y : RetryEffect). events_before p.events y) e) ∙ ap (λ (t : List RunEvent). p.events ++ t) more))
         (part_on before mid after p.events (tries h o ++ rest) p.ran p.answered (part_of_first mid after (tries h o) rest part))
 
-    by_reply : (b : Bool) → is_waits o.reply ≡ b → PerformsPrefix cut before after (retry desc s [] first).events
+    by_reply : (b : Bool) → is_waits o.reply ≡ b → PerformsPrefix fate before after (retry desc s [] first).events
     by_reply true waits = from _ _ (ap (λ (l : List WaitingLine). retry desc p.at (take i now) l) (at_place now i h here) ∙ retry_waits desc p.at (take i now) h (drop (i + 1) now) has waits) refl
     by_reply false waits = from _ [] (ap (λ (l : List WaitingLine). retry desc p.at (take i now) l) (at_place now i h here) ∙ retry_answers desc p.at (take i now) h (drop (i + 1) now) has waits) (sym (append-nil (tries h o)))
 

@@ -8,21 +8,20 @@ use Rattle.dms_feed.specs.Feeds.{Remains}
 use Rattle.dms_feed.specs.Lines.{raw_lines, first_line, after_line, onto_first}
 use Rattle.dms_model.specs.Db.{Db}
 use Rattle.dms_block.specs.Texts.{Prints}
-use Rattle.dms_model.specs.Programs.{Program}
-use Rattle.dms_model.specs.Session.{Session, ended, someone_works}
+use Rattle.dms_model.specs.Session.{Session}
 use Rattle.dms_storeverbs.specs.View.{View, StandsFor}
 use Rattle.dms_runner.specs.declared.waiting.WaitingLine.{WaitingLine}
 use Rattle.dms_laws.specs.Exclusive.{IsExclusive}
 use Rattle.dms_laws.proofs.Locks.{locks_stay_exclusive}
 use Rattle.dms_runner.proofs.Exclusive.{line_exclusive}
-use Rattle.dms_runner.specs.Answers.{RunState, LineEffect, MayTakeLine, nothing_done, line_step, lines_run, lines_before, first_state, script_run, end_events, script_events}
-use Rattle.dms_runner.specs.Events.{RunEvent, Performs, PerformsPrefix, text_of}
-use Rattle.dms_feed.specs.Raws.{CutLine}
-use Rattle.dms_runner.specs.Running.{bytes_of, text_of_lines, FitsScript, HasTooManyBytes, HasTooManyLines, InputBreaks, TakesRawLine, AnswersWhole, TakesLines, PassesLines, PassesBytes, PassesWaiting, CutInput}
+use Rattle.dms_runner.specs.Answers.{RunState, LineEffect, MayTakeLine, nothing_done, line_step, lines_run, lines_before, first_state, script_run}
+use Rattle.dms_runner.specs.Events.{Fate, RunEvent, Performs, PerformsPrefix, text_of}
+use Rattle.dms_feed.specs.Raws.{CutLine, IsUnended, has_end}
+use Rattle.dms_runner.specs.Running.{AreEnded, bytes_of, front_events, text_of_lines, FitsScript, HasTooManyBytes, HasTooManyLines, InputBreaks, KeepsFront, TakesRawLine, TakesLines, PassesLines, PassesBytes, PassesWaiting, CutInput}
 use Rattle.dms_runner.specs.Trying.{MatchesLine}
 use Rattle.dms_runner.proofs.Texts.{prints_on}
 use Rattle.dms_runner.proofs.Answered.{run_answered}
-use Rattle.dms_runner.proofs.Happening.{ran_none, ran_on, part_on, part_of_first}
+use Rattle.dms_runner.proofs.Happening.{ran_as, ran_none, ran_on, part_as, part_on}
 use Rattle.dms_runner.proofs.Lining.{line_low}
 
 -- Lines of a text
@@ -53,6 +52,15 @@ first_joined (b ∷ bs) = at (eqb b 10) (first_joined bs)
     at true h = refl
     at false h = ap (λ (l : List ℕ). b ∷ l) h
 
+-- behind a line without a line feed nothing follows
+pub nothing_after : (all : List ℕ) → IsUnended (first_line all) → after_line all ≡ []
+nothing_after [] none = refl
+nothing_after (b ∷ bs) none = at (eqb b 10) refl (nothing_after bs) none
+  where
+    at : (t : Bool) → t ≡ eqb b 10 → (has_end (first_line bs) ≡ false → after_line bs ≡ []) → has_end (cond t (b ∷ []) (b ∷ first_line bs)) ≡ false → cond t bs (after_line bs) ≡ []
+    at true is later h = let e : eqb b 10 ≡ true = sym is in absurd (let no : true ≡ false = rw e at h in cc)
+    at false is later h = let e : eqb b 10 ≡ false = sym is in later (rw e at h)
+
 pub joined_on : (xs ys : List (List ℕ)) → text_of_lines (xs ++ ys) ≡ text_of_lines xs ++ text_of_lines ys
 joined_on [] ys = refl
 joined_on (x ∷ xs) ys = ap (λ (l : List ℕ). x ++ l) (joined_on xs ys) ∙ sym (append_assoc x (text_of_lines xs) (text_of_lines ys))
@@ -66,15 +74,15 @@ joined_step all rest done is =
 
 -- The fold over lines
 
-run_none : (desc : Described) (g : RunState) → lines_run desc g [] ≡ nothing_done g
+pub run_none : (desc : Described) (g : RunState) → lines_run desc g [] ≡ nothing_done g
 unfolding lines_run
 run_none desc g = refl
 
-run_step : (desc : Described) (g : RunState) (l : List ℕ) (ls : List (List ℕ)) → (line_step desc g l).full ≡ false → lines_run desc g (l ∷ ls) ≡ lines_before (line_step desc g l) (lines_run desc (line_step desc g l).going ls)
+pub run_step : (desc : Described) (g : RunState) (l : List ℕ) (ls : List (List ℕ)) → (line_step desc g l).full ≡ false → lines_run desc g (l ∷ ls) ≡ lines_before (line_step desc g l) (lines_run desc (line_step desc g l).going ls)
 unfolding lines_run
 run_step desc g l ls room = rw room refl
 
-run_full : (desc : Described) (g : RunState) (l : List ℕ) (ls : List (List ℕ)) → (line_step desc g l).full ≡ true → lines_run desc g (l ∷ ls) ≡ line_step desc g l
+pub run_full : (desc : Described) (g : RunState) (l : List ℕ) (ls : List (List ℕ)) → (line_step desc g l).full ≡ true → lines_run desc g (l ∷ ls) ≡ line_step desc g l
 unfolding lines_run
 run_full desc g l ls full = rw full refl
 
@@ -152,6 +160,25 @@ some_first (b ∷ bs) h none = cc
 read_within : {i room : ℕ} {all feed : List ℕ} {left : Option (List ℕ)} → InputRead i room all feed left → i ≤ length (raw_lines all)
 read_within r = omega (arith, ap length r.split, length-append r.done (raw_lines r.rest), r.count)
 
+ended_on : (xs : List (List ℕ)) (l : List ℕ) → AreEnded xs → has_end l ≡ true → AreEnded (xs ++ l ∷ [])
+ended_on [] l all last = (last, tt)
+ended_on (x ∷ xs) l all last = (all.0, ended_on xs l all.1 last)
+
+-- the lines that were taken end with line feeds, and so does one more
+pub read_ended : {i room : ℕ} {all feed : List ℕ} {left : Option (List ℕ)} (r : InputRead i room all feed left) → r.rest ≢ [] → has_end (first_line r.rest) ≡ true → AreEnded (take i (raw_lines all)) → AreEnded (take (i + 1) (raw_lines all))
+read_ended r some last so_far = subst AreEnded (sym (read_more r some)) (ended_on r.done (first_line r.rest) (subst AreEnded (read_taken r) so_far) last)
+
+-- they keep the limits, and so they do with one more for which there is room
+pub read_keeps : {i room : ℕ} {all feed : List ℕ} {left : Option (List ℕ)} → InputRead i room all feed left → i ≤ 1000000 → KeepsFront (raw_lines all) i
+read_keeps r few = record { within = read_within r; few = few; short = omega (arith, ap bytes_of (read_taken r), r.bytes) }
+
+pub read_keeps_more : {i room : ℕ} {all feed : List ℕ} {left : Option (List ℕ)} (r : InputRead i room all feed left) → r.rest ≢ [] → i < 1000000 → length (first_line r.rest) ≤ room → KeepsFront (raw_lines all) (i + 1)
+read_keeps_more r some few fits = record {
+  within = omega (arith, ap length r.split, length-append r.done (raw_lines r.rest), r.count, some_lines r.rest some);
+  few = omega (arith, few);
+  short = omega (arith, ap bytes_of (read_more r some), bytes_on r.done (first_line r.rest ∷ []), r.bytes, fits);
+}
+
 -- the input has a line too many
 pub read_lines : {i room : ℕ} {all feed : List ℕ} {left : Option (List ℕ)} (r : InputRead i room all feed left) → i ≡ 1000000 → r.rest ≢ [] → HasTooManyLines all
 read_lines {all = all} r end some = record {
@@ -174,12 +201,18 @@ read_fits {all = all} r small none =
     let whole : raw_lines all ≡ r.done = r.split ∙ ap (λ (rest : List ℕ). r.done ++ raw_lines rest) none ∙ append-nil r.done in
     record { few = omega (arith, ap length whole, r.count, small); short = omega (arith, ap bytes_of whole, r.bytes) }
 
+-- it was read to its end by its last line, which no line feed ends
+pub read_last : {i room room' : ℕ} {all feed feed' : List ℕ} {left left' : Option (List ℕ)} (r : InputRead i room all feed left) → i < 1000000 → TakesRawLine room room' feed' left' r.rest → IsUnended (first_line r.rest) → FitsScript all × Remains feed' left' []
+unfolding read_on
+read_last {feed' = feed'} {left' = left'} r more t last = let none = nothing_after r.rest last in (read_fits (read_on r t) (omega (arith, more)) none, subst (Remains feed' left') none t.remains)
+
 -- taking from it failed
-pub read_breaks : {k i room : ℕ} {all feed : List ℕ} {left left' : Option (List ℕ)} (r : InputRead i room all feed left) → i ≤ 1000000 → k ≤ room → (i ≡ 1000000 → k ≡ 0) → CutLine k left' r.rest → InputBreaks left' all
-read_breaks {i = i} r small under last cut = record {
+pub read_breaks : {k i room : ℕ} {all feed : List ℕ} {left left' : Option (List ℕ)} (r : InputRead i room all feed left) → AreEnded (take i (raw_lines all)) → i ≤ 1000000 → k ≤ room → (i ≡ 1000000 → k ≡ 0) → CutLine k left' r.rest → InputBreaks left' all
+read_breaks {i = i} r ended small under last cut = record {
   n = i;
   within = read_within r;
   few = small;
+  ended = ended;
   part = cut.part;
   rest = cut.rest;
   whole = r.whole ∙ ap (λ (x : List ℕ). text_of_lines r.done ++ x) cut.whole ∙ ap (λ (ls : List (List ℕ)). text_of_lines ls ++ (cut.part ++ cut.rest)) (sym (read_taken r));
@@ -234,24 +267,26 @@ one_more desc g done l room more =
 
 -- one line more was taken
 pub runs_on : (desc : Described) (g : RunState) (i room room' : ℕ) (all : List ℕ) (v w : View) (waiting next : List WaitingLine) (feed feed' : List ℕ) (left left' : Option (List ℕ)) (before mid after : Seen)
-    (r : RunsLines desc g i room all v waiting feed left before mid) → TakesRawLine room room' feed' left' r.read.rest → MatchesLine (line_step desc (lines_run desc g r.read.done).going (first_line r.read.rest)) true w next mid after → RunsLines desc g (i + 1) room' all w next feed' left' before after
+    (r : RunsLines desc g i room all v waiting feed left before mid) → TakesRawLine room room' feed' left' r.read.rest → MatchesLine (line_step desc (lines_run desc g r.read.done).going (first_line r.read.rest)) true w next mid after → (s : RunsLines desc g (i + 1) room' all w next feed' left' before after) × (s.read.rest ≡ after_line r.read.rest)
 unfolding read_on
 runs_on desc g i room room' all v w waiting next feed feed' left left' before mid after r t goes =
     let now = (lines_run desc g r.read.done).going in
     let l = first_line r.read.rest in
     let s = line_step desc now l in
     let e = one_more desc g r.read.done l r.roomy goes.full in
-    let low = line_low desc now l in
-    record {
-      read = read_on r.read t;
-      roomy = ap (λ (x : LineEffect). x.full) e;
-      stands = subst (λ (x : Session). StandsFor w x) (sym (ap (λ (x : LineEffect). x.going.session) e)) goes.session;
-      waiting_is = goes.waiting_is ∙ sym (ap (λ (x : LineEffect). x.going.waiting) e);
-      exclusive = subst IsExclusive (sym (ap (λ (x : LineEffect). x.going.session) e)) (line_exclusive desc now l r.exclusive);
-      line = ap (λ (x : LineEffect). x.going.line) e ∙ low.1 ∙ ap (λ (n : ℕ). n + 1) r.line;
-      low = omega (arith, r.low, low.0, ap (λ (x : LineEffect). x.going.session.next) e, ap (λ (x : LineEffect). length x.going.waiting) e);
-      ran = subst (λ (x : List RunEvent). Performs before after x) (sym (ap (λ (x : LineEffect). x.events) e ∙ ap (λ (x : List RunEvent). (lines_run desc g r.read.done).events ++ x) (append-nil s.events))) (ran_on before mid after (lines_run desc g r.read.done).events s.events r.ran goes.ran);
-    }
+    let low = line_low desc now l in (
+      record {
+        read = read_on r.read t;
+        roomy = ap (λ (x : LineEffect). x.full) e;
+        stands = subst (λ (x : Session). StandsFor w x) (sym (ap (λ (x : LineEffect). x.going.session) e)) goes.session;
+        waiting_is = goes.waiting_is ∙ sym (ap (λ (x : LineEffect). x.going.waiting) e);
+        exclusive = subst IsExclusive (sym (ap (λ (x : LineEffect). x.going.session) e)) (line_exclusive desc now l r.exclusive);
+        line = ap (λ (x : LineEffect). x.going.line) e ∙ low.1 ∙ ap (λ (n : ℕ). n + 1) r.line;
+        low = omega (arith, r.low, low.0, ap (λ (x : LineEffect). x.going.session.next) e, ap (λ (x : LineEffect). length x.going.waiting) e);
+        ran = subst (λ (x : List RunEvent). Performs before after x) (sym (ap (λ (x : LineEffect). x.events) e ∙ ap (λ (x : List RunEvent). (lines_run desc g r.read.done).events ++ x) (append-nil s.events))) (ran_on before mid after (lines_run desc g r.read.done).events s.events r.ran goes.ran);
+      },
+      refl,
+    )
 
 -- the lines that were done, and what they answered
 pub runs_took : (desc : Described) (db : Db) (first : ℕ) (i room : ℕ) (all : List ℕ) (v : View) (waiting : List WaitingLine) (feed : List ℕ) (left : Option (List ℕ)) (before mid : Seen) (after : Option (List ℕ))
@@ -276,114 +311,108 @@ runs_lines desc db first i room all v waiting feed left before mid after r same 
 
 -- the script has a byte too many
 pub runs_bytes : (desc : Described) (db : Db) (first : ℕ) (i room : ℕ) (all : List ℕ) (v : View) (waiting : List WaitingLine) (feed : List ℕ) (left : Option (List ℕ)) (before mid : Seen) (after : Option (List ℕ))
-    (r : RunsLines desc (first_state db first) i room all v waiting feed left before mid) → i < 1000000 → Prints mid.said after [] → room < length (first_line r.read.rest) → PassesBytes desc db first (raw_lines all) before.said after
+    (r : RunsLines desc (first_state db first) i room all v waiting feed left before mid) → i < 1000000 → Prints mid.said after [] → room < length (first_line r.read.rest) → (p : PassesBytes desc db first (raw_lines all) before.said after) × (p.n ≡ i)
 unfolding read_bytes
-runs_bytes desc db first i room all v waiting feed left before mid after r more same over = record {
-  n = i;
-  took = runs_took desc db first i room all v waiting feed left before mid after r (omega (arith, more)) same;
-  few = more;
-  over = (read_bytes r.read more over).over;
-}
+runs_bytes desc db first i room all v waiting feed left before mid after r more same over = (
+  record {
+    n = i;
+    took = runs_took desc db first i room all v waiting feed left before mid after r (omega (arith, more)) same;
+    few = more;
+    over = (read_bytes r.read more over).over;
+  },
+  refl,
+)
 
 -- a line would be one too many to hold
 pub runs_waiting : (desc : Described) (db : Db) (first : ℕ) (i room : ℕ) (all : List ℕ) (v : View) (waiting : List WaitingLine) (feed : List ℕ) (left : Option (List ℕ)) (before mid : Seen) (after : Option (List ℕ))
     (r : RunsLines desc (first_state db first) i room all v waiting feed left before mid) → i < 1000000 → Prints mid.said after [] → r.read.rest ≢ [] → (line_step desc (lines_run desc (first_state db first) r.read.done).going (first_line r.read.rest)).full ≡ true → length (first_line r.read.rest) ≤ room
-    → PassesWaiting desc db first (raw_lines all) before.said after
+    → (p : PassesWaiting desc db first (raw_lines all) before.said after) × (p.n ≡ i)
 runs_waiting desc db first i room all v waiting feed left before mid after r more same some full fits =
     let g = first_state db first in
-    let t = read_more r.read some in
-    record {
-      n = i;
-      took = runs_took desc db first i room all v waiting feed left before mid after r (omega (arith, more)) same;
-      few = more;
-      short = omega (arith, ap bytes_of t, bytes_on r.read.done (first_line r.read.rest ∷ []), r.read.bytes, fits);
-      full = ap (λ (ls : List (List ℕ)). (script_run desc db first ls).full) t ∙ ap (λ (l : LineEffect). l.full) (run_on desc g r.read.done (first_line r.read.rest ∷ []) r.roomy) ∙ ap (λ (l : LineEffect). l.full) (run_full desc (lines_run desc g r.read.done).going (first_line r.read.rest) [] full) ∙ full;
-    }
+    let t = read_more r.read some in (
+      record {
+        n = i;
+        took = runs_took desc db first i room all v waiting feed left before mid after r (omega (arith, more)) same;
+        few = more;
+        short = omega (arith, ap bytes_of t, bytes_on r.read.done (first_line r.read.rest ∷ []), r.read.bytes, fits);
+        full = ap (λ (ls : List (List ℕ)). (script_run desc db first ls).full) t ∙ ap (λ (l : LineEffect). l.full) (run_on desc g r.read.done (first_line r.read.rest ∷ []) r.roomy) ∙ ap (λ (l : LineEffect). l.full) (run_full desc (lines_run desc g r.read.done).going (first_line r.read.rest) [] full) ∙ full;
+      },
+      refl,
+    )
 
 -- taking from the input failed
 pub runs_cut : (desc : Described) (db : Db) (first : ℕ) (k i room : ℕ) (all : List ℕ) (v : View) (waiting : List WaitingLine) (feed : List ℕ) (left left' : Option (List ℕ)) (before mid : Seen) (after : Option (List ℕ))
-    (r : RunsLines desc (first_state db first) i room all v waiting feed left before mid) → i ≤ 1000000 → k ≤ room → (i ≡ 1000000 → k ≡ 0) → Prints mid.said after [] → CutLine k left' r.read.rest → CutInput desc db first all left' before.said after
+    (r : RunsLines desc (first_state db first) i room all v waiting feed left before mid) → AreEnded (take i (raw_lines all)) → i ≤ 1000000 → k ≤ room → (i ≡ 1000000 → k ≡ 0) → Prints mid.said after [] → CutLine k left' r.read.rest → (p : CutInput desc db first all left' before.said after) × (p.n ≡ i)
 unfolding read_breaks
-runs_cut desc db first k i room all v waiting feed left left' before mid after r small under last same cut =
-    let b = read_breaks r.read small under last cut in
-    record {
-      n = i;
-      took = runs_took desc db first i room all v waiting feed left before mid after r small same;
-      part = b.part;
-      rest = b.rest;
-      whole = b.whole;
-      left_is = b.left_is;
-      unended = b.unended;
-      fits = b.fits;
-      last = b.last;
-    }
+runs_cut desc db first k i room all v waiting feed left left' before mid after r ended small under last same cut =
+    let b = read_breaks r.read ended small under last cut in (
+      record {
+        n = i;
+        took = runs_took desc db first i room all v waiting feed left before mid after r small same;
+        ended = ended;
+        part = b.part;
+        rest = b.rest;
+        whole = b.whole;
+        left_is = b.left_is;
+        unended = b.unended;
+        fits = b.fits;
+        last = b.last;
+      },
+      refl,
+    )
 
-lines_none : (rest : List ℕ) → rest ≡ [] → raw_lines rest ≡ []
-lines_none rest none = ap raw_lines none
+-- What the lines that were taken do, and one more
 
--- the input's end: what happens now ends the run
-pub runs_ran : (desc : Described) (db : Db) (first : ℕ) (i room : ℕ) (all : List ℕ) (v : View) (waiting : List WaitingLine) (feed : List ℕ) (left : Option (List ℕ)) (before mid after : Seen)
-    (r : RunsLines desc (first_state db first) i room all v waiting feed left before mid) → r.read.rest ≡ [] → Performs mid after (end_events (someone_works v.programs) waiting) → Performs before after (script_events desc db first (raw_lines all))
-unfolding script_events
-runs_ran desc db first i room all v waiting feed left before mid after r none last =
-    let g = first_state db first in
-    let whole : raw_lines all ≡ r.read.done = r.read.split ∙ ap (λ (ls : List (List ℕ)). r.read.done ++ ls) (lines_none r.read.rest none) ∙ append-nil r.read.done in
-    subst (λ (ls : List (List ℕ)). Performs before after ((script_run desc db first ls).events ++ end_events (someone_works (script_run desc db first ls).going.session.programs) (script_run desc db first ls).going.waiting)) (sym whole)
-    (ran_on before mid after (lines_run desc g r.read.done).events (end_events (someone_works (lines_run desc g r.read.done).going.session.programs) (lines_run desc g r.read.done).going.waiting) r.ran (subst (λ (ps : List Program). Performs mid after (end_events (someone_works ps) (lines_run desc g r.read.done).going.waiting)) r.stands.programs
-    (subst (λ (hs : List WaitingLine). Performs mid after (end_events (someone_works v.programs) hs)) r.waiting_is last)))
+done_events : (desc : Described) (db : Db) (first : ℕ) (i room : ℕ) (all : List ℕ) (feed : List ℕ) (left : Option (List ℕ)) (r : InputRead i room all feed left) → front_events desc db first (raw_lines all) i ≡ (lines_run desc (first_state db first) r.done).events
+done_events desc db first i room all feed left r = ap (λ (ls : List (List ℕ)). (script_run desc db first ls).events) (read_taken r)
 
-pub runs_end : (desc : Described) (db : Db) (first : ℕ) (i room : ℕ) (all : List ℕ) (v : View) (waiting : List WaitingLine) (feed : List ℕ) (left : Option (List ℕ)) (before mid after : Seen)
-    (r : RunsLines desc (first_state db first) i room all v waiting feed left before mid) → i ≤ 1000000 → r.read.rest ≡ [] → Performs mid after (end_events (someone_works v.programs) waiting) → AnswersWhole desc db first (raw_lines all) before.said after.said
-runs_end desc db first i room all v waiting feed left before mid after r small none last =
-    let whole : raw_lines all ≡ r.read.done = r.read.split ∙ ap (λ (ls : List (List ℕ)). r.read.done ++ ls) (lines_none r.read.rest none) ∙ append-nil r.read.done in
-    record {
-      few = (read_fits r.read small none).few;
-      short = (read_fits r.read small none).short;
-      room = ap (λ (ls : List (List ℕ)). (script_run desc db first ls).full) whole ∙ r.roomy;
-      text = (runs_ran desc db first i room all v waiting feed left before mid after r none last).text;
-    }
-
--- the session at the end, of the whole script
-pub runs_ended : (desc : Described) (db : Db) (first : ℕ) (i room : ℕ) (all : List ℕ) (v w : View) (waiting : List WaitingLine) (feed : List ℕ) (left : Option (List ℕ)) (before mid : Seen)
-    (r : RunsLines desc (first_state db first) i room all v waiting feed left before mid) → r.read.rest ≡ [] → StandsFor w (ended (lines_run desc (first_state db first) r.read.done).going.session) → StandsFor w (ended (script_run desc db first (raw_lines all)).going.session)
-runs_ended desc db first i room all v w waiting feed left before mid r none stands =
-    let whole : raw_lines all ≡ r.read.done = r.read.split ∙ ap (λ (ls : List (List ℕ)). r.read.done ++ ls) (lines_none r.read.rest none) ∙ append-nil r.read.done in
-    subst (λ (ls : List (List ℕ)). StandsFor w (ended (script_run desc db first ls).going.session)) (sym whole) stands
-
--- a prefix of what the lines to come do is, behind what happened, a prefix of the whole
-pub runs_part : {cut : Type 0} (desc : Described) (db : Db) (first : ℕ) (i room : ℕ) (all : List ℕ) (v : View) (waiting : List WaitingLine) (feed : List ℕ) (left : Option (List ℕ)) (before mid after : Seen)
-    (r : RunsLines desc (first_state db first) i room all v waiting feed left before mid) → PerformsPrefix cut mid after (lines_run desc (lines_run desc (first_state db first) r.read.done).going (raw_lines r.read.rest)).events
-    → PerformsPrefix cut before after (script_events desc db first (raw_lines all))
-unfolding script_events
-runs_part {cut} desc db first i room all v waiting feed left before mid after r part =
-    let g = first_state db first in
-    let e : lines_run desc g (raw_lines all) ≡ lines_before (lines_run desc g r.read.done) (lines_run desc (lines_run desc g r.read.done).going (raw_lines r.read.rest)) = ap (lines_run desc g) r.read.split ∙ run_on desc g r.read.done (raw_lines r.read.rest) r.roomy in
-    part_of_first before after (lines_run desc g (raw_lines all)).events (end_events (someone_works (lines_run desc g (raw_lines all)).going.session.programs) (lines_run desc g (raw_lines all)).going.waiting)
-    (subst (λ (t : List RunEvent). PerformsPrefix cut before after t) (sym (ap (λ (l : LineEffect). l.events) e)) (part_on before mid after (lines_run desc g r.read.done).events (lines_run desc (lines_run desc g r.read.done).going (raw_lines r.read.rest)).events r.ran (run_answered desc g r.read.done r.roomy) part))
-
--- a prefix of what happens at the end
-pub runs_end_part : {cut : Type 0} (desc : Described) (db : Db) (first : ℕ) (i room : ℕ) (all : List ℕ) (v : View) (waiting : List WaitingLine) (feed : List ℕ) (left : Option (List ℕ)) (before mid after : Seen)
-    (r : RunsLines desc (first_state db first) i room all v waiting feed left before mid) → r.read.rest ≡ [] → PerformsPrefix cut mid after (end_events (someone_works v.programs) waiting) → PerformsPrefix cut before after (script_events desc db first (raw_lines all))
-unfolding script_events
-runs_end_part {cut} desc db first i room all v waiting feed left before mid after r none part =
-    let g = first_state db first in
-    let whole : raw_lines all ≡ r.read.done = r.read.split ∙ ap (λ (ls : List (List ℕ)). r.read.done ++ ls) (lines_none r.read.rest none) ∙ append-nil r.read.done in
-    subst (λ (ls : List (List ℕ)). PerformsPrefix cut before after ((script_run desc db first ls).events ++ end_events (someone_works (script_run desc db first ls).going.session.programs) (script_run desc db first ls).going.waiting)) (sym whole)
-    (part_on before mid after (lines_run desc g r.read.done).events (end_events (someone_works (lines_run desc g r.read.done).going.session.programs) (lines_run desc g r.read.done).going.waiting) r.ran (run_answered desc g r.read.done r.roomy)
-    (subst (λ (ps : List Program). PerformsPrefix cut mid after (end_events (someone_works ps) (lines_run desc g r.read.done).going.waiting)) r.stands.programs
-    (subst (λ (hs : List WaitingLine). PerformsPrefix cut mid after (end_events (someone_works v.programs) hs)) r.waiting_is part)))
-
--- a prefix of what a line does is one of what it and those behind it do
-pub line_part : {cut : Type 0} (desc : Described) (g : RunState) (all : List ℕ) (before after : Seen) → all ≢ [] → PerformsPrefix cut before after (line_step desc g (first_line all)).events → PerformsPrefix cut before after (lines_run desc g (raw_lines all)).events
-line_part {cut} desc g all before after some part = at (line_step desc g l).full refl
+-- the events of one line alone
+one_events : (desc : Described) (g : RunState) (l : List ℕ) → (lines_run desc g (l ∷ [])).events ≡ (line_step desc g l).events
+one_events desc g l = at (line_step desc g l).full refl
   where
-    l : List ℕ
-    l = first_line all
+    at : (b : Bool) → (line_step desc g l).full ≡ b → (lines_run desc g (l ∷ [])).events ≡ (line_step desc g l).events
+    at true is = ap (λ (x : LineEffect). x.events) (run_full desc g l [] is)
+    at false is = ap (λ (x : LineEffect). x.events) (run_step desc g l [] is) ∙ ap (λ (x : LineEffect). (line_step desc g l).events ++ x.events) (run_none desc (line_step desc g l).going) ∙ append-nil (line_step desc g l).events
 
-    more : List (List ℕ)
-    more = raw_lines (after_line all)
+module _ (desc : Described) (db : Db) (first i room : ℕ) (all : List ℕ) (v : View) (waiting : List WaitingLine) (feed : List ℕ) (left : Option (List ℕ)) (before mid : Seen) (r : RunsLines desc (first_state db first) i room all v waiting feed left before mid) where
+  -- how the run stands behind the lines that were taken, and what the next one does there
+  abbrev pub going_on : RunState
+  going_on = (lines_run desc (first_state db first) r.read.done).going
 
-    at : (b : Bool) → (line_step desc g l).full ≡ b → PerformsPrefix cut before after (lines_run desc g (raw_lines all)).events
-    at true is = subst (λ (t : List RunEvent). PerformsPrefix cut before after t) (sym (ap (λ (ls : List (List ℕ)). (lines_run desc g ls).events) (lines_step all some) ∙ ap (λ (x : LineEffect). x.events) (run_full desc g l more is))) part
-    at false is = subst (λ (t : List RunEvent). PerformsPrefix cut before after t) (sym (ap (λ (ls : List (List ℕ)). (lines_run desc g ls).events) (lines_step all some) ∙ ap (λ (x : LineEffect). x.events) (run_step desc g l more is)))
-        (part_of_first before after (line_step desc g l).events (lines_run desc (line_step desc g l).going more).events part)
+  abbrev pub next_step : LineEffect
+  next_step = line_step desc going_on (first_line r.read.rest)
+
+  more_events : r.read.rest ≢ [] → front_events desc db first (raw_lines all) (i + 1) ≡ (lines_run desc (first_state db first) r.read.done).events ++ next_step.events
+  more_events some =
+      let l = first_line r.read.rest in
+      ap (λ (ls : List (List ℕ)). (script_run desc db first ls).events) (read_more r.read some)
+      ∙ ap (λ (x : LineEffect). x.events) (run_on desc (first_state db first) r.read.done (l ∷ []) r.roomy)
+      ∙ ap (λ (x : List RunEvent). (lines_run desc (first_state db first) r.read.done).events ++ x) (one_events desc going_on l)
+
+  -- exactly what they do was done
+  pub runs_did : Performs before mid (front_events desc db first (raw_lines all) i)
+  runs_did = ran_as before mid _ _ (sym (done_events desc db first i room all feed left r.read)) r.ran
+
+  -- and what one line more does
+  pub runs_did_more : (after : Seen) → r.read.rest ≢ [] → Performs mid after next_step.events → Performs before after (front_events desc db first (raw_lines all) (i + 1))
+  runs_did_more after some did = ran_as before after _ _ (sym (more_events some)) (ran_on before mid after (lines_run desc (first_state db first) r.read.done).events next_step.events r.ran did)
+
+  -- or a part of that
+  pub runs_part_more : {fate : Fate} (after : Seen) → r.read.rest ≢ [] → PerformsPrefix fate mid after next_step.events → PerformsPrefix fate before after (front_events desc db first (raw_lines all) (i + 1))
+  runs_part_more after some part = part_as before after _ _ (sym (more_events some)) (part_on before mid after (lines_run desc (first_state db first) r.read.done).events next_step.events r.ran (run_answered desc (first_state db first) r.read.done r.roomy) part)
+
+  -- where nothing follows, they are all lines
+  runs_whole : r.read.rest ≡ [] → raw_lines all ≡ r.read.done
+  runs_whole none = r.read.split ∙ ap (λ (rest : List ℕ). r.read.done ++ raw_lines rest) none ∙ append-nil r.read.done
+
+  pub runs_roomy : r.read.rest ≡ [] → (script_run desc db first (raw_lines all)).full ≡ false
+  runs_roomy none = ap (λ (ls : List (List ℕ)). (script_run desc db first ls).full) (runs_whole none) ∙ r.roomy
+
+  pub runs_stands : r.read.rest ≡ [] → StandsFor v (script_run desc db first (raw_lines all)).going.session
+  runs_stands none = subst (λ (ls : List (List ℕ)). StandsFor v (script_run desc db first ls).going.session) (sym (runs_whole none)) r.stands
+
+  pub runs_held : r.read.rest ≡ [] → waiting ≡ (script_run desc db first (raw_lines all)).going.waiting
+  runs_held none = r.waiting_is ∙ ap (λ (ls : List (List ℕ)). (script_run desc db first ls).going.waiting) (sym (runs_whole none))
+
+  pub runs_all : r.read.rest ≡ [] → Performs before mid (script_run desc db first (raw_lines all)).events
+  runs_all none = ran_as before mid _ _ (ap (λ (ls : List (List ℕ)). (script_run desc db first ls).events) (sym (runs_whole none))) r.ran

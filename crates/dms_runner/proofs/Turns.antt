@@ -12,7 +12,7 @@ use Rattle.dms_model.proofs.Rises.{step_small}
 use Rattle.dms_runner.specs.declared.waiting.WaitingLine.{WaitingLine}
 use Rattle.dms_runner.specs.Waiting.{has_line, said_to_wait, RetryEffect, events_before, retry, retries}
 use Rattle.dms_runner.specs.Trying.{PerformsRetry, PerformsRetries}
-use Rattle.dms_runner.specs.Events.{RunEvent, EndsAnswered, Performs, PerformsPrefix}
+use Rattle.dms_runner.specs.Events.{Fate, RunEvent, EndsAnswered, Performs, PerformsPrefix}
 use Rattle.dms_runner.proofs.Exclusive.{retry_exclusive}
 use Rattle.dms_runner.proofs.Answered.{retry_answered}
 use Rattle.dms_runner.proofs.Happening.{answered_on, ran_none, ran_on, part_on, part_of_first}
@@ -129,9 +129,9 @@ retrying_out desc s first turn now v before after k over = from k.left k.fuel k.
     from (suc n) fuel is = absurd (omega (arith, fuel, over))
 
 -- a retry that failed did a prefix of what the retries do
-pub retrying_part : {cut : Type 0} (desc : Described) (s : Session) (first : List WaitingLine) (turn : ℕ) (now : List WaitingLine) (v : View) (before mid after : Seen) (k : Retrying desc s first turn now v before mid)
-    → turn < length first → PerformsPrefix cut mid after (retry desc k.at [] now).events → PerformsPrefix cut before after (retries (length first) desc s first).events
-retrying_part {cut} desc s first turn now v before mid after k more part = from k.left k.fuel k.is
+pub retrying_part : {fate : Fate} (desc : Described) (s : Session) (first : List WaitingLine) (turn : ℕ) (now : List WaitingLine) (v : View) (before mid after : Seen) (k : Retrying desc s first turn now v before mid)
+    → turn < length first → PerformsPrefix fate mid after (retry desc k.at [] now).events → PerformsPrefix fate before after (retries (length first) desc s first).events
+retrying_part {fate} desc s first turn now v before mid after k more part = from k.left k.fuel k.is
   where
     x : RetryEffect
     x = retry desc k.at [] now
@@ -140,11 +140,11 @@ retrying_part {cut} desc s first turn now v before mid after k more part = from 
     rest n true is = (_, ap (λ (y : RetryEffect). y.events) (retries_again n desc k.at now is))
     rest n false is = ([], ap (λ (y : RetryEffect). y.events) (retries_end n desc k.at now is) ∙ sym (append-nil x.events))
 
-    from : (n : ℕ) → n + turn ≡ length first → retries (length first) desc s first ≡ events_before k.events (retries n desc k.at now) → PerformsPrefix cut before after (retries (length first) desc s first).events
+    from : (n : ℕ) → n + turn ≡ length first → retries (length first) desc s first ≡ events_before k.events (retries n desc k.at now) → PerformsPrefix fate before after (retries (length first) desc s first).events
     from zero fuel is = absurd (omega (arith, fuel, more))
     from (suc n) fuel is =
         let r = rest n x.answered refl in
-        subst (λ (t : List RunEvent). PerformsPrefix cut before after t) (sym (ap (λ (y : RetryEffect). y.events) is ∙ ap (λ (t : List RunEvent). k.events ++ t) r.1)) (part_on before mid after k.events (x.events ++ r.0) k.ran k.answered (part_of_first mid after x.events r.0 part))
+        subst (λ (t : List RunEvent). PerformsPrefix fate before after t) (sym (ap (λ (y : RetryEffect). y.events) is ∙ ap (λ (t : List RunEvent). k.events ++ t) r.1)) (part_on before mid after k.events (x.events ++ r.0) k.ran k.answered (part_of_first mid after x.events r.0 part))
 
 -- the same retry over the same list
 pub passes_from : (d e : Described) (s : Session) (l m : List WaitingLine) (v : View) (now : List WaitingLine) (found found' : Option ℕ) (before after : Seen) → d ≡ e → l ≡ m → found ≡ found'
@@ -152,8 +152,8 @@ pub passes_from : (d e : Described) (s : Session) (l m : List WaitingLine) (v : 
 passes_from d e s l m v now found found' before after p q r x =
     subst (λ (o : Option ℕ). PerformsRetry (retry e s [] m) v now o before after) r (subst (λ (k : List WaitingLine). PerformsRetry (retry e s [] k) v now found before after) q (subst (λ (k : Described). PerformsRetry (retry k s [] l) v now found before after) p x))
 
-pub part_from : {cut : Type 0} (d e : Described) (s : Session) (l m : List WaitingLine) (before after : Seen) → d ≡ e → l ≡ m → PerformsPrefix cut before after (retry d s [] l).events → PerformsPrefix cut before after (retry e s [] m).events
-part_from {cut} d e s l m before after p q x = subst (λ (k : List WaitingLine). PerformsPrefix cut before after (retry e s [] k).events) q (subst (λ (k : Described). PerformsPrefix cut before after (retry k s [] l).events) p x)
+pub part_from : {fate : Fate} (d e : Described) (s : Session) (l m : List WaitingLine) (before after : Seen) → d ≡ e → l ≡ m → PerformsPrefix fate before after (retry d s [] l).events → PerformsPrefix fate before after (retry e s [] m).events
+part_from {fate} d e s l m before after p q x = subst (λ (k : List WaitingLine). PerformsPrefix fate before after (retry e s [] k).events) q (subst (λ (k : Described). PerformsPrefix fate before after (retry k s [] l).events) p x)
 
 -- a list of the same length, written back
 pub written : (old new : List WaitingLine) (n : ℕ) → n ≡ length old → length new ≡ length old → take n (new ++ drop (length new) old) ≡ new

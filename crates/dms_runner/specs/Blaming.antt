@@ -1,13 +1,15 @@
 -- What a run leaves of its engine.
-use Rattle.std.specs.Prelude.{◌≡◌, ◌≤◌, OnOk}
+use Rattle.std.specs.Prelude.{◌≡◌, ◌≤◌, OnOk, ⊤}
 use Rattle.std.specs.declared.result.Result.{Result}
 use Rattle.std.specs.declared.result.Result.TheVariants.{Ok, Err}
 use Rattle.dms_block.specs.declared.block_fault.BlockFault.TheVariants.{Say}
 use Rattle.dms_block.specs.Counts.{Faults, Raised}
+use Rattle.dms_block.specs.Faults.{NotFull}
 use Rattle.dms_model.specs.declared.store.Store.{Ghosts}
 use Rattle.dms_model.specs.Points.{StopFiles}
 use Rattle.dms_storeverbs.specs.declared.engine.Engine.{Engine}
 use Rattle.dms_storeverbs.specs.View.{seen}
+use Rattle.dms_runner.specs.Events.{Fate}
 use Rattle.dms_runner.specs.declared.run.RunFault.{RunFault}
 use Rattle.dms_runner.specs.declared.run.RunFault.TheVariants.{Block, Input, Lines, Bytes, Held, Memory}
 
@@ -28,6 +30,19 @@ IsBlamedOn (Err f) a b = HasBlame f a b
 abbrev pub CutRun : {T : Type 0} → Result T RunFault → Type 0
 CutRun (Ok x) = ⊥
 CutRun (Err f) = f ≡ Block Say
+
+-- the run didn't stop since the audit had no room
+abbrev pub HadRoom : {T : Type 0} → Result T RunFault → Type 0
+HadRoom (Ok x) = ⊤
+HadRoom (Err (Block f)) = NotFull {T = Unit {0}} (Err f)
+HadRoom (Err Input) = ⊤
+HadRoom (Err Lines) = ⊤
+HadRoom (Err Bytes) = ⊤
+HadRoom (Err Held) = ⊤
+HadRoom (Err Memory) = ⊤
+
+abbrev pub run_fate : {T : Type 0} → Result T RunFault → Fate
+run_fate result = record { cut = CutRun result; full = HadRoom result → ⊥ }
 
 -- whatever a run does, its engine stays the same one, usable without a fault, and a fault of the store has a cause
 pub record LastsRun {St : Type 0} {g : Ghosts St} {T : Type 0} (result : Result T RunFault) (old new : Engine St g) : Type 0 where

@@ -1,13 +1,16 @@
 -- What a stop within events leaves, told of all of them.
-use Rattle.std.specs.Prelude.{ℕ, ⊤, ◌≡◌, ◌≤◌, ◌<◌, ◌+◌, List, ◌∷◌, ◌++◌, length, take, Some}
+use Rattle.std.specs.Prelude.{ℕ, ⊤, ◌≡◌, ◌≤◌, ◌<◌, ◌+◌, ◌-◌, ◌^◌, true, List, ◌∷◌, ◌++◌, length, take, Some}
 use Rattle.std.specs.declared.option.Option.{Option}
 use Rattle.dms_desc.specs.Shape.{Described}
+use Rattle.dms_desc_bytes.specs.WellFormed.{IsWellFormed}
 use Rattle.dms_model.specs.Db.{Db}
 use Rattle.dms_model.specs.Points.{StopFiles, Point, Stop}
 use Rattle.dms_model.specs.Session.{ended}
+use Rattle.dms_storeverbs.specs.Costs.{limit_if}
 use Rattle.dms_storeverbs.specs.View.{LeavesQuiets}
-use Rattle.dms_runner.specs.Answers.{script_run, left_by}
-use Rattle.dms_runner.specs.Events.{RunEvent, text_of, quiets_of, CrashesWithin}
+use Rattle.dms_runner.specs.Answers.{script_events, script_run, left_by}
+use Rattle.dms_runner.specs.Events.{RunEvent, text_of, quiets_of, blocks_of, syncs_of, backs_of, CrashesWithin}
+use Rattle.dms_runner.specs.Running.{KeepsFront, AreOfFront}
 
 -- these laws ask nothing of the files
 abbrev pub any : StopFiles → Type 0
@@ -45,3 +48,18 @@ NextLaw = (desc : Described) (db : Db) (first : ℕ) (lines : List (List ℕ)) �
 -- the one that the script leaves
 abbrev pub LeftLaw : Type 0
 LeftLaw = (desc : Described) (db : Db) (first : ℕ) (lines : List (List ℕ)) → (ended (script_run desc db first lines).going.session).db ≡ left_by desc db first lines
+
+-- What a script does begins with what is carried out of it.
+abbrev pub FrontLaw : Type 0
+FrontLaw = (desc : Described) (db : Db) (first : ℕ) (lines : List (List ℕ)) (n : ℕ) (events : List RunEvent) → AreOfFront desc db first lines n events → (rest : List RunEvent) × (script_events desc db first lines ≡ events ++ rest)
+
+-- The counts of 64 bits can tell what these events do.
+pub record AreCounted (desc : Described) (events : List RunEvent) : Type 0 where
+  pub blocks : blocks_of desc events + limit_if true desc < 2 ^ 64 - 1
+  pub syncs : syncs_of events + 1 < 2 ^ 64 - 1
+  pub backs : backs_of events + 1 < 2 ^ 64 - 1
+
+-- So it is of what the first so many lines of a script do under a well-formed description.
+abbrev pub CountedLaw : Type 0
+CountedLaw = (desc : Described) → IsWellFormed desc → (db : Db) (first : ℕ) (lines : List (List ℕ)) (n : ℕ) (events : List RunEvent)
+    → KeepsFront lines n → AreOfFront desc db first lines n events → (k : ℕ) → AreCounted desc (take k events)

@@ -1,9 +1,10 @@
 -- What a run does, event by event, and what a stop on the way leaves.
-use Rattle.std.specs.Prelude.{ℕ, ◌≡◌, ◌≤◌, ◌<◌, ◌+◌, ◌⊎◌, Bool, true, false, not, ◌&&◌, is_some, List, [], ◌∷◌, ◌++◌, length, take, Some, None}
+use Rattle.std.specs.Prelude.{ℕ, ◌≡◌, ◌≤◌, ◌<◌, ◌+◌, ◌⊎◌, Bool, true, false, not, ◌&&◌, is_some, List, [], ◌∷◌, ◌++◌, length, take, slice_get, Some, None}
 use Rattle.std.specs.declared.option.Option.{Option}
 use Rattle.std.specs.declared.result.Result.{Result}
 use Rattle.std.specs.declared.result.Result.TheVariants.{Ok, Err}
 use Rattle.dms_block.specs.declared.block_fault.BlockFault.{BlockFault}
+use Rattle.dms_block.specs.Faults.{NotFull}
 use Rattle.dms_block.specs.declared.block_fault.BlockFault.TheVariants.{Say}
 use Rattle.dms_moments.specs.Moments.{Runs}
 use Rattle.dms_model.specs.Points.{StopFiles, Point, Quiet, Stop}
@@ -15,35 +16,40 @@ use Rattle.dms_model.specs.declared.reply.Reply.{Reply}
 use Rattle.dms_model.specs.declared.verb.Verb.{Verb}
 use Rattle.dms_model.specs.Seen.{Effort, Seen}
 use Rattle.dms_model.specs.Session.{Outcome, is_waits}
-use Rattle.dms_storeverbs.specs.Costs.{limit_if, stores}
+use Rattle.dms_storeverbs.specs.Costs.{changes, limit_if, stores}
 use Rattle.dms_storeverbs.specs.View.{PointsGrow, LeavesQuiets}
 use Rattle.dms_laws.specs.Exclusive.{is_done}
 
 -- an event: the quiet points that are made in it, the syncpoint that it takes, and the bytes that are said; whether a record may be stored
--- in it, and whether the database goes back to the last quiet point
+-- in it, whether the database goes back to the last quiet point, and whether the audit may grow
 pub record RunEvent : Type 0 where
   pub quiets : List Quiet
   pub sync : Option ℕ
   pub text : List ℕ
   pub stores : Bool
   pub backs : Bool
+  pub appends : Bool
 
 -- a record may be stored: the verb may store one, and its line doesn't wait
 unfoldable pub may_store : Verb → Reply → Bool
 may_store verb reply = stores verb && not (is_waits reply)
 
--- a verb is called; nothing is said yet. Only an ABORT that is done goes back
+-- a verb is called; nothing is said yet. Only an ABORT that is done goes back, and the audit may grow by STORE, BEGIN, END and ABORT alone
 abbrev pub calls : Verb → Outcome → RunEvent
-calls verb o = record { quiets = o.quiets; sync = o.sync; text = []; stores = may_store verb o.reply; backs = asks_back_out verb && is_done o.reply }
+calls verb o = record { quiets = o.quiets; sync = o.sync; text = []; stores = may_store verb o.reply; backs = asks_back_out verb && is_done o.reply; appends = changes verb }
 
 -- bytes are said; no quiet point is made
 abbrev pub says : List ℕ → RunEvent
-says text = record { quiets = []; sync = None; text = text; stores = false; backs = false }
+says text = record { quiets = []; sync = None; text = text; stores = false; backs = false; appends = false }
+
+-- nothing is done, and nothing said
+abbrev pub pause : RunEvent
+pause = says []
 
 -- the script ends: where a program is in transaction state, the database goes back to the last quiet point; nothing is said, and no quiet point is
 -- made
 abbrev pub goes_back : Bool → RunEvent
-goes_back works = record { quiets = []; sync = None; text = []; stores = false; backs = works }
+goes_back works = record { quiets = []; sync = None; text = []; stores = false; backs = works; appends = works }
 
 -- all that is said
 abbrev pub text_of : List RunEvent → List ℕ
@@ -133,6 +139,14 @@ abbrev pub IsCutShort : {T : Type 0} → Result T BlockFault → Type 0
 IsCutShort (Ok x) = ⊥
 IsCutShort (Err f) = f ≡ Say
 
+-- what an answer tells of the way there: that the last text may have been cut off, and that the audit had no room
+pub record Fate : Type 1 where
+  pub cut : Type 0
+  pub full : Type 0
+
+abbrev pub fate_of : {T : Type 0} → Result T BlockFault → Fate
+fate_of result = record { cut = IsCutShort result; full = NotFull result → ⊥ }
+
 -- told text grew by the whole text of the first so many events
 abbrev pub SaidWhole : Option (List ℕ) → Option (List ℕ) → List RunEvent → Type 0
 SaidWhole old new events = (k : ℕ) × Prints old new (text_of (take k events))
@@ -182,11 +196,20 @@ pub record TookPart (cut : Type 0) (b a : Seen) (events : List RunEvent) : Type 
   pub most : PrintsPrefix b.said a.said (text_of (take k events))
   pub took : TookAll b a (take k events) ⊎ TookOneMore b a whole k events
 
+-- Exactly the text of the first k of these events was said, and behind them one was under way in which the audit may grow.
+pub record IsDue (before after : Option (List ℕ)) (events : List RunEvent) : Type 0 where
+  pub k : ℕ
+  pub at : RunEvent
+  pub is : slice_get events k ≡ Some at
+  pub appends : at.appends ≡ true
+  pub text : Prints before after (text_of (take k events))
+
 -- a prefix of the text of these events was said, that of whole events where no text was cut off, and a stop on the way lies
--- within them. No more was done than that prefix may take. Of what stands afterwards it says nothing else
-pub record PerformsPrefix (cut : Type 0) (b a : Seen) (events : List RunEvent) : Type 0 where
+-- within them. No more was done than that prefix may take. Where the audit had no room, it was to grow. Of what stands afterwards it says nothing else
+pub record PerformsPrefix (fate : Fate) (b a : Seen) (events : List RunEvent) : Type 0 where
   pub text : PrintsPrefix b.said a.said (text_of events)
-  pub said_whole : (cut → ⊥) → SaidWhole b.said a.said events
+  pub said_whole : (fate.cut → ⊥) → SaidWhole b.said a.said events
+  pub due : fate.full → IsDue b.said a.said events
   pub undamaged : IsTold b → a.faults.damaged ≡ b.faults.damaged
   pub moments : b.tells → Runs b.clock a.clock (CrashesFrom b events)
-  pub took : TookPart cut b a events
+  pub took : TookPart fate.cut b a events

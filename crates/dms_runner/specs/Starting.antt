@@ -1,5 +1,5 @@
 -- Where a call starts from, and what it leaves there.
-use Rattle.std.specs.Prelude.{ℕ, ◌≡◌, ◌≢◌, ◌+◌, ◌<◌, ◌≤◌, ◌^◌, List, [], Bool, true, length, take, Some, slice_get}
+use Rattle.std.specs.Prelude.{ℕ, ◌≡◌, ◌≢◌, ◌+◌, ◌<◌, ◌≤◌, ◌^◌, List, [], Bool, true, false, length, take, Some, slice_get, OnOk, IsErrOf}
 use Rattle.std.specs.declared.option.Option.{Option}
 use Rattle.std.specs.declared.result.Result.{Result}
 use Rattle.dms_block.specs.Texts.{Prints}
@@ -15,11 +15,12 @@ use Rattle.dms_storeverbs.specs.declared.engine.Engine.{Engine}
 use Rattle.dms_storeverbs.specs.View.{StandsFor, MayStep, seen, view}
 use Rattle.dms_script.specs.declared.line.Line.{Line}
 use Rattle.dms_runner.specs.declared.waiting.WaitingLine.{WaitingLine}
-use Rattle.dms_runner.specs.Answers.{RunState, LineEffect, MayTakeLine, line_effect, line_step, lines_run, script_events, script_run}
-use Rattle.dms_runner.specs.Events.{RunEvent, IsCutShort, PerformsPrefix, TakesEvents, TookPart, quiets_of}
-use Rattle.dms_runner.specs.Blaming.{CutRun}
+use Rattle.dms_runner.specs.Answers.{RunState, LineEffect, MayTakeLine, line_effect, line_step, script_events, script_run}
+use Rattle.dms_runner.specs.Events.{RunEvent, EndsAnswered, Performs, PerformsPrefix, TakesEvents, fate_of, quiets_of}
+use Rattle.dms_runner.specs.Blaming.{run_fate}
 use Rattle.dms_runner.specs.declared.run.RunFault.{RunFault}
-use Rattle.dms_runner.specs.Running.{AnswersWhole, CutInput, PassesBytes, PassesLines, PassesWaiting}
+use Rattle.dms_runner.specs.declared.run.RunFault.TheVariants.{Lines, Bytes, Held, Input}
+use Rattle.dms_runner.specs.Running.{AnswersWhole, AreExactly, AreOfFront, CutInput, FitsScript, KeepsFront, PassesBytes, PassesLines, PassesWaiting}
 use Rattle.dms_runner.specs.Trying.{MatchesLine, PerformsRetries, PerformsRetry, PerformsTry}
 use Rattle.dms_runner.specs.Waiting.{RetryEffect, retries}
 
@@ -84,15 +85,12 @@ module _ {St : Type 0} {g : Ghosts St} where
   abbrev pub LineTaken : Engine St g → Engine St g → List WaitingLine → Bool → LineEffect → Type 0
   LineTaken old new waiting on effect = MatchesLine effect on (view new) waiting (seen old) (seen new)
 
-  -- what a line leaves and does, by what it says or by its bytes, and what the lines of an input do
+  -- what a line leaves and does, by what it says or by its bytes
   abbrev pub effect_at : Engine St g → RunState → Line → LineEffect
   effect_at e now line = line_effect (described e.desc) now line
 
   abbrev pub step_at : Engine St g → RunState → List ℕ → LineEffect
   step_at e now raw = line_step (described e.desc) now raw
-
-  abbrev pub lines_at : Engine St g → RunState → List ℕ → LineEffect
-  lines_at e now all = lines_run (described e.desc) now (raw_lines all)
 
   -- the first line of the input was taken, and there was room to hold it where it waits
   abbrev pub LineOfInputTaken : Engine St g → Engine St g → List WaitingLine → RunState → List ℕ → Type 0
@@ -100,15 +98,25 @@ module _ {St : Type 0} {g : Ghosts St} where
 
   -- a prefix of these events happened
   abbrev pub PartHappened : {T : Type 0} → Result T BlockFault → Engine St g → Engine St g → List RunEvent → Type 0
-  PartHappened result old new events = PerformsPrefix (IsCutShort result) (seen old) (seen new) events
+  PartHappened result old new events = PerformsPrefix (fate_of result) (seen old) (seen new) events
 
-  -- a prefix of these events happened in a run
+  -- in a run
   abbrev pub RunPart : {T : Type 0} → Result T RunFault → Engine St g → Engine St g → List RunEvent → Type 0
-  RunPart result old new events = PerformsPrefix (CutRun result) (seen old) (seen new) events
+  RunPart result old new events = PerformsPrefix (run_fate result) (seen old) (seen new) events
 
-  -- nothing was said; the first line of the input would be one too many to hold, and keeps the limit of bytes
-  abbrev pub HeldTooMany : Engine St g → Engine St g → RunState → List ℕ → ℕ → Type 0
-  HeldTooMany old new now all room = Prints (seen old).said (seen new).said [] × (all ≢ []) × ((step_at old now (first_line all)).full ≡ true) × (length (first_line all) ≤ room)
+  -- a prefix happened of what the first line of the input does, which keeps the limit of bytes
+  pub record LinePart {T : Type 0} (result : Result T RunFault) (old new : Engine St g) (room : ℕ) (now : RunState) (all : List ℕ) : Type 0 where
+    pub some : all ≢ []
+    pub fits : length (first_line all) ≤ room
+    pub part : RunPart result old new (step_at old now (first_line all)).events
+
+  -- nothing was said; the first line of the input would be one too many to hold, and keeps the limit of bytes, and only what its first try does was done
+  pub record HeldTooMany (old new : Engine St g) (room : ℕ) (now : RunState) (all : List ℕ) : Type 0 where
+    pub said : Prints (seen old).said (seen new).said []
+    pub some : all ≢ []
+    pub full : (step_at old now (first_line all)).full ≡ true
+    pub fits : length (first_line all) ≤ room
+    pub did : Performs (seen old) (seen new) (step_at old now (first_line all)).events
 
   -- the answers of the whole script were said
   abbrev pub AnswersAll : Engine St g → Engine St g → Db → ℕ → List ℕ → Type 0
@@ -135,12 +143,39 @@ module _ {St : Type 0} {g : Ghosts St} where
   abbrev pub StopsAtInput : Option (List ℕ) → Engine St g → Engine St g → Db → ℕ → List ℕ → Type 0
   StopsAtInput left old new db first all = CutInput (described old.desc) db first all left (seen old).said (seen new).said
 
-  -- no more was done than the events of the script may take, or than the first ones may take whose text was said, with one call under way at most
+  -- exactly what the first m lines do was done
+  pub record DoesExactly (old new : Engine St g) (db : Db) (first : ℕ) (all : List ℕ) (n : ℕ) (events : List RunEvent) (m : ℕ) : Type 0 where
+    pub are : AreExactly (described old.desc) db first (raw_lines all) n events m
+    pub did : Performs (seen old) (seen new) events
+
+  -- So much of the script that an input has was carried out: a prefix of what its first n lines do, which keep its limits, or, where they are all, of
+  -- what it does to its end. Where the run stopped at a limit, or since the input failed, exactly what the lines before do was done; of a line that
+  -- is one too many to hold its first try, which waits, too.
+  pub record CarriesOut {T : Type 0} (result : Result T RunFault) (left : Option (List ℕ)) (old new : Engine St g) (db : Db) (first : ℕ) (all : List ℕ) : Type 0 where
+    pub n : ℕ
+    pub events : List RunEvent
+    pub front : KeepsFront (raw_lines all) n
+    pub are : AreOfFront (described old.desc) db first (raw_lines all) n events
+    pub part : RunPart result old new events
+    pub whole : OnOk result (events ≡ events_at old db first all)
+    pub lines : IsErrOf result Lines → StopsAtLines old new db first all × DoesExactly old new db first all n events 1000000
+    pub bytes : IsErrOf result Bytes → (p : StopsAtBytes old new db first all) × DoesExactly old new db first all n events p.n
+    pub full_list : IsErrOf result Held → (p : StopsAtWaiting old new db first all) × DoesExactly old new db first all n events (p.n + 1)
+    pub failed : IsErrOf result Input → (p : StopsAtInput left old new db first all) × DoesExactly old new db first all n events p.n
+
+  -- all lines of the script were taken, and it wasn't ended yet: these lines are held, and there is a number for one quiet point more
+  pub record TakesAll (old new : Engine St g) (waiting : List WaitingLine) (db : Db) (first : ℕ) (all : List ℕ) : Type 0 where
+    pub fits : FitsScript all
+    pub roomy : (script_run (described old.desc) db first (raw_lines all)).full ≡ false
+    pub stands : StandsFor (view new) (script_run (described old.desc) db first (raw_lines all)).going.session
+    pub waiting_is : waiting ≡ (script_run (described old.desc) db first (raw_lines all)).going.waiting
+    pub ran : Performs (seen old) (seen new) (script_run (described old.desc) db first (raw_lines all)).events
+    pub answered : EndsAnswered (script_run (described old.desc) db first (raw_lines all)).events
+    pub room : (seen new).next + 1 < 2 ^ 64
+
+  -- no more was done than the events of the script may take
   abbrev pub EffortWithin : Engine St g → Engine St g → Db → ℕ → List ℕ → Type 0
   EffortWithin old new db first all = TakesEvents (seen old).desc (events_at old db first all) (seen old).effort (seen new).effort
-
-  abbrev pub EffortOfPart : {T : Type 0} → Result T RunFault → Engine St g → Engine St g → Db → ℕ → List ℕ → Type 0
-  EffortOfPart result old new db first all = TookPart (CutRun result) (seen old) (seen new) (events_at old db first all)
 
   -- each quiet point of the script has used one number, and nothing else has
   abbrev pub UsesNumbers : Engine St g → Engine St g → Db → ℕ → List ℕ → Type 0

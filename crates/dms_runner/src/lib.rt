@@ -8,7 +8,7 @@ mod run;
 mod saying;
 mod waiting;
 
-pub use laws::{left_law, next_law, point_law, sync_law, whole_law};
+pub use laws::{counted_law, front_law, left_law, next_law, point_law, sync_law, whole_law};
 pub use lines::WAITING_LINES;
 pub use run::{RunFault, SCRIPT_BYTES, SCRIPT_LINES, run_lines};
 pub use waiting::WaitingLine;

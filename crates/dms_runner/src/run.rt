@@ -1,18 +1,18 @@
-ghost use Rattle.std.specs.Prelude.{◌≡◌, ◌≢◌, ◌≤◌, ◌<◌, ◌+◌, ◌^◌, [], ℕ, List, true, false, IfOk, OnOk, IsErrOf, length, IsTrue};
+ghost use Rattle.std.specs.Prelude.{◌≡◌, ◌≢◌, ◌≤◌, ◌<◌, ◌+◌, ◌^◌, ◌⊎◌, [], ℕ, List, true, IfOk, OnOk, IsErr, IsErrOf, length};
 ghost use Rattle.dms_block.specs.declared.block_fault.BlockFault.{BlockFault as Fault};
 ghost use Rattle.dms_base.specs.Causes.{Rose};
 ghost use Rattle.dms_desc.specs.Shape.{described};
 ghost use Rattle.dms_feed.specs.Feeds.{Remains};
 ghost use Rattle.dms_feed.specs.Lines.{first_line};
-ghost use Rattle.dms_feed.specs.Raws.{CutLine};
+ghost use Rattle.dms_feed.specs.Raws.{CutLine, IsUnended, has_end};
 ghost use Rattle.dms_block.specs.Texts.{Prints, PrintsPrefix};
 ghost use Rattle.dms_model.specs.Session.{Session, ended, someone_works};
 ghost use Rattle.dms_storeverbs.specs.View.{EngineLasts, SameSession, StandsFor, seen, view};
-ghost use Rattle.dms_runner.specs.Events.{text_of, IsCutShort, Performs, PerformsPrefix};
+ghost use Rattle.dms_runner.specs.Events.{text_of, Performs, PerformsPrefix, fate_of};
 ghost use Rattle.dms_runner.specs.Answers.{unanswered_events, end_events};
 ghost use Rattle.dms_runner.specs.Waiting.{AreVerbs};
-ghost use Rattle.dms_runner.specs.Starting.{AnswersAll, AtInput, AtStart, HeldTooMany, InputEnds, LineOfInputTaken, OnInput, RunPart, StandsAtEnd, StopsAtBytes, StopsAtInput, StopsAtLines, StopsAtWaiting, events_at, lines_at};
-ghost use Rattle.dms_runner.specs.Blaming.{CutRun, LastsRun};
+ghost use Rattle.dms_runner.specs.Starting.{AnswersAll, AtInput, AtStart, CarriesOut, HeldTooMany, InputEnds, LineOfInputTaken, LinePart, OnInput, StandsAtEnd, TakesAll, events_at};
+ghost use Rattle.dms_runner.specs.Blaming.{LastsRun, run_fate};
 ghost use Rattle.dms_runner.specs.Running.{FitsScript, HasTooManyBytes, HasTooManyLines, InputBreaks, TakesRawLine};
 
 use crate::WaitingLine;
@@ -60,7 +60,7 @@ fn say_waiting<St: Store>(
     ensures text { OnOk result (Prints (seen engine.old).said (seen engine.new).said (text_of (unanswered_events waiting.now))) }
     ensures front { PrintsPrefix (seen engine.old).said (seen engine.new).said (text_of (unanswered_events waiting.now)) }
     ensures ran { OnOk result ((seen engine.old).next + 1 < 2 ^ 64 → Performs (seen engine.old) (seen engine.new) (unanswered_events waiting.now)) }
-    ensures part { (seen engine.old).next + 1 < 2 ^ 64 → PerformsPrefix (IsCutShort result) (seen engine.old) (seen engine.new) (unanswered_events waiting.now) }
+    ensures part { (seen engine.old).next + 1 < 2 ^ 64 → PerformsPrefix (fate_of result) (seen engine.old) (seen engine.new) (unanswered_events waiting.now) }
     ensures number { (seen engine.new).next ≡ (seen engine.old).next }
     ensures programs { engine.new.programs ≡ engine.old.programs }
     ensures stands { OnOk result (SameSession engine.old engine.new) }
@@ -84,7 +84,7 @@ fn end_run<St: Store>(
     ensures text { OnOk result (Prints (seen engine.old).said (seen engine.new).said (text_of (unanswered_events waiting.now))) }
     ensures front { PrintsPrefix (seen engine.old).said (seen engine.new).said (text_of (unanswered_events waiting.now)) }
     ensures ran { OnOk result ((seen engine.old).next + 1 < 2 ^ 64 → Performs (seen engine.old) (seen engine.new) (end_events (someone_works engine.old.programs.items) waiting.now)) }
-    ensures part { (seen engine.old).next + 1 < 2 ^ 64 → PerformsPrefix (CutRun result) (seen engine.old) (seen engine.new) (end_events (someone_works engine.old.programs.items) waiting.now) }
+    ensures part { (seen engine.old).next + 1 < 2 ^ 64 → PerformsPrefix (run_fate result) (seen engine.old) (seen engine.new) (end_events (someone_works engine.old.programs.items) waiting.now) }
     ensures ended { OnOk result ((s : Session) → StandsFor (view engine.old) s → StandsFor (view engine.new) (ended s)) }
     ensures limits { (IsErrOf result RunFault.Lines → ⊥) × (IsErrOf result RunFault.Bytes → ⊥) × (IsErrOf result RunFault.Held → ⊥) }
     ensures lasts { LastsRun result engine.old engine.new }
@@ -99,8 +99,15 @@ fn end_run<St: Store>(
     }
 }
 
-/// Takes the next line, where there is one, and answers whether there was. At most `room` bytes of the input are its own;
-/// what it has is taken from them.
+/// What was taken of an input: a line with its line feed, the last line without one, or nothing, at its end.
+#[derive(Clone, Copy, Debug, PartialEq, Eq)]
+enum TakenLine {
+    Ended,
+    Last,
+    Nothing,
+}
+
+/// Takes the next line, where there is one. At most `room` bytes of the input are its own; what it has is taken from them.
 fn one_line<St: Store, I: Source>(
     alloc: Global,
     engine: &mut Engine<St>,
@@ -109,19 +116,22 @@ fn one_line<St: Store, I: Source>(
     waiting: &mut Vec<WaitingLine>,
     line: u32,
     room: &mut u64,
-) -> Result<bool, RunFault>
+) -> Result<TakenLine, RunFault>
     requires sound { (seen engine.old).sound }
     requires verbs { AreVerbs (described engine.old.desc) waiting.old.items }
     requires room { room.old ≤ 2147483648 }
     requires line { line < 4294967295 }
-    ensures read { IfOk result (λ more. more ≡ true → OnInput feed.old (I.left source.old) (TakesRawLine room.old room.new feed.new (I.left source.new))) }
-    ensures took { IfOk result (λ more. more ≡ true → AtInput engine.old waiting.old.items line feed.old (I.left source.old) (LineOfInputTaken engine.old engine.new waiting.new.items)) }
-    ensures none { IfOk result (λ more. more ≡ false → (engine.new ≡ engine.old) × (waiting.new ≡ waiting.old) × InputEnds feed.old (I.left source.old) feed.new (I.left source.new)) }
-    ensures part { AtInput engine.old waiting.old.items line feed.old (I.left source.old) (λ g all. RunPart result engine.old engine.new (lines_at engine.old g all).events) }
-    ensures bytes { IsErrOf result RunFault.Bytes → ((seen engine.new).said ≡ (seen engine.old).said) × OnInput feed.old (I.left source.old) (λ all. room.old < length (first_line all)) }
-    ensures full_list { IsErrOf result RunFault.Held → AtInput engine.old waiting.old.items line feed.old (I.left source.old) (λ g all. HeldTooMany engine.old engine.new g all room.old) }
+    ensures read { IfOk result (λ t. t ≢ TakenLine.Nothing → OnInput feed.old (I.left source.old) (TakesRawLine room.old room.new feed.new (I.left source.new))) }
+    ensures took { IfOk result (λ t. t ≢ TakenLine.Nothing → AtInput engine.old waiting.old.items line feed.old (I.left source.old) (LineOfInputTaken engine.old engine.new waiting.new.items)) }
+    ensures ended { IfOk result (λ t. t ≡ TakenLine.Ended → OnInput feed.old (I.left source.old) (λ all. has_end (first_line all) ≡ true)) }
+    ensures last { IfOk result (λ t. t ≡ TakenLine.Last → OnInput feed.old (I.left source.old) (λ all. IsUnended (first_line all))) }
+    ensures none { IfOk result (λ t. t ≡ TakenLine.Nothing → (engine.new ≡ engine.old) × (waiting.new ≡ waiting.old) × InputEnds feed.old (I.left source.old) feed.new (I.left source.new)) }
+    ensures part { (f : Fault) → IsErrOf result (RunFault.Block f) → AtInput engine.old waiting.old.items line feed.old (I.left source.old) (LinePart result engine.old engine.new room.old) }
+    ensures untouched { (IsErrOf result RunFault.Input ⊎ (IsErrOf result RunFault.Memory ⊎ IsErrOf result RunFault.Bytes)) → engine.new ≡ engine.old }
+    ensures bytes { IsErrOf result RunFault.Bytes → OnInput feed.old (I.left source.old) (λ all. room.old < length (first_line all)) }
+    ensures full_list { IsErrOf result RunFault.Held → AtInput engine.old waiting.old.items line feed.old (I.left source.old) (HeldTooMany engine.old engine.new room.old) }
     ensures no_lines { IsErrOf result RunFault.Lines → ⊥ }
-    ensures failed { IsErrOf result RunFault.Input → ((seen engine.new).said ≡ (seen engine.old).said) × OnInput feed.old (I.left source.old) (CutLine room.old (I.left source.new)) }
+    ensures failed { IsErrOf result RunFault.Input → OnInput feed.old (I.left source.old) (CutLine room.old (I.left source.new)) }
     ensures rest { OnOk result ((all : List ℕ) → Remains feed.old (I.left source.old) all → (rest : List ℕ) × Remains feed.new (I.left source.new) rest) }
     ensures verbs { OnOk result (AreVerbs (described engine.old.desc) waiting.new.items) }
     ensures lasts { LastsRun result engine.old engine.new }
@@ -136,11 +146,17 @@ fn one_line<St: Store, I: Source>(
         Err(RawFault::Input) => Err(RunFault::Input),
         Err(RawFault::Memory) => Err(RunFault::Memory),
         Err(RawFault::Bytes) => Err(RunFault::Bytes),
-        Ok(None) => Ok(false),
+        Ok(None) => Ok(TakenLine::Nothing),
         Ok(Some(raw)) => {
             *room = room.saturating_sub(raw.length);
             match take_line(alloc, engine, waiting, line + 1, raw.kept.as_slice()) {
-                Ok(true) => Ok(true),
+                Ok(true) => {
+                    if raw.ended {
+                        Ok(TakenLine::Ended)
+                    } else {
+                        Ok(TakenLine::Last)
+                    }
+                }
                 Ok(false) => Err(RunFault::Held),
                 Err(fault) => Err(RunFault::Block(fault)),
             }
@@ -170,6 +186,43 @@ fn after_last<I: Source>(alloc: Global, feed: &mut Feed, source: &mut I) -> Resu
     }
 }
 
+/// Takes the lines that a feed and its source have left, up to the input's end, and prints what they answer. Behind a last line without a line
+/// feed nothing more is taken from the source.
+fn take_lines<St: Store, I: Source>(
+    alloc: Global,
+    engine: &mut Engine<St>,
+    feed: &mut Feed,
+    source: &mut I,
+    waiting: &mut Vec<WaitingLine>,
+) -> Result<(), RunFault>
+    requires sound { (seen engine.old).sound }
+    requires none { waiting.old.items ≡ [] }
+    ensures all { OnOk result (AtStart engine.old feed.old (I.left source.old) (TakesAll engine.old engine.new waiting.new.items)) }
+    ensures stops { IsErr result → AtStart engine.old feed.old (I.left source.old) (CarriesOut result (I.left source.new) engine.old engine.new) }
+    ensures fits { OnOk result (OnInput feed.old (I.left source.old) FitsScript) }
+    ensures too_many_lines { IsErrOf result RunFault.Lines → OnInput feed.old (I.left source.old) HasTooManyLines }
+    ensures too_many_bytes { IsErrOf result RunFault.Bytes → OnInput feed.old (I.left source.old) HasTooManyBytes }
+    ensures breaks { IsErrOf result RunFault.Input → OnInput feed.old (I.left source.old) (InputBreaks (I.left source.new)) }
+    ensures lasts { LastsRun result engine.old engine.new }
+    ensures end { OnOk result ((all : List ℕ) → Remains feed.old (I.left source.old) all → Remains feed.new (I.left source.new) []) }
+    ensures same_source { I.same_source source.old source.new }
+    ensures taken { I.faults source.old ≤ I.faults source.new }
+    ensures input { IsErrOf result RunFault.Input → Rose (I.faults source.old) (I.faults source.new) }
+    ensures once { I.faults source.new ≤ I.faults source.old + 1 }
+    ensures clean { (IsErrOf result RunFault.Input → ⊥) → I.faults source.new ≡ I.faults source.old }
+{
+    let mut room = SCRIPT_BYTES;
+    for line in 0..SCRIPT_LINES {
+        match one_line(alloc, engine, feed, source, waiting, line, &mut room) {
+            Err(fault) => return Err(fault),
+            Ok(TakenLine::Ended) => {}
+            Ok(TakenLine::Last) => return Ok(()),
+            Ok(TakenLine::Nothing) => return Ok(()),
+        }
+    }
+    after_last(alloc, feed, source)
+}
+
 /// Runs the lines that a feed and its source have left, and prints what they answer. At the end each
 /// line that is still held is answered, and the database goes back to the last quiet point where a
 /// program is in transaction state. Where taking from the source fails, the whole lines before that place are answered, and no
@@ -182,13 +235,9 @@ pub fn run_lines<St: Store, I: Source>(
 ) -> Result<(), RunFault>
     requires sound { (seen engine.old).sound }
     ensures answers { OnOk result (AtStart engine.old feed.old (I.left source.old) (AnswersAll engine.old engine.new)) }
-    ensures part { AtStart engine.old feed.old (I.left source.old) (λ db first all. RunPart result engine.old engine.new (events_at engine.old db first all)) }
     ensures ran { OnOk result (AtStart engine.old feed.old (I.left source.old) (λ db first all. Performs (seen engine.old) (seen engine.new) (events_at engine.old db first all))) }
     ensures ended { OnOk result (AtStart engine.old feed.old (I.left source.old) (StandsAtEnd engine.old engine.new)) }
-    ensures lines { IsErrOf result RunFault.Lines → AtStart engine.old feed.old (I.left source.old) (StopsAtLines engine.old engine.new) }
-    ensures bytes { IsErrOf result RunFault.Bytes → AtStart engine.old feed.old (I.left source.old) (StopsAtBytes engine.old engine.new) }
-    ensures full_list { IsErrOf result RunFault.Held → AtStart engine.old feed.old (I.left source.old) (StopsAtWaiting engine.old engine.new) }
-    ensures failed { IsErrOf result RunFault.Input → AtStart engine.old feed.old (I.left source.old) (StopsAtInput (I.left source.new) engine.old engine.new) }
+    ensures carried { AtStart engine.old feed.old (I.left source.old) (CarriesOut result (I.left source.new) engine.old engine.new) }
     ensures fits { OnOk result (OnInput feed.old (I.left source.old) FitsScript) }
     ensures too_many_lines { IsErrOf result RunFault.Lines → OnInput feed.old (I.left source.old) HasTooManyLines }
     ensures too_many_bytes { IsErrOf result RunFault.Bytes → OnInput feed.old (I.left source.old) HasTooManyBytes }
@@ -202,17 +251,8 @@ pub fn run_lines<St: Store, I: Source>(
     ensures clean { (IsErrOf result RunFault.Input → ⊥) → I.faults source.new ≡ I.faults source.old }
 {
     let mut waiting: Vec<WaitingLine> = Vec::new(alloc);
-    let mut room = SCRIPT_BYTES;
-    for line in 0..SCRIPT_LINES {
-        match one_line(alloc, engine, feed, source, &mut waiting, line, &mut room) {
-            Err(fault) => return Err(fault),
-            Ok(true) => {}
-            Ok(false) => return end_run(alloc, engine, waiting.as_slice()),
-        }
+    match take_lines(alloc, engine, feed, source, &mut waiting) {
+        Err(fault) => Err(fault),
+        Ok(()) => end_run(alloc, engine, waiting.as_slice()),
     }
-    match after_last(alloc, feed, source) {
-        Err(fault) => return Err(fault),
-        Ok(()) => {}
-    }
-    end_run(alloc, engine, waiting.as_slice())
 }

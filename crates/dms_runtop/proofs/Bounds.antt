@@ -1,5 +1,5 @@
 -- How much audit a run takes, step by step.
-use Rattle.std.proofs.Common.{ℕ, zero, suc, ◌+◌, ◌-◌, ◌*◌, ◌^◌, ◌<◌, ◌≤◌, ◌≡◌, ◌⊎◌, ◌∙◌, inl, inr, false, true, IsTrue, List, [], ◌++◌, length, take, Option, Some, sym, ap, subst, arith}
+use Rattle.std.proofs.Common.{ℕ, zero, suc, ◌+◌, ◌-◌, ◌*◌, ◌^◌, ◌<◌, ◌≤◌, ◌≡◌, ◌⊎◌, ◌∙◌, inl, inr, false, true, IsTrue, List, [], ◌++◌, length, take, Option, Some, refl, sym, ap, subst, arith}
 use Rattle.std.proofs.lemmas.List.{append-nil, take_all}
 use Rattle.dms_block.specs.declared.block_fault.BlockFault.TheVariants as block
 use Rattle.dms_block.specs.Texts.{Prints, PrintsPrefix}
@@ -7,8 +7,10 @@ use Rattle.dms_desc.specs.Shape.{Described}
 use Rattle.dms_history.specs.Entries.{Entry}
 use Rattle.dms_history.proofs.Order.{append_none}
 use Rattle.dms_model.specs.Seen.{Effort, Seen}
+use Rattle.dms_runner.specs.EventLaws.{AreCounted}
 use Rattle.dms_runner.specs.Events.{RunEvent, SaidAtLeast, TakesEvents, TookAll, TookOneMore, TookPart, backs_of, blocks_of, quiets_of, syncs_of, text_of}
 use Rattle.dms_runner.specs.declared.run.RunFault.{RunFault}
+use Rattle.dms_runner.specs.declared.run.RunFault.TheVariants as run
 use Rattle.dms_runner.specs.declared.run.RunFault.TheVariants.{Block}
 use Rattle.dms_runner.proofs.Texts.{front_all, front_none, prints_none}
 use Rattle.dms_running.specs.Telling.{Telling}
@@ -17,15 +19,17 @@ use Rattle.dms_restore.specs.Views.{view_of}
 use Rattle.dms_site.specs.declared.site.Site.{Ghosts}
 use Rattle.dms_site.specs.Files.{Files}
 use Rattle.dms_status.specs.declared.status.Status.{Status}
-use Rattle.dms_status.specs.declared.status.Status.TheVariants.{Ok, SayFault}
+use Rattle.dms_status.specs.declared.status.LimitKind.TheVariants.{AuditFile, Lines, Bytes, Held}
+use Rattle.dms_status.specs.declared.status.Status.TheVariants.{Ok, BadWords, SchemaRefused, NoDatabase, Needed, InputFault, Memory, Limit, Damaged, SayFault, DiskFault, Exists}
 use Rattle.dms_storeverbs.specs.Costs.{limit_if}
 use Rattle.dms_wal.specs.declared.running.Running.{Running}
 use Rattle.dms_wal.specs.Controls.{is_due_at}
 use Rattle.dms_wal.specs.Growing.{GrowsBy, IsCounted, controls_among}
 use Rattle.dms_wal.proofs.Grown.{stays_or_rises}
-use Rattle.dms_runtop.specs.Bound.{AreCounted, BoundsAudit, GrewWithin, PrintsEvents, audit_begun, audit_of}
+use Rattle.dms_runtop.specs.Bound.{BoundsAudit, GrewWithin, PrintsEvents, StopsAtLine, audit_begun, audit_of, closing_of}
 use Rattle.dms_runtop.specs.Faults.{IsWithin, run_status}
-use Rattle.dms_runtop.proofs.Endings.{run_not_ok}
+use Rattle.dms_runtop.specs.Statuses.{IsOfClosing}
+use Rattle.dms_runtop.proofs.Endings.{run_not_ok, run_input, run_lines_is, run_bytes_is, run_held_is}
 
 -- ---- the text
 
@@ -65,6 +69,40 @@ says_same {k = k} {events = events} {x = x} same p = record {
   most = subst (λ (o : Option (List ℕ)). PrintsPrefix x o (text_of (take k events))) (sym same) p.most;
 }
 
+-- ---- the close
+
+-- none is made where the script stopped at a line
+pub closes_none : (s : Status) → StopsAtLine s → closing_of s ≡ 0
+closes_none s (inl is) = ap closing_of is
+closes_none s (inr (inl is)) = ap closing_of is
+closes_none s (inr (inr (inl is))) = ap closing_of is
+closes_none s (inr (inr (inr is))) = ap closing_of is
+
+pub closes_not : (s : Status) → closing_of s ≡ 18 → StopsAtLine s → ⊥
+closes_not s closing at = omega (arith, closing, closes_none s at)
+
+-- one was begun
+closes_of : (s : Status) → IsOfClosing s → closing_of s ≡ 18
+closes_of Ok of = absurd of
+closes_of BadWords of = absurd of
+closes_of (SchemaRefused f) of = absurd of
+closes_of NoDatabase of = absurd of
+closes_of (Needed n) of = absurd of
+closes_of InputFault of = absurd of
+closes_of Memory of = refl
+closes_of (Limit (AuditFile f)) of = refl
+closes_of (Limit Lines) of = absurd of
+closes_of (Limit Bytes) of = absurd of
+closes_of (Limit Held) of = absurd of
+closes_of (Damaged f b) of = absurd of
+closes_of SayFault of = absurd of
+closes_of DiskFault of = refl
+closes_of Exists of = absurd of
+
+pub closes : (s : Status) → (s ≡ Ok) ⊎ IsOfClosing s → closing_of s ≡ 18
+closes s (inl ok) = ap closing_of ok
+closes s (inr of) = closes_of s of
+
 -- ---- what was done before, and what is done since
 
 -- a part is as much of what the files of an earlier moment hold, where no more was added since than is allowed besides
@@ -74,27 +112,31 @@ grew_since n m t desc whole k events a0 a b grew (inr more) = inr (more.0, omega
 
 pub bounds_since : {n m : ℕ} {t : Telling} {desc : Described} {events : List RunEvent} {a0 a b : Files} {x y : Option (List ℕ)} {s : Status} → length (t.entries a) + n ≤ length (t.entries a0) + m → BoundsAudit n t desc events a b x y s
     → BoundsAudit m t desc events a0 b x y s
-bounds_since {n} {m} {t} {desc} {events} {a0} {a} {b} grew bound = record {
-  at_ok = λ is c. omega (arith, grew, bound.at_ok is c);
+bounds_since {n} {m} {t} {desc} {events} {a0} {a} {b} {s = s} grew bound = record {
+  at_ok = λ is. omega (arith, grew, bound.at_ok is);
+  at_line = λ at. omega (arith, grew, bound.at_line at);
   at_end =
       let p = bound.at_end in
-      let more : length (t.entries a) + (n + 18) ≤ length (t.entries a0) + (m + 18) = omega (arith, grew) in
-      record { k = p.k; within = p.within; printed = p.printed; grew = λ c. grew_since (n + 18) (m + 18) t desc p.printed.whole p.k events a0 a b more (p.grew c) };
+      let more : length (t.entries a) + (n + closing_of s) ≤ length (t.entries a0) + (m + closing_of s) = omega (arith, grew) in
+      record { k = p.k; within = p.within; printed = p.printed; grew = grew_since (n + closing_of s) (m + closing_of s) t desc p.printed.whole p.k events a0 a b more p.grew };
 }
 
 -- so it is where the run ends with another status, and nothing was done since
-pub bounds_instead : {n : ℕ} {t : Telling} {desc : Described} {events : List RunEvent} {a b c : Files} {x y z : Option (List ℕ)} (s0 s : Status) → (s0 ≡ SayFault → ⊥) → (s ≡ Ok → ⊥) → c ≡ b → z ≡ y
+pub bounds_instead : {n : ℕ} {t : Telling} {desc : Described} {events : List RunEvent} {a b c : Files} {x y z : Option (List ℕ)} (s0 s : Status) → (s0 ≡ SayFault → ⊥) → (s ≡ Ok → ⊥) → closing_of s0 ≤ closing_of s → (StopsAtLine s → ⊥) → c ≡ b → z ≡ y
     → BoundsAudit n t desc events a b x y s0 → BoundsAudit n t desc events a c x z s
 unfolding says_same says_uncut
-bounds_instead {n} {t} {desc} {events} {a} {x = x} s0 s unsaid not_ok files said bound = record {
+bounds_instead {n} {t} {desc} {events} {a} {b} {x = x} s0 s unsaid not_ok closing not_line files said bound = record {
   at_ok = λ is. absurd (not_ok is);
+  at_line = λ at. absurd (not_line at);
   at_end =
       let q = bound.at_end in
+      let more : length (t.entries a) + (n + closing_of s0) ≤ length (t.entries a) + (n + closing_of s) = omega (arith, closing) in
       record {
         k = q.k;
         within = q.within;
         printed = says_same said (says_uncut (λ other cut. unsaid cut) q.printed);
-        grew = λ counted. subst (λ (f : Files). GrewWithin (n + 18) t desc q.printed.whole q.k events a f) (sym files) (q.grew counted);
+        grew = subst (λ (f : Files). GrewWithin (n + closing_of s) t desc q.printed.whole q.k events a f) (sym files)
+            (grew_since (n + closing_of s0) (n + closing_of s) t desc q.printed.whole q.k events a a b more q.grew);
       };
 }
 
@@ -102,7 +144,8 @@ bounds_instead {n} {t} {desc} {events} {a} {x = x} s0 s unsaid not_ok files said
 pub bounds_opening : {n : ℕ} {t : Telling} {desc : Described} {events : List RunEvent} {a b : Files} {x y : Option (List ℕ)} (s : Status) → (s ≡ Ok → ⊥) → length (t.entries b) ≤ length (t.entries a) + n → y ≡ x → BoundsAudit n t desc events a b x y s
 bounds_opening {events = events} {x = x} {y = y} s not_ok few same = record {
   at_ok = λ is. absurd (not_ok is);
-  at_end = record { k = 0; within = omega arith; printed = says_none (s ≡ SayFault) events x y same; grew = λ c. inl (omega (arith, few)) };
+  at_line = λ at. omega (arith, few);
+  at_end = record { k = 0; within = omega arith; printed = says_none (s ≡ SayFault) events x y same; grew = inl (omega (arith, few)) };
 }
 
 -- nothing was done
@@ -132,6 +175,17 @@ say_within : (last : ℕ) (fault then : RunFault) → IsWithin last fault then �
 say_within last fault then (inl within) is = ap run_status (within.0 ∙ is)
 say_within last fault then (inr memory) is = absurd (block_full_not_say memory.1.0 (sym memory.1.1 ∙ is))
 
+-- where the script stopped at a line, so did its run
+pub at_line_of : {X : Type 0} (last : ℕ) (fault then : RunFault) → IsWithin last fault then → (fault ≡ run.Input → X) → (fault ≡ run.Lines → X) → (fault ≡ run.Bytes → X) → (fault ≡ run.Held → X) → StopsAtLine (run_status then) → X
+at_line_of {X} last fault then (inl within) input lines bytes full at = by_fault (subst (λ (f : RunFault). StopsAtLine (run_status f)) within.0 at)
+  where
+    by_fault : StopsAtLine (run_status fault) → X
+    by_fault (inl is) = input (run_input fault is)
+    by_fault (inr (inl is)) = lines (run_lines_is fault is)
+    by_fault (inr (inr (inl is))) = bytes (run_bytes_is fault is)
+    by_fault (inr (inr (inr is))) = full (run_held_is fault is)
+at_line_of last fault then (inr memory) input lines bytes full at = absurd (closes_not Memory refl (subst (λ (f : RunFault). StopsAtLine (run_status f)) memory.0 at))
+
 -- ---- a run over a running database
 
 abbrev pub effort_is : {S : Type 0} → Running S → Effort
@@ -160,7 +214,11 @@ module _ {S : Type 0} (g : Ghosts S) (d : Described) (r r' : Running S) (t : Tel
     in_files : length (t.entries (g.files r'.log.site)) ≤ length (t.entries (g.files r.log.site)) + (blocks + made + 18 * controls_among d.controlpoint synced + 19 * backs)
     in_files = omega (arith, grows.sealed tells counted, ap (λ (k : Telling). length (k.entries (g.files r'.log.site))) told', entry_entries, controls, one, used, three)
 
-  module _ (events : List RunEvent) (old new : Seen) (old_is : old.effort ≡ effort_is r) (new_is : new.effort ≡ effort_is r') (next_is : old.next ≡ r.next) (next_is' : new.next ≡ r'.next) (desc_is : old.desc ≡ d) where
+  module _ (events : List RunEvent) (old new : Seen) (old_is : old.effort ≡ effort_is r) (new_is : new.effort ≡ effort_is r') (next_is : old.next ≡ r.next) (next_is' : new.next ≡ r'.next) (desc_is : old.desc ≡ d)
+      (counts : (k : ℕ) → AreCounted d (take k events)) where
+    all_counted : AreCounted d events
+    all_counted = subst (λ (es : List RunEvent). AreCounted d es) (take_all (length events) events (omega arith)) (counts (length events))
+
     blocks_same : (es : List RunEvent) → blocks_of old.desc es ≡ blocks_of d es
     blocks_same es = ap (λ (x : Described). blocks_of x es) desc_is
 
@@ -203,40 +261,43 @@ module _ {S : Type 0} (g : Ghosts S) (d : Described) (r r' : Running S) (t : Tel
         (omega (arith, took.next, next_is, next_is')) (omega (arith, took.syncs, syncs_now, syncs_then)) (omega (arith, took.outs, outs_now, outs_then)) c.blocks c.syncs c.backs in
         omega (arith, made)
 
-    files_took : (whole k : ℕ) → TookAll old new (take k events) ⊎ TookOneMore old new whole k events → AreCounted d (take k events) → GrewWithin 18 t d whole k events (g.files r.log.site) (g.files r'.log.site)
-    files_took whole k (inl took) c = inl (omega (arith, files_all (take k events) took c))
-    files_took whole k (inr took) c = inr (record { said = took.said; more = took.more; answered = took.answered }, omega (arith, files_more whole k took c))
+    files_took : (n whole k : ℕ) → TookAll old new (take k events) ⊎ TookOneMore old new whole k events → AreCounted d (take k events) → GrewWithin n t d whole k events (g.files r.log.site) (g.files r'.log.site)
+    files_took n whole k (inl took) c = inl (omega (arith, files_all (take k events) took c))
+    files_took n whole k (inr took) c = inr (record { said = took.said; more = took.more; answered = took.answered }, omega (arith, files_more whole k took c))
 
     -- the script stopped before its end
-    pub failed_bound : (last : ℕ) (fault then : RunFault) → IsWithin last fault then → TookPart (fault ≡ Block block.Say) old new events → BoundsAudit 0 t d events (g.files r.log.site) (g.files r'.log.site) old.said new.said (run_status then)
-    failed_bound last fault then within part = record {
+    pub failed_bound : (last : ℕ) (fault then : RunFault) → IsWithin last fault then → TookPart (fault ≡ Block block.Say) old new events → (StopsAtLine (run_status then) → TookAll old new events)
+        → BoundsAudit 0 t d events (g.files r.log.site) (g.files r'.log.site) old.said new.said (run_status then)
+    failed_bound last fault then within part took = record {
       at_ok = λ is. absurd (run_not_ok then is);
+      at_line = λ at. omega (arith, files_all events (took at) all_counted);
       at_end = record {
         k = part.k;
         within = part.within;
         printed = record { text = λ unsaid. part.text (λ cut. unsaid (say_within last fault then within cut)); whole = part.whole; near = part.near; least = part.least; most = part.most };
-        grew = files_took part.whole part.k part.took;
+        grew = files_took (0 + closing_of (run_status then)) part.whole part.k part.took (counts part.k);
       };
     }
 
     module _ (takes : TakesEvents old.desc events old.effort new.effort) (numbers : new.next ≡ old.next + length (quiets_of events)) where
       -- all events happened, and so many entries the files have then
-      all_bound : (status : Status) (files : Files) (said : Option (List ℕ)) → Prints old.said said (text_of events) → (AreCounted d events → length (t.entries files) ≤ length (t.entries (g.files r.log.site)) + audit_of d events + 18)
+      all_bound : (status : Status) (files : Files) (said : Option (List ℕ)) → closing_of status ≡ 18 → Prints old.said said (text_of events) → length (t.entries files) ≤ length (t.entries (g.files r.log.site)) + audit_of d events + 18
           → BoundsAudit 0 t d events (g.files r.log.site) files old.said said status
-      all_bound status files said text few =
+      all_bound status files said closing text few =
           let all : take (length events) events ≡ events = take_all (length events) events (omega arith) in
           record {
-            at_ok = λ is c. omega (arith, few c);
+            at_ok = λ is. omega (arith, few);
+            at_line = λ at. absurd (closes_not status closing at);
             at_end = record {
               k = length events;
               within = omega arith;
               printed = says_all (status ≡ SayFault) events old.said said text;
-              grew = λ c. inl (omega (arith, few (subst (λ (es : List RunEvent). AreCounted d es) all c), ap (λ (es : List RunEvent). audit_of d es) all));
+              grew = inl (omega (arith, closing, few, ap (λ (es : List RunEvent). audit_of d es) all));
             };
           }
 
       -- the script was carried out, and then the database closed, or not closed
-      pub closed_bound : (status : Status) (files : Files) (said : Option (List ℕ)) → r'.broken ≡ false → FilesGrew 18 (view_of g r'.log) files → Prints old.said said (text_of events) → BoundsAudit 0 t d events (g.files r.log.site) files old.said said status
-      closed_bound status files said unbroken few text =
+      pub closed_bound : (status : Status) (files : Files) (said : Option (List ℕ)) → closing_of status ≡ 18 → r'.broken ≡ false → FilesGrew 18 (view_of g r'.log) files → Prints old.said said (text_of events) → BoundsAudit 0 t d events (g.files r.log.site) files old.said said status
+      closed_bound status files said is_closing unbroken few text =
           let closing : length (t.entries files) ≤ length (entries (view_of g r'.log)) + 18 = subst (λ (k : Telling). length (k.entries files) ≤ length (entries (view_of g r'.log)) + 18) told' few in
-          all_bound status files said text (λ c. omega (arith, closing, log_all events unbroken takes (omega (arith, numbers)) c))
+          all_bound status files said is_closing text (omega (arith, closing, log_all events unbroken takes (omega (arith, numbers)) all_counted))

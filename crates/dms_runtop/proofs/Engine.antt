@@ -1,10 +1,10 @@
 -- A run of an engine over a running database, as a run of a script over its files.
-use Rattle.std.proofs.Common.{◌⊎◌, inl, inr, ℕ, ◌≡◌, ◌<◌, ◌+◌, ◌^◌, ◌∙◌, Bool, true, false, cond, IsTrue, List, map, Option, Some, None, refl, sym, ap, subst, arith}
+use Rattle.std.proofs.Common.{◌⊎◌, inl, inr, ℕ, ◌≡◌, ◌<◌, ◌+◌, ◌^◌, ◌∙◌, Bool, true, false, cond, IsTrue, List, [], ◌∷◌, map, Option, Some, None, refl, sym, ap, subst, arith}
 use Rattle.dms_base.specs.Causes.{Rose}
 use Rattle.dms_block.specs.Counts.{Faults}
 use Rattle.dms_block.specs.declared.block_fault.BlockFault.{BlockFault}
 use Rattle.dms_block.specs.declared.block_fault.BlockFault.TheVariants as block
-use Rattle.dms_block.specs.Texts.{Prints, PrintsPrefix}
+use Rattle.dms_block.specs.Texts.{Prints}
 use Rattle.dms_desc.specs.Shape.{Described}
 use Rattle.dms_feed.specs.Lines.{raw_lines}
 use Rattle.dms_model.specs.Db.{Db}
@@ -15,8 +15,7 @@ use Rattle.dms_moments.specs.Moments.{Runs}
 use Rattle.dms_moments.specs.MomentLaws.{runs_none, runs_on}
 use Rattle.dms_runner.specs.Answers.{answers_text, last_quiet, script_events, script_run}
 use Rattle.dms_runner.specs.Blaming.{HasBlame}
-use Rattle.dms_runner.specs.Events.{RunEvent, SaidWhole, quiets_of}
-use Rattle.dms_runner.specs.Running.{CutInput, PassesBytes, PassesLines, PassesWaiting}
+use Rattle.dms_runner.specs.Events.{RunEvent, pause, quiets_of}
 use Rattle.dms_runner.specs.declared.run.RunFault.{RunFault}
 use Rattle.dms_runner.specs.declared.run.RunFault.TheVariants as run
 use Rattle.dms_runner.specs.declared.run.RunFault.TheVariants.{Block}
@@ -44,7 +43,7 @@ use Rattle.dms_runtop.specs.Faults.{IsWithin, run_status}
 use Rattle.dms_runtop.proofs.Bounds.{bounds_none}
 use Rattle.dms_runtop.specs.Over.{BeginsAt, ClosesOver, FilesEndWith, RunsOver, ScriptRuns, seen_site}
 use Rattle.dms_runtop.specs.Statuses.{IsOfClosing}
-use Rattle.dms_runtop.proofs.Ran.{moments_under, ends_under, closed_under, moments_below, closing_below, ran_nothing, ran_failed, ran_closed}
+use Rattle.dms_runtop.proofs.Ran.{Carried, CarriedAll, moments_under, ends_under, closed_under, moments_below, closing_below, ran_nothing, ran_failed, ran_closed}
 
 -- ---- a damaged block
 
@@ -99,8 +98,8 @@ module _ {S : Type 0} (g : Ghosts S) (d e e' : Described) (r r' : Running S) (sa
   abbrev trail : Trail
   trail = record { total = total; first = first }
 
-  abbrev events : List RunEvent
-  events = script_events d db r.next (raw_lines all)
+  abbrev script : List RunEvent
+  script = script_events d db r.next (raw_lines all)
 
   abbrev entry : Option (List ℕ)
   entry = said_of g r.log
@@ -111,19 +110,19 @@ module _ {S : Type 0} (g : Ghosts S) (d e e' : Described) (r r' : Running S) (sa
   keeps_trail : trail_of (view_of g r'.log) ≡ trail_of (view_of g r.log)
   keeps_trail = λ i. record { total = pace.total i; first = pace.first i }
 
-  moments_of : Runs (lifted e (held g r).clock) (lifted e' (held g r').clock) (RunLeaves (held g r).whole entry (map (point_of e) (held g r).points) n db r.next events)
+  moments_of : (events : List RunEvent) → Runs (lifted e (held g r).clock) (lifted e' (held g r').clock) (RunLeaves (held g r).whole entry (map (point_of e) (held g r).points) n db r.next events)
       → Runs (g.clock r.log.site) (g.clock r'.log.site) (RunLeavesFiles t d entry ps n db r.next events)
-  moments_of leaves =
+  moments_of events leaves =
       moments_below g d trail r r' begins_trail keeps_trail ps b.points_are n db r.next events
       (moments_under d e e' (held g r) (held g r') (held g r).whole entry n db r.next events same same' leaves)
 
   closing_of : (site : S) (status : Status) → ClosesOver g r' status site
       → ((stop : Stop) → LeavesPrefix (held g r').whole (held g r').durable (map (point_of e') (held g r').points) (held g r').next stop → StopTextIs (held g r').said stop
-      → RunLeaves (held g r).whole entry (map (point_of e) (held g r).points) n db r.next events stop)
-      → r'.next + 1 < 2 ^ 64 → Runs (g.clock r'.log.site) (g.clock site) (RunLeavesFiles t d entry ps n db r.next events)
+      → RunLeaves (held g r).whole entry (map (point_of e) (held g r).points) n db r.next script stop)
+      → r'.next + 1 < 2 ^ 64 → Runs (g.clock r'.log.site) (g.clock site) (RunLeavesFiles t d entry ps n db r.next script)
   closing_of site status closes ends room =
-      closing_below g d trail r r' begins_trail keeps_trail ps b.points_are n db r.next events site
-      (ends_under d e e' (held g r) (held g r') (held g r).whole entry n db r.next events same same' ends) b.tells room closes.leaves
+      closing_below g d trail r r' begins_trail keeps_trail ps b.points_are n db r.next script site
+      (ends_under d e e' (held g r) (held g r') (held g r).whole entry n db r.next script same same' ends) b.tells room closes.leaves
 
   files_end : (site : S) (status : Status) → ClosesOver g r' status site → (m : ℕ) (x : Db) → EndsWith (map (point_of e') (held g r').points) m x → (k : ℕ) → r'.next ≡ k → status ≡ Ok → FilesEndWith t d m x k (seen_site g site)
   files_end site status closes m x ends k next_is ok =
@@ -137,59 +136,70 @@ module _ {S : Type 0} (g : Ghosts S) (d e e' : Described) (r r' : Running S) (sa
       }
 
   -- the script stopped before its end, and the site was given back
-  pub failed_over : (left' : Option (List ℕ)) (fault : RunFault) (status : Status) (site : S) → status ≡ run_status fault → site ≡ r'.log.site
-      → Runs (lifted e (held g r).clock) (lifted e' (held g r').clock) (RunLeaves (held g r).whole entry (map (point_of e) (held g r).points) n db r.next events)
-      → PrintsPrefix entry (said_of g r'.log) (answers_text d db r.next (raw_lines all)) → ((fault ≡ Block block.Say → ⊥) → SaidWhole entry (said_of g r'.log) events)
-      → (fault ≡ run.Lines → PassesLines d db r.next (raw_lines all) entry (said_of g r'.log)) → (fault ≡ run.Bytes → PassesBytes d db r.next (raw_lines all) entry (said_of g r'.log))
-      → (fault ≡ run.Held → PassesWaiting d db r.next (raw_lines all) entry (said_of g r'.log)) → (fault ≡ run.Input → CutInput d db r.next all left' entry (said_of g r'.log))
-      → ((f k : ℕ) → fault ≡ Block (block.Damaged f k) → ⊥) → ((f : ℕ) → fault ≡ Block (block.Full f) → f ≡ r'.log.end.limit) → BoundsAudit 0 t d events (g.files r.log.site) (g.files r'.log.site) entry (said_of g r'.log) (run_status fault)
+  pub failed_over : (left' : Option (List ℕ)) (fault : RunFault) (status : Status) (site : S) → status ≡ run_status fault → site ≡ r'.log.site → (c : Carried d db r.next all left' entry (said_of g r'.log) fault)
+      → Runs (lifted e (held g r).clock) (lifted e' (held g r').clock) (RunLeaves (held g r).whole entry (map (point_of e) (held g r).points) n db r.next c.events)
+      → ((f k : ℕ) → fault ≡ Block (block.Damaged f k) → ⊥) → ((f : ℕ) → fault ≡ Block (block.Full f) → f ≡ r'.log.end.limit) → BoundsAudit 0 t d c.events (g.files r.log.site) (g.files r'.log.site) entry (said_of g r'.log) (run_status fault)
       → ScriptRuns 0 t d ps n db r.next all (seen_site g r.log.site) (seen_site g site) left' status
-  failed_over left' fault status site status_is site_is leaves part whole lines bytes waits cut damaged full bound =
+  failed_over left' fault status site status_is site_is c leaves damaged full bound =
       subst (λ (x : Status). ScriptRuns 0 t d ps n db r.next all (seen_site g r.log.site) (seen_site g site) left' x) (sym status_is)
       (subst (λ (x : S). ScriptRuns 0 t d ps n db r.next all (seen_site g r.log.site) (seen_site g x) left' (run_status fault)) (sym site_is)
-      (ran_failed 0 t d ps n db r.next all (seen_site g r.log.site) (seen_site g r'.log.site) left' fault (moments_of leaves) part whole lines bytes waits cut damaged (λ f is. full f is ∙ pace.limit ∙ b.limit_is) bound))
+      (ran_failed 0 t d ps n db r.next all (seen_site g r.log.site) (seen_site g r'.log.site) left' fault c (moments_of c.events leaves) damaged (λ f is. full f is ∙ pace.limit ∙ b.limit_is) bound))
 
   -- the bound of one fault is that of the same one
-  bound_at : (then fault : RunFault) → then ≡ fault → BoundsAudit 0 t d events (g.files r.log.site) (g.files r'.log.site) entry (said_of g r'.log) (run_status then)
+  bound_at : (events : List RunEvent) (then fault : RunFault) → then ≡ fault → BoundsAudit 0 t d events (g.files r.log.site) (g.files r'.log.site) entry (said_of g r'.log) (run_status then)
       → BoundsAudit 0 t d events (g.files r.log.site) (g.files r'.log.site) entry (said_of g r'.log) (run_status fault)
-  bound_at then fault same bound =
+  bound_at events then fault same bound =
       subst (λ (x : RunFault). BoundsAudit 0 t d events (g.files r.log.site) (g.files r'.log.site) entry (said_of g r'.log) (run_status x)) same bound
+
+  -- what was carried out at one fault, told of want of memory
+  abbrev carried_short : (left' : Option (List ℕ)) (fault : RunFault) → (fault ≡ Block block.Say → ⊥) → Carried d db r.next all left' entry (said_of g r'.log) fault → Carried d db r.next all left' entry (said_of g r'.log) run.Memory
+  carried_short left' fault unsaid c = record {
+    lines = c.lines;
+    events = c.events;
+    front = c.front;
+    are = c.are;
+    part = c.part;
+    answers = λ other. c.answers unsaid;
+    due = λ f is. absurd (memory_not_block (block.Full f) is);
+    many_lines = λ is. absurd (memory_not_lines is);
+    many_bytes = λ is. absurd (memory_not_bytes is);
+    many_held = λ is. absurd (memory_not_held is);
+    cut = λ is. absurd (memory_not_input is);
+  }
 
   -- the same, where a full audit at another file counted as want of memory
   pub within_over : (left' : Option (List ℕ)) (last : ℕ) (fault then : RunFault) (status : Status) (site : S) → IsWithin last fault then → last ≡ r'.log.end.limit → status ≡ run_status then → site ≡ r'.log.site
-      → Runs (lifted e (held g r).clock) (lifted e' (held g r').clock) (RunLeaves (held g r).whole entry (map (point_of e) (held g r).points) n db r.next events)
-      → PrintsPrefix entry (said_of g r'.log) (answers_text d db r.next (raw_lines all)) → ((fault ≡ Block block.Say → ⊥) → SaidWhole entry (said_of g r'.log) events)
-      → (fault ≡ run.Lines → PassesLines d db r.next (raw_lines all) entry (said_of g r'.log)) → (fault ≡ run.Bytes → PassesBytes d db r.next (raw_lines all) entry (said_of g r'.log))
-      → (fault ≡ run.Held → PassesWaiting d db r.next (raw_lines all) entry (said_of g r'.log)) → (fault ≡ run.Input → CutInput d db r.next all left' entry (said_of g r'.log))
-      → ((f k : ℕ) → fault ≡ Block (block.Damaged f k) → ⊥) → BoundsAudit 0 t d events (g.files r.log.site) (g.files r'.log.site) entry (said_of g r'.log) (run_status then)
+      → (c : Carried d db r.next all left' entry (said_of g r'.log) fault)
+      → Runs (lifted e (held g r).clock) (lifted e' (held g r').clock) (RunLeaves (held g r).whole entry (map (point_of e) (held g r).points) n db r.next c.events)
+      → ((f k : ℕ) → fault ≡ Block (block.Damaged f k) → ⊥) → BoundsAudit 0 t d c.events (g.files r.log.site) (g.files r'.log.site) entry (said_of g r'.log) (run_status then)
       → ScriptRuns 0 t d ps n db r.next all (seen_site g r.log.site) (seen_site g site) left' status
-  within_over left' last fault then status site (inl within) last_is status_is site_is leaves part whole lines bytes waits cut damaged bound =
-      failed_over left' fault status site (status_is ∙ ap run_status within.0) site_is leaves part whole lines bytes waits cut damaged (λ f is. within.1 f is ∙ last_is) (bound_at then fault within.0 bound)
-  within_over left' last fault then status site (inr memory) last_is status_is site_is leaves part whole lines bytes waits cut damaged bound =
-      failed_over left' run.Memory status site (status_is ∙ ap run_status memory.0) site_is leaves part (λ unsaid. whole (λ is. full_not_say memory.1.0 (sym memory.1.1 ∙ is)))
-      (λ is. absurd (memory_not_lines is)) (λ is. absurd (memory_not_bytes is)) (λ is. absurd (memory_not_held is)) (λ is. absurd (memory_not_input is)) (λ f k is. memory_not_block (block.Damaged f k) is) (λ f is. absurd (memory_not_block (block.Full f) is)) (bound_at then run.Memory memory.0 bound)
+  within_over left' last fault then status site (inl within) last_is status_is site_is c leaves damaged bound =
+      failed_over left' fault status site (status_is ∙ ap run_status within.0) site_is c leaves damaged (λ f is. within.1 f is ∙ last_is) (bound_at c.events then fault within.0 bound)
+  within_over left' last fault then status site (inr memory) last_is status_is site_is c leaves damaged bound =
+      failed_over left' run.Memory status site (status_is ∙ ap run_status memory.0) site_is (carried_short left' fault (λ is. full_not_say memory.1.0 (sym memory.1.1 ∙ is)) c) leaves
+      (λ f k is. memory_not_block (block.Damaged f k) is) (λ f is. absurd (memory_not_block (block.Full f) is)) (bound_at c.events then run.Memory memory.0 bound)
 
   -- the script was carried out, and then the database closed
   pub closed_over : (left' : Option (List ℕ)) (status : Status) (site : S) → (status ≡ Ok) ⊎ IsOfClosing status → ClosesOver g r' status site → (IsTrue g.tells_said → g.said site ≡ g.said r'.log.site)
-      → Runs (lifted e (held g r).clock) (lifted e' (held g r').clock) (RunLeaves (held g r).whole entry (map (point_of e) (held g r).points) n db r.next events)
+      → CarriedAll d db r.next all entry (said_of g r'.log)
+      → Runs (lifted e (held g r).clock) (lifted e' (held g r').clock) (RunLeaves (held g r).whole entry (map (point_of e) (held g r).points) n db r.next script)
       → ((stop : Stop) → LeavesPrefix (held g r').whole (held g r').durable (map (point_of e') (held g r').points) (held g r').next stop → StopTextIs (held g r').said stop
-      → RunLeaves (held g r).whole entry (map (point_of e) (held g r).points) n db r.next events stop)
-      → EndsWith (map (point_of e') (held g r').points) (last_quiet_number n (quiets_of events)) (last_quiet db (quiets_of events))
-      → Prints entry (said_of g r'.log) (answers_text d db r.next (raw_lines all)) → PrintsPrefix entry (said_of g r'.log) (answers_text d db r.next (raw_lines all)) → SaidWhole entry (said_of g r'.log) events
+      → RunLeaves (held g r).whole entry (map (point_of e) (held g r).points) n db r.next script stop)
+      → EndsWith (map (point_of e') (held g r').points) (last_quiet_number n (quiets_of script)) (last_quiet db (quiets_of script))
+      → Prints entry (said_of g r'.log) (answers_text d db r.next (raw_lines all))
       → KeepsLimits d db r.next (raw_lines all) → r'.next ≡ (ended (script_run d db r.next (raw_lines all)).going.session).next
-      → BoundsAudit 0 t d events (g.files r.log.site) (g.files site) entry (said_of g r'.log) status
+      → BoundsAudit 0 t d script (g.files r.log.site) (g.files site) entry (said_of g r'.log) status
       → ScriptRuns 0 t d ps n db r.next all (seen_site g r.log.site) (seen_site g site) left' status
-  closed_over left' status site of closes said leaves behind ends prints part whole limits next_is bound =
+  closed_over left' status site of closes said carried leaves behind ends prints limits next_is bound =
       let text : (seen_site g site).said ≡ said_of g r'.log = told_text g.tells_said (g.said site) (g.said r'.log.site) said in
       let room : r'.next + 1 < 2 ^ 64 = room_after d db r.next r'.next (raw_lines all) b.room limits next_is in
       ran_closed 0 t d ps n db r.next all (seen_site g r.log.site) (seen_site g site) left' status of
-      (runs_on (moments_of leaves) (closing_of site status closes behind room) (λ x l. l))
-      (files_end site status closes (last_quiet_number n (quiets_of events)) (last_quiet db (quiets_of events)) ends (ended (script_run d db r.next (raw_lines all)).going.session).next next_is)
+      (subst (λ (s : Option (List ℕ)). CarriedAll d db r.next all entry s) (sym text) carried)
+      (runs_on (moments_of script leaves) (closing_of site status closes behind room) (λ x l. l))
+      (files_end site status closes (last_quiet_number n (quiets_of script)) (last_quiet db (quiets_of script)) ends (ended (script_run d db r.next (raw_lines all)).going.session).next next_is)
       (subst (λ (s : Option (List ℕ)). Prints entry s (answers_text d db r.next (raw_lines all))) (sym text) prints)
-      (subst (λ (s : Option (List ℕ)). PrintsPrefix entry s (answers_text d db r.next (raw_lines all))) (sym text) part)
-      (subst (λ (s : Option (List ℕ)). SaidWhole entry s events) (sym text) whole)
       limits
-      (subst (λ (s : Option (List ℕ)). BoundsAudit 0 t d events (g.files r.log.site) (g.files site) entry s status) (sym text) bound)
+      (subst (λ (s : Option (List ℕ)). BoundsAudit 0 t d script (g.files r.log.site) (g.files site) entry s status) (sym text) bound)
 
 -- ---- before the script
 
@@ -202,4 +212,4 @@ pub refused_over : {S : Type 0} (g : Ghosts S) (d : Described) (r : Running S) (
 refused_over {S} g d r site left left' same total first ps n db all b is =
     subst (λ (x : S). ScriptRuns 0 (telling_of total first) d ps n db r.next all (seen_site g r.log.site) (seen_site g x) left' Memory) (sym same)
     (ran_nothing 0 (telling_of total first) d ps n db r.next all (seen_site g r.log.site) (seen_site g r.log.site) left' Memory tt
-    (runs_none (g.clock r.log.site) (RunLeavesFiles (telling_of total first) d (said_of g r.log) ps n db r.next (script_events d db r.next (raw_lines all)))) refl (bounds_none Memory (λ is. absurd cc) refl refl))
+    (runs_none (g.clock r.log.site) (RunLeavesFiles (telling_of total first) d (said_of g r.log) ps n db r.next (pause ∷ []))) refl (bounds_none Memory (λ is. absurd cc) refl refl))

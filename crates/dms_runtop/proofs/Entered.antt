@@ -5,6 +5,7 @@ use Rattle.dms_desc.specs.Shape.{Described}
 use Rattle.dms_desc_bytes.specs.Spelling.{spelling}
 use Rattle.dms_feed.specs.Lines.{raw_lines}
 use Rattle.dms_runner.specs.Answers.{script_events}
+use Rattle.dms_runner.specs.Events.{RunEvent}
 use Rattle.dms_model.specs.Db.{Db}
 use Rattle.dms_moments.specs.Moments.{Runs}
 use Rattle.dms_moments.specs.MomentLaws.{runs_weaken}
@@ -37,6 +38,7 @@ use Rattle.dms_runtop.specs.Command.{DatabaseState, GrowsOpened, HasNumbersLeft,
 use Rattle.dms_runtop.specs.Faults.{open_status}
 use Rattle.dms_runtop.specs.Over.{ReachesFiles, ScriptRuns, seen_site}
 use Rattle.dms_runtop.proofs.Endings.{IsUndone}
+use Rattle.dms_runtop.proofs.Fronts.{leaves_wide, script_widens}
 use Rattle.dms_runtop.proofs.Grows.{keeps_entered, keeps_opening}
 use Rattle.dms_runtop.proofs.Holding.{trail_of}
 use Rattle.dms_runtop.proofs.Ran.{ran_nothing}
@@ -121,7 +123,7 @@ module _ {S : Type 0} (g : Ghosts S) (old : S) (s : DatabaseState) where
       subst (λ m. ScriptRuns 0 t s.desc ps s.point s.db m all (seen_site g o.log.site) (seen_site g new) left' status) (sym opens.next_is ∙ next_is)
       (ran told knows st s.point s.db all state (subst HasNumbersLeft (sym next_is ∙ opens.next_is) room) is) in
       let few : length (t.entries (g.files o.log.site)) ≤ length (t.entries files) + 19 = grows.few o.log.end.total o.log.first opens.trail whole in
-      let before = runs_weaken (since o.log.end.total o.log.first opens.trail whole) (reopens_leaves t files (seen_site g old).said s.desc s.point s.db state next next_is (raw_lines all)) in
+      let before = λ (events : List RunEvent). runs_weaken (since o.log.end.total o.log.first opens.trail whole) (reopens_leaves t files (seen_site g old).said s.desc s.point s.db state next next_is events) in
       record {
         total = o.log.end.total;
         first = o.log.first;
@@ -152,7 +154,7 @@ module _ {S : Type 0} (g : Ghosts S) (old : S) (s : DatabaseState) where
         runs = ran_nothing 19 t s.desc (points_of t files) s.point s.db next all (seen_site g old) (seen_site g new) left' (open_status fault)
             (undone_open fault (none h.total h.first (openable h)))
             (runs_weaken (since h.total h.first h.trail h.whole)
-            (reopens_leaves t files (seen_site g old).said s.desc s.point s.db h.state next (one_next h.total h.first next files h.whole has_next) (raw_lines all)))
+            (reopens_leaves t files (seen_site g old).said s.desc s.point s.db h.state next (one_next h.total h.first next files h.whole has_next) []))
             (ap (λ (l : List ℕ). cond g.tells_said (Some l) None) said)
             (bounds_opening (open_status fault) (open_ok fault) (grows.few h.total h.first h.trail h.whole) (ap (λ (l : List ℕ). cond g.tells_said (Some l) None) said));
       }
@@ -201,16 +203,18 @@ module _ {S : Type 0} (g : Ghosts S) (old : S) (state : Option DatabaseState) wh
   -- each stop leaves a state
   pub stands_throughout : StatesAreHeld → StopsStand → (IsTrue g.tells → HoldsTold state (g.files old)) → (left left' : Option (List ℕ)) (status : Status) (new : S) → RunsCommand g state old new left left' status
       → StandsThroughout g state old new left
-  stands_throughout held law told left left' status new ran tells s is start next has_next room all here =
+  stands_throughout held law told left left' status new ran tells s is start next has_next room all left_is =
       let files : Files = g.files old in
       let h : HoldsLast files s.point s.desc s.db = held files s.point s.desc s.db (told tells s is) in
-      let along : RunsAlong g s next all old new left' status = ran tells s is next has_next room all here in
+      let along : RunsAlong g s next all old new left' status = ran tells s is next has_next room all left_is in
       let one = trail_is_one along.total along.first h.total h.first files along.trail (trail_of h) in
-      let each : Runs (g.clock old) (g.clock new) (λ x. RunLeavesFiles (telling_of h.total h.first) s.desc (seen_site g old).said (points_of (telling_of h.total h.first) files) s.point s.db next (script_events s.desc s.db next (raw_lines all)) x) =
+      let each : Runs (g.clock old) (g.clock new) (RunLeavesFiles (telling_of along.total along.first) s.desc (seen_site g old).said (points_of (telling_of along.total along.first) files) s.point s.db next (script_events s.desc s.db next (raw_lines all))) =
+      runs_weaken along.runs.every_moment (leaves_wide (script_widens s.desc s.db next (raw_lines all) along.runs.lines along.runs.events along.runs.are)) in
+      let here : Runs (g.clock old) (g.clock new) (RunLeavesFiles (telling_of h.total h.first) s.desc (seen_site g old).said (points_of (telling_of h.total h.first) files) s.point s.db next (script_events s.desc s.db next (raw_lines all))) =
       subst (λ k. Runs (g.clock old) (g.clock new) (RunLeavesFiles (telling_of k h.first) s.desc (seen_site g old).said (points_of (telling_of k h.first) files) s.point s.db next (script_events s.desc s.db next (raw_lines all)))) one.0
       (subst (λ k. Runs (g.clock old) (g.clock new) (RunLeavesFiles (telling_of along.total k) s.desc (seen_site g old).said (points_of (telling_of along.total k) files) s.point s.db next (script_events s.desc s.db next (raw_lines all)))) one.1
-      along.runs.every_moment) in
-      runs_weaken each (λ x l. law files s.point s.desc s.db h start next has_next (seen_site g old).said (raw_lines all) x l)
+      each) in
+      runs_weaken here (λ x l. law files s.point s.desc s.db h start next has_next (seen_site g old).said (raw_lines all) x l)
 
   -- and so does the end
   pub stands_at_end : EndsStand → (IsTrue g.tells → HoldsTold state (g.files old)) → (left left' : Option (List ℕ)) (status : Status) (new : S) → RunsCommand g state old new left left' status → EndsInState g state old new left status

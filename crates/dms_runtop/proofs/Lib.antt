@@ -1,6 +1,7 @@
 pub mod Endings
 pub mod Opening
 pub mod Counted
+pub mod Fronts
 pub mod Ran
 pub mod Formed
 pub mod Serving

@@ -57,7 +57,7 @@ module _ {S : Type 0} (g : Ghosts S) where
       → RunsOpened g (record o { log = record o.log { site = site } }) known left left' status new → RunsOpened g o known left left' status new
   runs_looked counts o site new known left left' status same said steps ran t k st n db all state room is =
       runs_since 0 0 (telling (view_of g o.log)) st.desc (points_of (telling (view_of g o.log)) st.files) n db o.next all (seen_site g o.log.site) (seen_site g site) (seen_site g new) left' status
-      (said_seen o.log.site site said) (runs_looking (counts o.log.site) steps) (omega (arith, ap (λ (f : Files). length ((telling (view_of g o.log)).entries f)) (same t)))
+      (said_seen o.log.site site said) (λ events. runs_looking (counts o.log.site) steps) (omega (arith, ap (λ (f : Files). length ((telling (view_of g o.log)).entries f)) (same t)))
       (ran t k (stands_looked o site (same t) steps st) n db all state room is)
 
   -- no line was run

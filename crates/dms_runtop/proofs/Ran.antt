@@ -1,9 +1,11 @@
 -- What a run over a store on a running database is of the files below.
-use Rattle.std.proofs.Common.{inl, inr, ◌⊎◌, ℕ, ◌≡◌, ◌<◌, ◌+◌, ◌^◌, ◌∙◌, Bool, true, false, IsTrue, List, map, length, Option, Some, sym, ap, subst}
+use Rattle.std.proofs.Common.{inl, inr, ◌⊎◌, ℕ, ◌≡◌, ◌<◌, ◌+◌, ◌^◌, ◌∙◌, Bool, true, false, IsTrue, List, [], ◌∷◌, ◌++◌, map, length, Option, Some, refl, sym, ap, subst, arith}
 use Rattle.std.proofs.lemmas.List.{length-map, append-nil}
+use Rattle.std.specs.declared.result.Result.{Result}
+use Rattle.std.specs.declared.result.Result.TheVariants as result
 use Rattle.dms_block.specs.Held.{Held}
 use Rattle.dms_block.specs.Texts.{Prints, PrintsPrefix}
-use Rattle.dms_desc.specs.Shape.{Described}
+use Rattle.dms_desc.specs.Shape.{Described, described}
 use Rattle.dms_model.specs.Db.{Db}
 use Rattle.dms_model.specs.Points.{Point, Stop, LeavesPrefix, StopTextIs}
 use Rattle.dms_moments.specs.Moments.{Runs}
@@ -11,9 +13,15 @@ use Rattle.dms_moments.specs.MomentLaws.{runs_weaken}
 use Rattle.dms_block.specs.declared.block_fault.BlockFault.TheVariants as block
 use Rattle.dms_block.specs.declared.block_fault.BlockFault.TheVariants.{Say}
 use Rattle.dms_feed.specs.Lines.{raw_lines}
-use Rattle.dms_runner.specs.Answers.{answers_text, script_events}
-use Rattle.dms_runner.specs.Events.{RunEvent, SaidWhole}
-use Rattle.dms_runner.specs.Running.{CutInput, PassesBytes, PassesLines, PassesWaiting}
+use Rattle.dms_runner.specs.Answers.{LineEffect, answers_text, first_state, script_events}
+use Rattle.dms_runner.specs.Blaming.{HadRoom}
+use Rattle.dms_runner.specs.Events.{IsDue, Performs, RunEvent, SaidWhole, TookAll, pause, text_of}
+use Rattle.dms_runner.specs.Running.{AreOfFront, KeepsFront}
+use Rattle.dms_runner.specs.Starting.{CarriesOut}
+use Rattle.dms_runner.proofs.Running.{run_none}
+use Rattle.dms_model.specs.declared.store.Store as store
+use Rattle.dms_storeverbs.specs.declared.engine.Engine.{Engine}
+use Rattle.dms_storeverbs.specs.View.{seen}
 use Rattle.dms_runner.specs.declared.run.RunFault.{RunFault}
 use Rattle.dms_runner.specs.declared.run.RunFault.TheVariants as run
 use Rattle.dms_runner.specs.declared.run.RunFault.TheVariants.{Block}
@@ -40,9 +48,12 @@ use Rattle.dms_status.specs.declared.status.LimitKind.TheVariants as limits
 use Rattle.dms_status.specs.declared.status.LimitKind.TheVariants.{AuditFile, Lines, Bytes}
 use Rattle.dms_status.specs.declared.status.Status.{Status}
 use Rattle.dms_status.specs.declared.status.Status.TheVariants.{Ok, Limit}
-use Rattle.dms_runtop.specs.Bound.{BoundsAudit}
-use Rattle.dms_runtop.specs.Faults.{run_status}
-use Rattle.dms_runtop.specs.Over.{ReachesFiles, PassesScript, ScriptRuns, SiteSeen}
+use Rattle.dms_runtop.specs.Bound.{BoundsAudit, StopsAtLine}
+use Rattle.dms_runtop.specs.Faults.{IsWithin, run_status}
+use Rattle.dms_runtop.specs.Over.{CutsScript, ReachesFiles, PassesScript, ScriptRuns, SiteSeen}
+use Rattle.dms_runtop.proofs.Bounds.{at_line_of}
+use Rattle.dms_runtop.proofs.Counted.{an_error}
+use Rattle.dms_runtop.proofs.Fronts.{leaves_wide, wider}
 use Rattle.dms_runtop.specs.Statuses.{IsOfAuditLimit, IsOfClosing}
 use Rattle.dms_runtop.proofs.Endings.{run_not_ok, run_input, run_damaged, run_lines_is, run_bytes_is, run_held_is, run_full_is, ok_not_limit, closing_input, closing_damaged, IsUndone, undone_ok, undone_limit, undone_input, undone_damaged}
 use Rattle.dms_run.specs.Files.{points_seen, stop_seen, RunLeavesFiles}
@@ -131,81 +142,167 @@ prints_nothing said text = λ t is. (0, is ∙ ap (λ (s : List ℕ). Some s) (s
 pub said_nothing : (said : Option (List ℕ)) (events : List RunEvent) → SaidWhole said said events
 said_nothing said events = (0, λ t is. is ∙ ap (λ (s : List ℕ). Some s) (sym (append-nil t)))
 
+-- ---- what was carried out
+
+-- So much of a script was carried out where the run stopped with this fault, told by the text before it and behind it.
+pub record Carried (d : Described) (db : Db) (next : ℕ) (all : List ℕ) (left' : Option (List ℕ)) (said said' : Option (List ℕ)) (fault : RunFault) : Type 0 where
+  pub lines : ℕ
+  pub events : List RunEvent
+  pub front : KeepsFront (raw_lines all) lines
+  pub are : AreOfFront d db next (raw_lines all) lines events
+  pub part : PrintsPrefix said said' (text_of events)
+  pub answers : (fault ≡ Block Say → ⊥) → SaidWhole said said' events
+  pub due : (f : ℕ) → fault ≡ Block (block.Full f) → IsDue said said' events
+  pub many_lines : fault ≡ run.Lines → PassesScript Lines d db next (raw_lines all) lines events said said'
+  pub many_bytes : fault ≡ run.Bytes → PassesScript Bytes d db next (raw_lines all) lines events said said'
+  pub many_held : fault ≡ run.Held → PassesScript limits.Held d db next (raw_lines all) lines events said said'
+  pub cut : fault ≡ run.Input → CutsScript d db next all left' lines events said said'
+
+-- All of it was.
+pub record CarriedAll (d : Described) (db : Db) (next : ℕ) (all : List ℕ) (said said' : Option (List ℕ)) : Type 0 where
+  pub lines : ℕ
+  pub front : KeepsFront (raw_lines all) lines
+  pub are : AreOfFront d db next (raw_lines all) lines (script_events d db next (raw_lines all))
+  pub part : PrintsPrefix said said' (answers_text d db next (raw_lines all))
+  pub answers : SaidWhole said said' (script_events d db next (raw_lines all))
+
+abbrev pub fault_of : RunFault → Result (Unit {0}) RunFault
+fault_of fault = result.Err fault
+
+abbrev pub ok_of : Unit {0} → Result (Unit {0}) RunFault
+ok_of x = result.Ok x
+
+pub no_room : (fault : RunFault) (f : ℕ) → fault ≡ Block (block.Full f) → HadRoom (fault_of fault) → ⊥
+no_room fault f is room = subst (λ (x : RunFault). HadRoom (fault_of x)) is room
+
+module _ {St : Type 0} {g : store.Ghosts St} (left' : Option (List ℕ)) (old new : Engine St g) (db : Db) (first : ℕ) (all : List ℕ) where
+  abbrev pub carried_of : (fault : RunFault) → CarriesOut (fault_of fault) left' old new db first all → Carried (described old.desc) db first all left' (seen old).said (seen new).said fault
+  carried_of fault k = record {
+    lines = k.n;
+    events = k.events;
+    front = k.front;
+    are = k.are;
+    part = k.part.text;
+    answers = k.part.said_whole;
+    due = λ f is. k.part.due (no_room fault f is);
+    many_lines = λ is. let x = k.lines (an_error fault run.Lines is) in (x.0, x.1.are);
+    many_bytes = λ is. let x = k.bytes (an_error fault run.Bytes is) in (x.0, x.1.are);
+    many_held = λ is. let x = k.full_list (an_error fault run.Held is) in (x.0, x.1.are);
+    cut = λ is. let x = k.failed (an_error fault run.Input is) in (x.0, x.1.are);
+  }
+
+  -- where it stopped at a line, exactly its events took what was taken
+  pub took_at_line : (last : ℕ) (fault then : RunFault) → IsWithin last fault then → (k : CarriesOut (fault_of fault) left' old new db first all) → StopsAtLine (run_status then) → TookAll (seen old) (seen new) k.events
+  took_at_line last fault then within k =
+      at_line_of last fault then within (λ is. took (k.failed (an_error fault run.Input is)).1.did) (λ is. took (k.lines (an_error fault run.Lines is)).1.did) (λ is. took (k.bytes (an_error fault run.Bytes is)).1.did)
+      (λ is. took (k.full_list (an_error fault run.Held is)).1.did)
+    where
+      took : Performs (seen old) (seen new) k.events → TookAll (seen old) (seen new) k.events
+      took did = record { effort = did.effort; next = did.next_high }
+
+  pub carried_all : (x : Unit {0}) → CarriesOut (ok_of x) left' old new db first all → CarriedAll (described old.desc) db first all (seen old).said (seen new).said
+  carried_all x k = record {
+    lines = k.n;
+    front = k.front;
+    are = subst (λ (es : List RunEvent). AreOfFront (described old.desc) db first (raw_lines all) k.n es) k.whole k.are;
+    part = subst (λ (es : List RunEvent). PrintsPrefix (seen old).said (seen new).said (text_of es)) k.whole k.part.text;
+    answers = subst (λ (es : List RunEvent). SaidWhole (seen old).said (seen new).said es) k.whole (k.part.said_whole (λ cut. cut));
+  }
+
 -- ---- a run, by how it ended
 
 module _ (opening : ℕ) (t : Telling) (d : Described) (ps : List DescribedPoint) (n : ℕ) (db : Db) (next : ℕ) (all : List ℕ) (a b : SiteSeen) (left' : Option (List ℕ)) where
-  abbrev Bound : Status → Type 0
-  Bound status = BoundsAudit opening t d (script_events d db next (raw_lines all)) a.files b.files a.said b.said status
+  abbrev Bound : List RunEvent → Status → Type 0
+  Bound events status = BoundsAudit opening t d events a.files b.files a.said b.said status
 
-  abbrev events : List RunEvent
-  events = script_events d db next (raw_lines all)
+  abbrev script : List RunEvent
+  script = script_events d db next (raw_lines all)
 
-  pub of_audit : (k : LimitKind) → IsOfAuditLimit k → PassesScript k d db next (raw_lines all) a.said b.said
-  of_audit (AuditFile f) is = inr is
-  of_audit Lines is = absurd is
-  of_audit Bytes is = absurd is
-  of_audit limits.Held is = absurd is
+  abbrev Leaves : List RunEvent → Type 0
+  Leaves events = Runs a.clock b.clock (RunLeavesFiles t d a.said ps n db next events)
+
+  -- so it is behind them
+  paused : (events : List RunEvent) → Leaves events → Leaves (events ++ pause ∷ [])
+  paused events moments = runs_weaken moments (leaves_wide (wider events (pause ∷ [])))
+
+  pub of_audit : (lines : ℕ) (events : List RunEvent) (k : LimitKind) → IsOfAuditLimit k → PassesScript k d db next (raw_lines all) lines events a.said b.said
+  of_audit lines events (AuditFile f) is = inr is
+  of_audit lines events Lines is = absurd is
+  of_audit lines events Bytes is = absurd is
+  of_audit lines events limits.Held is = absurd is
+
+  no_lines : KeepsFront (raw_lines all) 0
+  no_lines = record { within = omega arith; few = omega arith; short = omega arith }
 
   -- nothing was done: the status is none of a script
-  pub ran_nothing : (status : Status) → IsUndone status → Runs a.clock b.clock (RunLeavesFiles t d a.said ps n db next events) → b.said ≡ a.said → Bound status → ScriptRuns opening t d ps n db next all a b left' status
+  pub ran_nothing : (status : Status) → IsUndone status → Leaves (pause ∷ []) → b.said ≡ a.said → Bound [] status → ScriptRuns opening t d ps n db next all a b left' status
   ran_nothing status undone moments same bound = record {
+    lines = 0;
+    front = no_lines;
+    events = [];
+    are = inl (sym (ap (λ (e : LineEffect). e.events) (run_none d (first_state db next))));
     bound = bound;
     every_moment = moments;
     at_ok = λ is. absurd (undone_ok status undone is);
     prints = λ is. absurd (undone_ok status undone is);
-    part = subst (λ (s : Option (List ℕ)). PrintsPrefix a.said s (answers_text d db next (raw_lines all))) (sym same) (prints_nothing a.said (answers_text d db next (raw_lines all)));
-    whole_answers = λ unsaid. subst (λ (s : Option (List ℕ)). SaidWhole a.said s events) (sym same) (said_nothing a.said events);
+    part = subst (λ (s : Option (List ℕ)). PrintsPrefix a.said s []) (sym same) (prints_nothing a.said []);
+    whole_answers = λ unsaid. subst (λ (s : Option (List ℕ)). SaidWhole a.said s []) (sym same) (said_nothing a.said []);
+    whole = λ is. absurd (undone_ok status undone is);
     within = λ is. absurd (undone_ok status undone is);
-    limit = λ k is. of_audit k (undone_limit status undone k is);
+    limit = λ k is. of_audit 0 [] k (undone_limit status undone k is);
     input_cut = λ is. absurd (undone_input status undone is);
     undamaged = λ f k is high. undone_damaged status undone f k is high;
   }
 
   -- the script stopped before its end
-  pub ran_failed : (fault : RunFault) → Runs a.clock b.clock (RunLeavesFiles t d a.said ps n db next events)
-      → PrintsPrefix a.said b.said (answers_text d db next (raw_lines all)) → ((fault ≡ Block Say → ⊥) → SaidWhole a.said b.said events)
-      → (fault ≡ run.Lines → PassesLines d db next (raw_lines all) a.said b.said) → (fault ≡ run.Bytes → PassesBytes d db next (raw_lines all) a.said b.said)
-      → (fault ≡ run.Held → PassesWaiting d db next (raw_lines all) a.said b.said) → (fault ≡ run.Input → CutInput d db next all left' a.said b.said)
-      → ((f k : ℕ) → fault ≡ Block (block.Damaged f k) → ⊥) → ((f : ℕ) → fault ≡ Block (block.Full f) → f ≡ d.files) → Bound (run_status fault) → ScriptRuns opening t d ps n db next all a b left' (run_status fault)
-  ran_failed fault moments part whole lines bytes waits cut damaged full bound = record {
+  pub ran_failed : (fault : RunFault) (c : Carried d db next all left' a.said b.said fault) → Leaves c.events
+      → ((f k : ℕ) → fault ≡ Block (block.Damaged f k) → ⊥) → ((f : ℕ) → fault ≡ Block (block.Full f) → f ≡ d.files) → Bound c.events (run_status fault) → ScriptRuns opening t d ps n db next all a b left' (run_status fault)
+  ran_failed fault c moments damaged full bound = record {
+    lines = c.lines;
+    front = c.front;
+    events = c.events;
+    are = c.are;
     bound = bound;
-    every_moment = moments;
+    every_moment = paused c.events moments;
     at_ok = λ is. absurd (run_not_ok fault is);
     prints = λ is. absurd (run_not_ok fault is);
-    part = part;
-    whole_answers = λ unsaid. whole (λ is. unsaid (ap run_status is));
+    part = c.part;
+    whole_answers = λ unsaid. c.answers (λ is. unsaid (ap run_status is));
+    whole = λ is. absurd (run_not_ok fault is);
     within = λ is. absurd (run_not_ok fault is);
-    limit = λ k is. passes fault k is lines bytes waits full;
-    input_cut = λ is. cut (run_input fault is);
+    limit = λ k is. passes k is;
+    input_cut = λ is. c.cut (run_input fault is);
     undamaged = λ f k is high. damaged f k (run_damaged fault f k is);
   }
     where
-      passes : (fault : RunFault) (k : LimitKind) → run_status fault ≡ Limit k → (fault ≡ run.Lines → PassesLines d db next (raw_lines all) a.said b.said)
-          → (fault ≡ run.Bytes → PassesBytes d db next (raw_lines all) a.said b.said) → (fault ≡ run.Held → PassesWaiting d db next (raw_lines all) a.said b.said)
-          → ((f : ℕ) → fault ≡ Block (block.Full f) → f ≡ d.files) → PassesScript k d db next (raw_lines all) a.said b.said
-      passes fault (AuditFile f) is lines bytes waits full = inl (full f (run_full_is fault f is))
-      passes fault Lines is lines bytes waits full = lines (run_lines_is fault is)
-      passes fault Bytes is lines bytes waits full = bytes (run_bytes_is fault is)
-      passes fault limits.Held is lines bytes waits full = waits (run_held_is fault is)
+      passes : (k : LimitKind) → run_status fault ≡ Limit k → PassesScript k d db next (raw_lines all) c.lines c.events a.said b.said
+      passes (AuditFile f) is = inl (full f (run_full_is fault f is), c.due f (run_full_is fault f is))
+      passes Lines is = c.many_lines (run_lines_is fault is)
+      passes Bytes is = c.many_bytes (run_bytes_is fault is)
+      passes limits.Held is = c.many_held (run_held_is fault is)
 
   -- the script was carried out, and the database closed, or not closed
-  pub ran_closed : (status : Status) → (status ≡ Ok) ⊎ IsOfClosing status → Runs a.clock b.clock (RunLeavesFiles t d a.said ps n db next events)
+  pub ran_closed : (status : Status) → (status ≡ Ok) ⊎ IsOfClosing status → (c : CarriedAll d db next all a.said b.said) → Leaves script
       → (status ≡ Ok → ReachesFiles t d n db next (raw_lines all) b)
-      → Prints a.said b.said (answers_text d db next (raw_lines all)) → PrintsPrefix a.said b.said (answers_text d db next (raw_lines all)) → SaidWhole a.said b.said events
-      → KeepsLimits d db next (raw_lines all) → Bound status → ScriptRuns opening t d ps n db next all a b left' status
-  ran_closed status of moments ends prints part whole limits bound = record {
+      → Prints a.said b.said (answers_text d db next (raw_lines all)) → KeepsLimits d db next (raw_lines all) → Bound script status → ScriptRuns opening t d ps n db next all a b left' status
+  ran_closed status of c moments ends prints limits bound = record {
+    lines = c.lines;
+    front = c.front;
+    events = script;
+    are = c.are;
     bound = bound;
-    every_moment = moments;
+    every_moment = paused script moments;
     at_ok = ends;
     prints = λ is. prints;
-    part = part;
-    whole_answers = λ unsaid. whole;
+    part = c.part;
+    whole_answers = λ unsaid. c.answers;
+    whole = λ is. refl;
     within = λ is. limits;
     limit = λ k is. closing_limit status of k is;
     input_cut = λ is. absurd (closing_input status of is);
     undamaged = λ f k is high. closing_damaged status of f k is;
   }
     where
-      closing_limit : (s : Status) → (s ≡ Ok) ⊎ IsOfClosing s → (k : LimitKind) → s ≡ Limit k → PassesScript k d db next (raw_lines all) a.said b.said
+      closing_limit : (s : Status) → (s ≡ Ok) ⊎ IsOfClosing s → (k : LimitKind) → s ≡ Limit k → PassesScript k d db next (raw_lines all) c.lines script a.said b.said
       closing_limit s (inl ok) k is = absurd (ok_not_limit k (sym ok ∙ is))
-      closing_limit s (inr of) k is = of_audit k (subst IsOfClosing is of)
+      closing_limit s (inr of) k is = of_audit c.lines script k (subst IsOfClosing is of)

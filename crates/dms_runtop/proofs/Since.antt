@@ -2,13 +2,10 @@
 use Rattle.std.proofs.Common.{ℕ, ◌≡◌, ◌≤◌, ◌+◌, ◌∙◌, List, [], ◌∷◌, ◌++◌, length, Option, Some, None, refl, sym, ap, subst, arith}
 use Rattle.std.proofs.lemmas.List.{append-nil}
 use Rattle.dms_desc.specs.Shape.{Described}
-use Rattle.dms_feed.specs.Lines.{raw_lines}
 use Rattle.dms_model.specs.Db.{Db}
-use Rattle.dms_model.specs.Session.{someone_works}
 use Rattle.dms_moments.specs.Moments.{Runs}
 use Rattle.dms_moments.specs.MomentLaws.{runs_on}
-use Rattle.dms_runner.specs.Answers.{script_run, script_events, unanswered_events}
-use Rattle.dms_runner.specs.Events.{RunEvent, goes_back, quiets_of}
+use Rattle.dms_runner.specs.Events.{RunEvent, pause, quiets_of}
 use Rattle.dms_running.specs.Telling.{Telling}
 use Rattle.dms_running.specs.Points.{DescribedPoint, points_of, next_in}
 use Rattle.dms_site.specs.Files.{Files, Left}
@@ -20,33 +17,27 @@ use Rattle.dms_status.specs.declared.status.Status.{Status}
 use Rattle.dms_runtop.specs.Over.{ScriptRuns, SiteSeen}
 use Rattle.dms_runtop.proofs.Bounds.{bounds_since}
 
--- ---- a script has an event
+-- ---- there is a first event
 
 record First (events : List RunEvent) : Type 0 where
   one : RunEvent
   rest : List RunEvent
   are : one ∷ rest ≡ events
 
-first_of : (xs ys : List RunEvent) (y : RunEvent) → First (xs ++ (ys ++ y ∷ []))
-first_of [] [] y = record { one = y; rest = []; are = refl }
-first_of [] (z ∷ zs) y = record { one = z; rest = zs ++ y ∷ []; are = refl }
-first_of (x ∷ xs) ys y = record { one = x; rest = xs ++ (ys ++ y ∷ []); are = refl }
-
-first_event : (desc : Described) (db : Db) (next : ℕ) (lines : List (List ℕ)) → First (script_events desc db next lines)
-unfolding script_events
-first_event desc db next lines = first_of (script_run desc db next lines).events (unanswered_events (script_run desc db next lines).going.waiting)
-    (goes_back (someone_works (script_run desc db next lines).going.session.programs))
+first_of : (xs : List RunEvent) (y : RunEvent) → First (xs ++ y ∷ [])
+first_of [] y = record { one = y; rest = []; are = refl }
+first_of (x ∷ xs) y = record { one = x; rest = xs ++ y ∷ []; are = refl }
 
 -- ---- the opening
 
-module _ (t : Telling) (files : Files) (said : Option (List ℕ)) (desc : Described) (n : ℕ) (db : Db) (state : LivesEndWith desc (points_of t files) n db) (next : ℕ) (next_is : next_in t files ≡ next) (lines : List (List ℕ)) where
+module _ (t : Telling) (files : Files) (said : Option (List ℕ)) (desc : Described) (n : ℕ) (db : Db) (state : LivesEndWith desc (points_of t files) n db) (next : ℕ) (next_is : next_in t files ≡ next) (events : List RunEvent) where
   -- a stop within the opening left the database of entry, and no text
-  pub reopens_leaves : (x : Left) → Reopens t files said x → RunLeavesFiles t desc said (points_of t files) n db next (script_events desc db next lines) x
+  pub reopens_leaves : (x : Left) → Reopens t files said x → RunLeavesFiles t desc said (points_of t files) n db next (events ++ pause ∷ []) x
   reopens_leaves x r =
-      let f = first_event desc db next lines in
+      let f = first_of events pause in
       record {
         made = [];
-        rest = quiets_of (script_events desc db next lines);
+        rest = quiets_of (events ++ pause ∷ []);
         front_of = refl;
         state = subst (λ (ps : List DescribedPoint). LivesEndWith desc ps n db) (sym r.points_same) state;
         more = [];
@@ -64,16 +55,21 @@ module _ (opening opening0 : ℕ) (t : Telling) (d : Described) (ps : List Descr
   same_said : a.said ≡ a0.said → ScriptRuns opening t d ps n db next all a b left' status → ScriptRuns opening t d ps n db next all (record { files = a.files; clock = a.clock; said = a0.said }) b left' status
   same_said same ran = subst (λ (s : Option (List ℕ)). ScriptRuns opening t d ps n db next all (record { files = a.files; clock = a.clock; said = s }) b left' status) same ran
 
-  pub runs_since : a.said ≡ a0.said → Runs a0.clock a.clock (RunLeavesFiles t d a0.said ps n db next (script_events d db next (raw_lines all)))
+  pub runs_since : a.said ≡ a0.said → ((events : List RunEvent) → Runs a0.clock a.clock (RunLeavesFiles t d a0.said ps n db next (events ++ pause ∷ [])))
       → length (t.entries a.files) + opening ≤ length (t.entries a0.files) + opening0 → ScriptRuns opening t d ps n db next all a b left' status → ScriptRuns opening0 t d ps n db next all a0 b left' status
   runs_since same before grew ran =
       let r = same_said same ran in
       record {
-        every_moment = runs_on before r.every_moment (λ x l. l);
+        lines = r.lines;
+        front = r.front;
+        events = r.events;
+        are = r.are;
+        every_moment = runs_on (before r.events) r.every_moment (λ x l. l);
         at_ok = r.at_ok;
         prints = r.prints;
         part = r.part;
         whole_answers = r.whole_answers;
+        whole = r.whole;
         within = r.within;
         limit = r.limit;
         bound = bounds_since grew r.bound;

@@ -1,5 +1,5 @@
 -- How much audit a run takes.
-use Rattle.std.specs.Prelude.{ℕ, ◌≡◌, ◌⊎◌, ◌+◌, ◌-◌, ◌*◌, ◌^◌, ◌<◌, ◌≤◌, true, List, length, take}
+use Rattle.std.specs.Prelude.{ℕ, ◌≡◌, ◌⊎◌, ◌+◌, ◌*◌, ◌<◌, ◌≤◌, true, List, length, take}
 use Rattle.std.specs.declared.option.Option.{Option}
 use Rattle.dms_block.specs.Texts.{Prints, PrintsPrefix}
 use Rattle.dms_desc.specs.Shape.{Described}
@@ -7,7 +7,9 @@ use Rattle.dms_runner.specs.Events.{RunEvent, EndsAnswered, SaidAtLeast, backs_o
 use Rattle.dms_running.specs.Telling.{Telling}
 use Rattle.dms_site.specs.Files.{Files}
 use Rattle.dms_status.specs.declared.status.Status.{Status}
-use Rattle.dms_status.specs.declared.status.Status.TheVariants.{Ok, SayFault}
+use Rattle.dms_status.specs.declared.status.LimitKind.{LimitKind}
+use Rattle.dms_status.specs.declared.status.LimitKind.TheVariants.{AuditFile, Lines, Bytes, Held}
+use Rattle.dms_status.specs.declared.status.Status.TheVariants.{Ok, BadWords, SchemaRefused, NoDatabase, Needed, InputFault, Memory, Limit, Damaged, SayFault, DiskFault, Exists}
 use Rattle.dms_storeverbs.specs.Costs.{limit_if}
 use Rattle.dms_wal.specs.Growing.{controls_among}
 
@@ -20,12 +22,6 @@ audit_of desc events = blocks_of desc events + length (quiets_of events) + 18 * 
 abbrev pub audit_begun : Described → List RunEvent → ℕ
 audit_begun desc events =
     blocks_of desc events + limit_if true desc + length (quiets_of events) + 1 + 18 * controls_among desc.controlpoint (syncs_of events + 1) + 19 * (backs_of events + 1)
-
--- The counts of 64 bits can tell what they do.
-pub record AreCounted (desc : Described) (events : List RunEvent) : Type 0 where
-  pub blocks : blocks_of desc events + limit_if true desc < 2 ^ 64 - 1
-  pub syncs : syncs_of events + 1 < 2 ^ 64 - 1
-  pub backs : backs_of events + 1 < 2 ^ 64 - 1
 
 -- The audit of the files of now has at most so many entries more than that of then.
 abbrev pub AuditGrew : Telling → ℕ → Files → Files → Type 0
@@ -53,19 +49,46 @@ abbrev pub GrewWithin : ℕ → Telling → Described → ℕ → ℕ → List R
 GrewWithin n t desc whole k events then now =
     AuditGrew t (n + audit_of desc (take k events)) then now ⊎ (IsUnderWay whole k events × AuditGrew t (n + audit_begun desc (take k events)) then now)
 
--- So much was printed, and the audit grew by no more than an opening, a close and the first k events make. The call of a verb is an event before the one
+-- So much was printed, and the audit grew by no more than n entries and the first k events make. The call of a verb is an event before the one
 -- that says its answer: so the last of the k may be a call whose answer wasn't printed. Where each call that takes something was answered, one may have
 -- been under way behind them. So there is one such call at most whose answer wasn't printed.
 pub record GrewByPart (cut : Type 0) (n : ℕ) (t : Telling) (desc : Described) (events : List RunEvent) (then now : Files) (said said' : Option (List ℕ)) : Type 0 where
   pub k : ℕ
   pub within : k ≤ length events
   pub printed : PrintsEvents cut k events said said'
-  pub grew : AreCounted desc (take k events) → GrewWithin (n + 18) t desc printed.whole k events then now
+  pub grew : GrewWithin n t desc printed.whole k events then now
 
--- So much audit a run takes, whatever failed, where an opening before it took at most n entries. A close takes at most 18: a Schema, in 17 parts, and a
--- Control.
+-- A close takes at most 18 entries: a Schema, in 17 parts, and a Control. None is made where the script stopped before its end: so it is at status 6,
+-- 9 and 10 and at 8 of its lines, bytes and held lines.
+abbrev pub closing_limit : LimitKind → ℕ
+closing_limit (AuditFile f) = 18
+closing_limit Lines = 0
+closing_limit Bytes = 0
+closing_limit Held = 0
+
+abbrev pub closing_of : Status → ℕ
+closing_of Ok = 18
+closing_of BadWords = 0
+closing_of (SchemaRefused f) = 0
+closing_of NoDatabase = 0
+closing_of (Needed n) = 0
+closing_of InputFault = 0
+closing_of Memory = 18
+closing_of (Limit k) = closing_limit k
+closing_of (Damaged f b) = 0
+closing_of SayFault = 0
+closing_of DiskFault = 18
+closing_of Exists = 0
+
+-- the script stopped at one of its limits, or since its input failed
+abbrev pub StopsAtLine : Status → Type 0
+StopsAtLine status = (status ≡ InputFault) ⊎ ((status ≡ Limit Lines) ⊎ ((status ≡ Limit Bytes) ⊎ (status ≡ Limit Held)))
+
+-- So much audit a run takes, whatever failed, where an opening before it took at most n entries.
 pub record BoundsAudit (n : ℕ) (t : Telling) (desc : Described) (events : List RunEvent) (then now : Files) (said said' : Option (List ℕ)) (status : Status) : Type 0 where
   -- at status 0 no more than all events make
-  pub at_ok : status ≡ Ok → AreCounted desc events → AuditGrew t (n + audit_of desc events + 18) then now
+  pub at_ok : status ≡ Ok → AuditGrew t (n + audit_of desc events + 18) then now
+  -- where it stopped at a line, no more than the events of the lines before make
+  pub at_line : StopsAtLine status → AuditGrew t (n + audit_of desc events) then now
   -- at each status no more than those make whose text was printed, and one call whose answer wasn't; at 10 the last answer may be cut off
-  pub at_end : GrewByPart (status ≡ SayFault) n t desc events then now said said'
+  pub at_end : GrewByPart (status ≡ SayFault) (n + closing_of status) t desc events then now said said'

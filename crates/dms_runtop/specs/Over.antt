@@ -1,5 +1,5 @@
 -- A run of a script over a database that was opened.
-use Rattle.std.specs.Prelude.{ℕ, ◌≡◌, ◌⊎◌, ◌+◌, ◌<◌, ◌^◌, List, [], length, map, Some, None, IsTrue, if◌then◌else◌}
+use Rattle.std.specs.Prelude.{ℕ, ◌≡◌, ◌⊎◌, ◌+◌, ◌<◌, ◌^◌, List, [], ◌∷◌, ◌++◌, length, map, Some, None, IsTrue, if◌then◌else◌}
 use Rattle.std.specs.declared.option.Option.{Option}
 use Rattle.dms_moments.specs.Moments.{Clock, Runs}
 use Rattle.dms_block.specs.Texts.{Prints, PrintsPrefix}
@@ -23,8 +23,8 @@ use Rattle.dms_runtop.specs.Bound.{BoundsAudit}
 use Rattle.dms_store.specs.Lifted.{point_of}
 use Rattle.dms_store.specs.Spelled.{spelled}
 use Rattle.dms_runner.specs.Answers.{answers_quiets, answers_text, left_by, script_events, script_run}
-use Rattle.dms_runner.specs.Events.{SaidWhole}
-use Rattle.dms_runner.specs.Running.{CutInput, PassesBytes, PassesLines, PassesWaiting}
+use Rattle.dms_runner.specs.Events.{IsDue, RunEvent, SaidWhole, pause, text_of}
+use Rattle.dms_runner.specs.Running.{AreExactly, AreOfFront, CutInput, KeepsFront, PassesBytes, PassesLines, PassesWaiting}
 use Rattle.dms_run.specs.Ending.{KeepsLimits}
 use Rattle.dms_run.specs.Files.{points_seen, RunLeavesFiles}
 use Rattle.dms_run.specs.States.{LivesEndWith}
@@ -51,13 +51,19 @@ pub record FilesEndWith (t : Telling) (desc : Described) (n : ℕ) (db : Db) (ne
   pub next_is : next_in t s.files ≡ next
   pub only : Only s.files s.clock
 
--- The script passes this limit: what the whole lines before that place answer was printed. The audit may go on up to file FILES of the description for
--- what a script changes, and up to file 9,999 where the database is opened and closed.
-abbrev pub PassesScript : LimitKind → Described → Db → ℕ → List (List ℕ) → Option (List ℕ) → Option (List ℕ) → Type 0
-PassesScript (AuditFile f) desc db first lines before after = (f ≡ desc.files) ⊎ (f ≡ 9999)
-PassesScript Lines desc db first lines before after = PassesLines desc db first lines before after
-PassesScript Bytes desc db first lines before after = PassesBytes desc db first lines before after
-PassesScript Held desc db first lines before after = PassesWaiting desc db first lines before after
+-- The script passes this limit: what the whole lines before that place answer was printed, and exactly what they do was done; of a line that is one too
+-- many to hold its first try, which waits, too. The audit may go on up to file FILES of the description for what a script changes: then the call of a
+-- verb that may change the database was under way, or the way back at the script's end. And it may go on up to file 9,999 where the database is
+-- opened and closed.
+abbrev pub PassesScript : LimitKind → Described → Db → ℕ → List (List ℕ) → ℕ → List RunEvent → Option (List ℕ) → Option (List ℕ) → Type 0
+PassesScript (AuditFile f) desc db first lines n events before after = ((f ≡ desc.files) × IsDue before after events) ⊎ (f ≡ 9999)
+PassesScript Lines desc db first lines n events before after = PassesLines desc db first lines before after × AreExactly desc db first lines n events 1000000
+PassesScript Bytes desc db first lines n events before after = (p : PassesBytes desc db first lines before after) × AreExactly desc db first lines n events p.n
+PassesScript Held desc db first lines n events before after = (p : PassesWaiting desc db first lines before after) × AreExactly desc db first lines n events (p.n + 1)
+
+-- Taking from the input failed: what the whole lines that were taken answer was printed, and exactly what they do was done.
+abbrev pub CutsScript : Described → Db → ℕ → List ℕ → Option (List ℕ) → ℕ → List RunEvent → Option (List ℕ) → Option (List ℕ) → Type 0
+CutsScript desc db first all left n events before after = (p : CutInput desc db first all left before after) × AreExactly desc db first (raw_lines all) n events p.n
 
 -- So the files of a database end that at point n was this one with this next number, where a script with these lines was carried out.
 abbrev pub ReachesFiles : Telling → Described → ℕ → Db → ℕ → List (List ℕ) → SiteSeen → Type 0
@@ -68,25 +74,33 @@ ReachesFiles t desc n db next lines s =
 -- so the site was seen before it and behind it, so much of the input was left, and so the run ended. An opening before it took at most so many entries
 -- of the audit.
 pub record ScriptRuns (opening : ℕ) (t : Telling) (desc : Described) (ps : List DescribedPoint) (n : ℕ) (db : Db) (next : ℕ) (all : List ℕ) (a b : SiteSeen) (left' : Option (List ℕ)) (status : Status) : Type 0 where
-  -- a stop at each moment left what a run leaves: the database of one quiet point, none before those that syncpoints made durable before what
-  -- was printed last, and each point as it was
-  pub every_moment : Runs a.clock b.clock (RunLeavesFiles t desc a.said ps n db next (script_events desc db next (raw_lines all)))
+  -- So many lines were carried out at most, which keep the limits of lines and bytes, and no line behind them. These events are theirs, or, where they
+  -- are all, those of the script to its end: nothing else was done.
+  pub lines : ℕ
+  pub front : KeepsFront (raw_lines all) lines
+  pub events : List RunEvent
+  pub are : AreOfFront desc db next (raw_lines all) lines events
+  -- a stop at each moment, also before the first and behind the last of them, left what a run of them leaves: the database of one quiet point, none
+  -- before those that syncpoints made durable before what was printed last, and each point as it was
+  pub every_moment : Runs a.clock b.clock (RunLeavesFiles t desc a.said ps n db next (events ++ pause ∷ []))
   -- at status 0 the files end with the last quiet point, or with the point of entry, and the next number is that of the session
   pub at_ok : status ≡ Ok → ReachesFiles t desc n db next (raw_lines all) b
   -- at status 0 exactly the answers were printed
   pub prints : status ≡ Ok → Prints a.said b.said (answers_text desc db next (raw_lines all))
   -- at each status a prefix of them
-  pub part : PrintsPrefix a.said b.said (answers_text desc db next (raw_lines all))
+  pub part : PrintsPrefix a.said b.said (text_of events)
   -- unless printing failed, that was the text of whole answers
-  pub whole_answers : (status ≡ SayFault → ⊥) → SaidWhole a.said b.said (script_events desc db next (raw_lines all))
+  pub whole_answers : (status ≡ SayFault → ⊥) → SaidWhole a.said b.said events
+  -- at status 0 the whole script was carried out
+  pub whole : status ≡ Ok → events ≡ script_events desc db next (raw_lines all)
   -- at status 0 the script keeps the limits
   pub within : status ≡ Ok → KeepsLimits desc db next (raw_lines all)
   -- at status 8 by the script it passes that limit, and none before
-  pub limit : (k : LimitKind) → status ≡ Limit k → PassesScript k desc db next (raw_lines all) a.said b.said
+  pub limit : (k : LimitKind) → status ≡ Limit k → PassesScript k desc db next (raw_lines all) lines events a.said b.said
   -- at each status it took no more of the audit than an opening, what is answered, one call whose answer wasn't printed, and a close may take
-  pub bound : BoundsAudit opening t desc (script_events desc db next (raw_lines all)) a.files b.files a.said b.said status
-  -- at status 6 what the whole lines that were taken answer was printed
-  pub input_cut : status ≡ InputFault → CutInput desc db next all left' a.said b.said
+  pub bound : BoundsAudit opening t desc events a.files b.files a.said b.said status
+  -- at status 6 what the whole lines that were taken answer was printed, and exactly what they do was done
+  pub input_cut : status ≡ InputFault → CutsScript desc db next all left' lines events a.said b.said
   -- no block of a structure file is found damaged
   pub undamaged : (f k : ℕ) → status ≡ Damaged f k → 30000 < f → ⊥
 

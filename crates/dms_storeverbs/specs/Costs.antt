@@ -14,6 +14,10 @@ use Rattle.dms_laws.specs.Exclusive.{is_done}
 abbrev pub stores : Verb → Bool
 stores verb = (traits verb).stores
 
+-- the verbs that may change the database: STORE, BEGIN, END and ABORT
+abbrev pub changes : Verb → Bool
+changes verb = (traits verb).changes
+
 -- END-TRANSACTION NO-AUDIT, with SYNC or without, takes no memory
 abbrev pub takes_none : Verb → Bool
 takes_none verb = (traits verb).takes_none

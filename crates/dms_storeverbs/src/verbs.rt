@@ -9,8 +9,8 @@ ghost use Rattle.dms_desc.specs.Lookups.{parts_of, set_of, items_of};
 ghost use Rattle.dms_model.specs.declared.verb.Path.TheVariants.{At};
 ghost use Rattle.dms_model.specs.Session.{Session, find_step, found_by, path_of, verb_step, carried_out, step, is_waits};
 ghost use Rattle.dms_model.specs.Verbs.{IsPathOf, IsVerbOf};
-ghost use Rattle.dms_block.specs.Faults.{Undamaged};
-ghost use Rattle.dms_storeverbs.specs.Costs.{Costs, block_limit, takes_none};
+ghost use Rattle.dms_block.specs.Faults.{NotFull, Undamaged};
+ghost use Rattle.dms_storeverbs.specs.Costs.{Costs, block_limit, changes, takes_none};
 ghost use Rattle.dms_storeverbs.specs.View.{Does, EngineLasts, SameSession, StandsFor, seen, view};
 
 use crate::keys::{agreeing, key_values};
@@ -44,6 +44,7 @@ impl<St: Store> Engine<St> {
         ensures undamaged { (d : Db) → (seen self.old).db ≡ Some d → Undamaged result }
         ensures effort { (seen self.new).effort ≡ (seen self.old).effort }
         ensures mute_fault { IsErrOf result BlockFault.Say → ⊥ }
+        ensures room { NotFull result }
         ensures lasts { EngineLasts result self.old self.new }
     {
         let items = self.desc.items_of(self.desc.set_of(x));
@@ -73,6 +74,7 @@ impl<St: Store> Engine<St> {
         ensures undamaged { (d : Db) → (seen self.old).db ≡ Some d → Undamaged result }
         ensures effort { (seen self.new).effort ≡ (seen self.old).effort }
         ensures mute_fault { IsErrOf result BlockFault.Say → ⊥ }
+        ensures room { NotFull result }
         ensures lasts { EngineLasts result self.old self.new }
     {
         match path {
@@ -92,6 +94,7 @@ impl<St: Store> Engine<St> {
         ensures mute { IsMute (seen self.old) (seen self.new) }
         ensures costs { Costs 0 false result (seen self.old).effort (seen self.new).effort }
         ensures mute_fault { IsErrOf result BlockFault.Say → ⊥ }
+        ensures room { NotFull result }
         ensures lasts { EngineLasts result self.old self.new }
     {
         let x = apart::path_of(path);
@@ -121,6 +124,7 @@ impl<St: Store> Engine<St> {
         ensures no_wait { takes_none verb.now ≡ true → IfOk result (λ a. is_waits a.reply ≡ false) }
         ensures idle { IfOk result (λ a. is_waits a.reply ≡ true → (seen self.new).effort.spent ≤ (seen self.old).effort.spent) }
         ensures mute_fault { IsErrOf result BlockFault.Say → ⊥ }
+        ensures room { changes verb.now ≡ false → NotFull result }
         ensures lasts { EngineLasts result self.old self.new }
     {
         match verb {
@@ -173,6 +177,7 @@ impl<St: Store> Engine<St> {
         ensures no_wait { takes_none verb.now ≡ true → IfOk result (λ a. is_waits a.reply ≡ false) }
         ensures idle { IfOk result (λ a. is_waits a.reply ≡ true → (seen self.new).effort.spent ≤ (seen self.old).effort.spent) }
         ensures mute_fault { IsErrOf result BlockFault.Say → ⊥ }
+        ensures room { changes verb.now ≡ false → NotFull result }
         ensures lasts { EngineLasts result self.old self.new }
     {
         let i = programs::place_of(self.programs.as_slice(), program);
@@ -186,7 +191,7 @@ impl<St: Store> Engine<St> {
     }
 
     /// One step of a program: its verb, one that a line can spell, is carried out, and its answer ends its wait or begins one.
-    /// Answers the store's fault, which is never Say, and Memory where memory is refused.
+    /// Answers the store's fault, which is never Say, and Full for STORE, BEGIN, END and ABORT alone; and Memory where memory is refused.
     #[tactic(auto, using(std::proofs::lemmas::Option::gets), unfolding(dms_model::specs::Session::step))]
     pub fn call(&mut self, alloc: Global, program: &Name, verb: &Verb) -> Result<Answer, BlockFault>
         requires verb { IsVerbOf (described self.old.desc) verb.now }
@@ -197,6 +202,7 @@ impl<St: Store> Engine<St> {
         ensures no_memory { takes_none verb.now ≡ true → IsErrOf result BlockFault.Memory → ⊥ }
         ensures idle { IfOk result (λ a. is_waits a.reply ≡ true → (seen self.new).effort.spent ≤ (seen self.old).effort.spent) }
         ensures mute_fault { IsErrOf result BlockFault.Say → ⊥ }
+        ensures room { changes verb.now ≡ false → NotFull result }
         ensures lasts { EngineLasts result self.old self.new }
     {
         let answer = self.carry_out(alloc, program, verb)?;

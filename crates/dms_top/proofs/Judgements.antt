@@ -37,6 +37,9 @@ pub no_more : (held : List ℕ) (left : Option (List ℕ)) → Remains held left
 no_more held None h = absurd (none-some [] h)
 no_more held (Some xs) h = ap (λ (l : List ℕ). Some l) (empty_front held xs (same_Some _ _ h))
 
+pub no_more_over : (rest held : List ℕ) (left : Option (List ℕ)) → rest ≡ [] → Remains held left rest → left ≡ Some []
+no_more_over rest held left none h = no_more held left (subst (λ (r : List ℕ). Remains held left r) none h)
+
 -- with nothing held, what the source has left remains
 pub at_start : (held : List ℕ) (left : Option (List ℕ)) (all : List ℕ) → held ≡ [] → left ≡ Some all → Remains held left all
 at_start held left all none is = subst (λ (h : List ℕ). Remains h left all) (sym none) (subst (λ (l : Option (List ℕ)). Remains [] l all) (sym is) refl)

@@ -1,4 +1,5 @@
 pub mod Auditing
+pub mod Carried
 pub mod Counting
 pub mod Creating
 pub mod Cutting

@@ -1,5 +1,5 @@
 -- What a site that tells its text has printed.
-use Rattle.std.proofs.Common.{◌≡◌, ◌++◌, ◌∙◌, ap, sym, subst, refl, Bool, true, false, Option, List, ℕ, take, Ok, Err, Result, IsOk, OnOk}
+use Rattle.std.proofs.Common.{◌≡◌, ◌++◌, ◌∙◌, ap, sym, subst, refl, arith, inl, Bool, true, false, Option, List, [], ℕ, length, take, Ok, Err, Result, IsOk, OnOk}
 use Rattle.std.proofs.lemmas.List.{append-nil}
 use Rattle.std.proofs.lemmas.Option.{same_Some}
 use Rattle.dms_desc.specs.Shape.{Described}
@@ -8,12 +8,13 @@ use Rattle.dms_block.specs.Texts.{Prints, PrintsPrefix}
 use Rattle.dms_model.specs.Session.{fresh_session}
 use Rattle.dms_storeverbs.specs.View.{View, StandsFor}
 use Rattle.dms_plain.specs.Told.{told}
-use Rattle.dms_runner.specs.Answers.{answers_text, script_events}
+use Rattle.dms_runner.specs.Answers.{answers_text, lines_run, script_events, script_run}
 use Rattle.dms_runner.specs.Events.{RunEvent, SaidWhole, text_of}
-use Rattle.dms_runner.specs.Running.{AnswersWhole}
+use Rattle.dms_runner.specs.Running.{AnswersWhole, bytes_of}
 use Rattle.dms_status.specs.declared.status.SchemaFault.{SchemaFault}
+use Rattle.dms_status.specs.declared.status.Status.{Status}
 use Rattle.dms_status.specs.declared.status.LimitKind.{LimitKind}
-use Rattle.dms_top.specs.Answering.{Printed, PrintedPrefix, PrintedWhole, WithinLimits, PassesLimit, judged_events, judged_text}
+use Rattle.dms_top.specs.Answering.{Printed, PrintedFront, PrintedPrefix, PrintedWhole, WithinLimits, PassesLimit, judged_events, judged_text}
 
 -- a text that is told
 pub told_prints : (b : Bool) (before after text : List ℕ) → b ≡ true → Prints (told b before) (told b after) text → Printed before after text
@@ -92,3 +93,42 @@ whole_moved before after before' after' events events' a b e p =
 
 pub events_accepted : (j : Result Described SchemaFault) (d : Described) (lines : List (List ℕ)) → j ≡ Ok d → judged_events j lines ≡ script_events d empty_db 1 lines
 events_accepted j d lines is = ap (λ (x : Result Described SchemaFault). judged_events x lines) is
+
+-- a part of the script
+
+pub front_none : (status : Status) (d : Described) (lines : List (List ℕ)) (before after : List ℕ) → after ≡ before → PrintedFront status d lines before after
+front_none status d lines before after same = record {
+  n = 0;
+  events = (script_run d empty_db 1 (take 0 lines)).events;
+  front = record { within = omega arith; few = omega arith; short = omega arith };
+  are = inl refl;
+  text = nothing_printed before after _ same;
+  whole = λ printed. nothing_whole before after _ same;
+}
+
+pub printed_front : (status : Status) (d d' : Described) (lines lines' : List (List ℕ)) (before after before' after' : List ℕ) → after ≡ after' → before ≡ before' → d ≡ d' → lines ≡ lines'
+    → PrintedFront status d' lines' before' after' → PrintedFront status d lines before after
+printed_front status d d' lines lines' before after before' after' a b e l p =
+    subst (λ (x : List ℕ). PrintedFront status d lines before x) (sym a)
+    (subst (λ (x : List ℕ). PrintedFront status d lines x after') (sym b)
+    (subst (λ (x : Described). PrintedFront status x lines before' after') (sym e) (subst (λ (x : List (List ℕ)). PrintedFront status d' x before' after') (sym l) p)))
+
+-- a script without lines
+
+pub none_full : (d : Described) → (script_run d empty_db 1 []).full ≡ false
+unfolding lines_run
+none_full d = refl
+
+none_answered : (d : Described) → answers_text d empty_db 1 [] ≡ []
+unfolding lines_run script_events
+none_answered d = refl
+
+pub none_printed : (d : Described) (lines : List (List ℕ)) (said : List ℕ) → lines ≡ [] → Printed said said (answers_text d empty_db 1 lines)
+none_printed d lines said none = sym (ap (λ (ls : List (List ℕ)). said ++ answers_text d empty_db 1 ls) none ∙ ap (λ (t : List ℕ). said ++ t) (none_answered d) ∙ append-nil said)
+
+pub none_within : (d : Described) (lines : List (List ℕ)) → lines ≡ [] → WithinLimits d lines
+none_within d lines none = record {
+  few = omega (arith, ap length none);
+  short = omega (arith, ap bytes_of none);
+  room = ap (λ (ls : List (List ℕ)). (script_run d empty_db 1 ls).full) none ∙ none_full d;
+}

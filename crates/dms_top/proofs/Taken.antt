@@ -8,9 +8,10 @@ use Rattle.dms_runner.proofs.Running.{lines_step}
 use Rattle.dms_runner.proofs.Lining.{line_text_long}
 use Rattle.dms_feed.specs.Feeds.{Remains}
 use Rattle.dms_feed.specs.Lines.{raw_lines, first_line, after_line, line_text}
-use Rattle.dms_feed.specs.Raws.{CutLine}
-use Rattle.dms_runner.specs.Running.{text_of_lines}
-use Rattle.dms_runner.proofs.Running.{first_joined, joined_on}
+use Rattle.dms_feed.specs.Raws.{CutLine, has_end}
+use Rattle.dms_runner.specs.Running.{AreEnded, text_of_lines}
+use Rattle.dms_runner.proofs.Running.{first_joined, joined_on, nothing_after}
+use Rattle.dms_top.specs.declared.schema.SchemaText.{SchemaText}
 use Rattle.dms_top.specs.Schema.{is_script, schema_part, script_part, schema_text}
 use Rattle.dms_top.specs.Taking.{LeavesLines, TakesTextLine, EndsText, IsLong, IsWholeText, CutText}
 
@@ -69,10 +70,15 @@ leaves_on a b all mid rest p q = record {
 leaves_none : (all : List ℕ) → all ≡ [] → LeavesLines [] all (after_line all)
 leaves_none all none = record { lines = ap raw_lines none ∙ sym (ap (λ (l : List ℕ). raw_lines (after_line l)) none); whole = none ∙ sym (ap after_line none) }
 
--- a line that isn't SCRIPT was added
+-- ended lines, and then ended lines
+pub ended_on : (a b : List (List ℕ)) → AreEnded a → AreEnded b → AreEnded (a ++ b)
+ended_on [] b p q = q
+ended_on (l ∷ ls) b p q = (p.0, ended_on ls b p.1 q)
+
+-- a line that isn't SCRIPT was added, with its line feed
 pub goes_on : (all old new kept held : List ℕ) (n : ℕ) (left : Option (List ℕ)) → all ≢ [] → kept ≡ take 1000008 (first_line all) → n ≡ length (first_line all) → n ≤ 1000008
-    → is_script kept ≡ false → new ≡ old ++ kept → Remains held left (after_line all) → TakesTextLine old new all held left
-goes_on all old new kept held n left some is len small other added remains =
+    → is_script kept ≡ false → new ≡ old ++ kept → has_end (first_line all) ≡ true → Remains held left (after_line all) → TakesTextLine old new all held left
+goes_on all old new kept held n left some is len small other added ended remains =
     let w : kept ≡ first_line all = whole (first_line all) kept n is len small in
     let o : is_script (first_line all) ≡ false = ap is_script (sym w) ∙ other in
     record {
@@ -83,36 +89,66 @@ goes_on all old new kept held n left some is len small other added remains =
       longer = omega (arith, ap length added, length-append old kept, ap length w, line_some all some);
       leaves = leaves_one all some;
       other = o;
+      ended = ended;
     }
 
-pub ends_at : (all old kept held : List ℕ) (n : ℕ) (left : Option (List ℕ)) → all ≢ [] → kept ≡ take 1000008 (first_line all) → n ≡ length (first_line all) → n ≤ 1000008
-    → is_script kept ≡ true → Remains held left (after_line all) → EndsText old old all held left
-ends_at all old kept held n left some is len small here remains =
+-- a last line that isn't SCRIPT was added, without a line feed
+pub ends_last : (all old new kept held : List ℕ) (n : ℕ) (left : Option (List ℕ)) → all ≢ [] → kept ≡ take 1000008 (first_line all) → n ≡ length (first_line all) → n ≤ 1000008
+    → is_script kept ≡ false → new ≡ old ++ kept → has_end (first_line all) ≡ false → Remains held left (after_line all) → EndsText false old new all held left
+ends_last all old new kept held n left some is len small other added unended remains =
+    let w : kept ≡ first_line all = whole (first_line all) kept n is len small in
+    let o : is_script (first_line all) ≡ false = ap is_script (sym w) ∙ other in
+    let e : after_line all ≡ [] = nothing_after all unended in
+    let t : schema_text all ≡ first_line all = text_on all some o ∙ ap (λ (x : List ℕ). first_line all ++ schema_text x) e ∙ append-nil (first_line all) in
+    record {
+      rest = after_line all;
+      remains = remains;
+      text = added ∙ ap (λ (k : List ℕ). old ++ k) (w ∙ sym t);
+      script = ap raw_lines e ∙ sym (script_on all some o ∙ ap (λ (x : List ℕ). script_part (raw_lines x)) e);
+      done = first_line all ∷ [];
+      leaves = leaves_one all some;
+      behind = λ i.
+          let none : take i (raw_lines (after_line all)) ≡ [] = ap (λ (x : List ℕ). take i (raw_lines x)) e ∙ take_all {A = List ℕ} i [] (omega arith) in
+          ap (λ (ls : List (List ℕ)). script_part (first_line all ∷ ls)) none ∙ ap (λ (b : Bool). cond b [] (script_part [])) o ∙ sym none;
+      ended = λ follows. absurd (cc);
+      over = λ ends. e;
+    }
+
+-- the text grows by nothing
+nothing_more : (old text : List ℕ) → text ≡ [] → old ≡ old ++ text
+nothing_more old text none = sym (ap (λ (t : List ℕ). old ++ t) none ∙ append-nil old)
+
+-- the line SCRIPT was taken
+pub ends_at : (follows : Bool) (all old kept held : List ℕ) (n : ℕ) (left : Option (List ℕ)) → all ≢ [] → kept ≡ take 1000008 (first_line all) → n ≡ length (first_line all) → n ≤ 1000008
+    → is_script kept ≡ true → has_end (first_line all) ≡ follows → Remains held left (after_line all) → EndsText follows old old all held left
+ends_at follows all old kept held n left some is len small here end remains =
     let w : kept ≡ first_line all = whole (first_line all) kept n is len small in
     let h : is_script (first_line all) ≡ true = ap is_script (sym w) ∙ here in
     record {
       rest = after_line all;
       remains = remains;
-      text = refl;
-      none = text_here all some h;
+      text = nothing_more old (schema_text all) (text_here all some h);
       script = sym (script_here all some h);
       done = first_line all ∷ [];
       leaves = leaves_one all some;
       behind = λ i. ap (λ (t : Bool). cond t (take i (raw_lines (after_line all))) (script_part (take i (raw_lines (after_line all))))) h;
+      ended = λ so. (end ∙ so, tt);
+      over = λ so. nothing_after all (end ∙ so);
     }
 
-pub ends_none : (all old held : List ℕ) (left : Option (List ℕ)) → all ≡ [] → Remains held left (after_line all) → EndsText old old all held left
+pub ends_none : (all old held : List ℕ) (left : Option (List ℕ)) → all ≡ [] → Remains held left (after_line all) → EndsText false old old all held left
 ends_none all old held left none remains = record {
   rest = after_line all;
   remains = remains;
-  text = refl;
-  none = ap schema_text none;
+  text = nothing_more old (schema_text all) (ap schema_text none);
   script = ap (λ (l : List ℕ). raw_lines (after_line l)) none ∙ sym (ap (λ (l : List ℕ). script_part (raw_lines l)) none);
   done = [];
   leaves = leaves_none all none;
   behind = λ i.
       let e : take i (raw_lines (after_line all)) ≡ [] = ap (λ (l : List ℕ). take i (raw_lines (after_line l))) none ∙ take_all {A = List ℕ} i [] (omega arith) in
       ap script_part e ∙ sym e;
+  ended = λ so. absurd (cc);
+  over = λ so. ap after_line none;
 }
 
 -- the text is too long already
@@ -123,7 +159,7 @@ too_long all old new kept n some is len small other added long =
     let o : is_script (first_line all) ≡ false = ap is_script (sym w) ∙ other in
     omega (arith, long, ap length added, length-append old kept, ap length w, length-append old (schema_text all), ap length (text_on all some o), length-append (first_line all) (schema_text (after_line all)))
 
--- so much of the text was taken in so many lines
+-- so much of the text was taken in so many lines, each with its line feed
 pub record TextReaches (n : ℕ) (text all held : List ℕ) (left : Option (List ℕ)) : Type 0 where
   pub rest : List ℕ
   pub remains : Remains held left rest
@@ -133,9 +169,7 @@ pub record TextReaches (n : ℕ) (text all held : List ℕ) (left : Option (List
   pub done : List (List ℕ)
   pub leaves : LeavesLines done all rest
   pub before : (ls : List (List ℕ)) → script_part (done ++ ls) ≡ script_part ls
-
-pub reaches_start : (all held : List ℕ) (left : Option (List ℕ)) → Remains held left all → TextReaches 0 [] all held left
-reaches_start all held left remains = record { rest = all; remains = remains; is = refl; script = refl; grown = omega arith; done = []; leaves = record { lines = refl; whole = refl }; before = λ ls. refl }
+  pub ended : AreEnded done
 
 pub reaches_on : (n : ℕ) (old new all held held' : List ℕ) (left left' : Option (List ℕ)) (r : TextReaches n old all held left) → TakesTextLine old new r.rest held' left' → TextReaches (n + 1) new all held' left'
 reaches_on n old new all held held' left left' r g =
@@ -149,11 +183,13 @@ reaches_on n old new all held held' left left' r g =
       done = r.done ++ l ∷ [];
       leaves = leaves_on r.done (l ∷ []) all r.rest g.rest r.leaves g.leaves;
       before = λ ls. ap script_part (append_assoc r.done (l ∷ []) ls) ∙ r.before (l ∷ ls) ∙ ap (λ (t : Bool). cond t ls (script_part ls)) g.other;
+      ended = ended_on r.done (l ∷ []) r.ended (g.ended, tt);
     }
 
-pub reaches_end : (n : ℕ) (old new all held held' : List ℕ) (left left' : Option (List ℕ)) (r : TextReaches n old all held left) → EndsText old new r.rest held' left' → IsWholeText new all held' left'
-reaches_end n old new all held held' left left' r e = record {
-  is = e.text ∙ sym (r.is ∙ ap (λ (t : List ℕ). old ++ t) e.none ∙ append-nil old);
+pub reaches_end : (n : ℕ) (taken : SchemaText) (old all held held' : List ℕ) (left left' : Option (List ℕ)) (r : TextReaches n old all held left) → EndsText taken.script old taken.text r.rest held' left'
+    → IsWholeText taken all held' left'
+reaches_end n taken old all held held' left left' r e = record {
+  is = e.text ∙ sym r.is;
   rest = e.rest;
   remains = e.remains;
   script = e.script ∙ sym r.script;
@@ -162,6 +198,8 @@ reaches_end n old new all held held' left left' r e = record {
   behind = λ i.
       let ls = take i (raw_lines e.rest) in
       ap script_part (append_assoc r.done e.done ls) ∙ r.before (e.done ++ ls) ∙ e.behind i;
+  ended = λ so. ended_on r.done e.done r.ended (e.ended so);
+  over = e.over;
 }
 
 -- taking failed
@@ -171,6 +209,7 @@ reaches_cut n old all held left left' r cut = record {
   rest = r.rest;
   leaves = r.leaves;
   none = ap script_part (sym (append-nil r.done)) ∙ r.before [];
+  ended = r.ended;
   cut = cut;
 }
 

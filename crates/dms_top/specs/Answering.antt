@@ -10,8 +10,10 @@ use Rattle.dms_feed.specs.Raws.{IsUnended}
 use Rattle.dms_model.specs.Db.{empty_db}
 use Rattle.dms_runner.specs.Answers.{script_run, script_events, answers_text}
 use Rattle.dms_runner.specs.Events.{RunEvent, text_of}
-use Rattle.dms_runner.specs.Running.{bytes_of, text_of_lines, CutInput, PassesLines, PassesBytes, PassesWaiting}
+use Rattle.dms_runner.specs.Running.{AreEnded, AreOfFront, KeepsFront, bytes_of, text_of_lines, CutInput, PassesLines, PassesBytes, PassesWaiting}
 use Rattle.dms_status.specs.declared.status.SchemaFault.{SchemaFault}
+use Rattle.dms_status.specs.declared.status.Status.{Status}
+use Rattle.dms_status.specs.declared.status.Status.TheVariants.{SayFault}
 use Rattle.dms_status.specs.declared.status.LimitKind.{LimitKind}
 use Rattle.dms_status.specs.declared.status.LimitKind.TheVariants.{AuditFile, Lines, Bytes, Held}
 use Rattle.dms_top.specs.Judging.{judged}
@@ -51,6 +53,16 @@ try_events input = judged_events (judged (schema_text input)) (script_of input)
 abbrev pub PrintedWhole : List ℕ → List ℕ → List RunEvent → Type 0
 PrintedWhole before after events = (k : ℕ) × Printed before after (text_of (take k events))
 
+-- The text grew by a prefix of what the first n lines of a script answer, which keep its limits, or, where they are all, of what the script answers; where
+-- no printing failed, by the text of whole events of these.
+pub record PrintedFront (status : Status) (d : Described) (lines : List (List ℕ)) (before after : List ℕ) : Type 0 where
+  pub n : ℕ
+  pub events : List RunEvent
+  pub front : KeepsFront lines n
+  pub are : AreOfFront d empty_db 1 lines n events
+  pub text : PrintedPrefix before after (text_of events)
+  pub whole : (status ≡ SayFault → ⊥) → PrintedWhole before after events
+
 -- a script that keeps the limits: 1,000,000 lines, 2,147,483,648 bytes, and no line that is one too many to hold
 pub record WithinLimits (d : Described) (lines : List (List ℕ)) : Type 0 where
   pub few : length lines ≤ 1000000
@@ -79,11 +91,12 @@ InputPasses k d before after all = PassesLimit k d (raw_lines all) before after
 abbrev pub TryPasses : LimitKind → Option (List ℕ) → Option (List ℕ) → Option (List ℕ) → Type 0
 TryPasses k left before after = OfTriedScript left (λ d all. PassesLimit k d (script_of all) before after)
 
--- taking from the input failed: so many whole lines of it were taken, and what those among them answer that are lines of
+-- taking from the input failed: so many whole lines of it were taken, each with its line feed, and what those among them answer that are lines of
 -- the script, which keep the limits with that part, was printed, where the text is told; a part of the next line was taken too, without its line feed, and the rest of the input is left
 pub record CutTry (d : Described) (input : List ℕ) (left : Option (List ℕ)) (before after : Option (List ℕ)) : Type 0 where
   pub n : ℕ
   pub within : n ≤ length (raw_lines input)
+  pub ended : AreEnded (take n (raw_lines input))
   pub part : List ℕ
   pub rest : List ℕ
   pub whole : input ≡ text_of_lines (take n (raw_lines input)) ++ (part ++ rest)

@@ -25,20 +25,39 @@ pub enum TextFault {
     Long,
 }
 
+/// What was taken of the text of a schema.
+#[derive(Clone, Copy, Debug, PartialEq, Eq)]
+pub enum TextLine {
+    /// A line of the text, with its line feed.
+    Text,
+    /// A line SCRIPT, with its line feed.
+    Script,
+    /// The last line of the input, without a line feed, or nothing, at its end.
+    Last,
+}
+
+/// The text of a schema.
+#[derive(Drop)]
+pub struct SchemaText {
+    pub text: Bytes,
+    /// Whether a line SCRIPT with its line feed ended it, so that lines of a script may follow. Else the input is at its end.
+    pub script: bool,
+}
+
 fn is_script(line: &[u8]) -> bool
     ensures { result ≡ is_script line.now }
 {
     line_text(line) == b"SCRIPT".as_slice()
 }
 
-/// Takes one more line of the text of a schema, and answers whether the text goes on behind it.
+/// Takes one more line of the text of a schema.
 fn schema_line<I: Source>(
     alloc: Global,
     feed: &mut Feed,
     source: &mut I,
     text: &mut Bytes,
-) -> Result<bool, TextFault>
-    ensures line { IfOk result (λ more. (all : List ℕ) → Remains feed.old (I.left source.old) all → TakesOrEnds more text.old text.new all feed.new (I.left source.new)) }
+) -> Result<TextLine, TextFault>
+    ensures line { IfOk result (λ taken. (all : List ℕ) → Remains feed.old (I.left source.old) all → TakesOrEnds taken text.old text.new all feed.new (I.left source.new)) }
     ensures long { IsErrOf result TextFault.Long → (all : List ℕ) → Remains feed.old (I.left source.old) all → IsLong text.old all }
     ensures failed { IsErrOf result TextFault.Input → (all : List ℕ) → Remains feed.old (I.left source.old) all → CutLine 1000008 (I.left source.new) all }
     ensures same { I.same_source source.old source.new }
@@ -48,10 +67,13 @@ fn schema_line<I: Source>(
         Err(RawFault::Input) => return Err(TextFault::Input),
         Err(RawFault::Memory) => return Err(TextFault::Memory),
         Err(RawFault::Bytes) => return Err(TextFault::Long),
-        Ok(None) => return Ok(false),
+        Ok(None) => return Ok(TextLine::Last),
         Ok(Some(raw)) => {
             if is_script(raw.kept.as_slice()) {
-                return Ok(false);
+                if raw.ended {
+                    return Ok(TextLine::Script);
+                }
+                return Ok(TextLine::Last);
             }
             match text.extend(raw.kept.as_slice()) {
                 Ok(()) => {}
@@ -60,18 +82,22 @@ fn schema_line<I: Source>(
             if text.as_slice().len() > TEXT_BYTES {
                 return Err(TextFault::Long);
             }
-            Ok(true)
+            if raw.ended {
+                return Ok(TextLine::Text);
+            }
+            Ok(TextLine::Last)
         }
     }
 }
 
-/// The text of a schema: what stands before the first line SCRIPT. Behind it what was taken is left.
+/// The text of a schema: what stands before the first line SCRIPT. Behind a last line without a line feed nothing more is taken from
+/// the source.
 pub fn schema_text<I: Source>(
     alloc: Global,
     feed: &mut Feed,
     source: &mut I,
-) -> Result<Bytes, TextFault>
-    ensures text { IfOk result (λ text. (all : List ℕ) → Remains feed.old (I.left source.old) all → IsWholeText text all feed.new (I.left source.new)) }
+) -> Result<SchemaText, TextFault>
+    ensures text { IfOk result (λ taken. (all : List ℕ) → Remains feed.old (I.left source.old) all → IsWholeText taken all feed.new (I.left source.new)) }
     ensures long { IsErrOf result TextFault.Long → (all : List ℕ) → Remains feed.old (I.left source.old) all → 1000000 < length (text_of all) }
     ensures failed { IsErrOf result TextFault.Input → (all : List ℕ) → Remains feed.old (I.left source.old) all → CutText all (I.left source.new) }
     ensures same { I.same_source source.old source.new }
@@ -83,8 +109,12 @@ pub fn schema_text<I: Source>(
             Err(TextFault::Input) => return Err(TextFault::Input),
             Err(TextFault::Memory) => return Err(TextFault::Memory),
             Err(TextFault::Long) => return Err(TextFault::Long),
-            Ok(true) => {}
-            Ok(false) => return Ok(text),
+            Ok(TextLine::Text) => {}
+            Ok(TextLine::Script) => return Ok(SchemaText { text, script: true }),
+            Ok(TextLine::Last) => return Ok(SchemaText {
+                text,
+                script: false,
+            }),
         }
     }
     Err(TextFault::Long)

@@ -15,7 +15,7 @@ ghost use Rattle.dms_status.specs.declared.status.SchemaFault.{SchemaFault as Re
 ghost use Rattle.dms_top.specs.Judging.{judged};
 ghost use Rattle.dms_top.specs.Schema.{schema_text as text_of};
 ghost use Rattle.dms_top.specs.State.{StandsNew, BecomesNewSite};
-ghost use Rattle.dms_top.specs.Answering.{Printed, PrintedPrefix, PrintedWhole, TryIsCut, TryPasses, WithinLimits, try_events, try_text, script_of};
+ghost use Rattle.dms_top.specs.Answering.{Printed, PrintedFront, PrintedPrefix, PrintedWhole, TryIsCut, TryPasses, WithinLimits, try_events, try_text, script_of};
 ghost use Rattle.dms_status.specs.declared.status.LimitKind.{LimitKind as Kind};
 ghost use Rattle.dms_top.specs.Premises.{OnTry, OnCompile, OnInitialize, OnPrintAudit, OnOthers, OnReading, OnRun, OfInput, OfSchema, OfSealed, OfNoSchema, OfTriedScript, OfNoScript};
 ghost use Rattle.dms_audfile.specs.Counting.{CountedAt};
@@ -80,6 +80,7 @@ fn try_input<S: Site, I: Source>(alloc: Global, site: &mut S, input: &mut I) -> 
     ensures answers { result ≡ Status.Ok → IsTrue S.tells_said → OfInput (I.left input.old) (λ all. Printed (S.said site.old) (S.said site.new) (try_text all)) }
     ensures part { IsTrue S.tells_said → OfInput (I.left input.old) (λ all. PrintedPrefix (S.said site.old) (S.said site.new) (try_text all)) }
     ensures whole_answers { result ≡ Status.Memory → IsTrue S.tells_said → OfInput (I.left input.old) (λ all. PrintedWhole (S.said site.old) (S.said site.new) (try_events all)) }
+    ensures front { IsTrue S.tells_said → OfTriedScript (I.left input.old) (λ d all. PrintedFront result d (script_of all) (S.said site.old) (S.said site.new)) }
     ensures silent { IsTrue S.tells_said → ComesUnsaid result → S.said site.new ≡ S.said site.old }
     ensures within { result ≡ Status.Ok → OfTriedScript (I.left input.old) (λ d all. WithinLimits d (script_of all)) }
     ensures limit { (k : Kind) → result ≡ Status.Limit k → TryPasses k (I.left input.old) (text_told S.Site site.old) (text_told S.Site site.new) }
@@ -89,18 +90,23 @@ fn try_input<S: Site, I: Source>(alloc: Global, site: &mut S, input: &mut I) -> 
     ensures same_source { I.same_source input.old input.new }
 {
     let mut feed = Feed::new();
-    let text = match schema_text(alloc, &mut feed, input) {
-        Ok(text) => text,
+    let taken = match schema_text(alloc, &mut feed, input) {
+        Ok(taken) => taken,
         Err(TextFault::Input) => return Status::InputFault,
         Err(TextFault::Memory) => return Status::Memory,
         Err(TextFault::Long) => {
             return Status::SchemaRefused(SchemaFault::Parse(ParseFault::TooMany(1_000_000)));
         }
     };
-    match judge(alloc, text.as_slice()) {
+    match judge(alloc, taken.text.as_slice()) {
         JudgedSchema::Memory => Status::Memory,
         JudgedSchema::Refused(fault) => Status::SchemaRefused(fault),
-        JudgedSchema::Description(desc) => try_lines(alloc, &desc, site, &mut feed, input),
+        JudgedSchema::Description(desc) => {
+            if !taken.script {
+                return Status::Ok;
+            }
+            try_lines(alloc, &desc, site, &mut feed, input)
+        }
     }
 }
 
@@ -155,6 +161,8 @@ pub fn dms<S: Site, I: Source>(
     ensures part { OnTry words.now (IsTrue S.tells_said → OfInput (I.left input.old) (λ all. PrintedPrefix (S.said site.old) (S.said site.new) (try_text all))) }
     // at status 7 that was the text of whole answers
     ensures whole_answers { OnTry words.now (result ≡ Status.Memory → IsTrue S.tells_said → OfInput (I.left input.old) (λ all. PrintedWhole (S.said site.old) (S.said site.new) (try_events all))) }
+    // at every status it was a prefix of what the first so many lines answer, which keep the limits, and, where no printing failed, that of whole answers
+    ensures front { OnTry words.now (IsTrue S.tells_said → OfTriedScript (I.left input.old) (λ d all. PrintedFront result d (script_of all) (S.said site.old) (S.said site.new))) }
     // at the statuses that come before the script nothing was printed
     ensures silent { OnTry words.now (IsTrue S.tells_said → ComesUnsaid result → S.said site.new ≡ S.said site.old) }
     // at status 0 the script keeps the limits

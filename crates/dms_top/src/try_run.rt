@@ -5,7 +5,7 @@ ghost use Rattle.dms_feed.specs.Feeds.{Remains};
 ghost use Rattle.dms_feed.specs.Lines.{raw_lines};
 ghost use Rattle.dms_plain.specs.Speaking.{OnlySpeaks};
 ghost use Rattle.dms_runner.specs.Blaming.{CutRun};
-ghost use Rattle.dms_top.specs.Answering.{InputPasses, LinesCut, Printed, PrintedPrefix, PrintedWholeLines, WithinLimits, lines_text};
+ghost use Rattle.dms_top.specs.Answering.{InputPasses, LinesCut, Printed, PrintedFront, PrintedPrefix, PrintedWholeLines, WithinLimits, lines_text};
 ghost use Rattle.dms_status.specs.declared.status.LimitKind.{LimitKind as Kind};
 ghost use Rattle.dms_top.specs.Premises.{OfRest};
 ghost use Rattle.dms_audfile.specs.Counting.{CountedAt};
@@ -61,6 +61,7 @@ fn status_after(ran: Result<(), RunFault>) -> Status
     ensures say { result ≡ Status.SayFault → IsErrOf ran (RunFault.Block BlockFault.Say) }
     ensures said { IsErrOf ran (RunFault.Block BlockFault.Say) → result ≡ Status.SayFault }
     ensures memory { result ≡ Status.Memory → CutRun ran → ⊥ }
+    ensures cut { CutRun ran → result ≡ Status.SayFault }
     ensures lines { result ≡ Status.Limit LimitKind.Lines → IsErrOf ran RunFault.Lines }
     ensures bytes { result ≡ Status.Limit LimitKind.Bytes → IsErrOf ran RunFault.Bytes }
     ensures waiting { result ≡ Status.Limit LimitKind.Held → IsErrOf ran RunFault.Held }
@@ -90,6 +91,7 @@ pub fn try_lines<S: Site, I: Source>(
     ensures within { result ≡ Status.Ok → OfRest feed.old (I.left source.old) (λ all. WithinLimits (described desc.now) (raw_lines all)) }
     ensures part { IsTrue S.tells_said → OfRest feed.old (I.left source.old) (λ all. PrintedPrefix (S.said site.old) (S.said site.new) (lines_text (described desc.now) all)) }
     ensures whole_answers { result ≡ Status.Memory → IsTrue S.tells_said → OfRest feed.old (I.left source.old) (PrintedWholeLines (S.said site.old) (S.said site.new) (described desc.now)) }
+    ensures front { IsTrue S.tells_said → OfRest feed.old (I.left source.old) (λ all. PrintedFront result (described desc.now) (raw_lines all) (S.said site.old) (S.said site.new)) }
     ensures limit { (k : Kind) → result ≡ Status.Limit k → OfRest feed.old (I.left source.old) (InputPasses k (described desc.now) (text_told S.Site site.old) (text_told S.Site site.new)) }
     ensures input_cut { result ≡ Status.InputFault → OfRest feed.old (I.left source.old) (LinesCut (described desc.now) (I.left source.new) (text_told S.Site site.old) (text_told S.Site site.new)) }
     ensures input { CountedAt (result ≡ Status.InputFault) (I.faults source.old) (I.faults source.new) }

@@ -23,7 +23,7 @@ returns-then-byte-eq10-clause-line g c = λ all remains.
     let e = Reads-feed c.args.cap c.loop-turn.kept c.loop-turn.turn kept.0 all fed.0 kept.2 in
     let grown : c.keep.new.kept ≡ cond (nat_lt c.loop-turn.turn c.args.cap) (c.loop-turn.kept ++ 10 ∷ []) c.loop-turn.kept =
     rw c.if-byte-eq10.true at c.in-Ok.ensures in
-    ((e.0, grown ∙ e.1, e.2, omega (arith, c.loop-turn-test.true, c.if-turn-room.false)), subst (λ (r : List ℕ). Remains c.next.new.self (g.I.Source.left c.next.new.source) r) e.3 fed.1)
+    ((e.0, grown ∙ e.1, e.2, omega (arith, c.loop-turn-test.true, c.if-turn-room.false), e.3), subst (λ (r : List ℕ). Remains c.next.new.self (g.I.Source.left c.next.new.source) r) e.4 fed.1)
 
 pub loop-turn-preserved : goal.loop-turn-preserved
 loop-turn-preserved g c = record {

@@ -4,19 +4,14 @@ use Rattle.dms_run.proofs.run.run_script.Goals as goal
 
 pub returns-clause-every_moment : goal.returns-clause-every_moment
 returns-clause-every_moment g c = λ n db first all begins remains.
-    moments_of db first _ n begins.state begins.tells begins.durable begins.stands.next (c.run_lines.ensures.part db first all begins.stands begins.room remains)
+    let carried = c.run_lines.ensures.carried db first all begins.stands begins.room remains in
+    record { carried = carried; leaves = moments_of db first carried.events n begins.state begins.tells begins.durable begins.stands.next carried.part }
 
 pub returns-clause-at_ok : goal.returns-clause-at_ok
 returns-clause-at_ok g c = reaches c.args.engine.now c.run_lines.new.engine c.args.feed.now (g.I.Source.left c.args.source.now) c.run_lines.result c.run_lines.ensures.ran
 
-pub returns-clause-part : goal.returns-clause-part
-returns-clause-part g c = λ db first all stands room remains. (c.run_lines.ensures.part db first all stands room remains).text
-
 pub returns-clause-prints : goal.returns-clause-prints
 returns-clause-prints g c = says_all c.args.engine.now c.run_lines.new.engine c.args.feed.now (g.I.Source.left c.args.source.now) c.run_lines.result c.run_lines.ensures.answers
-
-pub returns-clause-whole_answers : goal.returns-clause-whole_answers
-returns-clause-whole_answers g c = λ uncut db first all stands room remains. (c.run_lines.ensures.part db first all stands room remains).said_whole uncut
 
 pub returns-clause-closes : goal.returns-clause-closes
 returns-clause-closes g c = closes_run c.args.engine.now c.run_lines.new.engine c.args.feed.now (g.I.Source.left c.args.source.now) c.run_lines.result c.run_lines.ensures.ran
@@ -24,14 +19,8 @@ returns-clause-closes g c = closes_run c.args.engine.now c.run_lines.new.engine 
 pub returns-clause-within : goal.returns-clause-within
 returns-clause-within g c = keeps_limits c.args.engine.now c.run_lines.new.engine c.args.feed.now (g.I.Source.left c.args.source.now) c.run_lines.result c.run_lines.ensures.answers
 
-pub returns-clause-undamaged : goal.returns-clause-undamaged
-returns-clause-undamaged g c = λ db first all stands room remains. (c.run_lines.ensures.part db first all stands room remains).undamaged
-
 pub returns-clause-effort : goal.returns-clause-effort
 returns-clause-effort g c = takes_all c.args.engine.now c.run_lines.new.engine c.args.feed.now (g.I.Source.left c.args.source.now) c.run_lines.result c.run_lines.ensures.ran
-
-pub returns-clause-took : goal.returns-clause-took
-returns-clause-took g c = λ db first all stands room remains. (c.run_lines.ensures.part db first all stands room remains).took
 
 pub returns-clause-numbers : goal.returns-clause-numbers
 returns-clause-numbers g c = uses_numbers c.args.engine.now c.run_lines.new.engine c.args.feed.now (g.I.Source.left c.args.source.now) c.run_lines.result c.run_lines.ensures.ran

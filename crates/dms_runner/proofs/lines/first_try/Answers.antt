@@ -1,6 +1,8 @@
 use Rattle.dms_storeverbs.specs.View.{seen}
+use Rattle.dms_block.specs.declared.block_fault.BlockFault.TheVariants.{Memory}
 use Rattle.std.proofs.Common.{◌∙◌, ◌+◌, ◌<◌, ◌^◌, [], ◌∷◌, ◌++◌, ℕ, List, true, sym, ap, arith, length}
 use Rattle.dms_desc.specs.Shape.{described}
+use Rattle.dms_model.specs.declared.reply.Answer.{Answer}
 use Rattle.dms_model.specs.Session.{step, is_waits}
 use Rattle.dms_model.proofs.Rises.{step_small}
 use Rattle.dms_runner.specs.declared.waiting.WaitingLine.{WaitingLine as LineWaiting}
@@ -10,7 +12,7 @@ use Rattle.dms_runner.specs.Events.{calls, says}
 use Rattle.dms_runner.proofs.Exclusive.{may_step, step_exclusive}
 use Rattle.dms_runner.proofs.Verbs.{verbs_pushed, verbs_under}
 use Rattle.dms_runner.proofs.Answered.{says_nothing_more}
-use Rattle.dms_runner.proofs.Happening.{step_numbers, ran_calls, ran_on, ran_as, part_calls, part_of_first, part_on, part_on_said, part_all, part_as, part_cut, cut_as}
+use Rattle.dms_runner.proofs.Happening.{step_numbers, ran_calls, ran_on, ran_as, part_calls, part_of_first, part_on, part_on_said, part_all, part_as, part_err, had_room, full_as, full_changes}
 use Rattle.dms_runner.proofs.Lining.{lined_as, goes_retried, retries_from, retries_part_from, goes_waiting, goes_full, tried_starts, tried_waits, tried_answered, says_answer, waiting_events, full_events}
 use Rattle.dms_runner.proofs.lines.first_try.Goals as goal
 
@@ -27,7 +29,7 @@ pub returns-in_err-answer-clause-part : goal.returns-in_err-answer-clause-part
 returns-in_err-answer-clause-part g c = λ now stands same line may.
     let o = step (described c.args.engine.now.desc) now.session c.args.name c.args.verb in
     let starts = tried_starts (described c.args.engine.now.desc) now c.args.name c.args.verb o in
-    part_as _ _ _ _ (sym starts.1) (part_of_first _ _ (calls c.args.verb o ∷ []) starts.0 (part_calls _ _ _ c.args.verb o c.call.ensures.costs c.call.ensures.lasts.causes.cause c.call.ensures.mute (c.call.ensures.step now.session stands (may_step may))))
+    part_as _ _ _ _ (sym starts.1) (part_of_first _ _ (calls c.args.verb o ∷ []) starts.0 (part_calls _ _ _ c.args.verb o (λ full. full_changes _ _ c.in_err-answer.ensures.room (full_as Answer c.from_residual.result _ c.from_residual.ensures.1 full)) c.call.ensures.costs c.call.ensures.lasts.causes.cause c.call.ensures.mute (c.call.ensures.step now.session stands (may_step may))))
 
 pub returns-in_err-say_answer-clause-part : goal.returns-in_err-say_answer-clause-part
 returns-in_err-say_answer-clause-part g c = λ now stands same line may.
@@ -38,7 +40,7 @@ returns-in_err-say_answer-clause-part g c = λ now stands same line may.
     let called = ran_calls _ _ c.args.verb o c.in_ok-answer.answer c.call.ensures.lasts.causes.tells c.call.ensures.lasts.causes.whole c.call.ensures.lasts.causes.desc c.in_ok-answer.ensures.costs c.in_ok-answer.ensures.idle c.in_ok-answer.ensures.lasts.causes.cause c.call.ensures.mute (omega (arith, stands.next, is.session.next, step_numbers (described c.args.engine.now.desc) now.session c.args.name c.args.verb)) did in
     let text = says_answer c.args.line now.line c.args.name c.in_ok-answer.answer.reply o.reply c.in_ok-answer.answer.sync o.sync (sym line) is.reply is.sync in
     let e = tried_answered (described c.args.engine.now.desc) now c.args.name c.args.verb o (ap is_waits (sym is.reply) ∙ sym c.is_waits.ensures ∙ c.if-not-is_waits.true) in
-    part_as _ _ _ _ (sym (ap (λ (l : LineEffect). l.events) e)) (part_of_first _ _ (calls c.args.verb o ∷ says (answer_text now.line c.args.name o.reply o.sync) ∷ []) _ (part_on_said _ _ _ (calls c.args.verb o ∷ []) _ called c.say_answer.ensures.effort c.say_answer.ensures.number (part_as _ _ _ _ text (part_cut _ _ _ (cut_as _ _ c.from_residual-in_err-say_answer.ensures.1) (c.in_err-say_answer.ensures.part room')))))
+    part_as _ _ _ _ (sym (ap (λ (l : LineEffect). l.events) e)) (part_of_first _ _ (calls c.args.verb o ∷ says (answer_text now.line c.args.name o.reply o.sync) ∷ []) _ (part_on_said _ _ _ (calls c.args.verb o ∷ []) _ called c.say_answer.ensures.effort c.say_answer.ensures.number (part_as _ _ _ _ text (part_err (Unit {0}) c.from_residual-in_err-say_answer.result _ _ _ _ c.from_residual-in_err-say_answer.ensures.1 (c.in_err-say_answer.ensures.part room')))))
 
 pub returns-in_err-retry_all-clause-part : goal.returns-in_err-retry_all-clause-part
 returns-in_err-retry_all-clause-part g c = λ now stands same line may.
@@ -50,7 +52,7 @@ returns-in_err-retry_all-clause-part g c = λ now stands same line may.
     let text = says_answer c.args.line now.line c.args.name c.in_ok-answer.answer.reply o.reply c.in_ok-answer.answer.sync o.sync (sym line) is.reply is.sync in
     let e = tried_answered (described c.args.engine.now.desc) now c.args.name c.args.verb o (ap is_waits (sym is.reply) ∙ sym c.is_waits.ensures ∙ c.if-not-is_waits.true) in
     part_as _ _ _ _ (sym (ap (λ (l : LineEffect). l.events) e)) (part_on _ _ _ (calls c.args.verb o ∷ says (answer_text now.line c.args.name o.reply o.sync) ∷ []) _ (ran_on _ _ _ (calls c.args.verb o ∷ []) (says (answer_text now.line c.args.name o.reply o.sync) ∷ []) called (ran_as _ _ _ _ text (c.in_ok-say_answer.ensures.ran room'))) (says_nothing_more _)
-    (retries_part_from _ _ o.session _ _ _ _ (ap described (c.say_answer.ensures.lasts.description ∙ c.call.ensures.lasts.description)) (sym same) (part_cut _ _ _ (cut_as _ _ c.from_residual-in_err-retry_all.ensures.1) (c.in_err-retry_all.ensures.part o.session (c.in_ok-say_answer.ensures.stands o.session is.session) (omega (arith, may.room, ap length same, (step_small (described c.args.engine.now.desc) now.session c.args.name c.args.verb).high)) (step_exclusive (described c.args.engine.now.desc) now.session c.args.name c.args.verb may.exclusive)))))
+    (retries_part_from _ _ o.session _ _ _ _ (ap described (c.say_answer.ensures.lasts.description ∙ c.call.ensures.lasts.description)) (sym same) (part_err (Unit {0}) c.from_residual-in_err-retry_all.result _ _ _ _ c.from_residual-in_err-retry_all.ensures.1 (c.in_err-retry_all.ensures.part o.session (c.in_ok-say_answer.ensures.stands o.session is.session) (omega (arith, may.room, ap length same, (step_small (described c.args.engine.now.desc) now.session c.args.name c.args.verb).high)) (step_exclusive (described c.args.engine.now.desc) now.session c.args.name c.args.verb may.exclusive)))))
 
 pub returns-then-not-is_waits-clause-lined : goal.returns-then-not-is_waits-clause-lined
 returns-then-not-is_waits-clause-lined g c = λ now stands same line may.
@@ -96,7 +98,7 @@ returns-then-len-ge-WAITING_LINES-clause-part g c = λ now stands same line may.
     let called = ran_calls _ _ c.args.verb o c.in_ok-answer.answer c.call.ensures.lasts.causes.tells c.call.ensures.lasts.causes.whole c.call.ensures.lasts.causes.desc c.in_ok-answer.ensures.costs c.in_ok-answer.ensures.idle c.in_ok-answer.ensures.lasts.causes.cause c.call.ensures.mute (omega (arith, stands.next, is.session.next, step_numbers (described c.args.engine.now.desc) now.session c.args.name c.args.verb)) did in
     let text = says_answer c.args.line now.line c.args.name c.in_ok-answer.answer.reply o.reply c.in_ok-answer.answer.sync o.sync (sym line) is.reply is.sync in
     let e = tried_waits (described c.args.engine.now.desc) now c.args.name c.args.verb o (ap is_waits (sym is.reply) ∙ sym c.is_waits.ensures ∙ c.if-not-is_waits.false) in
-    part_as _ _ _ _ (sym (ap (λ (l : LineEffect). l.events) e ∙ full_events now o.session _ _ _ (omega (arith, ap length same, c.if-len-ge-WAITING_LINES.true, c.len.ensures, c.args.waiting.now.ok.0)))) (part_all _ _ _ called)
+    part_as _ _ _ _ (sym (ap (λ (l : LineEffect). l.events) e ∙ full_events now o.session _ _ _ (omega (arith, ap length same, c.if-len-ge-WAITING_LINES.true, c.len.ensures, c.args.waiting.now.ok.0)))) (part_all (λ full. full tt) _ _ _ called)
 
 pub returns-in_err-say_answer-2-clause-part : goal.returns-in_err-say_answer-2-clause-part
 returns-in_err-say_answer-2-clause-part g c = λ now stands same line may.
@@ -108,7 +110,7 @@ returns-in_err-say_answer-2-clause-part g c = λ now stands same line may.
     let text = says_answer c.args.line now.line c.args.name c.in_ok-answer.answer.reply o.reply c.in_ok-answer.answer.sync o.sync (sym line) is.reply is.sync in
     let e = tried_waits (described c.args.engine.now.desc) now c.args.name c.args.verb o (ap is_waits (sym is.reply) ∙ sym c.is_waits.ensures ∙ c.if-not-is_waits.false) in
     let few : length now.waiting < 10000 = omega (arith, ap length same, c.if-len-ge-WAITING_LINES.false, c.len.ensures, c.args.waiting.now.ok.0) in
-    part_as _ _ _ _ (sym (ap (λ (l : LineEffect). l.events) e ∙ waiting_events now o.session _ _ _ few)) (part_on_said _ _ _ (calls c.args.verb o ∷ []) _ called c.say_answer-2.ensures.effort c.say_answer-2.ensures.number (part_as _ _ _ _ text (part_cut _ _ _ (cut_as _ _ c.from_residual-in_err-say_answer-2.ensures.1) (c.in_err-say_answer-2.ensures.part room'))))
+    part_as _ _ _ _ (sym (ap (λ (l : LineEffect). l.events) e ∙ waiting_events now o.session _ _ _ few)) (part_on_said _ _ _ (calls c.args.verb o ∷ []) _ called c.say_answer-2.ensures.effort c.say_answer-2.ensures.number (part_as _ _ _ _ text (part_err (Unit {0}) c.from_residual-in_err-say_answer-2.result _ _ _ _ c.from_residual-in_err-say_answer-2.ensures.1 (c.in_err-say_answer-2.ensures.part room'))))
 
 pub returns-in_err-push-clause-part : goal.returns-in_err-push-clause-part
 returns-in_err-push-clause-part g c = λ now stands same line may.
@@ -120,7 +122,7 @@ returns-in_err-push-clause-part g c = λ now stands same line may.
     let text = says_answer c.args.line now.line c.args.name c.in_ok-answer.answer.reply o.reply c.in_ok-answer.answer.sync o.sync (sym line) is.reply is.sync in
     let e = tried_waits (described c.args.engine.now.desc) now c.args.name c.args.verb o (ap is_waits (sym is.reply) ∙ sym c.is_waits.ensures ∙ c.if-not-is_waits.false) in
     let few : length now.waiting < 10000 = omega (arith, ap length same, c.if-len-ge-WAITING_LINES.false, c.len.ensures, c.args.waiting.now.ok.0) in
-    part_as _ _ _ _ (sym (ap (λ (l : LineEffect). l.events) e ∙ waiting_events now o.session _ _ _ few)) (part_all _ _ _ (ran_on _ _ _ (calls c.args.verb o ∷ []) (says (answer_text now.line c.args.name o.reply o.sync) ∷ []) called (ran_as _ _ _ _ text (c.in_ok-say_answer-2.ensures.ran room'))))
+    part_as _ _ _ _ (sym (ap (λ (l : LineEffect). l.events) e ∙ waiting_events now o.session _ _ _ few)) (part_all (had_room c.from_residual-in_err-push.result Memory c.from_residual-in_err-push.ensures.1 tt) _ _ _ (ran_on _ _ _ (calls c.args.verb o ∷ []) (says (answer_text now.line c.args.name o.reply o.sync) ∷ []) called (ran_as _ _ _ _ text (c.in_ok-say_answer-2.ensures.ran room'))))
 
 pub returns-clause-lined : goal.returns-clause-lined
 returns-clause-lined g c = λ now stands same line may.
@@ -145,4 +147,4 @@ returns-clause-part g c = λ now stands same line may.
     let text = says_answer c.args.line now.line c.args.name c.in_ok-answer.answer.reply o.reply c.in_ok-answer.answer.sync o.sync (sym line) is.reply is.sync in
     let e = tried_waits (described c.args.engine.now.desc) now c.args.name c.args.verb o (ap is_waits (sym is.reply) ∙ sym c.is_waits.ensures ∙ c.if-not-is_waits.false) in
     let few : length now.waiting < 10000 = omega (arith, ap length same, c.if-len-ge-WAITING_LINES.false, c.len.ensures, c.args.waiting.now.ok.0) in
-    part_as _ _ _ _ (sym (ap (λ (l : LineEffect). l.events) e ∙ waiting_events now o.session _ _ _ few)) (part_all _ _ _ (ran_on _ _ _ (calls c.args.verb o ∷ []) (says (answer_text now.line c.args.name o.reply o.sync) ∷ []) called (ran_as _ _ _ _ text (c.in_ok-say_answer-2.ensures.ran room'))))
+    part_as _ _ _ _ (sym (ap (λ (l : LineEffect). l.events) e ∙ waiting_events now o.session _ _ _ few)) (part_all (λ full. full tt) _ _ _ (ran_on _ _ _ (calls c.args.verb o ∷ []) (says (answer_text now.line c.args.name o.reply o.sync) ∷ []) called (ran_as _ _ _ _ text (c.in_ok-say_answer-2.ensures.ran room'))))

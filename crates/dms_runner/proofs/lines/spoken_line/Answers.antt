@@ -1,6 +1,7 @@
 use Rattle.std.proofs.Common.{◌≡◌, ◌∙◌, [], ◌∷◌, ◌++◌, ℕ, List, true, false, sym, ap, subst, arith, length}
+use Rattle.dms_block.specs.declared.block_fault.BlockFault.TheVariants.{Memory}
 use Rattle.dms_desc.specs.Shape.{described}
-use Rattle.dms_runner.specs.Events.{IsCutShort, PerformsPrefix}
+use Rattle.dms_runner.specs.Events.{fate_of, PerformsPrefix}
 use Rattle.dms_storeverbs.specs.View.{seen, view, StandsFor}
 use Rattle.dms_model.specs.Session.{step}
 use Rattle.dms_script.specs.declared.line.Line.TheVariants.{Verb as Spoken}
@@ -9,7 +10,7 @@ use Rattle.dms_runner.specs.Waiting.{has_line}
 use Rattle.dms_runner.specs.Answers.{RunState, LineEffect, MayTakeLine, first_line, first_try_effect, line_effect}
 use Rattle.dms_runner.specs.Trying.{MatchesLine}
 use Rattle.dms_runner.proofs.Always.{then_ok}
-use Rattle.dms_runner.proofs.Happening.{ran_none, part_none}
+use Rattle.dms_runner.proofs.Happening.{ran_none, part_none, had_room}
 use Rattle.dms_runner.proofs.Verbs.{verbs_pushed}
 use Rattle.dms_runner.proofs.Lining.{goes_waiting, goes_full, spoken_waiting, spoken_tried}
 use Rattle.dms_runner.proofs.lines.spoken_line.Goals as goal
@@ -26,7 +27,7 @@ returns-then-not-has_line-clause-lined g c = then_ok c.first_try.result
 pub returns-then-not-has_line-clause-part : goal.returns-then-not-has_line-clause-part
 returns-then-not-has_line-clause-part g c = λ now stands same line may.
     let has : has_line now.waiting c.args.name ≡ false = ap (λ (l : List LineWaiting). has_line l c.args.name) (same ∙ sym c.as_slice.ensures.value) ∙ sym c.has_line.ensures ∙ c.if-not-has_line.true in
-    subst (λ (l : LineEffect). PerformsPrefix (IsCutShort c.first_try.result) (seen c.args.engine.now) (seen c.first_try.new.engine) l.events) (sym (spoken_tried (described c.args.engine.now.desc) now c.args.name c.args.verb has)) (c.first_try.ensures.part now stands same line may)
+    subst (λ (l : LineEffect). PerformsPrefix (fate_of c.first_try.result) (seen c.args.engine.now) (seen c.first_try.new.engine) l.events) (sym (spoken_tried (described c.args.engine.now.desc) now c.args.name c.args.verb has)) (c.first_try.ensures.part now stands same line may)
 
 pub returns-clause-verbs : goal.returns-clause-verbs
 returns-clause-verbs g c = verbs_pushed (described c.args.engine.now.desc) _ _ _ c.in_ok-push.ensures.items c.requires.verb c.requires.verbs
@@ -38,10 +39,10 @@ returns-then-len-ge-WAITING_LINES-clause-lined g c = λ now stands same line may
     (goes_full now now.session (first_line now.line c.args.name c.args.verb false) [] [] _ _ _ _ (omega (arith, ap length same, c.if-len-ge-WAITING_LINES.true, c.len.ensures, c.args.waiting.now.ok.0)) stands (sym same) (ran_none _))
 
 pub returns-then-len-ge-WAITING_LINES-clause-part : goal.returns-then-len-ge-WAITING_LINES-clause-part
-returns-then-len-ge-WAITING_LINES-clause-part g c = λ now stands same line may. part_none _ _
+returns-then-len-ge-WAITING_LINES-clause-part g c = λ now stands same line may. part_none (λ full. full tt) _ _
 
 pub returns-in_err-push-clause-part : goal.returns-in_err-push-clause-part
-returns-in_err-push-clause-part g c = λ now stands same line may. part_none _ _
+returns-in_err-push-clause-part g c = λ now stands same line may. part_none (had_room c.from_residual.result Memory c.from_residual.ensures.1 tt) _ _
 
 pub returns-clause-lined : goal.returns-clause-lined
 returns-clause-lined g c = λ now stands same line may.
@@ -51,4 +52,4 @@ returns-clause-lined g c = λ now stands same line may.
     (c.in_ok-push.ensures.items ∙ ap (λ (n : ℕ). c.args.waiting.now.items ++ first_line n c.args.name c.args.verb false ∷ []) (sym line) ∙ ap (λ (l : List LineWaiting). l ++ first_line now.line c.args.name c.args.verb false ∷ []) (sym same)) (ran_none _))
 
 pub returns-clause-part : goal.returns-clause-part
-returns-clause-part g c = λ now stands same line may. part_none _ _
+returns-clause-part g c = λ now stands same line may. part_none (λ full. full tt) _ _

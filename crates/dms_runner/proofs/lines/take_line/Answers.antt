@@ -1,7 +1,7 @@
 use Rattle.std.proofs.Common.{◌≡◌, ◌+◌, ◌∙◌, ℕ, List, true, sym, ap, subst, take}
 use Rattle.dms_desc.specs.declared.description.Description.{Description}
 use Rattle.dms_desc.specs.Shape.{described}
-use Rattle.dms_runner.specs.Events.{IsCutShort, PerformsPrefix}
+use Rattle.dms_runner.specs.Events.{fate_of, PerformsPrefix}
 use Rattle.dms_storeverbs.specs.View.{seen, view, StandsFor}
 use Rattle.dms_script.specs.declared.line.Line.TheVariants.{Empty, Verb as Spoken, Bad}
 use Rattle.dms_script.specs.Lines.{line_of}
@@ -20,7 +20,7 @@ returns-in-Empty-clause-lined g c = λ now whole raw stands same line may.
     subst (λ (l : LineEffect). MatchesLine l true (view c.args.engine.now) c.args.waiting.now.items (seen c.args.engine.now) (seen c.args.engine.now)) (sym e) (goes_empty (one_line_more now) _ _ _ stands (sym same))
 
 pub returns-in-Empty-clause-part : goal.returns-in-Empty-clause-part
-returns-in-Empty-clause-part g c = λ now whole raw stands same line may. part_none _ _
+returns-in-Empty-clause-part g c = λ now whole raw stands same line may. part_none (λ full. full tt) _ _
 
 pub returns-in-Bad-clause-lined : goal.returns-in-Bad-clause-lined
 returns-in-Bad-clause-lined g c = then_ok c.bad_line.result
@@ -34,7 +34,7 @@ returns-in-Bad-clause-lined g c = then_ok c.bad_line.result
 pub returns-in-Bad-clause-part : goal.returns-in-Bad-clause-part
 returns-in-Bad-clause-part g c = λ now whole raw stands same line may.
     let e : line_step (described c.args.engine.now.desc) now whole ≡ line_effect (described c.args.engine.now.desc) (one_line_more now) (Bad c.in-Bad.place) = line_is (described c.args.engine.now.desc) now whole c.args.raw.now c.line_text.result.now (Bad c.in-Bad.place) raw c.line_text.ensures (sym c.in-Bad.is ∙ c.in_ok-read_line.ensures ∙ ap (λ (d : Description). line_of (described d) c.line_text.result.now) c.description.ensures) in
-    subst (λ (l : LineEffect). PerformsPrefix (IsCutShort c.bad_line.result) (seen c.args.engine.now) (seen c.bad_line.new.engine) l.events) (sym e) (c.bad_line.ensures.part (one_line_more now) stands same line (line_more may))
+    subst (λ (l : LineEffect). PerformsPrefix (fate_of c.bad_line.result) (seen c.args.engine.now) (seen c.bad_line.new.engine) l.events) (sym e) (c.bad_line.ensures.part (one_line_more now) stands same line (line_more may))
 
 pub spoken_line-requires-clause-verb : goal.spoken_line-requires-clause-verb
 spoken_line-requires-clause-verb g c =
@@ -53,4 +53,4 @@ returns-in-Verb-clause-lined g c = then_ok c.spoken_line.result
 pub returns-in-Verb-clause-part : goal.returns-in-Verb-clause-part
 returns-in-Verb-clause-part g c = λ now whole raw stands same line may.
     let e : line_step (described c.args.engine.now.desc) now whole ≡ line_effect (described c.args.engine.now.desc) (one_line_more now) (Spoken c.in-Verb.name c.in-Verb.verb) = line_is (described c.args.engine.now.desc) now whole c.args.raw.now c.line_text.result.now (Spoken c.in-Verb.name c.in-Verb.verb) raw c.line_text.ensures (sym c.in-Verb.is ∙ c.in_ok-read_line.ensures ∙ ap (λ (d : Description). line_of (described d) c.line_text.result.now) c.description.ensures) in
-    subst (λ (l : LineEffect). PerformsPrefix (IsCutShort c.spoken_line.result) (seen c.args.engine.now) (seen c.spoken_line.new.engine) l.events) (sym e) (c.spoken_line.ensures.part (one_line_more now) stands same line (line_more may))
+    subst (λ (l : LineEffect). PerformsPrefix (fate_of c.spoken_line.result) (seen c.args.engine.now) (seen c.spoken_line.new.engine) l.events) (sym e) (c.spoken_line.ensures.part (one_line_more now) stands same line (line_more may))

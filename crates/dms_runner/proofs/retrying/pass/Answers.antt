@@ -1,15 +1,15 @@
 use Rattle.dms_storeverbs.proofs.Lasting.{lasts_none, lasts_on}
-use Rattle.std.proofs.Common.{◌∙◌, refl, sym, ap, subst, arith}
+use Rattle.std.proofs.Common.{Bool, Ok, ◌∙◌, refl, sym, ap, subst, arith}
 use Rattle.dms_desc.specs.declared.description.Description.{Description}
 use Rattle.dms_desc.specs.Shape.{described}
-use Rattle.dms_runner.specs.Events.{IsCutShort, PerformsPrefix}
+use Rattle.dms_runner.specs.Events.{fate_of, PerformsPrefix}
 use Rattle.dms_model.specs.Session.{step}
 use Rattle.dms_storeverbs.specs.View.{seen, view}
 use Rattle.dms_runner.specs.Waiting.{tries}
 use Rattle.dms_runner.specs.Trying.{PerformsTry}
 use Rattle.dms_runner.proofs.Passes.{passing_start, passing_skip, passing_wait, passing_answered, passing_end, passing_part, line_at}
 use Rattle.dms_runner.proofs.Verbs.{verbs_noted, verbs_under}
-use Rattle.dms_runner.proofs.Happening.{part_all, part_cut, cut_as}
+use Rattle.dms_runner.proofs.Happening.{part_all, part_err}
 use Rattle.dms_runner.proofs.retrying.pass.Goals as goal
 
 pub loop-i-init : goal.loop-i-init
@@ -38,7 +38,7 @@ returns-in_err-try_at-clause-part g c = λ s stands may.
     let h = line_at c.loop-i.waiting c.loop-i.i (omega (arith, c.loop-i-test.true, c.loop-i.invariant.long)) in
     let p = c.loop-i.invariant.passing s stands may in
     passing_part _ s _ _ _ _ _ _ _ h.0 h.1 (sym (c.is_passed.ensures h.0 h.1) ∙ c.if-is_passed.false)
-    p (subst (λ (d : Description). PerformsPrefix (IsCutShort c.from_residual.result) (seen c.loop-i.engine) (seen c.try_at.new.engine) (tries h.0 (step (described d) p.at h.0.program h.0.verb))) c.loop-i.invariant.lasts.description (part_cut _ _ _ (cut_as _ _ c.from_residual.ensures.1) (c.in_err-try_at.ensures.part h.0 h.1 p.at p.stands p.may)))
+    p (subst (λ (d : Description). PerformsPrefix (fate_of c.from_residual.result) (seen c.loop-i.engine) (seen c.try_at.new.engine) (tries h.0 (step (described d) p.at h.0.program h.0.verb))) c.loop-i.invariant.lasts.description (part_err Bool c.from_residual.result _ _ _ _ c.from_residual.ensures.1 (c.in_err-try_at.ensures.part h.0 h.1 p.at p.stands p.may)))
 
 pub returns-then-branch-clause-passes : goal.returns-then-branch-clause-passes
 returns-then-branch-clause-passes g c = λ s stands may.
@@ -52,7 +52,7 @@ returns-then-branch-clause-part g c = λ s stands may.
     let h = line_at c.loop-i.waiting c.loop-i.i (omega (arith, c.loop-i-test.true, c.loop-i.invariant.long)) in
     let p = c.loop-i.invariant.passing s stands may in
     passing_part _ s _ _ _ _ _ _ _ h.0 h.1 (sym (c.is_passed.ensures h.0 h.1) ∙ c.if-is_passed.false)
-    p (subst (λ (d : Description). PerformsPrefix ⊥ (seen c.loop-i.engine) (seen c.try_at.new.engine) (tries h.0 (step (described d) p.at h.0.program h.0.verb))) c.loop-i.invariant.lasts.description (c.in_ok-try_at.ensures.part h.0 h.1 p.at p.stands p.may))
+    p (subst (λ (d : Description). PerformsPrefix (fate_of (Ok c.in_ok-try_at.field-0)) (seen c.loop-i.engine) (seen c.try_at.new.engine) (tries h.0 (step (described d) p.at h.0.program h.0.verb))) c.loop-i.invariant.lasts.description (c.in_ok-try_at.ensures.part h.0 h.1 p.at p.stands p.may))
 
 pub loop-i-preserved : goal.loop-i-preserved
 loop-i-preserved g c =
@@ -74,4 +74,4 @@ returns-clause-passes g c = λ s stands may.
 pub returns-clause-part : goal.returns-clause-part
 returns-clause-part g c = λ s stands may.
     let p = passing_end _ s _ _ _ _ _ _ (omega (arith, c.loop-i-test.false, c.loop-i.invariant.long)) (c.loop-i.invariant.passing s stands may) in
-    part_all _ _ _ p.ran
+    part_all (λ full. full tt) _ _ _ p.ran

@@ -1,5 +1,6 @@
 use Rattle.dms_storeverbs.proofs.Lasting.{lasts_none, lasts_on}
-use Rattle.std.proofs.Common.{◌<◌, ◌∙◌, List, sym, ap, subst, arith, length}
+use Rattle.std.specs.declared.option.Option.{Option}
+use Rattle.std.proofs.Common.{◌<◌, ◌∙◌, ℕ, List, sym, ap, subst, arith, length}
 use Rattle.dms_desc.specs.Shape.{described}
 use Rattle.dms_storeverbs.specs.View.{seen, view}
 use Rattle.std.specs.List.{remove}
@@ -8,7 +9,7 @@ use Rattle.dms_runner.specs.Waiting.{retries}
 use Rattle.dms_runner.specs.Trying.{PerformsRetries}
 use Rattle.dms_runner.proofs.Turns.{retrying_start, retrying_on, retrying_end, retrying_out, retrying_part, retrying_room, passes_from, part_from, written}
 use Rattle.dms_runner.proofs.Verbs.{verbs_in, verbs_removed, verbs_under}
-use Rattle.dms_runner.proofs.Happening.{part_all, part_cut, cut_as}
+use Rattle.dms_runner.proofs.Happening.{part_all, part_err}
 use Rattle.dms_runner.proofs.retrying.retry_all.Goals as goal
 
 pub loop-turn-init : goal.loop-turn-init
@@ -30,7 +31,7 @@ pub returns-in_err-pass-clause-part : goal.returns-in_err-pass-clause-part
 returns-in_err-pass-clause-part g c = λ s stands room held.
     let k = c.loop-turn.invariant.retrying s stands room held in
     retrying_part _ s _ _ _ _ _ _ _ k (omega (arith, c.loop-turn-test.true, c.len-turn-end.ensures, c.args.waiting.now.ok.0))
-    (part_from _ _ k.at _ _ _ _ (ap described c.loop-turn.invariant.lasts.description) c.as_mut_slice.ensures.value (part_cut _ _ _ (cut_as _ _ c.from_residual.ensures.1) (c.in_err-pass.ensures.part k.at k.stands (record { room = retrying_room _ s _ _ _ _ _ _ k room; exclusive = k.exclusive }))))
+    (part_from _ _ k.at _ _ _ _ (ap described c.loop-turn.invariant.lasts.description) c.as_mut_slice.ensures.value (part_err (Option ℕ) c.from_residual.result _ _ _ _ c.from_residual.ensures.1 (c.in_err-pass.ensures.part k.at k.stands (record { room = retrying_room _ s _ _ _ _ _ _ k room; exclusive = k.exclusive }))))
 
 pub returns-in-None-clause-retries : goal.returns-in-None-clause-retries
 returns-in-None-clause-retries g c = λ s stands room held.
@@ -68,4 +69,4 @@ returns-clause-retries g c = λ s stands room held. retrying_out _ s _ _ _ _ _ _
 pub returns-clause-part : goal.returns-clause-part
 returns-clause-part g c = λ s stands room held.
     let w = retrying_out _ s _ _ _ _ _ _ (c.loop-turn.invariant.retrying s stands room held) (omega (arith, c.loop-turn-test.false, c.len-turn-end.ensures, c.args.waiting.now.ok.0)) in
-    part_all _ _ _ w.ran
+    part_all (λ full. full tt) _ _ _ w.ran

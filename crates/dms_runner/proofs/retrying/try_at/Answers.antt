@@ -2,7 +2,7 @@ use Rattle.dms_storeverbs.specs.View.{seen}
 use Rattle.std.proofs.Common.{◌≡◌, ◌∙◌, subst}
 use Rattle.std.proofs.lemmas.Option.{get_or_from_slice_get}
 use Rattle.dms_desc.specs.Shape.{described}
-use Rattle.dms_runner.specs.Events.{IsCutShort, PerformsPrefix}
+use Rattle.dms_runner.specs.Events.{fate_of, PerformsPrefix}
 use Rattle.dms_model.specs.Session.{step}
 use Rattle.dms_runner.specs.declared.waiting.WaitingLine.{WaitingLine as LineWaiting}
 use Rattle.dms_runner.specs.Waiting.{tries}
@@ -15,4 +15,4 @@ try_line-requires-clause-verb g c = verb_read (described c.args.engine.now.desc)
 pub returns-clause-part : goal.returns-clause-part
 returns-clause-part g c = λ h is s stands may.
     let e : c.index-waiting-i.result ≡ h = c.index-waiting-i.is ∙ get_or_from_slice_get c.args.waiting.now c.args.i h c.index-waiting-i.result is in
-    subst (λ (x : LineWaiting). PerformsPrefix (IsCutShort c.try_line.result) (seen c.args.engine.now) (seen c.try_line.new.engine) (tries x (step (described c.args.engine.now.desc) s x.program x.verb))) e (c.try_line.ensures.part s stands may)
+    subst (λ (x : LineWaiting). PerformsPrefix (fate_of c.try_line.result) (seen c.args.engine.now) (seen c.try_line.new.engine) (tries x (step (described c.args.engine.now.desc) s x.program x.verb))) e (c.try_line.ensures.part s stands may)

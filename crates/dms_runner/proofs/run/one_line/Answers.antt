@@ -1,26 +1,15 @@
 use Rattle.dms_storeverbs.specs.View.{seen}
-use Rattle.std.proofs.Common.{◌+◌, ◌∙◌, List, ℕ, Err, refl, ap, subst, arith}
+use Rattle.std.proofs.Common.{Bool, ◌+◌, ◌∙◌, List, ℕ, Err, refl, ap, subst, sym, arith}
 use Rattle.dms_desc.specs.Shape.{described}
 use Rattle.dms_feed.specs.Feeds.{Remains}
 use Rattle.dms_feed.specs.Lines.{after_line, first_line}
 use Rattle.dms_block.specs.Texts.{Prints}
-use Rattle.dms_runner.proofs.Happening.{part_none, part_cut}
+use Rattle.dms_runner.proofs.Happening.{part_run}
 use Rattle.dms_runner.proofs.Lining.{line_silent}
-use Rattle.dms_runner.proofs.Running.{line_part}
-use Rattle.dms_runner.specs.declared.run.RunFault.TheVariants.{Block}
 use Rattle.dms_runner.proofs.run.one_line.Goals as goal
 
-pub returns-in-Err-Input-clause-part : goal.returns-in-Err-Input-clause-part
-returns-in-Err-Input-clause-part g c = λ now all stands same line room remains. part_none _ _
-
-pub returns-in-Err-Memory-clause-part : goal.returns-in-Err-Memory-clause-part
-returns-in-Err-Memory-clause-part g c = λ now all stands same line room remains. part_none _ _
-
-pub returns-in-Err-Bytes-clause-part : goal.returns-in-Err-Bytes-clause-part
-returns-in-Err-Bytes-clause-part g c = λ now all stands same line room remains. part_none _ _
-
 pub returns-in-Err-Bytes-clause-bytes : goal.returns-in-Err-Bytes-clause-bytes
-returns-in-Err-Bytes-clause-bytes g c = λ _. (refl, λ all remains. c.in-Err-Bytes.ensures.bytes (ap Err c.in-Err-Bytes.field-0-is) all remains)
+returns-in-Err-Bytes-clause-bytes g c = λ _ all remains. c.in-Err-Bytes.ensures.bytes (ap Err c.in-Err-Bytes.field-0-is) all remains
 
 pub returns-in-Ok-None-clause-none : goal.returns-in-Ok-None-clause-none
 returns-in-Ok-None-clause-none g c = λ _. (
@@ -31,8 +20,25 @@ returns-in-Ok-None-clause-none g c = λ _. (
       (e.0, subst (λ (r : List ℕ). Remains c.next_raw.new.feed (g.I.Source.left c.next_raw.new.source) r) (ap after_line e.0) e.1),
 )
 
-pub returns-in-Ok-None-clause-part : goal.returns-in-Ok-None-clause-part
-returns-in-Ok-None-clause-part g c = λ now all stands same line room remains. part_none _ _
+pub returns-in-Ok-None-clause-rest : goal.returns-in-Ok-None-clause-rest
+returns-in-Ok-None-clause-rest g c = λ all remains.
+    let e = (rw c.in-Ok-None.field-0-is at c.in-Ok-None.ensures.line) all remains in
+    (after_line all, e.1)
+
+pub returns-then-raw-clause-read : goal.returns-then-raw-clause-read
+returns-then-raw-clause-read g c = λ _ all remains.
+    let e = (rw c.in-Ok-Some.field-0-is at c.in-Ok-Some.ensures.line) all remains in
+    record { some = e.0.0; remains = e.1; bytes = omega (arith, c.saturating_sub.ensures, e.0.2, e.0.3) }
+
+pub returns-then-raw-clause-took : goal.returns-then-raw-clause-took
+returns-then-raw-clause-took g c = λ _ now all stands same line room remains.
+    let e = (rw c.in-Ok-Some.field-0-is at c.in-Ok-Some.ensures.line) all remains in
+    (rw c.in-Ok-true.field-0-test at c.in-Ok-true.ensures.lined) now (first_line all) (c.as_slice.ensures ∙ e.0.1) stands same (ap (λ (n : ℕ). n + 1) line) room
+
+pub returns-then-raw-clause-rest : goal.returns-then-raw-clause-rest
+returns-then-raw-clause-rest g c = λ all remains.
+    let e = (rw c.in-Ok-Some.field-0-is at c.in-Ok-Some.ensures.line) all remains in
+    (after_line all, e.1)
 
 pub returns-in-Ok-true-clause-read : goal.returns-in-Ok-true-clause-read
 returns-in-Ok-true-clause-read g c = λ _ all remains.
@@ -44,33 +50,38 @@ returns-in-Ok-true-clause-took g c = λ _ now all stands same line room remains.
     let e = (rw c.in-Ok-Some.field-0-is at c.in-Ok-Some.ensures.line) all remains in
     (rw c.in-Ok-true.field-0-test at c.in-Ok-true.ensures.lined) now (first_line all) (c.as_slice.ensures ∙ e.0.1) stands same (ap (λ (n : ℕ). n + 1) line) room
 
-pub returns-in-Ok-true-clause-part : goal.returns-in-Ok-true-clause-part
-returns-in-Ok-true-clause-part g c = λ now all stands same line room remains.
+pub returns-in-Ok-true-clause-rest : goal.returns-in-Ok-true-clause-rest
+returns-in-Ok-true-clause-rest g c = λ all remains.
     let e = (rw c.in-Ok-Some.field-0-is at c.in-Ok-Some.ensures.line) all remains in
-    line_part _ now all _ _ e.0.0 (c.in-Ok-true.ensures.part now (first_line all) (c.as_slice.ensures ∙ e.0.1) stands same (ap (λ (n : ℕ). n + 1) line) room)
+    (after_line all, e.1)
+
+pub returns-then-raw-clause-ended : goal.returns-then-raw-clause-ended
+returns-then-raw-clause-ended g c = λ _ all remains.
+    let e = (rw c.in-Ok-Some.field-0-is at c.in-Ok-Some.ensures.line) all remains in
+    sym e.0.4 ∙ c.if-raw.true
+
+pub returns-in-Ok-true-clause-last : goal.returns-in-Ok-true-clause-last
+returns-in-Ok-true-clause-last g c = λ _ all remains.
+    let e = (rw c.in-Ok-Some.field-0-is at c.in-Ok-Some.ensures.line) all remains in
+    sym e.0.4 ∙ c.if-raw.false
 
 pub returns-in-Ok-false-clause-full_list : goal.returns-in-Ok-false-clause-full_list
 returns-in-Ok-false-clause-full_list g c = λ _ now all stands same line room remains.
     let e = (rw c.in-Ok-Some.field-0-is at c.in-Ok-Some.ensures.line) all remains in
     let goes = (rw c.in-Ok-false.field-0-test at c.in-Ok-false.ensures.lined) now (first_line all) (c.as_slice.ensures ∙ e.0.1) stands same (ap (λ (n : ℕ). n + 1) line) room in
-    (subst (λ (t : List ℕ). Prints (seen c.args.engine.now).said (seen c.take_line.new.engine).said t) (line_silent (described c.args.engine.now.desc) now (first_line all) goes.full) goes.ran.text, e.0.0, goes.full, omega (arith, e.0.2, e.0.3))
-
-pub returns-in-Ok-false-clause-part : goal.returns-in-Ok-false-clause-part
-returns-in-Ok-false-clause-part g c = λ now all stands same line room remains.
-    let e = (rw c.in-Ok-Some.field-0-is at c.in-Ok-Some.ensures.line) all remains in
-    line_part _ now all _ _ e.0.0 (part_cut _ _ _ (λ no. absurd no) (c.in-Ok-false.ensures.part now (first_line all) (c.as_slice.ensures ∙ e.0.1) stands same (ap (λ (n : ℕ). n + 1) line) room))
+    record {
+      said = subst (λ (t : List ℕ). Prints (seen c.args.engine.now).said (seen c.take_line.new.engine).said t) (line_silent (described c.args.engine.now.desc) now (first_line all) goes.full) goes.ran.text;
+      some = e.0.0;
+      full = goes.full;
+      fits = omega (arith, e.0.2, e.0.3);
+      did = goes.ran;
+    }
 
 pub returns-clause-part : goal.returns-clause-part
-returns-clause-part g c = λ now all stands same line room remains.
+returns-clause-part g c = λ f is now all stands same line room remains.
     let e = (rw c.in-Ok-Some.field-0-is at c.in-Ok-Some.ensures.line) all remains in
-    line_part _ now all _ _ e.0.0 (part_cut _ _ _ (λ is. ap Block is) (c.in-Err.ensures.part now (first_line all) (c.as_slice.ensures ∙ e.0.1) stands same (ap (λ (n : ℕ). n + 1) line) room))
-
-pub returns-in-Ok-None-clause-rest : goal.returns-in-Ok-None-clause-rest
-returns-in-Ok-None-clause-rest g c = λ all remains.
-    let e = (rw c.in-Ok-None.field-0-is at c.in-Ok-None.ensures.line) all remains in
-    (after_line all, e.1)
-
-pub returns-in-Ok-true-clause-rest : goal.returns-in-Ok-true-clause-rest
-returns-in-Ok-true-clause-rest g c = λ all remains.
-    let e = (rw c.in-Ok-Some.field-0-is at c.in-Ok-Some.ensures.line) all remains in
-    (after_line all, e.1)
+    record {
+      some = e.0.0;
+      fits = omega (arith, e.0.2, e.0.3);
+      part = part_run Bool _ _ _ _ (c.in-Err.ensures.part now (first_line all) (c.as_slice.ensures ∙ e.0.1) stands same (ap (λ (n : ℕ). n + 1) line) room);
+    }

@@ -1,5 +1,6 @@
 use Rattle.dms_storeverbs.proofs.Lasting.{lasts_none, lasts_on}
 use Rattle.dms_storeverbs.specs.View.{seen}
+use Rattle.dms_block.specs.declared.block_fault.BlockFault.TheVariants.{Memory}
 use Rattle.std.proofs.Common.{ℕ, List, subst}
 use Rattle.dms_block.specs.Texts.{Prints, PrintsPrefix}
 use Rattle.dms_runner.specs.Events.{text_of}
@@ -7,7 +8,7 @@ use Rattle.dms_runner.proofs.Texts.{prints_none, prints_on, front_all, front_on,
 use Rattle.dms_runner.proofs.Unanswered.{text_more, text_rest, text_split}
 use Rattle.std.proofs.Common.{◌≡◌, ◌∙◌, ◌+◌, ◌<◌, ◌^◌, refl, sym, ap, arith, take}
 use Rattle.dms_runner.proofs.Answered.{held_answered}
-use Rattle.dms_runner.proofs.Happening.{undamaged_by, ran_none, ran_says, ran_on, ran_as, part_says, part_all, part_on, part_of_first, part_as, cut_as}
+use Rattle.dms_runner.proofs.Happening.{undamaged_by, ran_none, ran_says, ran_on, ran_as, part_says, part_all, part_on, part_of_first, part_as, cut_as, had_room, say_failed}
 use Rattle.dms_runner.proofs.Unanswered.{unanswered_all, unanswered_split, unanswered_more, unanswered_rest, line_text}
 use Rattle.dms_runner.proofs.run.say_waiting.Goals as goal
 
@@ -23,14 +24,14 @@ loop-line-init g c = record {
 
 pub returns-in_err-text-clause-part : goal.returns-in_err-text-clause-part
 returns-in_err-text-clause-part g c = λ room.
-    part_as _ _ _ _ (sym (unanswered_split c.args.waiting.now c.loop-line.line-index)) (part_of_first _ _ _ _ (part_all _ _ _ (c.loop-line.invariant.ran room)))
+    part_as _ _ _ _ (sym (unanswered_split c.args.waiting.now c.loop-line.line-index)) (part_of_first _ _ _ _ (part_all (had_room c.from_residual.result Memory c.from_residual.ensures.1 tt) _ _ _ (c.loop-line.invariant.ran room)))
 
 pub returns-in_err-say-clause-part : goal.returns-in_err-say-clause-part
 returns-in_err-say-clause-part g c = λ room.
     let text : c.as_slice.result.now ≡ line_text c.line-item.result = c.as_slice.ensures ∙ c.in_ok-text.ensures in
     let room' : (seen c.loop-line.engine).next + 1 < 2 ^ 64 = omega (arith, c.loop-line.invariant.next, room) in
     part_as _ _ _ _ (sym (unanswered_rest c.args.waiting.now c.loop-line.line-index c.line-item.result c.loop-line-test.true (sym c.line-item.is)))
-    (part_on _ _ _ _ _ (c.loop-line.invariant.ran room) (held_answered (take c.loop-line.line-index c.args.waiting.now)) (part_of_first _ _ _ _ (part_says _ _ _ _ text c.say.ensures.effort (undamaged_by _ (seen c.say.new.self) c.say.result c.say.ensures.undamaged c.say.ensures.lasts.causes.cause) c.say.ensures.part (λ uncut. absurd (uncut (cut_as _ _ c.from_residual-in_err-say.ensures.1 c.in_err-say.ensures.fault))) room')))
+    (part_on _ _ _ _ _ (c.loop-line.invariant.ran room) (held_answered (take c.loop-line.line-index c.args.waiting.now)) (part_of_first _ _ _ _ (part_says (say_failed c.from_residual-in_err-say.result _ c.from_residual-in_err-say.ensures.1 c.in_err-say.ensures.fault) _ _ _ _ text c.say.ensures.effort (undamaged_by _ (seen c.say.new.self) c.say.result c.say.ensures.undamaged c.say.ensures.lasts.causes.cause) c.say.ensures.part (λ uncut. absurd (uncut (cut_as _ _ c.from_residual-in_err-say.ensures.1 c.in_err-say.ensures.fault))) room')))
 
 pub loop-line-preserved : goal.loop-line-preserved
 loop-line-preserved g c = record {
@@ -52,7 +53,7 @@ returns-clause-ran g c = λ room. ran_as _ _ _ _ (unanswered_all c.args.waiting.
 
 pub returns-clause-part : goal.returns-clause-part
 returns-clause-part g c = λ room.
-    part_as _ _ _ _ (sym (unanswered_split c.args.waiting.now c.loop-line.line-index)) (part_of_first _ _ _ _ (part_all _ _ _ (c.loop-line.invariant.ran room)))
+    part_as _ _ _ _ (sym (unanswered_split c.args.waiting.now c.loop-line.line-index)) (part_of_first _ _ _ _ (part_all (λ full. full tt) _ _ _ (c.loop-line.invariant.ran room)))
 
 pub returns-in_err-text-clause-front : goal.returns-in_err-text-clause-front
 returns-in_err-text-clause-front g c =

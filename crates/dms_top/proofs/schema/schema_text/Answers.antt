@@ -13,18 +13,23 @@ returns-in-Err-Input-clause-failed g c = λ _ all remains.
     let r = c.loop-line.invariant.reaches all remains in
     reaches_cut _ _ all _ _ _ r (c.in-Err-Input.ensures.failed (ap Err c.in-Err-Input.field-0-is) r.rest r.remains)
 
-pub returns-in-Ok-false-clause-text : goal.returns-in-Ok-false-clause-text
-returns-in-Ok-false-clause-text g c = λ all remains.
+pub returns-in-Ok-Script-clause-text : goal.returns-in-Ok-Script-clause-text
+returns-in-Ok-Script-clause-text g c = λ all remains.
     let r = c.loop-line.invariant.reaches all remains in
-    reaches_end _ _ _ all _ _ _ _ r ((rw c.in-Ok-false.field-0-test at c.in-Ok-false.ensures.line) r.rest r.remains)
+    reaches_end _ _ _ all _ _ _ _ r ((rw c.in-Ok-Script.field-0-is at c.in-Ok-Script.ensures.line) r.rest r.remains)
+
+pub returns-in-Ok-Last-clause-text : goal.returns-in-Ok-Last-clause-text
+returns-in-Ok-Last-clause-text g c = λ all remains.
+    let r = c.loop-line.invariant.reaches all remains in
+    reaches_end _ _ _ all _ _ _ _ r ((rw c.in-Ok-Last.field-0-is at c.in-Ok-Last.ensures.line) r.rest r.remains)
 
 pub loop-line-preserved : goal.loop-line-preserved
 loop-line-preserved g c = record {
   same = g.met.I.Source.same_then _ _ _ c.loop-line.invariant.same c.schema_line.ensures.same;
-  clean = c.in-Ok-true.ensures.counted.clean (no_fault _ _) ∙ c.loop-line.invariant.clean;
+  clean = c.in-Ok-Text.ensures.counted.clean (no_fault _ _) ∙ c.loop-line.invariant.clean;
   reaches = λ all remains.
       let r = c.loop-line.invariant.reaches all remains in
-      reaches_on _ _ _ all _ _ _ _ r ((rw c.in-Ok-true.field-0-test at c.in-Ok-true.ensures.line) r.rest r.remains);
+      reaches_on _ _ _ all _ _ _ _ r ((rw c.in-Ok-Text.field-0-is at c.in-Ok-Text.ensures.line) r.rest r.remains);
 }
 
 pub returns-clause-long : goal.returns-clause-long

@@ -6,8 +6,9 @@ use Rattle.dms_feed.specs.Lines.{raw_lines}
 use Rattle.dms_model.specs.Db.{empty_db}
 use Rattle.dms_runner.specs.Answers.{answers_text, script_events}
 use Rattle.dms_top.specs.Answering.{PassesLimit}
-use Rattle.dms_top.proofs.Printing.{told_front, told_prints, told_whole, whole_moved, limits_kept, stands_at, front_moved, printed_moved, passes_moved, within_moved, on_ok}
+use Rattle.dms_top.proofs.Printing.{told_front, told_prints, told_whole, whole_moved, limits_kept, stands_at, front_moved, printed_moved, front_none, printed_front, passes_moved, within_moved, on_ok}
 use Rattle.dms_top.proofs.Counting.{say_counted, counted_moved}
+use Rattle.dms_top.proofs.Carried.{whole_part}
 use Rattle.dms_top.proofs.Cutting.{cut_moved}
 use Rattle.dms_plain.specs.Told.{told}
 use Rattle.dms_feed.specs.Feeds.{Remains}
@@ -19,13 +20,31 @@ use Rattle.dms_top.proofs.try_run.try_lines.Goals as goal
 
 pub returns-in-Ok-new-clause-part : goal.returns-in-Ok-new-clause-part
 returns-in-Ok-new-clause-part g c = λ told all remains.
-    let p = (c.run_lines-ran.ensures.part empty_db 1 all (stands_at _ _ 1 c.in-Ok.ensures.starts.next_is (c.in-Ok-new.ensures.stands empty_db c.in-Ok.ensures.starts.db_is)) (omega arith) remains).text in
+    let p = (whole_part _ _ _ _ empty_db 1 all (c.run_lines-ran.ensures.carried empty_db 1 all (stands_at _ _ 1 c.in-Ok.ensures.starts.next_is (c.in-Ok-new.ensures.stands empty_db c.in-Ok.ensures.starts.db_is)) (omega arith) remains)).text in
     front_moved _ _ _ _ (g.S.Site.said c.run_lines-ran.new.engine.store.site.now) (answers_text (described c.in-Ok-new.engine.desc) empty_db 1 (raw_lines all)) (search rules) (search rules) (ap (λ (d : Described). answers_text d empty_db 1 (raw_lines all)) (sym c.in-Ok-new.ensures.described)) (told_front g.S.Site.tells_said _ _ _ told p)
 
 pub returns-in-Ok-new-clause-whole_answers : goal.returns-in-Ok-new-clause-whole_answers
 returns-in-Ok-new-clause-whole_answers g c = λ is told all remains.
-    let p = (c.run_lines-ran.ensures.part empty_db 1 all (stands_at _ _ 1 c.in-Ok.ensures.starts.next_is (c.in-Ok-new.ensures.stands empty_db c.in-Ok.ensures.starts.db_is)) (omega arith) remains).said_whole (c.status_after.ensures.memory is) in
+    let p = (whole_part _ _ _ _ empty_db 1 all (c.run_lines-ran.ensures.carried empty_db 1 all (stands_at _ _ 1 c.in-Ok.ensures.starts.next_is (c.in-Ok-new.ensures.stands empty_db c.in-Ok.ensures.starts.db_is)) (omega arith) remains)).said_whole (c.status_after.ensures.memory is) in
     whole_moved _ _ _ (g.S.Site.said c.run_lines-ran.new.engine.store.site.now) _ (script_events (described c.in-Ok-new.engine.desc) empty_db 1 (raw_lines all)) (search rules) (search rules) (ap (λ (d : Described). script_events d empty_db 1 (raw_lines all)) (sym c.in-Ok-new.ensures.described)) (told_whole g.S.Site.tells_said _ _ _ told p)
+
+pub returns-in-Ok-new-clause-front : goal.returns-in-Ok-new-clause-front
+returns-in-Ok-new-clause-front g c = λ told all remains.
+    let k = c.run_lines-ran.ensures.carried empty_db 1 all (stands_at _ _ 1 c.in-Ok.ensures.starts.next_is (c.in-Ok-new.ensures.stands empty_db c.in-Ok.ensures.starts.db_is)) (omega arith) remains in
+    printed_front _ _ (described c.in-Ok-new.engine.desc) _ (raw_lines all) _ _ (g.S.Site.said c.in-Ok-new.engine.store.site.now) (g.S.Site.said c.run_lines-ran.new.engine.store.site.now) (search rules) (search rules) (sym c.in-Ok-new.ensures.described) refl (record {
+      n = k.n;
+      events = k.events;
+      front = k.front;
+      are = k.are;
+      text = told_front g.S.Site.tells_said _ _ _ told k.part.text;
+      whole = λ printed. told_whole g.S.Site.tells_said _ _ _ told (k.part.said_whole (λ cut. printed (c.status_after.ensures.cut cut)));
+    })
+
+pub returns-in-Err-clause-front : goal.returns-in-Err-clause-front
+returns-in-Err-clause-front g c = λ told all remains. front_none _ (described c.args.desc.now) (raw_lines all) _ _ (search rules)
+
+pub returns-in-Err-new-clause-front : goal.returns-in-Err-new-clause-front
+returns-in-Err-new-clause-front g c = λ told all remains. front_none _ (described c.args.desc.now) (raw_lines all) _ _ (search rules)
 
 pub returns-in-Ok-new-clause-answers : goal.returns-in-Ok-new-clause-answers
 returns-in-Ok-new-clause-answers g c = λ ok is all remains.
@@ -39,7 +58,7 @@ returns-in-Ok-new-clause-within g c = λ ok all remains.
 pub returns-in-Ok-new-clause-input_cut : goal.returns-in-Ok-new-clause-input_cut
 returns-in-Ok-new-clause-input_cut g c = λ is all remains.
     cut_moved _ (described c.in-Ok-new.engine.desc) all _ _ g.S.Site.tells_said _ _ (g.S.Site.said c.in-Ok-new.engine.store.site.now) (g.S.Site.said c.run_lines-ran.new.engine.store.site.now) refl (search rules) (search rules) (sym c.in-Ok-new.ensures.described)
-    (c.run_lines-ran.ensures.failed (c.status_after.ensures.input is) empty_db 1 all (stands_at _ _ 1 c.in-Ok.ensures.starts.next_is (c.in-Ok-new.ensures.stands empty_db c.in-Ok.ensures.starts.db_is)) (omega arith) remains)
+    ((c.run_lines-ran.ensures.carried empty_db 1 all (stands_at _ _ 1 c.in-Ok.ensures.starts.next_is (c.in-Ok-new.ensures.stands empty_db c.in-Ok.ensures.starts.db_is)) (omega arith) remains).failed (c.status_after.ensures.input is)).0
 
 pub returns-in-Ok-new-clause-limit : goal.returns-in-Ok-new-clause-limit
 returns-in-Ok-new-clause-limit g c = λ k is all remains.
@@ -48,9 +67,9 @@ returns-in-Ok-new-clause-limit g c = λ k is all remains.
     passes : (g : Over) (c : goal.After-status_after g) (k : LimitKind) → c.status_after.result ≡ Limit k → (all : List ℕ) → Remains c.args.feed.now (g.I.Source.left c.args.source.now) all
         → PassesLimit k (described c.in-Ok-new.engine.desc) (raw_lines all) (told g.S.Site.tells_said (g.S.Site.said c.in-Ok-new.engine.store.site.now)) (told g.S.Site.tells_said (g.S.Site.said c.run_lines-ran.new.engine.store.site.now))
     passes g c (AuditFile f) is all remains = absurd (subst (λ (s : Status). IsOfTry s) is c.status_after.ensures.statuses)
-    passes g c Lines is all remains = c.run_lines-ran.ensures.lines (c.status_after.ensures.lines is) empty_db 1 all (stands_at _ _ 1 c.in-Ok.ensures.starts.next_is (c.in-Ok-new.ensures.stands empty_db c.in-Ok.ensures.starts.db_is)) (omega arith) remains
-    passes g c Bytes is all remains = c.run_lines-ran.ensures.bytes (c.status_after.ensures.bytes is) empty_db 1 all (stands_at _ _ 1 c.in-Ok.ensures.starts.next_is (c.in-Ok-new.ensures.stands empty_db c.in-Ok.ensures.starts.db_is)) (omega arith) remains
-    passes g c Held is all remains = c.run_lines-ran.ensures.full_list (c.status_after.ensures.waiting is) empty_db 1 all (stands_at _ _ 1 c.in-Ok.ensures.starts.next_is (c.in-Ok-new.ensures.stands empty_db c.in-Ok.ensures.starts.db_is)) (omega arith) remains
+    passes g c Lines is all remains = ((c.run_lines-ran.ensures.carried empty_db 1 all (stands_at _ _ 1 c.in-Ok.ensures.starts.next_is (c.in-Ok-new.ensures.stands empty_db c.in-Ok.ensures.starts.db_is)) (omega arith) remains).lines (c.status_after.ensures.lines is)).0
+    passes g c Bytes is all remains = ((c.run_lines-ran.ensures.carried empty_db 1 all (stands_at _ _ 1 c.in-Ok.ensures.starts.next_is (c.in-Ok-new.ensures.stands empty_db c.in-Ok.ensures.starts.db_is)) (omega arith) remains).bytes (c.status_after.ensures.bytes is)).0
+    passes g c Held is all remains = ((c.run_lines-ran.ensures.carried empty_db 1 all (stands_at _ _ 1 c.in-Ok.ensures.starts.next_is (c.in-Ok-new.ensures.stands empty_db c.in-Ok.ensures.starts.db_is)) (omega arith) remains).full_list (c.status_after.ensures.waiting is)).0
 
 pub returns-in-Ok-new-clause-input : goal.returns-in-Ok-new-clause-input
 returns-in-Ok-new-clause-input g c = record {

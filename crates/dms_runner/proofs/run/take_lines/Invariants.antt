@@ -1,4 +1,4 @@
-use Rattle.std.proofs.Common.{◌≡◌, ◌≤◌, ◌<◌, ◌+◌, ◌^◌, ℕ, List}
+use Rattle.std.proofs.Common.{◌≡◌, ◌≤◌, ◌<◌, ◌+◌, ◌^◌, ℕ, List, take}
 use Rattle.dms_desc.specs.Shape.{described}
 use Rattle.dms_model.specs.Session.{fresh_session}
 use Rattle.dms_storeverbs.specs.View.{Lasted, seen, view, StandsFor}
@@ -7,7 +7,9 @@ use Rattle.dms_runner.specs.Waiting.{AreVerbs}
 use Rattle.dms_runner.specs.Answers.{first_state}
 use Rattle.dms_model.specs.Db.{Db}
 use Rattle.dms_feed.specs.Feeds.{Remains}
-use Rattle.dms_runner.proofs.run.run_lines.Given as goal
+use Rattle.dms_feed.specs.Lines.{raw_lines}
+use Rattle.dms_runner.specs.Running.{AreEnded}
+use Rattle.dms_runner.proofs.run.take_lines.Given as goal
 
 abbrev pub invariant-loop-line : goal.invariant-loop-line
 invariant-loop-line g l = record {
@@ -18,6 +20,7 @@ invariant-loop-line g l = record {
   small : l.room ≤ 2147483648;
   few : l.line ≤ 1000000;
   read : (all : List ℕ) → Remains l.fn.feed (g.I.Source.left l.fn.source) all → InputRead l.line l.room all l.feed (g.I.Source.left l.source);
+  ended : (all : List ℕ) → Remains l.fn.feed (g.I.Source.left l.fn.source) all → AreEnded (take l.line (raw_lines all));
   runs : (db : Db) (first : ℕ) (all : List ℕ) → StandsFor (view l.fn.engine) (fresh_session db first) → first + 1000003 < 2 ^ 64 → Remains l.fn.feed (g.I.Source.left l.fn.source) all
       → RunsLines (described l.fn.engine.desc) (first_state db first) l.line l.room all (view l.engine) l.waiting.items l.feed (g.I.Source.left l.source) (seen l.fn.engine) (seen l.engine);
 }
