@@ -272,7 +272,7 @@ script_few desc well db first lines few =
 
 events_few : (desc : Described) → IsWellFormed desc → (db : Db) (first : ℕ) (lines : List (List ℕ)) (n : ℕ) (events : List RunEvent) → KeepsFront lines n → AreOfFront desc db first lines n events → Few desc 1000001 events
 events_few desc well db first lines n events keeps (inl front) = subst (λ (es : List RunEvent). Few desc 1000001 es) (sym front) (few_more desc 1000000 1000001 _ (omega arith) (front_few desc well db first lines n keeps))
-events_few desc well db first lines n events keeps (inr all) = subst (λ (es : List RunEvent). Few desc 1000001 es) (sym all.1) (script_few desc well db first lines (omega (arith, keeps.few, all.0)))
+events_few desc well db first lines n events keeps (inr all) = subst (λ (es : List RunEvent). Few desc 1000001 es) (sym all.2) (script_few desc well db first lines (omega (arith, keeps.few, all.0)))
 
 pub counted_law : CountedLaw
 counted_law desc well db first lines n events keeps of k =

@@ -39,4 +39,4 @@ front_of_script desc db first lines n =
 -- so it begins with whatever of it was carried out
 pub front_law : (desc : Described) (db : Db) (first : ℕ) (lines : List (List ℕ)) (n : ℕ) (events : List RunEvent) → AreOfFront desc db first lines n events → (rest : List RunEvent) × (script_events desc db first lines ≡ events ++ rest)
 front_law desc db first lines n events (inl are) = let f = front_of_script desc db first lines n in (f.0, f.1 ∙ ap (λ (es : List RunEvent). es ++ f.0) (sym are))
-front_law desc db first lines n events (inr are) = ([], sym are.1 ∙ sym (append-nil events))
+front_law desc db first lines n events (inr are) = ([], sym are.2 ∙ sym (append-nil events))

@@ -197,7 +197,7 @@ module _ {St : Type 0} {g : Ghosts St} (old mid new : Engine St g) (db : Db) (fi
         n = n;
         events = events_at old db first all;
         front = record { within = omega arith; few = t.fits.few; short = omega (arith, t.fits.short, ap bytes_of (take_all n (raw_lines all) (omega arith))) };
-        are = inr (refl, refl);
+        are = inr (refl, t.roomy, refl);
         part = ends_part part;
         whole = always_ok result _ refl;
         lines = λ e. absurd (limits.0 e);

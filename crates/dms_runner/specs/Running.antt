@@ -88,11 +88,12 @@ pub record KeepsFront (lines : List (List ℕ)) (n : ℕ) : Type 0 where
 abbrev pub front_events : Described → Db → ℕ → List (List ℕ) → ℕ → List RunEvent
 front_events desc db first lines n = (script_run desc db first (take n lines)).events
 
--- These are the events of the first n lines; or n lines are all, and these are the events of the script, with those of its end.
+-- These are the events of the first n lines; or n lines are all, none of them is one too many to hold, and these are the events of the script, with those
+-- of its end.
 abbrev pub AreOfFront : Described → Db → ℕ → List (List ℕ) → ℕ → List RunEvent → Type 0
-AreOfFront desc db first lines n events = (events ≡ front_events desc db first lines n) ⊎ ((n ≡ length lines) × (events ≡ script_events desc db first lines))
+AreOfFront desc db first lines n events = (events ≡ front_events desc db first lines n) ⊎ ((n ≡ length lines) × ((script_run desc db first lines).full ≡ false) × (events ≡ script_events desc db first lines))
 
--- These are the events of the first m lines, and no others are meant by n.
+-- these are the events of the first m lines, and n is that number
 abbrev pub AreExactly : Described → Db → ℕ → List (List ℕ) → ℕ → List RunEvent → ℕ → Type 0
 AreExactly desc db first lines n events m = (n ≡ m) × (events ≡ front_events desc db first lines m)
 

@@ -39,7 +39,7 @@ use Rattle.dms_run.specs.Stops.{RunLeaves, last_quiet_number}
 use Rattle.dms_status.specs.declared.status.Status.{Status}
 use Rattle.dms_status.specs.declared.status.Status.TheVariants.{Ok, Memory}
 use Rattle.dms_runtop.specs.Bound.{BoundsAudit}
-use Rattle.dms_runtop.specs.Faults.{IsWithin, run_status}
+use Rattle.dms_runtop.specs.Faults.{IsWithin, MayBeFull, run_status}
 use Rattle.dms_runtop.proofs.Bounds.{bounds_none}
 use Rattle.dms_runtop.specs.Over.{BeginsAt, ClosesOver, FilesEndWith, RunsOver, ScriptRuns, seen_site}
 use Rattle.dms_runtop.specs.Statuses.{IsOfClosing}
@@ -138,12 +138,12 @@ module _ {S : Type 0} (g : Ghosts S) (d e e' : Described) (r r' : Running S) (sa
   -- the script stopped before its end, and the site was given back
   pub failed_over : (left' : Option (List ℕ)) (fault : RunFault) (status : Status) (site : S) → status ≡ run_status fault → site ≡ r'.log.site → (c : Carried d db r.next all left' entry (said_of g r'.log) fault)
       → Runs (lifted e (held g r).clock) (lifted e' (held g r').clock) (RunLeaves (held g r).whole entry (map (point_of e) (held g r).points) n db r.next c.events)
-      → ((f k : ℕ) → fault ≡ Block (block.Damaged f k) → ⊥) → ((f : ℕ) → fault ≡ Block (block.Full f) → f ≡ r'.log.end.limit) → BoundsAudit 0 t d c.events (g.files r.log.site) (g.files r'.log.site) entry (said_of g r'.log) (run_status fault)
+      → ((f k : ℕ) → fault ≡ Block (block.Damaged f k) → ⊥) → ((f : ℕ) → fault ≡ Block (block.Full f) → MayBeFull r'.log.end.limit f) → BoundsAudit 0 t d c.events (g.files r.log.site) (g.files r'.log.site) entry (said_of g r'.log) (run_status fault)
       → ScriptRuns 0 t d ps n db r.next all (seen_site g r.log.site) (seen_site g site) left' status
   failed_over left' fault status site status_is site_is c leaves damaged full bound =
       subst (λ (x : Status). ScriptRuns 0 t d ps n db r.next all (seen_site g r.log.site) (seen_site g site) left' x) (sym status_is)
       (subst (λ (x : S). ScriptRuns 0 t d ps n db r.next all (seen_site g r.log.site) (seen_site g x) left' (run_status fault)) (sym site_is)
-      (ran_failed 0 t d ps n db r.next all (seen_site g r.log.site) (seen_site g r'.log.site) left' fault c (moments_of c.events leaves) damaged (λ f is. full f is ∙ pace.limit ∙ b.limit_is) bound))
+      (ran_failed 0 t d ps n db r.next all (seen_site g r.log.site) (seen_site g r'.log.site) left' fault c (moments_of c.events leaves) damaged (λ f is. subst (λ (l : ℕ). MayBeFull l f) (pace.limit ∙ b.limit_is) (full f is)) bound))
 
   -- the bound of one fault is that of the same one
   bound_at : (events : List RunEvent) (then fault : RunFault) → then ≡ fault → BoundsAudit 0 t d events (g.files r.log.site) (g.files r'.log.site) entry (said_of g r'.log) (run_status then)
@@ -174,7 +174,7 @@ module _ {S : Type 0} (g : Ghosts S) (d e e' : Described) (r r' : Running S) (sa
       → ((f k : ℕ) → fault ≡ Block (block.Damaged f k) → ⊥) → BoundsAudit 0 t d c.events (g.files r.log.site) (g.files r'.log.site) entry (said_of g r'.log) (run_status then)
       → ScriptRuns 0 t d ps n db r.next all (seen_site g r.log.site) (seen_site g site) left' status
   within_over left' last fault then status site (inl within) last_is status_is site_is c leaves damaged bound =
-      failed_over left' fault status site (status_is ∙ ap run_status within.0) site_is c leaves damaged (λ f is. within.1 f is ∙ last_is) (bound_at c.events then fault within.0 bound)
+      failed_over left' fault status site (status_is ∙ ap run_status within.0) site_is c leaves damaged (λ f is. subst (λ (l : ℕ). MayBeFull l f) last_is (within.1 f is)) (bound_at c.events then fault within.0 bound)
   within_over left' last fault then status site (inr memory) last_is status_is site_is c leaves damaged bound =
       failed_over left' run.Memory status site (status_is ∙ ap run_status memory.0) site_is (carried_short left' fault (λ is. full_not_say memory.1.0 (sym memory.1.1 ∙ is)) c) leaves
       (λ f k is. memory_not_block (block.Damaged f k) is) (λ f is. absurd (memory_not_block (block.Full f) is)) (bound_at c.events then run.Memory memory.0 bound)

@@ -176,7 +176,7 @@ script_ends desc db first lines =
 
 -- so a stop within what was carried out of it, or behind that, is one within the script
 pub script_widens : (desc : Described) (db : Db) (first : ℕ) (lines : List (List ℕ)) (n : ℕ) (events : List RunEvent) → AreOfFront desc db first lines n events → Widens (events ++ pause ∷ []) (script_events desc db first lines)
-script_widens desc db first lines n events (inr are) = subst (λ (es : List RunEvent). Widens (es ++ pause ∷ []) (script_events desc db first lines)) (sym are.1) (script_ends desc db first lines)
+script_widens desc db first lines n events (inr are) = subst (λ (es : List RunEvent). Widens (es ++ pause ∷ []) (script_events desc db first lines)) (sym are.2) (script_ends desc db first lines)
 script_widens desc db first lines n events (inl are) = let f = front_of_script desc db first lines n in by_rest f.0 (f.1 ∙ ap (λ (es : List RunEvent). es ++ f.0) (sym are))
   where
     by_rest : (rest : List RunEvent) → script_events desc db first lines ≡ events ++ rest → Widens (events ++ pause ∷ []) (script_events desc db first lines)

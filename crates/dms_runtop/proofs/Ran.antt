@@ -49,8 +49,8 @@ use Rattle.dms_status.specs.declared.status.LimitKind.TheVariants.{AuditFile, Li
 use Rattle.dms_status.specs.declared.status.Status.{Status}
 use Rattle.dms_status.specs.declared.status.Status.TheVariants.{Ok, Limit}
 use Rattle.dms_runtop.specs.Bound.{BoundsAudit, StopsAtLine}
-use Rattle.dms_runtop.specs.Faults.{IsWithin, run_status}
-use Rattle.dms_runtop.specs.Over.{CutsScript, ReachesFiles, PassesScript, ScriptRuns, SiteSeen}
+use Rattle.dms_runtop.specs.Faults.{IsWithin, MayBeFull, run_status}
+use Rattle.dms_runtop.specs.Over.{CutsScript, IsToGrow, ReachesFiles, PassesScript, ScriptRuns, SiteSeen}
 use Rattle.dms_runtop.proofs.Bounds.{at_line_of}
 use Rattle.dms_runtop.proofs.Counted.{an_error}
 use Rattle.dms_runtop.proofs.Fronts.{leaves_wide, wider}
@@ -139,6 +139,9 @@ module _ {S : Type 0} (g : Ghosts S) (d : Described) (trail : Trail) (r r' : Run
 pub prints_nothing : (said : Option (List ℕ)) (text : List ℕ) → PrintsPrefix said said text
 prints_nothing said text = λ t is. (0, is ∙ ap (λ (s : List ℕ). Some s) (sym (append-nil t)))
 
+still_prints : (said : Option (List ℕ)) → Prints said said []
+still_prints said = λ t is. is ∙ ap (λ (s : List ℕ). Some s) (sym (append-nil t))
+
 pub said_nothing : (said : Option (List ℕ)) (events : List RunEvent) → SaidWhole said said events
 said_nothing said events = (0, λ t is. is ∙ ap (λ (s : List ℕ). Some s) (sym (append-nil t)))
 
@@ -225,11 +228,11 @@ module _ (opening : ℕ) (t : Telling) (d : Described) (ps : List DescribedPoint
   paused : (events : List RunEvent) → Leaves events → Leaves (events ++ pause ∷ [])
   paused events moments = runs_weaken moments (leaves_wide (wider events (pause ∷ [])))
 
-  pub of_audit : (lines : ℕ) (events : List RunEvent) (k : LimitKind) → IsOfAuditLimit k → PassesScript k d db next (raw_lines all) lines events a.said b.said
-  of_audit lines events (AuditFile f) is = inr is
-  of_audit lines events Lines is = absurd is
-  of_audit lines events Bytes is = absurd is
-  of_audit lines events limits.Held is = absurd is
+  pub of_audit : (lines : ℕ) (events : List RunEvent) (k : LimitKind) → IsOfAuditLimit k → IsToGrow d db next (raw_lines all) events a.said b.said → PassesScript k d db next (raw_lines all) lines events a.said b.said
+  of_audit lines events (AuditFile f) is grows = inr (is, grows)
+  of_audit lines events Lines is grows = absurd is
+  of_audit lines events Bytes is grows = absurd is
+  of_audit lines events limits.Held is grows = absurd is
 
   no_lines : KeepsFront (raw_lines all) 0
   no_lines = record { within = omega arith; few = omega arith; short = omega arith }
@@ -249,14 +252,14 @@ module _ (opening : ℕ) (t : Telling) (d : Described) (ps : List DescribedPoint
     whole_answers = λ unsaid. subst (λ (s : Option (List ℕ)). SaidWhole a.said s []) (sym same) (said_nothing a.said []);
     whole = λ is. absurd (undone_ok status undone is);
     within = λ is. absurd (undone_ok status undone is);
-    limit = λ k is. of_audit 0 [] k (undone_limit status undone k is);
+    limit = λ k is. of_audit 0 [] k (undone_limit status undone k is) (inl (subst (λ (s : Option (List ℕ)). Prints a.said s []) (sym same) (still_prints a.said)));
     input_cut = λ is. absurd (undone_input status undone is);
     undamaged = λ f k is high. undone_damaged status undone f k is high;
   }
 
   -- the script stopped before its end
   pub ran_failed : (fault : RunFault) (c : Carried d db next all left' a.said b.said fault) → Leaves c.events
-      → ((f k : ℕ) → fault ≡ Block (block.Damaged f k) → ⊥) → ((f : ℕ) → fault ≡ Block (block.Full f) → f ≡ d.files) → Bound c.events (run_status fault) → ScriptRuns opening t d ps n db next all a b left' (run_status fault)
+      → ((f k : ℕ) → fault ≡ Block (block.Damaged f k) → ⊥) → ((f : ℕ) → fault ≡ Block (block.Full f) → MayBeFull d.files f) → Bound c.events (run_status fault) → ScriptRuns opening t d ps n db next all a b left' (run_status fault)
   ran_failed fault c moments damaged full bound = record {
     lines = c.lines;
     front = c.front;
@@ -276,7 +279,11 @@ module _ (opening : ℕ) (t : Telling) (d : Described) (ps : List DescribedPoint
   }
     where
       passes : (k : LimitKind) → run_status fault ≡ Limit k → PassesScript k d db next (raw_lines all) c.lines c.events a.said b.said
-      passes (AuditFile f) is = inl (full f (run_full_is fault f is), c.due f (run_full_is fault f is))
+      passes (AuditFile f) is = by_file (full f (run_full_is fault f is))
+        where
+          by_file : MayBeFull d.files f → PassesScript (AuditFile f) d db next (raw_lines all) c.lines c.events a.said b.said
+          by_file (inl files) = inl (files, c.due f (run_full_is fault f is))
+          by_file (inr last) = inr (last, inr (inl (c.due f (run_full_is fault f is))))
       passes Lines is = c.many_lines (run_lines_is fault is)
       passes Bytes is = c.many_bytes (run_bytes_is fault is)
       passes limits.Held is = c.many_held (run_held_is fault is)
@@ -305,4 +312,4 @@ module _ (opening : ℕ) (t : Telling) (d : Described) (ps : List DescribedPoint
     where
       closing_limit : (s : Status) → (s ≡ Ok) ⊎ IsOfClosing s → (k : LimitKind) → s ≡ Limit k → PassesScript k d db next (raw_lines all) c.lines script a.said b.said
       closing_limit s (inl ok) k is = absurd (ok_not_limit k (sym ok ∙ is))
-      closing_limit s (inr of) k is = of_audit c.lines script k (subst IsOfClosing is of)
+      closing_limit s (inr of) k is = of_audit c.lines script k (subst IsOfClosing is of) (inr (inr (refl, prints)))

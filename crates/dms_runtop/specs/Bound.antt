@@ -58,8 +58,8 @@ pub record GrewByPart (cut : Type 0) (n : ℕ) (t : Telling) (desc : Described) 
   pub printed : PrintsEvents cut k events said said'
   pub grew : GrewWithin n t desc printed.whole k events then now
 
--- A close takes at most 18 entries: a Schema, in 17 parts, and a Control. None is made where the script stopped before its end: so it is at status 6,
--- 9 and 10 and at 8 of its lines, bytes and held lines.
+-- A close takes at most 18 entries: a Schema, in 17 parts, and a Control. None is counted where only a script's stop before its end leads to the status:
+-- at 6, 9 and 10, and at 8 of lines, bytes and held lines.
 abbrev pub closing_limit : LimitKind → ℕ
 closing_limit (AuditFile f) = 18
 closing_limit Lines = 0
@@ -80,7 +80,7 @@ closing_of SayFault = 0
 closing_of DiskFault = 18
 closing_of Exists = 0
 
--- the script stopped at one of its limits, or since its input failed
+-- the script stopped at a limit of lines, bytes or held lines, or since its input failed
 abbrev pub StopsAtLine : Status → Type 0
 StopsAtLine status = (status ≡ InputFault) ⊎ ((status ≡ Limit Lines) ⊎ ((status ≡ Limit Bytes) ⊎ (status ≡ Limit Held)))
 
@@ -88,7 +88,7 @@ StopsAtLine status = (status ≡ InputFault) ⊎ ((status ≡ Limit Lines) ⊎ (
 pub record BoundsAudit (n : ℕ) (t : Telling) (desc : Described) (events : List RunEvent) (then now : Files) (said said' : Option (List ℕ)) (status : Status) : Type 0 where
   -- at status 0 no more than all events make
   pub at_ok : status ≡ Ok → AuditGrew t (n + audit_of desc events + 18) then now
-  -- where it stopped at a line, no more than the events of the lines before make
+  -- where it stopped at a line, no more than the opening and the events of the lines before make, of a line too many to hold its first try, too
   pub at_line : StopsAtLine status → AuditGrew t (n + audit_of desc events) then now
   -- at each status no more than those make whose text was printed, and one call whose answer wasn't; at 10 the last answer may be cut off
   pub at_end : GrewByPart (status ≡ SayFault) (n + closing_of status) t desc events then now said said'

@@ -41,9 +41,14 @@ run_status run.Bytes = Limit limit.Bytes
 run_status run.Held = Limit limit.Held
 run_status run.Memory = Memory
 
--- A full audit is one at the last file that its limit allows; where another file were named, that counts as want of memory.
+-- An audit that a script finds full ends with the last file that its limit allows, or, where the database goes back, with the last of all.
+abbrev pub MayBeFull : ℕ → ℕ → Type 0
+MayBeFull last f = (f ≡ last) ⊎ (f ≡ 9999)
+
+-- A full audit is one at such a file; where another file were named, that counts as want of memory.
 abbrev pub IsWithin : ℕ → RunFault → RunFault → Type 0
-IsWithin last fault told = ((told ≡ fault) × ((f : ℕ) → fault ≡ run.Block (block.Full f) → f ≡ last)) ⊎ ((told ≡ run.Memory) × ((f : ℕ) × (fault ≡ run.Block (block.Full f))))
+IsWithin last fault told =
+    ((told ≡ fault) × ((f : ℕ) → fault ≡ run.Block (block.Full f) → MayBeFull last f)) ⊎ ((told ≡ run.Memory) × ((f : ℕ) × (fault ≡ run.Block (block.Full f)) × (MayBeFull last f → ⊥)))
 
 -- of a fault of an opening
 abbrev pub open_status : OpenFault → Status

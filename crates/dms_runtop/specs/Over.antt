@@ -51,17 +51,23 @@ pub record FilesEndWith (t : Telling) (desc : Described) (n : ℕ) (db : Db) (ne
   pub next_is : next_in t s.files ≡ next
   pub only : Only s.files s.clock
 
--- The script passes this limit: what the whole lines before that place answer was printed, and exactly what they do was done; of a line that is one too
--- many to hold its first try, which waits, too. The audit may go on up to file FILES of the description for what a script changes: then the call of a
--- verb that may change the database was under way, or the way back at the script's end. And it may go on up to file 9,999 where the database is
--- opened and closed.
+-- The audit was to grow: at the opening, while nothing was printed; in an event that was under way, behind the text of those before it; or at the close,
+-- behind that of the whole script.
+abbrev pub IsToGrow : Described → Db → ℕ → List (List ℕ) → List RunEvent → Option (List ℕ) → Option (List ℕ) → Type 0
+IsToGrow desc db first lines events before after =
+    Prints before after [] ⊎ (IsDue before after events ⊎ ((events ≡ script_events desc db first lines) × Prints before after (answers_text desc db first lines)))
+
+-- The script passes this limit: what the whole lines before that place answer was printed, and these are their events, so nothing else was done; of a
+-- line that is one too many to hold its first try, which waits, is among them. The audit may go on up to file FILES of the description for what a
+-- script changes: then the call of a verb that may change the database was under way, or the way back at the script's end. And it may go on up to
+-- file 9,999 where the database is opened, where it goes back, and where it is closed.
 abbrev pub PassesScript : LimitKind → Described → Db → ℕ → List (List ℕ) → ℕ → List RunEvent → Option (List ℕ) → Option (List ℕ) → Type 0
-PassesScript (AuditFile f) desc db first lines n events before after = ((f ≡ desc.files) × IsDue before after events) ⊎ (f ≡ 9999)
+PassesScript (AuditFile f) desc db first lines n events before after = ((f ≡ desc.files) × IsDue before after events) ⊎ ((f ≡ 9999) × IsToGrow desc db first lines events before after)
 PassesScript Lines desc db first lines n events before after = PassesLines desc db first lines before after × AreExactly desc db first lines n events 1000000
 PassesScript Bytes desc db first lines n events before after = (p : PassesBytes desc db first lines before after) × AreExactly desc db first lines n events p.n
 PassesScript Held desc db first lines n events before after = (p : PassesWaiting desc db first lines before after) × AreExactly desc db first lines n events (p.n + 1)
 
--- Taking from the input failed: what the whole lines that were taken answer was printed, and exactly what they do was done.
+-- Taking from the input failed: what the whole lines that were taken answer was printed, and these are their events, so nothing else was done.
 abbrev pub CutsScript : Described → Db → ℕ → List ℕ → Option (List ℕ) → ℕ → List RunEvent → Option (List ℕ) → Option (List ℕ) → Type 0
 CutsScript desc db first all left n events before after = (p : CutInput desc db first all left before after) × AreExactly desc db first (raw_lines all) n events p.n
 
@@ -99,7 +105,7 @@ pub record ScriptRuns (opening : ℕ) (t : Telling) (desc : Described) (ps : Lis
   pub limit : (k : LimitKind) → status ≡ Limit k → PassesScript k desc db next (raw_lines all) lines events a.said b.said
   -- at each status it took no more of the audit than an opening, what is answered, one call whose answer wasn't printed, and a close may take
   pub bound : BoundsAudit opening t desc events a.files b.files a.said b.said status
-  -- at status 6 what the whole lines that were taken answer was printed, and exactly what they do was done
+  -- at status 6 what the whole lines that were taken answer was printed, and nothing else was done
   pub input_cut : status ≡ InputFault → CutsScript desc db next all left' lines events a.said b.said
   -- no block of a structure file is found damaged
   pub undamaged : (f k : ℕ) → status ≡ Damaged f k → 30000 < f → ⊥

@@ -12,6 +12,9 @@ use dms_status::{LimitKind, NeedFault, Status};
 /// The last number of a file that is no structure file.
 const LAST_OTHER_FILE: u32 = 30_000;
 
+/// The last audit file: FILES and a way back go up to it at most.
+const LAST_AUDIT_FILE: u32 = 9_999;
+
 /// The number of the last structure file that a database may have.
 const LAST_STRUCTURE_FILE: u32 = 30_200;
 
@@ -54,12 +57,15 @@ pub fn status_of_run(fault: RunFault) -> Status
     }
 }
 
-/// The fault of a run whose audit may go on up to file `last`: where another file were named as full, that counts as want of memory.
+/// The fault of a run whose audit may go on up to file `last`, and up to 9,999 where the database goes back: where another file were named as full,
+/// that counts as want of memory.
 pub(crate) fn fault_within(fault: RunFault, last: u32) -> RunFault
     ensures { IsWithin last fault result }
 {
     match fault {
-        RunFault::Block(BlockFault::Full(file)) if file != last => RunFault::Memory,
+        RunFault::Block(BlockFault::Full(file)) if file != last && file != LAST_AUDIT_FILE => {
+            RunFault::Memory
+        }
         _ => fault,
     }
 }

@@ -277,13 +277,14 @@ pub fn dms<S: Site, I: Source>(
     // status 8 of an audit file comes only where the trail of entry goes on behind that file: it begins behind it, or all gates of that file are open
     ensures run_full { OnRun words.now (HasNoRoom S.Site site.old site.new result) }
     // whatever the files stand for, at status 0 the input has no more lines and bytes than a script may have, status 8 of either comes only where it has
-    // more of them, before it has too many of the other, and at status 6 taking failed behind so many whole lines and a part of the next one
+    // more of them, before it has too many of the other, and at status 6 taking failed behind so many whole lines, each with its line feed, and a part of the next one
     ensures run_by_input { OnRun words.now (BlamesInput (I.left input.old) (I.left input.new) result) }
     // only audit files and structure files change: the description and the dumps read as they did, and each stop left them as one at entry could
     ensures run_beside { OnRun words.now (StaysBeside S.Site site.old site.new) }
     // of the state that is told: at every moment a stop leaves the database of one quiet point, at status 0 the last one's, and exactly the answers or a
-    // prefix of them were printed. The trail has no more new entries than these may make, at each status: an opening, what was answered, one call whose
-    // answer wasn't printed, and a close
+    // prefix of them were printed. No more was carried out than the first so many lines, which keep the limits, and at 6, and 8 of lines, bytes or held
+    // lines, than the lines before. At 8 of an audit file it was to grow. The trail has no more new entries than these may make, at each status: an
+    // opening, what was answered, one call whose answer wasn't printed, and a close
     ensures run { OnRun words.now (RunsCommand S.Site state site.old site.new (I.left input.old) (I.left input.new) result) }
     // and of its files, whatever the input is: at every moment a stop leaves their trail, with the same tag, and blocks behind it that hold an entry; the
     // audit files before it stay
