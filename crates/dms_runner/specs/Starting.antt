@@ -148,9 +148,9 @@ module _ {St : Type 0} {g : Ghosts St} where
     pub are : AreExactly (described old.desc) db first (raw_lines all) n events m
     pub did : Performs (seen old) (seen new) events
 
-  -- So much of the script that an input has was carried out: a prefix of what its first n lines do, which keep its limits, or, where they are all, of
-  -- what it does to its end. Where the run stopped at a limit, or since the input failed, exactly what the lines before do was done; of a line that
-  -- is one too many to hold its first try, which waits, too.
+  -- So much of the script that an input has was carried out: a prefix of what its first n lines do, which keep its limits of lines and bytes, or, where
+  -- they are all, of what it does to its end. Where the run stopped at a limit, or since the input failed, exactly what the lines before do was done; of
+  -- a line that is one too many to hold its first try, if there is one, which waits, too.
   pub record CarriesOut {T : Type 0} (result : Result T RunFault) (left : Option (List ℕ)) (old new : Engine St g) (db : Db) (first : ℕ) (all : List ℕ) : Type 0 where
     pub n : ℕ
     pub events : List RunEvent

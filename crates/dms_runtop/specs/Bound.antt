@@ -58,8 +58,8 @@ pub record GrewByPart (cut : Type 0) (n : ℕ) (t : Telling) (desc : Described) 
   pub printed : PrintsEvents cut k events said said'
   pub grew : GrewWithin n t desc printed.whole k events then now
 
--- A close takes at most 18 entries: a Schema, in 17 parts, and a Control. None is counted where only a script's stop before its end leads to the status:
--- at 6, 9 and 10, and at 8 of lines, bytes and held lines.
+-- A close takes at most 18 entries: a Schema, in 17 parts, and a Control. It is counted at 0, 5, 7 and 8 of an audit file; no
+-- close leads to the others.
 abbrev pub closing_limit : LimitKind → ℕ
 closing_limit (AuditFile f) = 18
 closing_limit Lines = 0

@@ -41,7 +41,7 @@ run_status run.Bytes = Limit limit.Bytes
 run_status run.Held = Limit limit.Held
 run_status run.Memory = Memory
 
--- An audit that a script finds full ends with the last file that its limit allows, or, where the database goes back, with the last of all.
+-- An audit that a script finds full ends with the last file that its limit allows, or with the last of all, up to which a way back goes.
 abbrev pub MayBeFull : ℕ → ℕ → Type 0
 MayBeFull last f = (f ≡ last) ⊎ (f ≡ 9999)
 

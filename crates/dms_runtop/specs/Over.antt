@@ -51,16 +51,16 @@ pub record FilesEndWith (t : Telling) (desc : Described) (n : ℕ) (db : Db) (ne
   pub next_is : next_in t s.files ≡ next
   pub only : Only s.files s.clock
 
--- The audit was to grow: at the opening, while nothing was printed; in an event that was under way, behind the text of those before it; or at the close,
--- behind that of the whole script.
+-- Nothing was printed, as at the opening; or an event in which the audit may grow comes behind the text of those before it; or the text of the whole
+-- script was printed, as before the close.
 abbrev pub IsToGrow : Described → Db → ℕ → List (List ℕ) → List RunEvent → Option (List ℕ) → Option (List ℕ) → Type 0
 IsToGrow desc db first lines events before after =
     Prints before after [] ⊎ (IsDue before after events ⊎ ((events ≡ script_events desc db first lines) × Prints before after (answers_text desc db first lines)))
 
 -- The script passes this limit: what the whole lines before that place answer was printed, and these are their events, so nothing else was done; of a
--- line that is one too many to hold its first try, which waits, is among them. The audit may go on up to file FILES of the description for what a
--- script changes: then the call of a verb that may change the database was under way, or the way back at the script's end. And it may go on up to
--- file 9,999 where the database is opened, where it goes back, and where it is closed.
+-- line that is one too many to hold its first try, if there is one, which waits, is among them. The audit may go on up to file FILES of the description
+-- for what a script changes: then the call of a verb that may change the database was under way, or the way back at the script's end. At file 9,999,
+-- up to which openings, ways back and closings go, that is so, or nothing was printed, or all that the script answers.
 abbrev pub PassesScript : LimitKind → Described → Db → ℕ → List (List ℕ) → ℕ → List RunEvent → Option (List ℕ) → Option (List ℕ) → Type 0
 PassesScript (AuditFile f) desc db first lines n events before after = ((f ≡ desc.files) × IsDue before after events) ⊎ ((f ≡ 9999) × IsToGrow desc db first lines events before after)
 PassesScript Lines desc db first lines n events before after = PassesLines desc db first lines before after × AreExactly desc db first lines n events 1000000
@@ -93,7 +93,7 @@ pub record ScriptRuns (opening : ℕ) (t : Telling) (desc : Described) (ps : Lis
   pub at_ok : status ≡ Ok → ReachesFiles t desc n db next (raw_lines all) b
   -- at status 0 exactly the answers were printed
   pub prints : status ≡ Ok → Prints a.said b.said (answers_text desc db next (raw_lines all))
-  -- at each status a prefix of them
+  -- at each status a prefix of what these events say
   pub part : PrintsPrefix a.said b.said (text_of events)
   -- unless printing failed, that was the text of whole answers
   pub whole_answers : (status ≡ SayFault → ⊥) → SaidWhole a.said b.said events

@@ -53,8 +53,8 @@ try_events input = judged_events (judged (schema_text input)) (script_of input)
 abbrev pub PrintedWhole : List ℕ → List ℕ → List RunEvent → Type 0
 PrintedWhole before after events = (k : ℕ) × Printed before after (text_of (take k events))
 
--- The text grew by a prefix of what the first n lines of a script answer, which keep its limits, or, where they are all, of what the script answers; where
--- no printing failed, by the text of whole events of these.
+-- The text grew by a prefix of what the first n lines of a script answer, which keep its limits of lines and bytes, or, where they are all, of what the
+-- script answers; where no printing failed, by the text of whole events of these.
 pub record PrintedFront (status : Status) (d : Described) (lines : List (List ℕ)) (before after : List ℕ) : Type 0 where
   pub n : ℕ
   pub events : List RunEvent

@@ -161,7 +161,7 @@ pub fn dms<S: Site, I: Source>(
     ensures part { OnTry words.now (IsTrue S.tells_said → OfInput (I.left input.old) (λ all. PrintedPrefix (S.said site.old) (S.said site.new) (try_text all))) }
     // at status 7 that was the text of whole answers
     ensures whole_answers { OnTry words.now (result ≡ Status.Memory → IsTrue S.tells_said → OfInput (I.left input.old) (λ all. PrintedWhole (S.said site.old) (S.said site.new) (try_events all))) }
-    // at every status it was a prefix of what the first so many lines answer, which keep the limits, and, where no printing failed, that of whole answers
+    // at every status it was a prefix of what the first so many lines answer, which keep the limits of lines and bytes, and, where no printing failed, that of whole answers
     ensures front { OnTry words.now (IsTrue S.tells_said → OfTriedScript (I.left input.old) (λ d all. PrintedFront result d (script_of all) (S.said site.old) (S.said site.new))) }
     // at the statuses that come before the script nothing was printed
     ensures silent { OnTry words.now (IsTrue S.tells_said → ComesUnsaid result → S.said site.new ≡ S.said site.old) }
@@ -282,9 +282,10 @@ pub fn dms<S: Site, I: Source>(
     // only audit files and structure files change: the description and the dumps read as they did, and each stop left them as one at entry could
     ensures run_beside { OnRun words.now (StaysBeside S.Site site.old site.new) }
     // of the state that is told: at every moment a stop leaves the database of one quiet point, at status 0 the last one's, and exactly the answers or a
-    // prefix of them were printed. No more was carried out than the first so many lines, which keep the limits, and at 6, and 8 of lines, bytes or held
-    // lines, than the lines before. At 8 of an audit file it was to grow. The trail has no more new entries than these may make, at each status: an
-    // opening, what was answered, one call whose answer wasn't printed, and a close
+    // prefix of them were printed. No more was carried out than the first so many lines, which keep the limits of lines and bytes, or than the whole script
+    // to its end; at 6, and 8 of lines or bytes, than the lines before, and at 8 of held lines than these and the first try of one more. At 8 of an audit
+    // file the audit was to grow, or nothing was printed, or all that the script answers. The trail has no more new entries than these may make, at each
+    // status: an opening, what was answered, one call whose answer wasn't printed, and a close
     ensures run { OnRun words.now (RunsCommand S.Site state site.old site.new (I.left input.old) (I.left input.new) result) }
     // and of its files, whatever the input is: at every moment a stop leaves their trail, with the same tag, and blocks behind it that hold an entry; the
     // audit files before it stay
