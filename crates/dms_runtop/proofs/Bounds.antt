@@ -1,5 +1,5 @@
 -- How much audit a run takes, step by step.
-use Rattle.std.proofs.Common.{ℕ, zero, suc, ◌+◌, ◌-◌, ◌*◌, ◌^◌, ◌<◌, ◌≤◌, ◌≡◌, ◌⊎◌, ◌∙◌, inl, inr, false, true, IsTrue, List, [], ◌++◌, length, take, Option, Some, refl, sym, ap, subst, arith}
+use Rattle.std.proofs.Common.{ℕ, ◌+◌, ◌-◌, ◌*◌, ◌^◌, ◌<◌, ◌≤◌, ◌≡◌, ◌⊎◌, ◌∙◌, inl, inr, false, true, IsTrue, List, [], ◌++◌, length, take, Option, Some, refl, sym, ap, subst, arith}
 use Rattle.std.proofs.lemmas.List.{append-nil, take_all}
 use Rattle.dms_block.specs.declared.block_fault.BlockFault.TheVariants as block
 use Rattle.dms_block.specs.Texts.{Prints, PrintsPrefix}
@@ -23,9 +23,8 @@ use Rattle.dms_status.specs.declared.status.LimitKind.TheVariants.{AuditFile, Li
 use Rattle.dms_status.specs.declared.status.Status.TheVariants.{Ok, BadWords, SchemaRefused, NoDatabase, Needed, InputFault, Memory, Limit, Damaged, SayFault, DiskFault, Exists}
 use Rattle.dms_storeverbs.specs.Costs.{limit_if}
 use Rattle.dms_wal.specs.declared.running.Running.{Running}
-use Rattle.dms_wal.specs.Controls.{is_due_at}
 use Rattle.dms_wal.specs.Growing.{GrowsBy, IsCounted, controls_among}
-use Rattle.dms_wal.proofs.Grown.{stays_or_rises}
+use Rattle.dms_wal.proofs.Grown.{controls_low}
 use Rattle.dms_runtop.specs.Bound.{BoundsAudit, GrewWithin, PrintsEvents, StopsAtLine, audit_begun, audit_of, closing_of}
 use Rattle.dms_runtop.specs.Faults.{IsWithin, run_status}
 use Rattle.dms_runtop.specs.Statuses.{IsOfClosing}
@@ -151,19 +150,6 @@ bounds_opening {events = events} {x = x} {y = y} s not_ok few same = record {
 -- nothing was done
 pub bounds_none : {n : ℕ} {t : Telling} {desc : Described} {events : List RunEvent} {a b : Files} {x y : Option (List ℕ)} (s : Status) → (s ≡ Ok → ⊥) → b ≡ a → y ≡ x → BoundsAudit n t desc events a b x y s
 bounds_none {t = t} s not_ok files same = bounds_opening s not_ok (omega (arith, ap (λ (l : Files). length (t.entries l)) files)) same
-
--- ---- control points
-
-controls_up : (every m k : ℕ) → controls_among every m ≤ controls_among every (m + k)
-controls_up every m zero = let e : m + 0 ≡ m = omega arith in omega (arith, ap (λ n. controls_among every n) e)
-controls_up every m (suc k) =
-    let e : m + suc k ≡ suc (m + k) = omega arith in
-    omega (arith, controls_up every m k, ap (λ n. controls_among every n) e, stays_or_rises (is_due_at every (suc (m + k))) (controls_among every (m + k)))
-
-controls_low : (every m n : ℕ) → m ≤ n → controls_among every m ≤ controls_among every n
-controls_low every m n le =
-    let e : m + (n - m) ≡ n = omega (arith, le) in
-    subst (λ k. controls_among every m ≤ controls_among every k) e (controls_up every m (n - m))
 
 -- ---- a cut text
 
