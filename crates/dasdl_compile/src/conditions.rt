@@ -1,4 +1,3 @@
-ghost use Rattle.std.specs.Prelude.{◌≡◌};
 ghost use Rattle.dasdl_phrases.specs.Trees.{tree_of};
 ghost use Rattle.dasdl_compile.specs.Answers.{CompileGives};
 ghost use Rattle.dasdl_compile.specs.Conditions.{literal_of, compared, condition, verified};

@@ -1,4 +1,4 @@
-ghost use Rattle.std.specs.Prelude.{◌≡◌, []};
+ghost use Rattle.std.specs.Prelude.{◌≡◌};
 ghost use Rattle.dasdl_compile.specs.Finding.{drafted, is_data_set_draft, is_restart_draft, is_automatic_draft};
 
 use crate::condition::ConditionTree;

@@ -1,5 +1,5 @@
 ghost use Rattle.std.specs.Prelude.{◌≡◌};
-ghost use Rattle.dasdl_compile.specs.Answers.{CompileGives, Makes};
+ghost use Rattle.dasdl_compile.specs.Answers.{CompileGives};
 ghost use Rattle.dasdl_compile.specs.Keys.{is_part, key_item_at, run_items, run_of, part_at, short_key, key_at};
 ghost use Rattle.dasdl_compile.specs.Tables.{untitled};
 

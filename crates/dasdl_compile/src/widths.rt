@@ -1,6 +1,6 @@
 ghost use Rattle.std.specs.Prelude.{◌≡◌};
 ghost use Rattle.dms_desc.specs.Shape.{tree_of};
-ghost use Rattle.dasdl_compile.specs.Widths.{plus, size_of, value_width, condition_width, items_width, groups_width, parts_width, data_set_width, set_width, with_structure, structures_width, description_width};
+ghost use Rattle.dasdl_compile.specs.Widths.{size_of, value_width, condition_width, items_width, groups_width, parts_width, data_set_width, set_width, with_structure, structures_width, description_width};
 
 use crate::draft::Draft;
 use dms_base::Value;

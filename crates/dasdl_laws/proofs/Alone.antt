@@ -14,7 +14,7 @@ use Rattle.dasdl_compile.specs.Outlines.{data_set_kind}
 use Rattle.dasdl_compile.specs.Sets.{set_kind, no_parts}
 use Rattle.dasdl_laws.specs.Alone.{has_local_items, is_data_set_alone, is_set_alone, is_sound_alone}
 use Rattle.dasdl_laws.proofs.Parts.{EndedDraft, groups_sound}
-use Rattle.dasdl_laws.proofs.Trees.{DataSetMade, SetMade, Final}
+use Rattle.dasdl_laws.proofs.Trees.{DataSetMade, SetMade, Final, no_data_set}
 use Rattle.dasdl_laws.proofs.Trees.Final.{a_data_set_made, a_set_made}
 use Rattle.dasdl_laws.proofs.Turns.{outer}
 
@@ -46,11 +46,6 @@ data_set_alone o d h =
     and_from _ _ h.name (rw kind
     (and_from _ _ (and_from _ _ (and_from _ _ (and_from _ _ (and_from _ _ h.ended.population (items_alone o d h.ended)) (groups_alone o d h.ended)) h.ended.sofar.base.differ) h.ended.verify) (lacks_alone d h.number (data_set_kind h.restart) h.called h.owner h.outside)))
 
-pub by_words : (a b : Bool) → is_data_set (cond (not a) 3 (cond b 4 5)) ≡ false
-by_words true true = refl
-by_words true false = refl
-by_words false b = refl
-
 populated : (b : Bool) (n : ℕ) → is_within 1 1000000 n ≡ true → cond b (is_within 1 1000000 (cond b n 0)) (cond b n 0 == 0) ≡ true
 populated true n h = h
 populated false n h = refl
@@ -65,7 +60,7 @@ set_alone : (o : List Draft) (d : Draft) → SetMade o d → is_sound_alone (sha
 unfolding is_sound_alone is_set_alone
 set_alone o d h =
     subst (λ (x : Draft). is_sound_alone (shape_in x) ≡ true) h.is
-    (and_from _ _ h.written.name (rw (by_words h.decl.subset (is_some h.decl.cond))
+    (and_from _ _ h.written.name (rw (no_data_set h.decl.subset (is_some h.decl.cond))
     (and_from _ _ (and_from _ _ (and_from _ _ (and_from _ _ (populated (set_kind h.decl == 5) h.decl.population h.written.population) h.written.form) (some_parts h.options.parts h.decl.duplicates)) refl) refl)))
 
 alone : (o : List Draft) (d : Draft) → Final o d → is_sound_alone (shape_in d) ≡ true

@@ -1,7 +1,8 @@
 -- Where a description is made, each step on the way gives what it gives.
-use Rattle.std.proofs.Common.{◌≡◌, List, Bool, true, false, refl}
+use Rattle.std.proofs.Common.{◌≡◌, List, true, false}
 use Rattle.std.specs.Prelude.{not, nat_lt}
 use Rattle.std.specs.declared.result.Result.TheVariants.{Ok}
+use Rattle.std.proofs.lemmas.Bool.{not-false}
 use Rattle.dms_desc.specs.Shape.{Described}
 use Rattle.dasdl_parse.specs.declared.schema.Parameters.{Parameters}
 use Rattle.dasdl_parse.specs.declared.declarations.Declaration.{Declaration}
@@ -21,16 +22,12 @@ pub record Made (p : Parameters) (ds : List Draft) (d : Described) : Type 0 wher
   pub short : nat_lt 65535 (description_width ds) ≡ false
   pub is : description_of p ds ≡ d
 
-is_so : (b : Bool) → not b ≡ false → b ≡ true
-is_so true h = refl
-is_so false h = absurd (cc)
-
 finished_made : (p : Parameters) (ds : List Draft) (d : Described) → finished p ds ≡ Ok d → Made p ds d
 unfolding finished
 finished_made p ds d h =
     let a = skip_ok (not (has_restart ds)) _ _ _ h in
     let b = skip_ok (nat_lt 65535 (description_width ds)) _ _ _ a.1 in
-    record { restart = is_so (has_restart ds) a.0; short = b.0; is = ok_same _ d b.1 }
+    record { restart = not-false (has_restart ds) a.0; short = b.0; is = ok_same _ d b.1 }
 
 -- what was noted, and what was declared under that
 pub record CompiledSchema (p : Parameters) (decls : List Declaration) (d : Described) : Type 0 where

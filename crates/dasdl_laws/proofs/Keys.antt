@@ -1,5 +1,5 @@
 -- A key that was judged has parts of its items, none of them twice, and is short.
-use Rattle.std.proofs.Common.{◌≡◌, ◌∙◌, ◌≤◌, ◌+◌, ℕ, List, [], ◌∷◌, ◌++◌, length, Bool, true, false, cond, refl, sym, ap, subst, arith, length-append, append_assoc}
+use Rattle.std.proofs.Common.{◌≡◌, ◌∙◌, ◌≤◌, ◌+◌, ℕ, List, [], ◌∷◌, ◌++◌, length, Bool, true, false, refl, sym, ap, subst, arith, length-append, append_assoc}
 use Rattle.std.proofs.lemmas.Bool.{le-leb, ltb-false, or_parts, and_from}
 use Rattle.std.specs.Prelude.{◌||◌, ◌==◌, not, nat_lt, Some}
 use Rattle.std.specs.List.{list_all, AllByRecursion}
@@ -25,7 +25,7 @@ use Rattle.dasdl_laws.proofs.Judging.{bind_ok, skip_ok, ok_same, steps_keep}
 use Rattle.dasdl_laws.proofs.Judged.{place_of}
 use Rattle.dasdl_laws.proofs.Filled.{BeginsRun, run_begins}
 use Rattle.dasdl_laws.proofs.Parts.{GroupWithin}
-use Rattle.dasdl_laws.proofs.Ordered.{all_push, apart_push}
+use Rattle.dasdl_laws.proofs.Ordered.{all_push, apart_push, or_none}
 
 pub total_push : {A : Type 0} (size : A → ℕ) (xs : List A) (y : A) → total size (xs ++ y ∷ []) ≡ total size xs + size y
 total_push size [] y = omega arith
@@ -36,10 +36,6 @@ record Keyed (items : List Item) (bytes : ℕ) (ps : List KeyPart) : Type 0 wher
   sound : list_all (is_part_sound items) ps ≡ true
   differ : apart parts_differ ps ≡ true
   short : bytes ≤ 96 → total (part_width items) ps ≤ bytes
-
-or_none : (a b : Bool) → cond a true b ≡ false → (a ≡ false) × (b ≡ false)
-or_none true b h = absurd (cc)
-or_none false b h = (refl, h)
 
 none_twice : (n : ℕ) (ps : List KeyPart) (d : Bool) → is_part n ps ≡ false → list_all (λ (p : KeyPart). parts_differ p (record { item = n; descending = d })) ps ≡ true
 unfolding is_part

@@ -4,7 +4,7 @@ mod Counted
 mod Filled
 mod Judged
 mod Judging
-mod Keys
+pub mod Keys
 mod Levels
 mod Literals
 mod Members
@@ -22,6 +22,6 @@ mod Short
 pub mod Sound
 mod Structures
 mod Together
-mod Trees
+pub mod Trees
 mod Turns
 mod Written

@@ -2,7 +2,7 @@
 use Rattle.std.proofs.Common.{◌≡◌, ℕ, suc, zero, List, Bool, true, false, cond, refl, ap, subst, arith}
 use Rattle.std.proofs.lemmas.Bool.{and_parts, eqb-true, and_from}
 use Rattle.std.proofs.lemmas.Bool.Decides.{nat_tests}
-use Rattle.std.specs.Prelude.{pos, ◌&&◌, ◌||◌, not, ◌==◌, ◌^◌, nat_lt, nat_le, int_lt, unsigned_abs, length, Some, None}
+use Rattle.std.specs.Prelude.{pos, ◌&&◌, ◌||◌, not, ◌==◌, ◌^◌, nat_lt, nat_le, int_lt, length, Some, None}
 use Rattle.std.specs.List.{list_all}
 use Rattle.std.specs.Str.{bytes_eq}
 use Rattle.std.specs.declared.option.Option.{Option}
@@ -18,6 +18,7 @@ use Rattle.dms_desc.specs.Kinds.{is_link}
 use Rattle.dms_desc_bytes.specs.Members.{is_plain}
 use Rattle.dms_base.specs.Spelling.{is_kind}
 use Rattle.dasdl_compile.specs.Conditions.{value_in}
+use Rattle.dms_base.proofs.Spelled.{size_of_signed}
 
 -- a literal of a text: a string has characters from the space to `~`, and no space at its end
 abbrev pub is_plain_literal : Literal → Bool
@@ -29,11 +30,6 @@ is_plain_literal (Word b) = true
 -- what an item may be compared with, and what it may begin as
 abbrev pub is_value : ItemKind → Value → Bool
 is_value k v = (not (is_link k) && fits k v) && is_plain v
-
-size_of_signed : (minus : Bool) (n : ℕ) → unsigned_abs (signed minus n) ≡ n
-size_of_signed false n = refl
-size_of_signed true zero = refl
-size_of_signed true (suc n) = refl
 
 sign_of : (minus s : Bool) (n : ℕ) → s || not minus || n == 0 ≡ true → s || not (int_lt (signed minus n) (pos 0)) ≡ true
 sign_of minus true n h = refl

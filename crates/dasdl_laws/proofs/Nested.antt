@@ -21,17 +21,13 @@ left_case : (b : Bool) (p : Draft → Bool) (xs ys : List Draft) → (b || list_
 left_case true p xs ys h f = refl
 left_case false p xs ys h f = f h
 
-right_case : (a b : Bool) → b ≡ true → (a || b) ≡ true
-right_case true b e = refl
-right_case false b e = e
-
 pub any_left : (p : Draft → Bool) (xs ys : List Draft) → list_any p xs ≡ true → list_any p (xs ++ ys) ≡ true
 any_left p [] ys h = absurd (cc)
 any_left p (x ∷ xs) ys h = left_case (p x) p xs ys h (any_left p xs ys)
 
 pub any_right : (p : Draft → Bool) (xs ys : List Draft) → list_any p ys ≡ true → list_any p (xs ++ ys) ≡ true
 any_right p [] ys h = h
-any_right p (x ∷ xs) ys h = right_case (p x) _ (any_right p xs ys h)
+any_right p (x ∷ xs) ys h = or_right (p x) _ (any_right p xs ys h)
 
 has_in : (l m : List Draft) (d : Draft) → ((n : ℕ) → list_any (owned n) l ≡ true → list_any (owned n) m ≡ true) → HasIn l d → HasIn m d
 has_in l m d f (inl e) = inl e

@@ -63,7 +63,7 @@ unfolding has_restart
 restart_outer [] = refl
 restart_outer (d ∷ ds) = ap (λ (b : Bool). cond (d.kind == 2) true b) (restart_outer ds)
 
-or_none : (a b : Bool) → cond a true b ≡ false → (a ≡ false) × (b ≡ false)
+pub or_none : (a b : Bool) → cond a true b ≡ false → (a ≡ false) × (b ≡ false)
 or_none true b h = absurd (cc)
 or_none false b h = (refl, h)
 

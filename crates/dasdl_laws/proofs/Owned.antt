@@ -1,6 +1,6 @@
 -- No structure stands in the restart data set.
 use Rattle.std.proofs.Common.{◌≡◌, ◌≤◌, ◌+◌, ◌-◌, ◌⊎◌, inl, inr, ℕ, suc, zero, List, [], ◌∷◌, ◌++◌, map, length, Bool, true, false, cond, refl, sym, ap, subst, ◌∙◌, arith}
-use Rattle.std.proofs.lemmas.Bool.{and_parts, eq-eqb, eqb-true, not-false, both_ways, and_from}
+use Rattle.std.proofs.lemmas.Bool.{and_parts, eq-eqb, eqb-true, not-false, both_ways, and_from, not-true}
 use Rattle.std.proofs.lemmas.Bool.Decides.{nat_tests}
 use Rattle.std.proofs.lemmas.List.{map-append, length-map}
 use Rattle.std.proofs.lemmas.Option.{slice_get-map}
@@ -26,7 +26,6 @@ use Rattle.dasdl_compile.specs.Compile.{is_misplaced as is_data_set_misplaced, d
 use Rattle.dasdl_compile.specs.Finding.{drafted, next_structure, data_set_named, kind_of as kind_made}
 use Rattle.dasdl_compile.specs.Outlines.{data_set_kind}
 use Rattle.dasdl_compile.specs.Sets.{set_kind, is_misplaced, set_draft}
-use Rattle.dasdl_laws.proofs.Alone.{by_words}
 use Rattle.dasdl_laws.proofs.Judging.{bind_ok, ok_same}
 use Rattle.dasdl_laws.proofs.Ordered.{Numbers, Ordered, turned, grown}
 use Rattle.dasdl_laws.proofs.Opened.{OpenedDrafts, Opening, turn_opens, opens}
@@ -37,6 +36,7 @@ use Rattle.dasdl_laws.proofs.Sets.{Whole, final_at}
 use Rattle.dasdl_laws.proofs.Together.{found_as, mapped, ne_zero}
 use Rattle.dasdl_laws.proofs.Turns.{outer, DraftTurn, turn_of, inside_kept}
 use Rattle.dasdl_laws.proofs.Turns.DraftTurn.{inside, data_set, a_set}
+use Rattle.dasdl_laws.proofs.Trees.{no_data_set}
 
 -- ---- kinds by number
 
@@ -135,13 +135,9 @@ data_set_in : (o : List Draft) (s : DataSetDecl) (w : Compilation) → Owning o 
 unfolding is_data_set_misplaced
 data_set_in o s w h few placed = in_open o w h few h.standing.around (neither _ _ placed)
 
-not_so : (b : Bool) → not b ≡ true → b ≡ false
-not_so true h = absurd (cc)
-not_so false h = refl
-
 set_by : (q : Bool) (o : List Draft) (w : Compilation) (s : SetDecl) (d : Draft) (p : WhereAndKey) → Owning o w → length w.made ≤ 200 → data_set_named s.of o ≡ Some d → (d.owner == w.within) ≡ q → (q || (set_kind s == 5 && d.owner == 0 && not (kind_made w.within w.made == 2))) ≡ true → DraftPlace o (map outer w.made) (outer (set_draft w s d p))
-set_by true o w s d p h few found e k = inr (record { of = d; name = s.of; found = found; owner = eqb-true d.owner w.within e; kind = by_words s.subset (is_some s.cond) })
-set_by false o w s d p h few found e k = inl (in_open o w h few h.standing.around (not_so _ (and_parts (set_kind s == 5 && d.owner == 0) _ k).1))
+set_by true o w s d p h few found e k = inr (record { of = d; name = s.of; found = found; owner = eqb-true d.owner w.within e; kind = no_data_set s.subset (is_some s.cond) })
+set_by false o w s d p h few found e k = inl (in_open o w h few h.standing.around (not-true _ (and_parts (set_kind s == 5 && d.owner == 0) _ k).1))
 
 set_in : (o : List Draft) (w : Compilation) (s : SetDecl) (d : Draft) (p : WhereAndKey) → Owning o w → length w.made ≤ 200 → data_set_named s.of o ≡ Some d → is_misplaced w s d ≡ false → DraftPlace o (map outer w.made) (outer (set_draft w s d p))
 unfolding is_misplaced

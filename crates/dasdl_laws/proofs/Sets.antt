@@ -27,7 +27,7 @@ use Rattle.dasdl_compile.specs.Conditions.{condition}
 use Rattle.dasdl_compile.specs.Sets.{set_kind, where_in, where_of, key_in, key_of, key_is_first, options_at, is_misplaced, set_draft}
 use Rattle.dasdl_compile.specs.Finding.{kind_of as kind_made}
 use Rattle.dasdl_laws.specs.Together.{is_set_together, is_sound_together}
-use Rattle.dasdl_laws.proofs.Alone.{kind_is, by_words}
+use Rattle.dasdl_laws.proofs.Alone.{kind_is}
 use Rattle.std.specs.Prelude.{is_none}
 use Rattle.dms_desc_bytes.specs.Lists.{is_empty}
 use Rattle.dasdl_compile.specs.Sets.{lacks_key}
@@ -40,7 +40,7 @@ use Rattle.dasdl_laws.proofs.Keys.{key_sound}
 use Rattle.dasdl_laws.proofs.Ordered.{has_kind}
 use Rattle.dasdl_laws.proofs.Outline.{seen, seen_item}
 use Rattle.dasdl_laws.proofs.Together.{FoundAs, found_as, items_sound, same_keys, same_conditions}
-use Rattle.dasdl_laws.proofs.Trees.{DataSetMade, SetMade, Final}
+use Rattle.dasdl_laws.proofs.Trees.{DataSetMade, SetMade, Final, no_data_set}
 use Rattle.dasdl_laws.proofs.Trees.Final.{a_data_set_made, a_set_made}
 use Rattle.dasdl_laws.proofs.Written.{IsPlainCondition}
 
@@ -161,7 +161,7 @@ set_together noted made d w h =
     let f = found_as h.decl.of noted made h.of w.same w.numbers w.kinds h.found in
     let g = final_at (Final noted) made f.place f.is w.final f.at in
     subst (λ (x : Draft). is_sound_together (map shape_in made) (shape_in x) ≡ true) h.is
-    (rw (by_words h.decl.subset (is_some h.decl.cond)) (set_shape made h.work h.decl h.of h.options f (items_few noted f.is g) (groups_within noted f.is g) h.placed h.read h.key h.written.cond h.written.key))
+    (rw (no_data_set h.decl.subset (is_some h.decl.cond)) (set_shape made h.work h.decl h.of h.options f (items_few noted f.is g) (groups_within noted f.is g) h.placed h.read h.key h.written.cond h.written.key))
 
 data_set_together : (noted made : List Draft) (d : Draft) → Whole noted made → DataSetMade noted d → is_sound_together (map shape_in made) (shape_in d) ≡ true
 unfolding is_sound_together

@@ -98,7 +98,7 @@ pub record GrowsDrafts (o : List Draft) (pre : List Draft) (d : Draft) (post : L
 some_items : (a n b : ℕ) → b ≡ a + n → 1 ≤ n → 1 ≤ b
 some_items a n b e h = omega (arith, e, h)
 
-no_data_set : (a b : Bool) → is_data_set (cond (not a) 3 (cond b 4 5)) ≡ false
+pub no_data_set : (a b : Bool) → is_data_set (cond (not a) 3 (cond b 4 5)) ≡ false
 no_data_set true true = refl
 no_data_set true false = refl
 no_data_set false b = refl

@@ -1,4 +1,3 @@
-ghost use Rattle.std.specs.Prelude.{◌≡◌};
 ghost use Rattle.dasdl_phrases.specs.Reads.{Takes};
 ghost use Rattle.dasdl_phrases.specs.Cursors.{until_semicolon};
 ghost use Rattle.dasdl_parse.specs.Grammar.{restart_at, data_set_at, data_set_option_at, next_data_set_option_at, data_set_end_at};

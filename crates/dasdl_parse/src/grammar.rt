@@ -1,6 +1,5 @@
-ghost use Rattle.std.specs.Prelude.{◌≡◌, List, ℕ, ◌≤◌, ◌<◌, IfOk, true};
+ghost use Rattle.std.specs.Prelude.{◌≡◌, ◌<◌, IfOk, true};
 ghost use Rattle.dasdl_phrases.specs.Reads.{Takes, Gives};
-ghost use Rattle.dasdl_phrases.specs.Cursors.{until_semicolon};
 ghost use Rattle.dasdl_parse.specs.Grammar.{with_items, opened, closed, is_inside, is_deepest, declared, with_pairs, with_audit_pairs, parameters_turn_at, audit_turn_at, item_turn_at, group_turn_at, counted_with, link_turn_at, starts_set, starts_data_set, structure_turn_at, declared_turn_at, end_turn_at, named_turn_at, schema_turn_at, schema_done, schema_at, schema_of};
 
 use crate::data_sets::{data_set, data_set_end};

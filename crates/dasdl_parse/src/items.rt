@@ -1,4 +1,4 @@
-ghost use Rattle.std.specs.Prelude.{◌≡◌, List, ℕ, ◌≤◌, ◌<◌, IfOk, true};
+ghost use Rattle.std.specs.Prelude.{◌≡◌, ◌<◌, IfOk, true};
 ghost use Rattle.dasdl_phrases.specs.Reads.{Takes};
 ghost use Rattle.dasdl_phrases.specs.Cursors.{until_close, until_semicolon};
 ghost use Rattle.dasdl_parse.specs.Items.{item_option_at, next_item_option_at, item_at, group_item_at, next_group_item_at, group_at, counted_at, link_at};

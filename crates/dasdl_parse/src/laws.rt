@@ -1,15 +1,13 @@
-ghost use Rattle.std.specs.Prelude.{◌≡◌, ◌<◌, ◌++◌, ℕ, List, map, true};
+ghost use Rattle.std.specs.Prelude.{◌≡◌, ◌++◌, ℕ, List, map};
 ghost use Rattle.std.specs.declared.result.Result.TheVariants.{Ok};
 ghost use Rattle.dms_tokens.specs.declared.token.Lexeme.{Lexeme};
-ghost use Rattle.dms_tokens.specs.Cursors.{starts, is_the_sign};
 ghost use Rattle.dasdl_phrases.specs.Cursors.{turns_at, until_semicolon};
 ghost use Rattle.dasdl_parse.specs.declared.items.ItemOptions.{ItemOptions};
-ghost use Rattle.dasdl_parse.specs.Items.{next_item_option_at, no_options, item_at, link_at};
+ghost use Rattle.dasdl_parse.specs.Items.{next_item_option_at, no_options, item_at};
 ghost use Rattle.dasdl_parse.specs.ReadingLaws.{ReadsEachOption, ReadsLinksAlone, ReadsEachLink};
 ghost use Rattle.dasdl_parse.specs.OptionSpelling.{AreItemOptions};
-ghost use Rattle.dasdl_parse.specs.ItemSpelling.{IsItem, IsLink};
+ghost use Rattle.dasdl_parse.specs.ItemSpelling.{IsItem};
 ghost use Rattle.dasdl_parse.specs.declared.declarations.ItemDecl.{ItemDecl};
-ghost use Rattle.dasdl_parse.specs.declared.declarations.LinkDecl.{LinkDecl};
 ghost use Rattle.dasdl_phrases.specs.CondSpelling.{Reads, token_of};
 
 /// The options of an item are read exactly where they are some: in any order, each with a comma before it or without

@@ -1,6 +1,4 @@
-ghost use Rattle.std.specs.Prelude.{◌≡◌, List, ℕ, ◌<◌, ◌^◌};
 ghost use Rattle.dasdl_phrases.specs.Reads.{Takes};
-ghost use Rattle.dms_tokens.specs.Cursors.{starts, is_the_sign};
 ghost use Rattle.dasdl_phrases.specs.Cursors.{until_close};
 ghost use Rattle.dasdl_parse.specs.Parameters.{setting_at, measure_at, pair_at, next_pair_at, parameters_at, audit_pair_at, next_audit_pair_at, audit_at};
 

@@ -1,4 +1,4 @@
-ghost use Rattle.std.specs.Prelude.{◌≡◌, List, ℕ, ◌≤◌, ◌<◌, IfOk};
+ghost use Rattle.std.specs.Prelude.{◌≡◌};
 ghost use Rattle.dasdl_phrases.specs.Reads.{Takes};
 ghost use Rattle.dasdl_phrases.specs.Cursors.{until_semicolon};
 ghost use Rattle.dasdl_parse.specs.Sets.{population_at, duplicates_at, form_at, starts_duplicates, starts_form, plain_option_at, set_option_at, next_set_option_at, set_word_at, set_of, set_at};

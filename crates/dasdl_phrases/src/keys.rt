@@ -1,4 +1,3 @@
-ghost use Rattle.std.specs.Prelude.{◌≡◌};
 ghost use Rattle.dasdl_phrases.specs.Reads.{Takes};
 ghost use Rattle.dasdl_phrases.specs.Cursors.{until_close};
 ghost use Rattle.dasdl_phrases.specs.Keys.{direction_at, part_at, next_part_at, parts_at, key_at};

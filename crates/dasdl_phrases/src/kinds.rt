@@ -1,4 +1,4 @@
-ghost use Rattle.std.specs.Prelude.{◌≡◌, List, ℕ, ◌≤◌, ◌<◌, ◌^◌, IfOk, Bool};
+ghost use Rattle.std.specs.Prelude.{◌≡◌, ◌<◌, Bool};
 ghost use Rattle.dasdl_phrases.specs.Reads.{Takes};
 ghost use Rattle.dms_tokens.specs.Cursors.{starts};
 ghost use Rattle.dasdl_phrases.specs.Kinds.{literal_at, digits_from, joined, signed_width_at, is_any_word, width_at, size_at, places_at, alpha_at, field_at, decimal_at, truth_at, kind_at, starts_kind};

@@ -1,5 +1,5 @@
 -- A block sealed at the end of a trail.
-use Rattle.std.proofs.Common.{◌≡◌, ◌≢◌, ◌⊎◌, inl, inr, ℕ, zero, suc, ◌+◌, ◌-◌, ◌^◌, ◌<◌, ◌≤◌, Bool, true, false, List, [], ◌∷◌, ◌++◌, take, drop, map, length, refl, sym, ◌∙◌, ap, subst, arith, append-nil, append_assoc, length-take, length-drop}
+use Rattle.std.proofs.Common.{◌≡◌, ◌≢◌, ◌⊎◌, inl, inr, ℕ, zero, suc, ◌+◌, ◌-◌, ◌^◌, ◌<◌, ◌≤◌, true, false, List, [], ◌∷◌, ◌++◌, take, drop, map, length, refl, sym, ◌∙◌, ap, subst, arith, append-nil, append_assoc, length-take, length-drop}
 use Rattle.dms_moments.specs.Moments.{Now}
 use Rattle.std.specs.Prelude.{OnOk}
 use Rattle.std.specs.declared.result.Result.{Result}
@@ -15,7 +15,7 @@ use Rattle.dms_audfile.specs.Trail.{trail_from}
 use Rattle.dms_audfile.specs.TrailEntries.{entry_of, entries_of, entries_in, trail_entries}
 use Rattle.dms_audfile.specs.Ends.{unsealed, EndsAt, HoldsAnEntry, Grown, Seals, Appends, SealsAll}
 use Rattle.dms_audfile.specs.EndLaws.{filled_on}
-use Rattle.std.proofs.lemmas.Bool.{cases_lt, false≢true}
+use Rattle.std.proofs.lemmas.Bool.{cases_lt, false≢true, cases_Bool}
 use Rattle.dms_audfile.proofs.BlockRead.{block_is_read}
 use Rattle.dms_audfile.proofs.Growing.{writes_same}
 use Rattle.dms_audfile.proofs.Gates.{stands_full}
@@ -42,7 +42,7 @@ entries_more [] b = append-nil (entries_of (block_entries b))
 entries_more (a ∷ bs) b =
     ap (λ (l : List Entry). entries_of (block_entries a) ++ l) (entries_more bs b) ∙ sym (append_assoc (entries_of (block_entries a)) (entries_in bs) (entries_of (block_entries b)))
 
-entered_entries : (at : ℕ) (es : List Entry) → map entry_of (entered_at at es) ≡ es
+pub entered_entries : (at : ℕ) (es : List Entry) → map entry_of (entered_at at es) ≡ es
 entered_entries at [] = refl
 entered_entries at (e ∷ es) = ap (λ (l : List Entry). e ∷ l) (entered_entries (at + length (spelling e)) es)
 
@@ -289,16 +289,12 @@ held_ends end new first es e files clock at plain is alone bytes total tag file 
       (subst (λ t. IsWrittenUpTo new.total t first end.file end.count files) (sym tag) (subst (λ t. IsWrittenUpTo t end.tag first end.file end.count files) (sym total) at.writes)));
   settled = λ g low high. at.settled g low (omega (arith, high, file));
   bytes = bytes ∙ ap (λ (l : List ℕ). l ++ spelling e) at.bytes ∙ sym (spellings_more es e);
-  kind = elim (bool_cases (is_begin e)) [
+  kind = elim (cases_Bool (is_begin e)) [
     | inl on ↦ (let none : es ≡ [] = none_waits es at.kind (ap (λ k. take k (drop 2 end.block.items)) (sym (alone on)) ∙ at.bytes) in
         inr (record { entry = e; is = ap (λ (l : List Entry). l ++ e ∷ []) none; fits = is }))
     | inr off ↦ inl (plain_more es e plain is off)
   ];
 }
-  where
-    bool_cases : (b : Bool) → (b ≡ true) ⊎ (b ≡ false)
-    bool_cases true = inl refl
-    bool_cases false = inr refl
 
 -- ---- for the code
 
@@ -334,10 +330,6 @@ appends_begun one new first es more old mid files b clock m same sealed grown en
 pub on_both : {T F : Type 0} (r : Result T F) (A B : Type 0) → OnOk r A → OnOk r B → OnOk r (A × B)
 on_both (Ok x) A B a b = (a, b)
 on_both (Err e) A B a b = tt
-
-pub bool_is : (b : Bool) → (b ≡ true) ⊎ (b ≡ false)
-bool_is true = inl refl
-bool_is false = inr refl
 
 pub steps_as : (t total h tag first : ℕ) (es : List Entry) (x y : Clock Left) → t ≡ total → h ≡ tag → Steps (Seals t h first es) x y → Steps (Seals total tag first es) x y
 steps_as t total h tag first es x y one two steps = subst (λ k. Steps (Seals total k first es) x y) two (subst (λ k. Steps (Seals k h first es) x y) one steps)

@@ -1,7 +1,8 @@
 -- Scanning follows the trail.
-use Rattle.std.proofs.Common.{ℕ, zero, suc, ◌+◌, ◌-◌, ◌<◌, ◌≤◌, ◌≡◌, ◌==◌, Bool, true, false, cond, List, [], ◌++◌, length, refl, sym, ◌∙◌, ap, subst, arith, append-nil, append_assoc}
+use Rattle.std.proofs.Common.{ℕ, zero, suc, ◌+◌, ◌-◌, ◌<◌, ◌≤◌, ◌≡◌, ◌==◌, true, false, cond, List, [], ◌++◌, length, refl, sym, ◌∙◌, ap, subst, arith, append-nil, append_assoc}
 use Rattle.std.specs.Prelude.{nat_le, ◌&&◌}
 use Rattle.std.proofs.lemmas.Bool.Decides.{nat_tests}
+use Rattle.std.proofs.lemmas.Bool.{and_parts}
 use Rattle.dms_site.specs.Files.{Files}
 use Rattle.dms_audfile.specs.Gates.{block_at, opened, sealed, is_full, blocks_from}
 use Rattle.dms_audfile.specs.Header.{header_fits, names_fit, zeros_fit, gates_fit, has_mark, number_said, says_blocks, blocks_said, tag_said}
@@ -89,17 +90,13 @@ open_is (suc m) (suc k) total f files far full part =
     e ∙ open_is m k total (f + 1) files (omega arith) (λ g low high. full g (omega arith) (omega arith)) (subst (λ j. is_full total (files j) ≡ false) e part)
     ∙ ap (λ b. cond b (first_open k total (f + 1) files) f) (sym (full f (omega arith) (omega arith)))
 
-both_true : (a b : Bool) → (a && b) ≡ true → (a ≡ true) × (b ≡ true)
-both_true true b e = (refl, e)
-both_true false b e = absurd cc
-
 pub fits_says : (k total : ℕ) (file : List ℕ) → header_fits k total file ≡ true → (says_blocks file ≡ true) × (total ≡ blocks_said file)
 unfolding header_fits names_fit says_blocks
 fits_says k total file fits =
-    let a = both_true (nat_le 4096 (length file)) (names_fit k total file && (zeros_fit total file && gates_fit total file)) fits in
-    let b : names_fit k total file ≡ true = (both_true (names_fit k total file) (zeros_fit total file && gates_fit total file) a.1).0 in
+    let a = and_parts (nat_le 4096 (length file)) (names_fit k total file && (zeros_fit total file && gates_fit total file)) fits in
+    let b : names_fit k total file ≡ true = (and_parts (names_fit k total file) (zeros_fit total file && gates_fit total file) a.1).0 in
     let long : nat_le 4096 (length file) ≡ true = a.0 in
-    let c : ((number_said file == k) && ((blocks_said file == total) && (nat_le 8 total && nat_le total 512))) ≡ true = (both_true (has_mark file) _ b).1 in
+    let c : ((number_said file == k) && ((blocks_said file == total) && (nat_le 8 total && nat_le total 512))) ≡ true = (and_parts (has_mark file) _ b).1 in
     (grind (arith, nat_tests), grind (arith, nat_tests))
 
 none_foreign : (k tag f : ℕ) (files : Files) → ((g : ℕ) → f ≤ g → g < f + k → tag_said (files g) ≡ tag) → first_foreign k tag f files ≡ f + k

@@ -1,9 +1,10 @@
 -- Headers stay in the grammar while a block is sealed, and a new one is in it.
-use Rattle.std.proofs.Common.{ℕ, zero, suc, ◌+◌, ◌-◌, ◌*◌, ◌^◌, ◌<◌, ◌≤◌, ◌≡◌, ◌≢◌, ◌==◌, Bool, true, false, List, [], ◌∷◌, length, get_or, refl, sym, ◌∙◌, ap, arith}
+use Rattle.std.proofs.Common.{ℕ, zero, suc, ◌+◌, ◌-◌, ◌*◌, ◌^◌, ◌<◌, ◌≤◌, ◌≡◌, ◌≢◌, ◌==◌, true, List, [], ◌∷◌, length, get_or, refl, sym, ◌∙◌, ap, arith}
 use Rattle.std.specs.Prelude.{nat_le, ◌&&◌}
 use Rattle.std.specs.Int.{w16, w32, w64, to_be_bytes, from_be_bytes}
 use Rattle.std.proofs.lemmas.Bool.Decides.{nat_tests}
 use Rattle.std.proofs.lemmas.Nat.{from_be_bytes-to_be_bytes_2, from_be_bytes-to_be_bytes_4}
+use Rattle.std.proofs.lemmas.Bool.{and_parts}
 use Rattle.dms_site.specs.Files.{range, Torn}
 use Rattle.dms_site.specs.Laws.{range_same, get_or-range, length-range}
 use Rattle.dms_audfile.specs.Gates.{gate}
@@ -13,10 +14,6 @@ use Rattle.dms_audfile.proofs.Gates.{stands_opened}
 use Rattle.dms_audfile.proofs.HeaderLaws.{opened_within}
 use Rattle.dms_audfile.proofs.Prefixes.{fits_front}
 use Rattle.dms_audfile.proofs.Blank.{blank_byte, blank_length}
-
-both_true : (a b : Bool) → (a && b) ≡ true → (a ≡ true) × (b ≡ true)
-both_true true b e = (refl, e)
-both_true false b e = absurd cc
 
 -- a write behind the header
 pub fits_content : (k total n : ℕ) (old new : List ℕ) → total ≤ 512 → 4096 * (n + 1) ≤ length old → Torn (4096 * (n + 1)) 4096 old new → header_fits k total old ≡ true → header_fits k total new ≡ true
@@ -68,9 +65,9 @@ module _ (k total n m : ℕ) (old new : List ℕ) (s : IsSealedUpTo total m new)
   pub fits_gate : header_fits k total old ≡ true → header_fits k total new ≡ true
   unfolding header_fits
   fits_gate fits =
-      let a = both_true _ _ fits in
-      let b = both_true _ _ a.1 in
-      let c = both_true _ _ b.1 in
+      let a = and_parts _ _ fits in
+      let b = and_parts _ _ a.1 in
+      let c = and_parts _ _ b.1 in
       let l : nat_le 4096 (length new) ≡ true = let e = torn.no_shorter in grind (arith, nat_tests) in
       λ i. l i && ((names_same ∙ b.0) i && ((zeros_same ∙ c.0) i && stands_gates total m new s i))
 

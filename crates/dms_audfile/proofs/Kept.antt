@@ -1,7 +1,7 @@
 -- What scanning finds is such as a writer keeps.
-use Rattle.std.proofs.Common.{ℕ, zero, suc, ◌+◌, ◌-◌, ◌*◌, ◌<◌, ◌≤◌, ◌≡◌, ◌≢◌, ◌==◌, ◌⊎◌, Bool, true, false, cond, List, [], length, map, take, drop, Option, None, refl, sym, ◌∙◌, ap, subst, arith, inl, inr}
+use Rattle.std.proofs.Common.{ℕ, zero, suc, ◌+◌, ◌-◌, ◌*◌, ◌<◌, ◌≤◌, ◌≡◌, ◌≢◌, ◌==◌, Bool, true, false, cond, List, [], length, map, take, drop, Option, None, refl, sym, ◌∙◌, ap, subst, arith, inl, inr}
 use Rattle.std.specs.Prelude.{nat_le, nat_lt, ◌&&◌}
-use Rattle.std.proofs.lemmas.Bool.{cases_eq, cases_lt}
+use Rattle.std.proofs.lemmas.Bool.{cases_eq, cases_lt, cases_Bool, and_parts}
 use Rattle.std.proofs.lemmas.Bool.Decides.{nat_tests}
 use Rattle.dms_site.specs.Files.{Files}
 use Rattle.dms_site.specs.Laws.{length-range}
@@ -100,20 +100,16 @@ none_gates (suc k) i j file none low high = elim (cases_eq (gate i file) 1) [
     never : gate i file ≡ 1 → ⊥
     never is = grind (arith, nat_tests)
 
-both_true : (a b : Bool) → (a && b) ≡ true → (a ≡ true) × (b ≡ true)
-both_true true b e = (refl, e)
-both_true false b e = absurd cc
-
 pub long_head : (k total : ℕ) (file : List ℕ) → header_fits k total file ≡ true → 4096 ≤ length file
 unfolding header_fits
-long_head k total file fits = let e = (both_true (nat_le 4096 (length file)) (names_fit k total file && (zeros_fit total file && gates_fit total file)) fits).0 in grind (arith, nat_tests)
+long_head k total file fits = let e = (and_parts (nat_le 4096 (length file)) (names_fit k total file && (zeros_fit total file && gates_fit total file)) fits).0 in grind (arith, nat_tests)
 
 good_gates : (k total : ℕ) (file : List ℕ) → header_fits k total file ≡ true → none_open (total - opened total file) (opened total file + 1) file ≡ true
 unfolding header_fits gates_fit
 good_gates k total file fits =
-    let a = both_true (nat_le 4096 (length file)) (names_fit k total file && (zeros_fit total file && gates_fit total file)) fits in
-    let b = both_true (names_fit k total file) (zeros_fit total file && gates_fit total file) a.1 in
-    (both_true (zeros_fit total file) (gates_fit total file) b.1).1
+    let a = and_parts (nat_le 4096 (length file)) (names_fit k total file && (zeros_fit total file && gates_fit total file)) fits in
+    let b = and_parts (names_fit k total file) (zeros_fit total file && gates_fit total file) a.1 in
+    (and_parts (zeros_fit total file) (gates_fit total file) b.1).1
 
 open_gates : (total i : ℕ) (file : List ℕ) → 1 ≤ i → i ≤ opened total file → gate i file ≡ 1
 unfolding opened
@@ -139,13 +135,9 @@ record FirstOpen (total f e : ℕ) (files : Files) : Type 0 where
   full : (g : ℕ) → f ≤ g → g < e → is_full total (files g) ≡ true
   part : is_full total (files e) ≡ false
 
-bool_cases : (b : Bool) → (b ≡ true) ⊎ (b ≡ false)
-bool_cases true = inl refl
-bool_cases false = inr refl
-
 open_found : (k total f : ℕ) (files : Files) → first_open k total f files < f + k → FirstOpen total f (first_open k total f files) files
 open_found zero total f files inside = absurd (omega arith)
-open_found (suc k) total f files inside = elim (bool_cases (is_full total (files f))) [
+open_found (suc k) total f files inside = elim (cases_Bool (is_full total (files f))) [
   | inl on ↦ (let e : first_open (suc k) total f files ≡ first_open k total (f + 1) files = ap (λ b. cond b (first_open k total (f + 1) files) f) on in
       let r = open_found k total (f + 1) files (omega (arith, inside, e)) in
       subst (λ j. FirstOpen total f j files) (sym e) (record {
@@ -224,9 +216,9 @@ all_tagged (suc k) tag f files far g low high = elim (cases_eq (tag_said (files 
     off other = grind (arith, nat_tests)
 
 ends_well : (total first last e : ℕ) (files : Files) (ps : List Placed) → outcome_at total first last e files ≡ found ps → EndsWell total first last e files ps
-ends_well total first last e files ps is = elim (bool_cases (nat_lt last e)) [
+ends_well total first last e files ps is = elim (cases_Bool (nat_lt last e)) [
   | inl out ↦ absurd (no_missing (sym (ap (λ b. cond b (missing (last - 9999)) (cond (nat_le (e + 2) last) (unsealed (e - 10000)) (trail_read first (e + 1) total files))) out) ∙ is))
-  | inr inside ↦ elim (bool_cases (nat_le (e + 2) last)) [
+  | inr inside ↦ elim (cases_Bool (nat_le (e + 2) last)) [
     | inl early ↦ absurd (no_unsealed (sym (ap (λ b. cond b (missing (last - 9999)) (cond (nat_le (e + 2) last) (unsealed (e - 10000)) (trail_read first (e + 1) total files))) inside
         ∙ ap (λ b. cond b (unsealed (e - 10000)) (trail_read first (e + 1) total files)) early) ∙ is))
     | inr late ↦ record {

@@ -2,9 +2,9 @@
 use Rattle.std.proofs.Common.{◌≡◌, ◌≢◌, ◌∙◌, ◌+◌, ◌==◌, ◌&&◌, ◌||◌, nat_lt, if◌then◌else◌, ap, sym, refl, inl, inr, ℕ, Bool, true, false, arith}
 use Rattle.std.specs.Prelude.{IsTrue}
 use Rattle.std.proofs.lemmas.Bool.Decides.{nat_tests}
+use Rattle.std.proofs.lemmas.Bool.{cases_Bool}
 use Rattle.dms_audfile.specs.declared.audit_end.AuditEnd.{AuditEnd}
 use Rattle.dms_audfile.specs.Ends.{file_behind, next_file, is_past}
-use Rattle.dms_audfile.proofs.Ended.{bool_is}
 
 pub behind_more : (end : AuditEnd) → end.count + 1 ≡ end.total → file_behind end ≡ end.file + 1
 behind_more end is = grind (arith, nat_tests)
@@ -24,7 +24,7 @@ next_busy end not = ap (λ (b : Bool). if b then end.file else file_behind end) 
 -- what was judged once room was made is what stands there before
 pub past_by : (old new : AuditEnd) (size : ℕ) (alone needed full : Bool) → needed ≡ (alone || nat_lt 4094 (old.used + size)) → (IsTrue needed → new.used ≡ 0) → (IsTrue needed → new.file ≡ next_file old)
     → (needed ≡ false → new ≡ old) → new.limit ≡ old.limit → full ≡ ((new.used == 0) && nat_lt (10000 + new.limit) new.file) → is_past old size alone ≡ full
-past_by old new size alone needed full is none file same limit says = elim (bool_is needed) [
+past_by old new size alone needed full is none file same limit says = elim (cases_Bool needed) [
   | inl on ↦ (let left : is_past old size alone ≡ nat_lt (10000 + old.limit) (next_file old) =
       ap (λ (b : Bool). ((old.used == 0) || b) && nat_lt (10000 + old.limit) (next_file old)) (sym is ∙ on) ∙ or_true (old.used == 0) (nat_lt (10000 + old.limit) (next_file old)) in
       let right : full ≡ nat_lt (10000 + new.limit) new.file = says ∙ ap (λ k. (k == 0) && nat_lt (10000 + new.limit) new.file) (none on) in

@@ -1,5 +1,6 @@
 -- What stood at a place of a trail stands there however the trail grows.
-use Rattle.std.proofs.Common.{ℕ, zero, suc, ◌+◌, ◌<◌, ◌≤◌, ◌≡◌, ◌==◌, ◌⊎◌, inl, inr, Bool, true, false, cond, List, [], ◌∷◌, ◌++◌, refl, sym, ◌∙◌, ap, subst, arith, append_assoc}
+use Rattle.std.proofs.Common.{ℕ, zero, suc, ◌+◌, ◌<◌, ◌≤◌, ◌≡◌, ◌==◌, inl, inr, Bool, true, false, cond, List, [], ◌∷◌, ◌++◌, sym, ◌∙◌, ap, subst, arith, append_assoc}
+use Rattle.std.proofs.lemmas.Bool.{cases_Bool}
 use Rattle.dms_site.specs.Files.{Files}
 use Rattle.dms_audfile.specs.Gates.{opened, sealed, is_full, blocks_from}
 use Rattle.dms_audfile.specs.Blocks.{block_entries}
@@ -12,10 +13,6 @@ use Rattle.dms_audfile.proofs.There.{there_on, blocks_there, both_whole}
 use Rattle.dms_audfile.proofs.Followed.{part_read, full_read, full_opened, part_opened}
 use Rattle.dms_audfile.proofs.Again.{rest_read, AreRead, filled_are_read, all_are_read, trail_is_read}
 
-bool_cases : (b : Bool) → (b ≡ true) ⊎ (b ≡ false)
-bool_cases true = inl refl
-bool_cases false = inr refl
-
 -- ---- the places of the sealed blocks
 
 trail_there : (n total f : ℕ) (files : Files) (ps : List Placed) → 0 < total → total ≤ 512 → 10001 ≤ f → read_trail total f 1 (trail_from n total f files) ≡ whole ps → AreThere files ps
@@ -26,7 +23,7 @@ trail_there zero total f files ps some few low e =
 trail_there (suc n) total f files ps some few low e =
     let o = opened total (files f) in
     let rest = trail_from n total (f + 1) files in
-    elim (bool_cases (is_full total (files f))) [
+    elim (cases_Bool (is_full total (files f))) [
       | inl full ↦
           let all : o ≡ total = full_opened total (files f) full in
           let read : then_read (blocks_read o 1 f (files f)) (read_trail total (f + 1) 1 rest) ≡ whole ps =

@@ -4,9 +4,10 @@ use Rattle.std.specs.Prelude.{◌==◌, ◌≢◌, option_map}
 use Rattle.std.proofs.lemmas.Bool.Decides.{nat_tests}
 use Rattle.std.proofs.lemmas.Bool.{cases_lt}
 use Rattle.std.proofs.lemmas.List.{drop-drop}
+use Rattle.std.proofs.lemmas.Option.{cond_some}
 use Rattle.dms_site.specs.Files.{Files}
 use Rattle.dms_history.specs.Entries.{Entry}
-use Rattle.dms_fields.specs.PrefixLaws.{bind_some, go_some}
+use Rattle.dms_fields.specs.PrefixLaws.{bind_some}
 use Rattle.dms_audrec.specs.Reading.{entry_at}
 use Rattle.dms_audfile.specs.Gates.{block_at, opened}
 use Rattle.dms_audfile.specs.Header.{header_fits}
@@ -35,7 +36,7 @@ entries_stand (suc k) at all [] es e same =
 entries_stand (suc k) at all (b ∷ bs) es e same =
     let (x, e1, r1) = bind_some (entry_at (b ∷ bs)) _ es e in
     let (ys, e2, r2) = bind_some (entries_from k (at + (length (b ∷ bs) - length x.1)) x.1) _ es r1 in
-    let g = go_some (stands_there at x.0 x.1) ((record { offset = at; entry = x.0 }) ∷ ys) es r2 in
+    let g = cond_some (stands_there at x.0 x.1) ((record { offset = at; entry = x.0 }) ∷ ys) es r2 in
     let d : ℕ = length (b ∷ bs) - length x.1 in
     let left = left_behind (b ∷ bs) x.0 x.1 e1 in
     let rest : x.1 ≡ drop (at + d) all = left.0 ∙ ap (drop d) same ∙ drop-drop d at all in
@@ -146,16 +147,16 @@ entries_are_there files entries t =
 
 -- ---- one trail
 
-not_both : (bytes : List ℕ) → bytes ≡ [] → 0 < length bytes → ⊥
+pub not_both : (bytes : List ℕ) → bytes ≡ [] → 0 < length bytes → ⊥
 not_both bytes none some = omega (arith, ap length none, some)
 
-span_last : (files : Files) (f l g m : ℕ) → Span files f l → Span files g m → m ≤ l
+pub span_last : (files : Files) (f l g m : ℕ) → Span files f l → Span files g m → m ≤ l
 span_last files f l g m one two = elim (cases_lt l m) [
   | inl less ↦ absurd (not_both (files m) (one.absent m less two.high) (two.present m two.order (omega arith)))
   | inr not ↦ not
 ]
 
-span_first : (files : Files) (f l g m : ℕ) → Span files f l → Span files g m → g ≤ f
+pub span_first : (files : Files) (f l g m : ℕ) → Span files f l → Span files g m → g ≤ f
 span_first files f l g m one two = elim (cases_lt f g) [
   | inl less ↦ (let p : ℕ = g - 1 in
       absurd (not_both (files p) (two.before p (omega (arith, less, one.low)) (omega (arith, less))) (one.present p (omega (arith, less)) (omega (arith, less, two.order, span_last files f l g m one two)))))

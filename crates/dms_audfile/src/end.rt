@@ -1,6 +1,6 @@
 //! Entries that wait at the end of an audit trail, and their block.
 
-ghost use Rattle.std.specs.Prelude.{◌≡◌, ◌≢◌, ◌+◌, ◌-◌, ◌*◌, ◌<◌, ◌≤◌, ◌++◌, [], ◌∷◌, ℕ, List, length, take, drop, vec_len, OnOk, IsTrue};
+ghost use Rattle.std.specs.Prelude.{◌≡◌, ◌+◌, ◌-◌, ◌<◌, ◌≤◌, ◌++◌, [], ◌∷◌, ℕ, length, OnOk, IsTrue};
 ghost use Rattle.dms_base.specs.Causes.{HasCause};
 ghost use Rattle.dms_moments.specs.Moments.{Steps};
 ghost use Rattle.dms_site.specs.Files.{Only};

@@ -1,5 +1,5 @@
-ghost use Rattle.std.specs.Prelude.{◌≡◌, ◌≤◌, ◌<◌, ◌+◌, ◌-◌, length, take, drop, IfSome, slice_index};
-ghost use Rattle.std.specs.Int.{w16, w32, w64, from_be_bytes};
+ghost use Rattle.std.specs.Prelude.{◌≡◌, ◌≤◌, ◌<◌, ◌+◌, ◌-◌, length, IfSome, slice_index};
+ghost use Rattle.std.specs.Int.{from_be_bytes};
 ghost use Rattle.dms_site.specs.Files.{range};
 ghost use Rattle.dms_audfile.specs.Gates.{opened};
 ghost use Rattle.dms_audfile.specs.Header.{all_zero, none_open, has_mark, number_said, tag_said, names_fit, zeros_fit, gates_fit, blocks_said, says_blocks, header_fits};

@@ -1,9 +1,8 @@
-ghost use Rattle.std.specs.Prelude.{◌≡◌, ◌≢◌, ◌≤◌, ◌<◌, ◌+◌, ◌-◌, ◌*◌, ◌^◌, [], length, take, drop, IfOk, IfErr, IfSome, IsErrOf, IsTrue};
+ghost use Rattle.std.specs.Prelude.{◌≡◌, ◌≢◌, ◌≤◌, ◌<◌, ◌+◌, ◌-◌, ◌*◌, length, take, IfOk, IfErr, IfSome, IsErrOf, IsTrue};
 ghost use Rattle.dms_audfile.specs.Counting.{CountedAt};
 ghost use Rattle.dms_audfile.specs.Gathering.{seen, nothing_seen};
-ghost use Rattle.dms_site.specs.Files.{range};
-ghost use Rattle.dms_audfile.specs.Gates.{block_at, opened, is_full};
-ghost use Rattle.dms_audfile.specs.Header.{header_fits, tag_said};
+ghost use Rattle.dms_audfile.specs.Gates.{block_at, opened};
+ghost use Rattle.dms_audfile.specs.Header.{tag_said};
 ghost use Rattle.dms_audfile.specs.Trail.{first_open};
 ghost use Rattle.dms_audfile.specs.Scanning.{blocks_read, file_read, files_read, first_foreign, no_schema, trail_read, scanned};
 ghost use Rattle.dms_audfile.specs.Reads.{ReadsAlone, ReadFound, NotScanned, Scans, SaysCount};

@@ -1,5 +1,5 @@
 -- What was printed of entries by their places.
-use Rattle.std.proofs.Common.{◌≡◌, ◌≢◌, ℕ, zero, suc, ◌+◌, ◌-◌, ◌<◌, ◌≤◌, List, [], ◌∷◌, ◌++◌, refl, sym, ap, ◌∙◌, subst, arith, length, length-append, take, get_or, map, append_assoc, IsTrue, Bool, inr, OnOk, IfErr}
+use Rattle.std.proofs.Common.{◌≡◌, ℕ, zero, suc, ◌+◌, ◌<◌, List, [], ◌∷◌, ◌++◌, refl, sym, ap, ◌∙◌, subst, arith, length, length-append, take, get_or, map, append_assoc, IsTrue, Bool, inr, OnOk, IfErr}
 use Rattle.std.proofs.Math.Seq.{take-append-add}
 use Rattle.std.proofs.lemmas.List.{take_all, append-nil}
 use Rattle.std.specs.declared.option.Option.{Option}

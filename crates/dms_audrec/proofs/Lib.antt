@@ -1,4 +1,4 @@
 mod Begins
 pub mod Callers
 mod Laid
-mod Rising
+pub mod Rising

@@ -5,6 +5,7 @@ use Rattle.std.specs.Int.{w16, w32, w64, to_be_bytes}
 use Rattle.std.proofs.lemmas.Bool.{cases_eq}
 use Rattle.std.proofs.lemmas.List.{take_at, drop_at}
 use Rattle.std.proofs.lemmas.Bool.Decides.{nat_tests}
+use Rattle.std.proofs.lemmas.Option.{cond_some}
 use Rattle.dms_history.specs.Entries.{Entry, schema_part, image, byte_range, quiet_point, control_point, begin_restore, Kind, by_halt_load, by_back_out, by_roll_back, by_rebuild, by_reconstruct}
 use Rattle.dms_history.specs.declared.event.FileCount.{FileCount}
 use Rattle.dms_history.specs.declared.event.Row.{Row}
@@ -12,7 +13,7 @@ use Rattle.dms_audrec.specs.Spelling.{spelling, before_bytes, IsSchemaSpelled, I
 use Rattle.dms_fields.specs.Prefix.{byte_first, number_first, bytes_first}
 use Rattle.dms_audrec.specs.Reading.{schema_at, before_at, image_at, quiet_at, control_at, begin_at, entry_at, counts_at, rows_at, kind_of, kind_fits}
 use Rattle.dms_audrec.specs.PairLaws.{counts_take, counts_length, counts_again, rows_take, rows_length, rows_again}
-use Rattle.dms_fields.specs.PrefixLaws.{IsBytes, IsBytes-take, bind_some, go_some, TakesPrefix, takes_then, wide16, wide32, wide64, number_takes, number_again, bytes_takes, bytes_again}
+use Rattle.dms_fields.specs.PrefixLaws.{IsBytes, IsBytes-take, bind_some, TakesPrefix, takes_then, wide16, wide32, wide64, number_takes, number_again, bytes_takes, bytes_again}
 
 -- from the front of bytes an entry behind its kind was read
 pub record ReadsEntry (kind : ℕ) (bytes : List ℕ) (x : Entry × List ℕ) : Type 0 where
@@ -47,7 +48,7 @@ schema_from bytes part parts len text x fits e1 e2 e3 e4 e5 =
     let b = number_takes w16 (2 ^ 16) wide16 part.1 parts a.0.rest_fits e2 in
     let c = number_takes w16 (2 ^ 16) wide16 parts.1 len b.0.rest_fits e3 in
     let d = bytes_takes len.0 len.1 text c.0.rest_fits e4 in
-    let g = go_some (schema_fits part.0 parts.0 len.0) (schema_part part.0 parts.0 text.0, text.1) x e5 in
+    let g = cond_some (schema_fits part.0 parts.0 len.0) (schema_part part.0 parts.0 text.0, text.1) x e5 in
     let t = schema_test part.0 parts.0 len.0 g.0 in
     let whole = takes_then bytes _ _ _ _ (takes_then bytes _ _ _ _ (takes_then bytes _ _ _ _ a.0 b.0) c.0) d.0 in
     let p = to_be_bytes w16 part.0 in
@@ -121,7 +122,7 @@ image_from bytes file block before after x fits e1 e2 e3 e4 e5 =
     let b = number_takes w32 (2 ^ 32) wide32 file.1 block a.0.rest_fits e2 in
     let c = before_takes block.1 before b.0.rest_fits e3 in
     let d = bytes_takes 1024 before.1 after c.0.rest_fits e4 in
-    let g = go_some (image_fits file.0 block.0) (image file.0 block.0 before.0 after.0, after.1) x e5 in
+    let g = cond_some (image_fits file.0 block.0) (image file.0 block.0 before.0 after.0, after.1) x e5 in
     let t = image_test file.0 block.0 g.0 in
     let whole = takes_then bytes _ _ _ _ (takes_then bytes _ _ _ _ (takes_then bytes _ _ _ _ a.0 b.0) c.0) d.0 in
     let p = to_be_bytes w32 file.0 in
@@ -179,7 +180,7 @@ control_from bytes n next files list x fits e1 e2 e3 e4 e5 =
     let d = bytes_takes (8 * files.0) files.1 list c.0.rest_fits e4 in
     let cs = counts_at files.0 list.0 in
     let ps = counts_take files.0 list.0 d.1 (front_fits files.1 list.0 list.1 d.0.parts c.0.rest_fits) in
-    let g = go_some (counts_rise 30001 cs) (control_point n.0 next.0 cs, list.1) x e5 in
+    let g = cond_some (counts_rise 30001 cs) (control_point n.0 next.0 cs, list.1) x e5 in
     let whole = takes_then bytes _ _ _ _ (takes_then bytes _ _ _ _ (takes_then bytes _ _ _ _ a.0 b.0) c.0) d.0 in
     let p = to_be_bytes w64 n.0 in
     let q = to_be_bytes w64 next.0 in
@@ -285,7 +286,7 @@ begin_from bytes n how dump rows list x fits e1 e2 e3 e4 e5 e6 =
     let rs = rows_at rows.0 list.0 in
     let kind = kind_of how.0 dump.0 rs in
     let ps = rows_take rows.0 list.0 f.1 (front_fits rows.1 list.0 list.1 f.0.parts d.0.rest_fits) in
-    let g = go_some (kind_fits how.0 dump.0 rs) (begin_restore n.0 kind, list.1) x e6 in
+    let g = cond_some (kind_fits how.0 dump.0 rs) (begin_restore n.0 kind, list.1) x e6 in
     let t = kind_test how.0 dump.0 rs g.0 (subst (λ k. k < 2 ^ 16) (sym ps.many) d.1) ps.small in
     let whole = takes_then bytes _ _ _ _ (takes_then bytes _ _ _ _ (takes_then bytes _ _ _ _ (takes_then bytes _ _ _ _ a.0 b) c.0) d.0) f.0 in
     let p = to_be_bytes w64 n.0 in

@@ -17,7 +17,7 @@ if_some P true v h = h refl
 if_some P false v h = tt
 
 -- the size of a signed size is that size
-size_of_signed : (minus : Bool) (size : ℕ) → unsigned_abs (signed minus size) ≡ size
+pub size_of_signed : (minus : Bool) (size : ℕ) → unsigned_abs (signed minus size) ≡ size
 size_of_signed false size = refl
 size_of_signed true zero = refl
 size_of_signed true (suc size) = refl

@@ -1,5 +1,5 @@
 -- A folder without files that nothing changes.
-use Rattle.std.proofs.Common.{ℕ, [], ◌≡◌, None}
+use Rattle.std.proofs.Common.{[], ◌≡◌, None}
 use Rattle.dms_moments.specs.Moments.{Clock}
 use Rattle.dms_calls.specs.World.{World}
 

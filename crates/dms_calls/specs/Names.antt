@@ -1,5 +1,5 @@
 -- The names of the database's files: `F`, the number in at least five digits, `.DMS`.
-use Rattle.std.specs.Prelude.{ℕ, ◌-◌, ◌^◌, ◌<◌, ◌≡◌, List, ◌++◌, ◌∷◌, codes, decimal, length, replicate}
+use Rattle.std.specs.Prelude.{ℕ, ◌-◌, ◌^◌, ◌<◌, ◌≡◌, List, ◌++◌, codes, decimal, length, replicate}
 
 -- a number in decimal digits, filled up with zeros to five
 unfoldable pub digits_of : ℕ → List ℕ

@@ -1,6 +1,6 @@
 -- The files by number that a folder shows, and what a stop may leave of them.
 use Rattle.std.specs.Prelude.{nat_lt, if◌then◌else◌}
-use Rattle.std.proofs.Common.{ℕ, ◌^◌, ◌<◌, arith, ◌+◌, ◌≡◌, ◌≢◌, ◌⊎◌, inl, inr, ⊎_elim, refl, sym, ◌∙◌, subst, List, [], None, Some}
+use Rattle.std.proofs.Common.{ℕ, ◌^◌, ◌<◌, arith, ◌≡◌, inl, inr, ⊎_elim, refl, sym, subst, List, [], None, Some}
 use Rattle.std.specs.declared.option.Option.{Option}
 use Rattle.std.proofs.lemmas.Bool.{cases_lt}
 use Rattle.std.proofs.lemmas.Bool.Decides.{nat_tests}

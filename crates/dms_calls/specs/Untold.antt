@@ -1,5 +1,5 @@
 -- What is told of the calls of a real system: nothing.
-use Rattle.std.proofs.Common.{ℕ, [], None, inl, arith}
+use Rattle.std.proofs.Common.{[], None, inl, arith}
 use Rattle.dms_moments.specs.Moments.{Clock, Steps}
 use Rattle.dms_calls.specs.World.{World}
 

@@ -1,5 +1,5 @@
-ghost use Rattle.std.specs.Prelude.{true, false, None, [], ℕ, ◌≡◌};
-ghost use Rattle.std.proofs.Common.{refl, ap, sym, ◌∙◌};
+ghost use Rattle.std.specs.Prelude.{true, false, None, []};
+ghost use Rattle.std.proofs.Common.{refl, ap};
 ghost use Rattle.std.proofs.lemmas.Option.{none-some};
 ghost use Rattle.dms_calls.specs.World.{World};
 ghost use Rattle.dms_calls.specs.Empty.{empty_world, empty_clock};

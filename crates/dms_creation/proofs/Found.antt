@@ -1,6 +1,7 @@
 -- Scanning finds the entries of a new database.
-use Rattle.std.proofs.Common.{ℕ, zero, suc, ◌≤◌, ◌≡◌, Bool, true, false, List, [], ◌∷◌, ◌++◌, length, take, drop, get_or, refl, ◌∙◌, ap, arith}
+use Rattle.std.proofs.Common.{ℕ, zero, suc, ◌≤◌, ◌≡◌, true, false, List, [], ◌∷◌, ◌++◌, length, take, drop, get_or, refl, ◌∙◌, ap, arith}
 use Rattle.std.specs.Prelude.{◌&&◌, ◌||◌, slice_index}
+use Rattle.std.proofs.lemmas.Bool.{or_right}
 use Rattle.dms_site.specs.Files.{overlaid, padded}
 use Rattle.dms_desc.specs.Shape.{Described}
 use Rattle.dms_desc_bytes.specs.Spelling.{spelling}
@@ -18,10 +19,6 @@ use Rattle.dms_creation.specs.Creation.{gate_open}
 use Rattle.dms_creation.specs.FoundAgain.{MadeIsFound}
 
 -- ---- a whole Schema with its Control
-
-or_right : (b x : Bool) → x ≡ true → (b || x) ≡ true
-or_right true x on = refl
-or_right false x on = on
 
 -- a Control behind a whole Schema
 holds_at : (p : Parts) (es : List Entry) (c : Entry) → is_control c ≡ true → is_whole (parts_from p es) ≡ true → holds_schema_from p (es ++ c ∷ []) ≡ true

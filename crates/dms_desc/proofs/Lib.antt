@@ -1,1 +1,2 @@
 mod Maps
+pub mod Numbers

@@ -1,5 +1,4 @@
 ghost use Rattle.std.specs.Prelude.{◌≡◌, IfOk};
-ghost use Rattle.dms_base.specs.Orders.{value_cmp};
 ghost use Rattle.dms_desc.specs.Shape.{tree_of};
 ghost use Rattle.dms_desc.specs.Conds.{meets, by_op, by_nulls, compares, is_null, item_of};
 

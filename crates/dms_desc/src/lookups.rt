@@ -1,4 +1,4 @@
-ghost use Rattle.std.specs.Prelude.{◌≡◌, ◌≤◌, IfSome, length, map, option_map};
+ghost use Rattle.std.specs.Prelude.{◌≡◌, map, option_map};
 ghost use Rattle.std.specs.Option.{option_copied};
 ghost use Rattle.dms_desc.specs.Shape.{shape_of, described};
 ghost use Rattle.dms_desc.specs.Kinds.{is_data_set, is_restart, is_automatic, is_manual, is_set_or_automatic, is_link, over, takes};

@@ -1,8 +1,8 @@
 -- A sound structure can be spelled.
-use Rattle.std.proofs.Common.{◌≡◌, ℕ, ◌+◌, ◌-◌, ◌^◌, ◌<◌, ◌≤◌, Bool, true, false, cond, eqb, List, [], ◌∷◌, length, Option, Some, None, refl, sym, ap, subst, ◌∙◌, ◌++◌, arith, inl, inr, ◌⊎◌}
+use Rattle.std.proofs.Common.{◌≡◌, ℕ, ◌+◌, ◌-◌, ◌^◌, ◌<◌, ◌≤◌, Bool, true, false, cond, eqb, List, [], ◌∷◌, length, Option, Some, None, refl, sym, ap, subst, ◌∙◌, ◌++◌, arith, inl, inr}
 use Rattle.std.specs.Prelude.{not, ◌&&◌, ◌||◌, ◌==◌, nat_le, slice_get}
 use Rattle.std.specs.List.{list_all}
-use Rattle.std.proofs.lemmas.Bool.{and_parts, leb-true, eqb-true, not-true}
+use Rattle.std.proofs.lemmas.Bool.{and_parts, leb-true, eqb-true, not-true, or_cases}
 use Rattle.dms_base.specs.Name.{is_name}
 use Rattle.dms_base.specs.Fits.{fits}
 use Rattle.dms_base.specs.Spelling.{is_kind}
@@ -297,14 +297,10 @@ set_spelled ss s few all good =
 
 -- ---- structures
 
-or_case : (b c : Bool) → (b || c) ≡ true → (b ≡ true) ⊎ (c ≡ true)
-or_case true c e = inl refl
-or_case false c e = inr e
-
 owner_low : (ss : List Shape) (s : Shape) → length ss ≤ 200 → is_owned_well ss s ≡ true → s.owner < 2 ^ 16
 unfolding is_owned_well
 owner_low ss s few good =
-    elim (or_case (s.owner == 0) (is_open_behind ss (s.number - 1) s.owner && kind_of ss s.owner == 1) good) [
+    elim (or_cases (s.owner == 0) (is_open_behind ss (s.number - 1) s.owner && kind_of ss s.owner == 1) good) [
       | inl none ↦ let zero_is = eqb-true s.owner 0 none in omega (arith, zero_is)
       | inr some ↦
           let one = eqb-true (kind_of ss s.owner) 1 (and_parts (is_open_behind ss (s.number - 1) s.owner) (kind_of ss s.owner == 1) some).1 in

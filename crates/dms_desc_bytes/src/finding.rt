@@ -1,7 +1,6 @@
-ghost use Rattle.std.specs.Prelude.{◌≡◌, map, option_map};
+ghost use Rattle.std.specs.Prelude.{◌≡◌, map};
 ghost use Rattle.std.specs.Option.{option_copied};
 ghost use Rattle.dms_desc.specs.Shape.{shape_of};
-ghost use Rattle.dms_desc.specs.Kinds.{is_link};
 ghost use Rattle.dms_desc.specs.Lookups.{structure_at};
 ghost use Rattle.dms_desc_bytes.specs.Finding.{kind_of, owner_of, item_at, items_at};
 ghost use Rattle.dms_desc_bytes.specs.Spelling.{is_data_set};

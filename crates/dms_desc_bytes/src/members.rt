@@ -1,13 +1,10 @@
-ghost use Rattle.std.specs.Prelude.{◌≡◌, ◌+◌, map, min, nat_le, not};
+ghost use Rattle.std.specs.Prelude.{◌≡◌, ◌+◌, map, min};
 ghost use Rattle.std.specs.List.{list_all};
-ghost use Rattle.std.specs.Str.{bytes_eq};
 ghost use Rattle.dms_base.specs.Name.{is_name};
 ghost use Rattle.dms_base.specs.Spelling.{is_kind};
-ghost use Rattle.dms_base.specs.Text.{is_printable};
 ghost use Rattle.dms_desc.specs.Shape.{shape_of};
 ghost use Rattle.dms_desc_bytes.specs.Lists.{apart, total};
 ghost use Rattle.dms_desc.specs.Conds.{is_null};
-ghost use Rattle.dms_desc.specs.Widths.{item_width};
 ghost use Rattle.dms_desc_bytes.specs.Members.{is_plain, is_link_sound, points_well, is_item_sound, items_differ, groups_differ, is_free_of, members_differ, items_in_group, is_no_link, is_group_sound, groups_follow, counted_one};
 
 use crate::finding::{is_data_set, kind_of, owner_of};

@@ -1,6 +1,6 @@
 ghost use Rattle.std.specs.Prelude.{◌≡◌, IfOk};
 ghost use Rattle.dms_desc.specs.Shape.{tree_of};
-ghost use Rattle.dms_desc_bytes.specs.Reading.{item_at, group_at, part_at, list_at, several, op_of, test_at, tree_at};
+ghost use Rattle.dms_desc_bytes.specs.Reading.{item_at, group_at, part_at, list_at, op_of, test_at, tree_at};
 
 use crate::input::Input;
 use dms_base::{Memory, Op};

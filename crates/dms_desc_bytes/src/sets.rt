@@ -1,9 +1,9 @@
-ghost use Rattle.std.specs.Prelude.{◌≡◌, map, min, option_map};
+ghost use Rattle.std.specs.Prelude.{◌≡◌, map, min};
 ghost use Rattle.std.specs.List.{list_all};
 ghost use Rattle.dms_desc.specs.Shape.{shape_of};
 ghost use Rattle.dms_desc_bytes.specs.Finding.{item_at};
 ghost use Rattle.dms_desc_bytes.specs.Lists.{apart, total};
-ghost use Rattle.dms_desc_bytes.specs.WellFormed.{is_part_sound, parts_differ, part_width, width_in, is_key_sound, is_set_placed, is_populated, is_where_sound, is_set_sound};
+ghost use Rattle.dms_desc_bytes.specs.WellFormed.{is_part_sound, parts_differ, part_width, is_key_sound, is_set_placed, is_populated, is_where_sound, is_set_sound};
 
 use crate::conds::{is_condition, is_nothing};
 use crate::finding::{is_data_set, item_at, items_at, kind_of, owner_of};

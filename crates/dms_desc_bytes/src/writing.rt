@@ -1,5 +1,5 @@
 ghost use Rattle.std.specs.Prelude.{◌≡◌, ◌++◌, ◌∷◌, [], ◌%◌, IfOk, OnOk, map, flat_map};
-ghost use Rattle.std.specs.Int.{w64, to_be_bytes};
+ghost use Rattle.std.specs.Int.{to_be_bytes};
 ghost use Rattle.dms_desc.specs.Shape.{tree_of, shape_of, described};
 ghost use Rattle.dms_desc_bytes.specs.Spelling.{shifted, name_bytes, literal_bytes, kind_bytes, item_bytes, group_bytes, part_bytes, op_number, tree_bytes, data_set_bytes, set_bytes, where_bytes, structure_bytes, spelling};
 

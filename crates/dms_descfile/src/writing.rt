@@ -1,5 +1,5 @@
-ghost use Rattle.std.specs.Prelude.{◌≡◌, ◌≢◌, ◌+◌, ◌≤◌, ◌<◌, ◌^◌, ℕ, ◌++◌, ◌∷◌, [], length, IfOk, OnOk, IsErrOf, IsTrue};
-ghost use Rattle.std.specs.Int.{w32, to_be_bytes};
+ghost use Rattle.std.specs.Prelude.{◌≡◌, ◌≢◌, ◌+◌, ◌≤◌, ◌<◌, ◌^◌, ℕ, ◌∷◌, [], length, IfOk, OnOk, IsErrOf, IsTrue};
+ghost use Rattle.std.specs.Int.{to_be_bytes};
 ghost use Rattle.dms_base.specs.Causes.{HasCause, Rose};
 ghost use Rattle.dms_moments.specs.Moments.{Steps};
 ghost use Rattle.dms_site.specs.Files.{Cut, OnDisk, Only, OnlyIn};

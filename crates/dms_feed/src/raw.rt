@@ -1,7 +1,7 @@
-ghost use Rattle.std.specs.Prelude.{◌≡◌, ◌≤◌, ◌<◌, ◌+◌, ◌^◌, [], ◌++◌, length, take, IfOk, IsErrOf, IfSome, IsNone, List, ℕ, ◌⊎◌, ◌↔◌, ◌∷◌, OnOk, nat_lt, if◌then◌else◌, ◌==◌, Some, None, false};
-ghost use Rattle.dms_base.specs.Causes.{HasCause, Rose};
+ghost use Rattle.std.specs.Prelude.{◌≡◌, ◌≤◌, ◌<◌, ◌+◌, ◌^◌, [], ◌++◌, length, IfOk, IsErrOf, List, ℕ, ◌∷◌, OnOk, nat_lt, if◌then◌else◌, ◌==◌, Some, None, false};
+ghost use Rattle.dms_base.specs.Causes.{Rose};
 ghost use Rattle.dms_feed.specs.Feeds.{Remains};
-ghost use Rattle.dms_feed.specs.Lines.{first_line, after_line, is_end, line_text};
+ghost use Rattle.dms_feed.specs.Lines.{is_end, line_text};
 ghost use Rattle.dms_feed.specs.Raws.{TakesLine, OverRoom, CutLine};
 
 use crate::Feed;

@@ -29,10 +29,6 @@ pub stop_some : {A : Type 0} (b : Bool) (x y : A) → cond b None (Some x) ≡ S
 stop_some true x y e = absurd cc
 stop_some false x y e = (refl, cc)
 
-pub go_some : {A : Type 0} (b : Bool) (x y : A) → cond b (Some x) None ≡ Some y → (b ≡ true) × (x ≡ y)
-go_some true x y e = (refl, cc)
-go_some false x y e = absurd cc
-
 -- what a reader took from the front
 pub record TakesPrefix (bytes text rest : List ℕ) : Type 0 where
   pub parts : bytes ≡ text ++ rest

@@ -1,5 +1,7 @@
 -- Restores one after another.
 use Rattle.std.proofs.Common.{ℕ, ◌≡◌, ◌==◌, ◌||◌, inl, inr, Bool, true, false, List, [], ◌∷◌, ◌++◌, Some, None, refl, sym, ◌∙◌, ap, subst}
+use Rattle.std.proofs.lemmas.Bool.{true≢false, cases_Bool}
+use Rattle.std.proofs.lemmas.Option.{none-some}
 use Rattle.dms_history.specs.Events.{block_in, AllBlocks, Stored, Counts, Event, change, quiet, control, begin}
 use Rattle.dms_history.specs.Lists.{has}
 use Rattle.dms_history.specs.Places.{is_described, is_point, IsLive}
@@ -15,7 +17,7 @@ use Rattle.dms_history.specs.Images.{or_else, last_after}
 use Rattle.dms_history.specs.Ranges.{patched, range_change}
 use Rattle.dms_history.specs.LawsOfRanges.{RangesSteady}
 use Rattle.dms_history.proofs.Picks.{last_append, last_stands}
-use Rattle.dms_history.proofs.AtPoints.{bool_cases, replay_append}
+use Rattle.dms_history.proofs.AtPoints.{replay_append}
 use Rattle.dms_history.proofs.HalfDone.{or_at}
 use Rattle.dms_history.proofs.Runs.{changes, quiets, writes_early, controls}
 use Rattle.dms_history.proofs.Base.{has_append, parts}
@@ -23,21 +25,15 @@ use Rattle.dms_history.proofs.Converse.{opening_append, logged_below}
 use Rattle.dms_history.proofs.Order.{eq_of}
 use Rattle.dms_history.proofs.Stops.{restore_begins, restore_writes, restore_ends, live_in, until_append}
 
-true_not_false : true ≡ false → ⊥
-true_not_false e = absurd cc
-
-none_not_some : {A : Type 0} (x : A) → None ≡ Some x → ⊥
-none_not_some x e = absurd cc
-
 -- a point that is live with the Control of a live point was live
 was_live : (live : List Event) (m n next : ℕ) (counts : Counts) (described : Bool) → IsLive live m → IsLive (live ++ control m next counts described ∷ []) n → IsLive live n
-was_live live m n next counts described at on = elim (bool_cases (has (is_point n) live)) [
+was_live live m n next counts described at on = elim (cases_Bool (has (is_point n) live)) [
   | inl found ↦ record { found = found; described = ap (λ (l : List Event). has is_described l) (sym (until_append (is_point n) live (control m next counts described ∷ []) found)) ∙ on.described }
   | inr off ↦
       let last : (m == n) || false ≡ true = ap (λ k. k || ((m == n) || false)) (sym off) ∙ sym (has_append (is_point n) live (control m next counts described ∷ [])) ∙ on.found in
       elim (or_at (m == n) false last) [
         | inl counted ↦ subst (λ k. IsLive live k) (eq_of m n counted) at
-        | inr off_too ↦ absurd (true_not_false (sym off_too.1))
+        | inr off_too ↦ absurd (true≢false (sym off_too.1))
       ]
 ]
 
@@ -73,8 +69,8 @@ here_unpending dumps t stored none = ap (λ o. here_by o dumps stored) none
 pub steady_of : (dumps : Dumps) (t : History) (base : AllBlocks) (stored : Stored) → t.pending ≡ None → Sound (from_control t.live) base stored → Steady dumps t base stored
 steady_of dumps t base stored none sound = record {
   sound = subst (λ (s : Stored). Sound (from_control t.live) base s) (sym (here_unpending dumps t stored none)) sound;
-  restored = λ p is. absurd (none_not_some p (sym none ∙ is));
-  point_lives = λ p is. absurd (none_not_some p (sym none ∙ is));
+  restored = λ p is. absurd (none-some p (sym none ∙ is));
+  point_lives = λ p is. absurd (none-some p (sym none ∙ is));
 }
 
 pub runs_steady : RunsSteady

@@ -1,5 +1,7 @@
 -- What stands after a Begin, among entries and among their events.
-use Rattle.std.proofs.Common.{ℕ, ◌≡◌, inl, inr, true, false, List, [], ◌∷◌, ◌++◌, Option, Some, None, refl, sym, ◌∙◌, ap, subst, append_assoc}
+use Rattle.std.proofs.Common.{ℕ, ◌≡◌, inl, inr, true, List, [], ◌∷◌, ◌++◌, Option, Some, None, refl, sym, ◌∙◌, ap, subst, append_assoc}
+use Rattle.std.proofs.lemmas.Bool.{true≢false}
+use Rattle.std.proofs.lemmas.Option.{none-some}
 use Rattle.dms_history.specs.Events.{BlockBytes, How, Event, begin}
 use Rattle.dms_history.specs.Images.{last_after}
 use Rattle.dms_history.specs.History.{History, history_from, history}
@@ -10,17 +12,11 @@ use Rattle.dms_history.specs.EntryEvents.{logged, events, ends_restore_logged, h
 use Rattle.dms_history.proofs.Order.{not_empty, split_push}
 use Rattle.dms_history.proofs.Sealed.{told_push, one_more_event}
 
-true_not_false : true ≡ false → ⊥
-true_not_false e = absurd cc
-
-none_not_some : {A : Type 0} (x : A) → None ≡ Some x → ⊥
-none_not_some x e = absurd cc
-
 -- the first event of a list whose first entry ends a restore
 next_ends : (xs : List Logged) (h : History) (e : Event) (vs : List Event) → events_from h xs ≡ e ∷ vs → ((x : Logged) (ys : List Logged) → xs ≡ x ∷ ys → ends_restore_logged x ≡ true) → ends_restore e ≡ true
 next_ends [] h e vs is first = absurd (not_empty [] vs e (sym is))
 next_ends (event d ∷ xs) h e vs is first = let head : d ≡ e = cc in subst (λ (k : Event). ends_restore k ≡ true) head (first (event d) xs refl)
-next_ends (range f b place bytes ∷ xs) h e vs is first = absurd (true_not_false (sym (first (range f b place bytes) xs refl)))
+next_ends (range f b place bytes ∷ xs) h e vs is first = absurd (true≢false (sym (first (range f b place bytes) xs refl)))
 
 alone_from : (xs : List Logged) (h : History) → BeginsAlone xs → BeginsAloneEvents (events_from h xs)
 alone_from [] h alone us vs m how e is = absurd (not_empty us (e ∷ vs) (begin m how) (sym is))
@@ -55,5 +51,5 @@ alone_more ls l alone last xs ys m how x is =
 pub not_begun : (es : List Entry) → (history_of es).pending ≡ None → (xs : List Logged) (m : ℕ) (how : How) → logged es ≡ xs ++ event (begin m how) ∷ [] → ⊥
 not_begun es none xs m how is =
     let said : events es ≡ told_events xs ++ begin m how ∷ [] = ap told_events is ∙ told_push xs (event (begin m how)) in
-    none_not_some (record { entries = (history (told_events xs)).live; point = m; how = how })
+    none-some (record { entries = (history (told_events xs)).live; point = m; how = how })
     (sym none ∙ ap (λ (l : List Event). (history l).pending) said ∙ ap (λ (h : History). h.pending) (one_more_event (told_events xs) (begin m how)))

@@ -1,6 +1,7 @@
 -- The content at each live point is what the entries tell.
 use Rattle.std.proofs.Common.{ℕ, ◌<◌, ◌≡◌, ◌||◌, ◌⊎◌, inl, inr, Bool, true, false, cond, List, [], ◌∷◌, ◌++◌, length, None, refl, sym, ◌∙◌, ap, subst, arith, append_assoc}
 use Rattle.std.proofs.lemmas.List.FromFn.{fill_by_all}
+use Rattle.std.proofs.lemmas.Bool.{cases_Bool}
 use Rattle.dms_history.specs.Events.{AllBlocks, Event, change, quiet, control, begin, block_in}
 use Rattle.dms_history.specs.Replay.{Chain, replay, with_block}
 use Rattle.dms_history.specs.Images.{last_after, choice}
@@ -10,10 +11,6 @@ use Rattle.dms_history.specs.Pick.{reached_count, count_at, pick, content_of, bl
 use Rattle.dms_history.specs.LawsOfPoints.{EachPoint}
 use Rattle.dms_history.proofs.Counts.{reached_any, chain_reached}
 use Rattle.dms_history.proofs.Picks.{choice_gives_content, chain_split, or_none, last_append, none_stands, replay_length}
-
-pub bool_cases : (b : Bool) → (b ≡ true) ⊎ (b ≡ false)
-bool_cases true = inl refl
-bool_cases false = inr refl
 
 split_last_case : (b : Bool) (e : Event) (es front from_control : List Event) → front ++ from_control ≡ es → cond b (e ∷ front) [] ++ cond b from_control (e ∷ es) ≡ e ∷ es
 split_last_case true e es front from_control rest = ap (λ (l : List Event). e ∷ l) rest
@@ -37,7 +34,7 @@ split_first p (e ∷ es) found = split_first_case (p e) (has p es) e es (until_f
 
 has_until : (p : Event → Bool) (es : List Event) → has p (until_last p es) ≡ has p es
 has_until p [] = refl
-has_until p (e ∷ es) = elim (bool_cases (has p (e ∷ es))) [
+has_until p (e ∷ es) = elim (cases_Bool (has p (e ∷ es))) [
   | inl durable ↦ ap (λ b. has p (cond b (e ∷ until_last p es) [])) durable ∙ ap (λ b. p e || b) (has_until p es)
   | inr off ↦ ap (λ b. has p (cond b (e ∷ until_last p es) [])) off ∙ sym off
 ]
@@ -68,7 +65,7 @@ suffix_none p es f b none =
 -- behind the last Control of a prefix that ends with one
 after_front : (p : Event → Bool) (xs ys : List Event) (f b : ℕ) → last_after f b ys ≡ None → last_after f b (after_last p (until_last p xs ++ ys)) ≡ None
 after_front p [] ys f b none = suffix_none p ys f b none
-after_front p (e ∷ xs) ys f b none = elim (bool_cases (has p (e ∷ xs))) [
+after_front p (e ∷ xs) ys f b none = elim (cases_Bool (has p (e ∷ xs))) [
   | inl durable ↦
       let found : has p (e ∷ (until_last p xs ++ ys)) ≡ true =
       has_append_left p (e ∷ until_last p xs) ys (ap (λ c. p e || c) (has_until p xs) ∙ durable) in

@@ -2,6 +2,7 @@
 use Rattle.std.proofs.Common.{ℕ, ◌<◌, ◌≡◌, ◌||◌, ◌⊎◌, inl, inr, Bool, true, false, cond, List, [], ◌∷◌, ◌++◌, length, Option, Some, None, refl, sym, ◌∙◌, ap, subst, arith, append_assoc}
 use Rattle.std.proofs.lemmas.List.FromFn.{length-map-range_with_len, get_or-map-range_with_len}
 use Rattle.std.proofs.lemmas.Bool.Decides.{nat_tests}
+use Rattle.std.proofs.lemmas.Bool.{true≢false}
 use Rattle.dms_history.specs.Events.{BlockBytes, AllBlocks, Stored, Counts, Event, change, quiet, control, begin, block_in}
 use Rattle.dms_history.specs.Replay.{TellsBefore, Chain, replay, with_block}
 use Rattle.dms_history.specs.Images.{is_at, or_else, last_after, first_before, value, choice}
@@ -24,9 +25,6 @@ content_length counts s f = length-map-range_with_len (s f) 0 (counts f)
 pub content_block : (counts : Counts) (s : Stored) (f b : ℕ) → b < counts f → block_in (content_of counts s) f b ≡ s f b
 unfolding content_of
 content_block counts s f b low = get_or-map-range_with_len (s f) 0 (counts f) b b [] low (omega arith)
-
-true_not_false : true ≡ false → ⊥
-true_not_false e = absurd cc
 
 pub at_self : (f b : ℕ) → is_at f b f b ≡ true
 at_self f b = grind (arith, nat_tests)
@@ -109,7 +107,7 @@ moves xs es c f b before after walk tells =
           let both = or_none (cond (is_at g k f b) (Some after) None) (last_after g k xs) (sym (last_append xs (e ∷ []) g k) ∙ none) in
           let off : is_at g k f b ≡ false = if_none (is_at g k f b) after both.0 in
           elim (place_cases g k f b) [
-            | inl place ↦ absurd (true_not_false (sym place.2 ∙ off))
+            | inl place ↦ absurd (true≢false (sym place.2 ∙ off))
             | inr apart ↦
                 let old : k < length (c g) = write_old c f b after g k le apart.0 low in
                 write_other c f b after g k le apart.0 old ∙ walk.firsts g k o both.1 old (ap (λ t. cond t (Some before) (first_before g k es)) off ∙ first)
@@ -140,7 +138,7 @@ walks all fields (control n next counts described ∷ es) xs c is found off walk
         firsts = λ f b o none low first. walk.firsts f b o (sym (last_append xs (e ∷ []) f b) ∙ none) low first;
       }),
     )
-walks all fields (begin n how ∷ es) xs c is found off walk = absurd (true_not_false off)
+walks all fields (begin n how ∷ es) xs c is found off walk = absurd (true≢false off)
 
 -- what follows the first Control has the fields
 fields_of : (first : Bool) (live : List Event) (next : ℕ) (counted : Stored) → ListAgrees first live next counted → Fields (from_control live)

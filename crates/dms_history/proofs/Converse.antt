@@ -1,5 +1,7 @@
 -- What has a base agrees.
 use Rattle.std.proofs.Common.{ℕ, ◌<◌, ◌≡◌, ◌||◌, inl, inr, Bool, true, false, cond, List, [], ◌∷◌, ◌++◌, length, get_or, Option, Some, None, refl, sym, ◌∙◌, ap, subst, arith, append_assoc}
+use Rattle.std.proofs.lemmas.Bool.{cases_Bool, true≢false}
+use Rattle.std.proofs.lemmas.Option.{cond_some, none-some}
 use Rattle.dms_history.specs.Events.{BlockBytes, AllBlocks, Stored, Counts, Event, change, quiet, control, begin}
 use Rattle.dms_history.specs.Replay.{TellsBefore, Chain, replay, with_block}
 use Rattle.dms_history.specs.Images.{is_at, or_else, last_after, first_before, value, choice}
@@ -8,17 +10,11 @@ use Rattle.dms_history.specs.Places.{is_control}
 use Rattle.dms_history.specs.Base.{Sound, opening, from_control, first_counts, OpenedFrom, base_of}
 use Rattle.dms_history.specs.Agrees.{FitsCount}
 use Rattle.dms_history.specs.LawsOfBase.{AgreesLeadsToBase, BaseAgrees}
-use Rattle.dms_history.proofs.Picks.{tells_le, place_cases, laid_length, in_file, replay_length, first_none, option_cases, or_none, if_none, if_some, some_is, last_append, last_stands, none_stands, chain_split}
-use Rattle.dms_history.proofs.AtPoints.{suffix_none, bool_cases}
+use Rattle.dms_history.proofs.Picks.{tells_le, place_cases, laid_length, in_file, replay_length, first_none, option_cases, or_none, if_none, some_is, last_append, last_stands, none_stands, chain_split}
+use Rattle.dms_history.proofs.AtPoints.{suffix_none}
 use Rattle.dms_history.specs.Pick.{reached_count}
 use Rattle.dms_history.proofs.Counts.{reached_append, reached_any, chain_reached}
 use Rattle.dms_history.proofs.Base.{content_length, content_block, at_self, has_append, parts, opens, from_cases, after_behind, stored_pick, StartsCounts, starts_has}
-
-true_not_false : true ≡ false → ⊥
-true_not_false e = absurd cc
-
-some_not_none : {A : Type 0} (x : A) → None ≡ Some x → ⊥
-some_not_none x e = absurd cc
 
 -- ---- the split at the first Control
 
@@ -26,7 +22,7 @@ pub opening_front : (os : List Event) (n later : ℕ) (k : Counts) (described : 
 opening_front [] n later k described zs off = (refl, refl)
 opening_front (change f b before after ∷ os) n later k described zs off = let r = opening_front os n later k described zs off in (ap (λ (l : List Event). change f b before after ∷ l) r.0, r.1)
 opening_front (quiet m ∷ os) n later k described zs off = let r = opening_front os n later k described zs off in (ap (λ (l : List Event). quiet m ∷ l) r.0, r.1)
-opening_front (control m next counts whole ∷ os) n later k described zs off = absurd (true_not_false off)
+opening_front (control m next counts whole ∷ os) n later k described zs off = absurd (true≢false off)
 opening_front (begin m how ∷ os) n later k described zs off = let r = opening_front os n later k described zs off in (ap (λ (l : List Event). begin m how ∷ l) r.0, r.1)
 
 pub opening_append : (xs ys : List Event) → has is_control xs ≡ true → (opening (xs ++ ys) ≡ opening xs) × (from_control (xs ++ ys) ≡ from_control xs ++ ys)
@@ -40,14 +36,14 @@ opening_none : (xs ys : List Event) → has is_control xs ≡ false → opening 
 opening_none [] ys off = refl
 opening_none (change f b before after ∷ xs) ys off = ap (λ (l : List Event). change f b before after ∷ l) (opening_none xs ys off)
 opening_none (quiet m ∷ xs) ys off = ap (λ (l : List Event). quiet m ∷ l) (opening_none xs ys off)
-opening_none (control m next counts described ∷ xs) ys off = absurd (true_not_false off)
+opening_none (control m next counts described ∷ xs) ys off = absurd (true≢false off)
 opening_none (begin m how ∷ xs) ys off = ap (λ (l : List Event). begin m how ∷ l) (opening_none xs ys off)
 
 first_is : (os : List Event) (n later : ℕ) (k : Counts) (described : Bool) (zs : List Event) → has is_control os ≡ false → first_counts (os ++ control n later k described ∷ zs) ≡ k
 first_is [] n later k described zs off = refl
 first_is (change f b before after ∷ os) n later k described zs off = first_is os n later k described zs off
 first_is (quiet m ∷ os) n later k described zs off = first_is os n later k described zs off
-first_is (control m next counts whole ∷ os) n later k described zs off = absurd (true_not_false off)
+first_is (control m next counts whole ∷ os) n later k described zs off = absurd (true≢false off)
 first_is (begin m how ∷ os) n later k described zs off = first_is os n later k described zs off
 
 -- ---- counts and blocks by the chain
@@ -65,12 +61,12 @@ logged_below (change g k before after ∷ es) c f b x chain last =
     elim (option_cases (last_after f b es)) [
       | inr (y, is) ↦ logged_below es next f b y chain.1 is
       | inl none ↦
-          let (at, same) = if_some (is_at f b g k) after x (sym (ap (λ o. or_else o (cond (is_at f b g k) (Some after) None)) none) ∙ last) in
+          let (at, same) = cond_some (is_at f b g k) after x (sym (ap (λ o. or_else o (cond (is_at f b g k) (Some after) None)) none) ∙ last) in
           elim (place_cases f b g k) [
             | inl place ↦
                 let there : b < length (next f) = subst (λ j. b < length (next j)) place.0 (omega (arith, place.1, ap length (in_file c g k after), laid_length k after (c g) le)) in
                 omega (arith, there, replay_length es next f chain.1)
-            | inr apart ↦ absurd (true_not_false (sym at ∙ apart.1))
+            | inr apart ↦ absurd (true≢false (sym at ∙ apart.1))
           ]
     ]
 logged_below (quiet n ∷ es) c f b x chain last = logged_below es c f b x chain last
@@ -94,10 +90,10 @@ last_at (change g k before after ∷ es) f b x last = elim (option_cases (last_a
       let r = last_at es f b x (is ∙ same) in
       (change g k before after ∷ r.0, r.1, r.2, ap (λ (l : List Event). change g k before after ∷ l) r.3)
   | inl none ↦
-      let (at, same) = if_some (is_at f b g k) after x (sym (ap (λ o. or_else o (cond (is_at f b g k) (Some after) None)) none) ∙ last) in
+      let (at, same) = cond_some (is_at f b g k) after x (sym (ap (λ o. or_else o (cond (is_at f b g k) (Some after) None)) none) ∙ last) in
       elim (place_cases f b g k) [
         | inl place ↦ ([], es, before, λ i. change (place.0 i) (place.1 i) before (same i) ∷ es)
-        | inr apart ↦ absurd (true_not_false (sym at ∙ apart.1))
+        | inr apart ↦ absurd (true≢false (sym at ∙ apart.1))
       ]
 ]
 last_at (quiet n ∷ es) f b x last = let r = last_at es f b x last in (quiet n ∷ r.0, r.1, r.2, ap (λ (l : List Event). quiet n ∷ l) r.3)
@@ -130,7 +126,7 @@ logged_some : (xs ys : List Event) (f b : ℕ) (before : Option BlockBytes) (aft
 logged_some xs ys f b before after none =
     let both = or_none (last_after f b (change f b before after ∷ ys)) (last_after f b xs) (sym (last_append xs (change f b before after ∷ ys) f b) ∙ none) in
     let last = or_none (last_after f b ys) (cond (is_at f b f b) (Some after) None) both.0 in
-    true_not_false (sym (at_self f b) ∙ if_none (is_at f b f b) after last.1)
+    true≢false (sym (at_self f b) ∙ if_none (is_at f b f b) after last.1)
 
 -- with no Control all stands behind the last one
 pub all_after : (es : List Event) → has is_control es ≡ false → after_last is_control es ≡ es
@@ -144,7 +140,7 @@ has_starts es found = elim (from_cases es) [
   | inr starts ↦ starts
   | inl none ↦
       let off : has is_control es ≡ false = ap (λ (l : List Event). has is_control l) (sym (parts es)) ∙ has_append is_control (opening es) (from_control es) ∙ (λ i. opens es i || has is_control (none i)) in
-      absurd (true_not_false (sym found ∙ off))
+      absurd (true≢false (sym found ∙ off))
 ]
 
 pub agrees_leads : AgreesLeadsToBase
@@ -195,7 +191,7 @@ module _ (live : List Event) (base : AllBlocks) (counted : Stored) (sound : Soun
   same_opening xs ys e is found = sym (ap (λ (l : List Event). opening l) is ∙ (opening_append xs (e ∷ ys) found).0)
 
   linked_of : (xs ys : List Event) (f b : ℕ) (before : Option BlockBytes) (after old : BlockBytes) → live ≡ xs ++ change f b before after ∷ ys → last_after f b xs ≡ Some old → before ≡ Some old
-  linked_of xs ys f b before after old is last = elim (bool_cases (has is_control xs)) [
+  linked_of xs ys f b before after old is last = elim (cases_Bool (has is_control xs)) [
     | inl found ↦
         let (front, back) = behind_split xs ys (change f b before after) is found in
         let joint : or_else (last_after f b (from_control xs)) (last_after f b (opening xs)) ≡ Some old = sym (last_append (opening xs) (from_control xs) f b) ∙ ap (λ (l : List Event). last_after f b l) (parts xs) ∙ last in
@@ -239,8 +235,8 @@ module _ (live : List Event) (base : AllBlocks) (counted : Stored) (sound : Soun
       ]
 
   stands_of : (f b : ℕ) (x : BlockBytes) → last_after f b live ≡ Some x → last_after f b (after_last is_control live) ≡ None → counted f b ≡ x
-  stands_of f b x last none = elim (bool_cases (has is_control live)) [
-    | inr off ↦ absurd (some_not_none x (sym none ∙ ap (λ (l : List Event). last_after f b l) (all_after live off) ∙ last))
+  stands_of f b x last none = elim (cases_Bool (has is_control live)) [
+    | inr off ↦ absurd (none-some x (sym none ∙ ap (λ (l : List Event). last_after f b l) (all_after live off) ∙ last))
     | inl found ↦
         let all = from_control live in
         let controlled : has is_control all ≡ true = starts_has all (first_counts live) (has_starts live found) in

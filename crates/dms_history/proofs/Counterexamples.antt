@@ -1,5 +1,6 @@
 -- Small trails that show why two sentences of the agreement are needed, and what a place before the first Control means.
-use Rattle.std.proofs.Common.{ℕ, ◌<◌, ◌≡◌, true, false, List, [], ◌∷◌, ◌++◌, length, get_or, Option, Some, None, refl, sym, ◌∙◌, ap, arith, inl, inr}
+use Rattle.std.proofs.Common.{ℕ, ◌<◌, ◌≡◌, true, List, [], ◌∷◌, ◌++◌, length, get_or, Option, Some, None, refl, sym, ◌∙◌, ap, arith, inl, inr}
+use Rattle.std.proofs.lemmas.Bool.{true≢false}
 use Rattle.dms_history.specs.Events.{BlockBytes, AllBlocks, Stored, Counts, rebuild, Event, change, quiet, control, begin}
 use Rattle.dms_history.specs.Places.{IsLive}
 use Rattle.dms_history.specs.History.{history, next_number}
@@ -14,9 +15,6 @@ use Rattle.dms_history.proofs.Order.{not_empty, numbers_first, numbers_change, n
 
 one_block : Counts
 one_block f = 1
-
-true_not_false : true ≡ false → ⊥
-true_not_false e = absurd cc
 
 -- ---- A changed block above its file's count. 'Of a new block exactly where the block is at its file's count' holds of it both ways,
 -- and yet there is no content from which it came: so a change that isn't of a new block is of one below the count.
@@ -76,7 +74,7 @@ lists_agree stored = base_agrees true logged (next_number rebuilding) (here fals
     (record {
       chain = ((λ f. refl), ((refl, tt)));
       stands = λ f b low none. elim (place_cases f b 3 0) [
-        | inl place ↦ absurd (true_not_false (sym place.2 ∙ if_none (is_at f b 3 0) (7 ∷ []) none))
+        | inl place ↦ absurd (true≢false (sym place.2 ∙ if_none (is_at f b 3 0) (7 ∷ []) none))
         | inr apart ↦ let old = write_old nothing 3 0 (7 ∷ []) f b (omega arith) apart.0 low in absurd (omega (arith, old))
       ];
     }) (record { leads = λ f b x last. absurd cc; linked = λ xs ys f b before after old is last. absurd (not_empty xs ys (change f b before after) (sym is)) }) numbers (λ yes_first f. refl)
@@ -107,7 +105,7 @@ abbrev front_gone : List Event
 front_gone = quiet 5 ∷ control 5 6 (λ _. 0) true ∷ []
 
 not_live : IsLive front_gone 5 → ⊥
-not_live at = true_not_false (sym at.described)
+not_live at = true≢false (sym at.described)
 
 live_by_control : IsLive (from_control front_gone) 5
 live_by_control = record { found = refl; described = refl }

@@ -1,6 +1,7 @@
 -- What a restore gives by any rule.
 use Rattle.std.proofs.Common.{ℕ, ◌<◌, ◌≡◌, ◌||◌, inl, inr, Bool, true, false, cond, List, [], ◌∷◌, ◌++◌, length, None, refl, sym, ◌∙◌, ap, subst, arith}
 use Rattle.std.proofs.lemmas.List.FromFn.{fill_by_all}
+use Rattle.std.proofs.lemmas.Bool.{cases_Bool, true≢false}
 use Rattle.dms_history.specs.Events.{AllBlocks, Stored, How, halt_load, back_out, roll_back, rebuild, reconstruct, Event, change, quiet, control, begin, block_in}
 use Rattle.dms_history.specs.Replay.{Chain, replay}
 use Rattle.dms_history.specs.Images.{last_after, first_before, value, choice}
@@ -15,20 +16,17 @@ use Rattle.dms_history.proofs.Counts.{reached_append, reached_any}
 use Rattle.dms_history.proofs.Converse.{opening_append}
 use Rattle.dms_history.specs.LawsOfPoints.{OpeningNeverCounts}
 use Rattle.dms_history.proofs.Picks.{chain_split, option_cases, none_stands, last_stands}
-use Rattle.dms_history.proofs.AtPoints.{bool_cases, each_point, split_first, replay_append, true_or}
+use Rattle.dms_history.proofs.AtPoints.{each_point, split_first, replay_append, true_or}
 use Rattle.dms_history.proofs.HalfDone.{has_front, until_until}
 use Rattle.dms_history.proofs.Base.{content_length, content_block, parts, after_behind}
-
-true_not_false : true ≡ false → ⊥
-true_not_false e = absurd cc
 
 -- ---- what stands before the first Control doesn't count
 
 -- a prefix with a Control that begins with something else
 pub peel : (b c : Bool) (e : Event) (u : List Event) → is_control e ≡ false → has is_control (cond b (e ∷ []) (cond c (e ∷ u) [])) ≡ true → (b ≡ false) × (c ≡ true) × (has is_control u ≡ true)
-peel true c e u off found = absurd (true_not_false (sym found ∙ ap (λ k. k || false) off))
+peel true c e u off found = absurd (true≢false (sym found ∙ ap (λ k. k || false) off))
 peel false true e u off found = (refl, refl, ap (λ k. k || has is_control u) (sym off) ∙ found)
-peel false false e u off found = absurd (true_not_false (sym found))
+peel false false e u off found = absurd (true≢false (sym found))
 
 starts_from : (b c : Bool) (e : Event) (u : List Event) → is_control e ≡ true → from_control (cond b (e ∷ []) (cond c (e ∷ u) [])) ≡ cond b (e ∷ []) (cond c (e ∷ u) [])
 starts_from true c e u on = ap (λ k. cond k (e ∷ []) []) on
@@ -38,7 +36,7 @@ starts_from false false e u on = refl
 -- a prefix that has a Control is cut behind the first Control
 pub from_until : (p : Event → Bool) (es : List Event) → has is_control (until_first p es) ≡ true → from_control (until_first p es) ≡ until_first p (from_control es)
 from_until p [] found = refl
-from_until p (e ∷ es) found = elim (bool_cases (is_control e)) [
+from_until p (e ∷ es) found = elim (cases_Bool (is_control e)) [
   | inl on ↦ starts_from (p e) (has p es) e (until_first p es) on ∙ ap (λ k. until_first p (cond k (e ∷ es) (from_control es))) (sym on)
   | inr off ↦
       let r = peel (p e) (has p es) e (until_first p es) off found in
@@ -49,7 +47,7 @@ from_until p (e ∷ es) found = elim (bool_cases (is_control e)) [
 
 pub after_until : (p : Event → Bool) (es : List Event) → has is_control (until_first p es) ≡ true → after_first p es ≡ after_first p (from_control es)
 after_until p [] found = refl
-after_until p (e ∷ es) found = elim (bool_cases (is_control e)) [
+after_until p (e ∷ es) found = elim (cases_Bool (is_control e)) [
   | inl on ↦ ap (λ k. after_first p (cond k (e ∷ es) (from_control es))) (sym on)
   | inr off ↦
       let r = peel (p e) (has p es) e (until_first p es) off found in
@@ -58,7 +56,7 @@ after_until p (e ∷ es) found = elim (bool_cases (is_control e)) [
 
 pub has_from : (p : Event → Bool) (es : List Event) → has is_control (until_first p es) ≡ true → has p es ≡ true → has p (from_control es) ≡ true
 has_from p [] found has_p = has_p
-has_from p (e ∷ es) found has_p = elim (bool_cases (is_control e)) [
+has_from p (e ∷ es) found has_p = elim (cases_Bool (is_control e)) [
   | inl on ↦ ap (λ k. has p (cond k (e ∷ es) (from_control es))) on ∙ has_p
   | inr off ↦
       let r = peel (p e) (has p es) e (until_first p es) off found in
@@ -67,7 +65,7 @@ has_from p (e ∷ es) found has_p = elim (bool_cases (is_control e)) [
 
 pub from_has : (es : List Event) → has is_control es ≡ true → has is_control (from_control es) ≡ true
 from_has [] found = found
-from_has (e ∷ es) found = elim (bool_cases (is_control e)) [
+from_has (e ∷ es) found = elim (cases_Bool (is_control e)) [
   | inl on ↦ ap (λ k. has is_control (cond k (e ∷ es) (from_control es))) on ∙ true_or (is_control e) (has is_control es) on
   | inr off ↦ ap (λ k. has is_control (cond k (e ∷ es) (from_control es))) off ∙ from_has es (ap (λ k. k || has is_control es) (sym off) ∙ found)
 ]
@@ -130,7 +128,7 @@ at_point entries base counted n sound at =
 
 opening_until : (p : Event → Bool) (es : List Event) → has is_control (until_first p es) ≡ true → opening (until_first p es) ≡ opening es
 opening_until p [] found = refl
-opening_until p (e ∷ es) found = elim (bool_cases (is_control e)) [
+opening_until p (e ∷ es) found = elim (cases_Bool (is_control e)) [
   | inl on ↦ first (p e) (has p es) on
   | inr off ↦
       let r = peel (p e) (has p es) e (until_first p es) off found in
@@ -204,7 +202,7 @@ module _ (entries : List Event) (base : AllBlocks) (counted : Stored) (m : ℕ) 
   restore_right back_out dumps stored f b same has_dump low = log_right stored f b (same f b refl) low
   restore_right roll_back dumps stored f b same has_dump low = log_right stored f b (same f b refl) low
   restore_right (rebuild d) dumps stored f b same has_dump low = dump_right (dumps d) f b has_dump low
-  restore_right (reconstruct d named) dumps stored f b same has_dump low = elim (bool_cases (named f b)) [
+  restore_right (reconstruct d named) dumps stored f b same has_dump low = elim (cases_Bool (named f b)) [
     | inl on ↦ ap (λ t. cond t (dump_pick entries (dumps d) m f b) (pick entries m stored f b)) on ∙ dump_right (dumps d) f b has_dump low
     | inr off ↦ ap (λ t. cond t (dump_pick entries (dumps d) m f b) (pick entries m stored f b)) off ∙ log_right stored f b (same f b off) low
   ]

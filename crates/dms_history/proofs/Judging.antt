@@ -1,24 +1,21 @@
 -- Why a point can't be had.
 use Rattle.std.specs.Prelude.{◌&&◌, nat_le}
 use Rattle.std.proofs.Common.{ℕ, ◌≤◌, ◌<◌, ◌≡◌, ◌==◌, inl, inr, Bool, true, false, cond, List, [], ◌∷◌, Option, Some, None, refl, sym, ◌∙◌, subst, arith}
-use Rattle.std.proofs.lemmas.Bool.{cases_lt}
+use Rattle.std.proofs.lemmas.Bool.{cases_lt, cases_Bool, true≢false}
 use Rattle.std.proofs.lemmas.Bool.Decides.{nat_tests}
 use Rattle.dms_history.specs.Events.{Event}
 use Rattle.dms_history.specs.Lists.{has, until_first}
 use Rattle.dms_history.specs.Places.{is_point, is_described, IsLive}
 use Rattle.dms_history.specs.Points.{live_numbers}
 use Rattle.dms_history.specs.Judge.{PointRefusal, no_such_point, audit_missing, voided, is_live, judge_point, EachJudged}
-use Rattle.dms_history.proofs.AtPoints.{bool_cases, true_or, or_true_right}
+use Rattle.dms_history.proofs.AtPoints.{true_or, or_true_right}
 use Rattle.dms_history.proofs.HalfDone.{or_at}
 use Rattle.dms_history.proofs.Order.{eq_of}
 use Rattle.dms_history.proofs.Listed.{EachLive, all_live, live_is_listed}
 
-true_not_false : true ≡ false → ⊥
-true_not_false e = absurd cc
-
 -- a live number that isn't above n
 some_low : (live : List Event) (n : ℕ) (ns : List ℕ) → EachLive live ns → has (λ m. nat_le m n) ns ≡ true → (m : ℕ) × IsLive live m × (m ≤ n)
-some_low live n [] all found = absurd (true_not_false (sym found))
+some_low live n [] all found = absurd (true≢false (sym found))
 some_low live n (k ∷ ns) all found = elim (or_at (nat_le k n) (has (λ m. nat_le m n) ns) found) [
   | inl low ↦ (k, all.0, at_most k n low)
   | inr more ↦ some_low live n ns all.1 more.1
@@ -28,7 +25,7 @@ some_low live n (k ∷ ns) all found = elim (or_at (nat_le k n) (has (λ m. nat_
     at_most k n low = grind (arith, nat_tests)
 
 low_listed : (n m : ℕ) (ns : List ℕ) → m ≤ n → has (λ k. k == m) ns ≡ true → has (λ k. nat_le k n) ns ≡ true
-low_listed n m [] le found = absurd (true_not_false (sym found))
+low_listed n m [] le found = absurd (true≢false (sym found))
 low_listed n m (k ∷ ns) le found = elim (or_at (k == m) (has (λ j. j == m) ns) found) [
   | inl same ↦ true_or (nat_le k n) (has (λ j. nat_le j n) ns) (test k n m (eq_of k m same) le)
   | inr more ↦ or_true_right (nat_le k n) (has (λ j. nat_le j n) ns) (low_listed n m ns le more.1)
@@ -42,8 +39,8 @@ live_test live n on = go (has (is_point n) live) (has is_described (until_first 
   where
     go : (a b : Bool) → has (is_point n) live ≡ a → has is_described (until_first (is_point n) live) ≡ b → a && b ≡ true → IsLive live n
     go true true found told both = record { found = found; described = told }
-    go true false found told both = absurd (true_not_false (sym both))
-    go false b found told both = absurd (true_not_false (sym both))
+    go true false found told both = absurd (true≢false (sym both))
+    go false b found told both = absurd (true≢false (sym both))
 
 test_live : (live : List Event) (n : ℕ) → IsLive live n → is_live live n ≡ true
 test_live live n at = λ i. at.found i && at.described i
@@ -104,10 +101,10 @@ each_judged live next n =
       missing = (
         λ is.
             let all = when_missing a b c is in
-            (below next n all.0, λ m at. elim (cases_lt n m) [ inl above ↦ above | inr le ↦ absurd (true_not_false (sym (low_listed n m (live_numbers live) le (live_is_listed live m at)) ∙ all.2)) ]),
+            (below next n all.0, λ m at. elim (cases_lt n m) [ inl above ↦ above | inr le ↦ absurd (true≢false (sym (low_listed n m (live_numbers live) le (live_is_listed live m at)) ∙ all.2)) ]),
         λ both.
-            let off : b ≡ false = elim (bool_cases b) [ inr off ↦ off | inl on ↦ let up = both.1 n (live_test live n on) in absurd (omega (arith, up)) ] in
-            let none : c ≡ false = elim (bool_cases c) [
+            let off : b ≡ false = elim (cases_Bool b) [ inr off ↦ off | inl on ↦ let up = both.1 n (live_test live n on) in absurd (omega (arith, up)) ] in
+            let none : c ≡ false = elim (cases_Bool c) [
               | inr none ↦ none
               | inl some ↦ let r = some_low live n (live_numbers live) (all_live live) some in let up = both.1 r.0 r.1 in absurd (omega (arith, up, r.2))
             ] in
@@ -117,9 +114,9 @@ each_judged live next n =
         λ is.
             let all = when_void a b c is in
             let r = some_low live n (live_numbers live) (all_live live) all.2 in
-            record { used = below next n all.0; gone = λ at. true_not_false (sym (test_live live n at) ∙ all.1); lower = r.0; lower_lives = r.1; is_lower = less r.0 r.1 r.2 all.1 },
+            record { used = below next n all.0; gone = λ at. true≢false (sym (test_live live n at) ∙ all.1); lower = r.0; lower_lives = r.1; is_lower = less r.0 r.1 r.2 all.1 },
         λ cut.
-            let off : b ≡ false = elim (bool_cases b) [ inr off ↦ off | inl on ↦ absurd (cut.gone (live_test live n on)) ] in
+            let off : b ≡ false = elim (cases_Bool b) [ inr off ↦ off | inl on ↦ absurd (cut.gone (live_test live n on)) ] in
             let low : cut.lower ≤ n = omega (arith, cut.is_lower) in
             λ i. judged (not_below next n cut.used i) (off i) (low_listed n cut.lower (live_numbers live) low (live_is_listed live cut.lower cut.lower_lives) i),
       );
@@ -130,5 +127,5 @@ each_judged live next n =
       | inl low ↦ low
       | inr high ↦
           let same : m ≡ n = omega (arith, le, high) in
-          absurd (true_not_false (sym (test_live live n (subst (λ k. IsLive live k) same at)) ∙ off))
+          absurd (true≢false (sym (test_live live n (subst (λ k. IsLive live k) same at)) ∙ off))
     ]

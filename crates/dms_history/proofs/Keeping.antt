@@ -1,5 +1,6 @@
 -- What a database keeps between two calls.
 use Rattle.std.proofs.Common.{ℕ, ◌≡◌, inl, inr, Bool, true, List, [], ◌∷◌, ◌++◌, take, Some, None, refl, sym, ◌∙◌, ap, subst, arith}
+use Rattle.std.proofs.lemmas.Option.{none-some}
 use Rattle.dms_history.specs.Events.{AllBlocks, Stored, How, Event, change, quiet, control, begin}
 use Rattle.dms_history.specs.Replay.{apply, replay}
 use Rattle.dms_history.specs.Lists.{has}
@@ -38,9 +39,6 @@ use Rattle.dms_history.proofs.LastPending.{pending_cuts}
 use Rattle.dms_history.proofs.Alone.{alone_events, alone_more, not_begun}
 use Rattle.dms_history.proofs.SchemaParts.{parts_say_nothing, schema_in_parts}
 use Rattle.dms_history.proofs.Imaged.{image_told}
-
-none_not_some : {A : Type 0} (x : A) → None ≡ Some x → ⊥
-none_not_some x e = absurd cc
 
 -- ---- one more entry
 
@@ -286,7 +284,7 @@ kept_first one rest dumps stored =
         (subst (λ (l : List Event). Sound (from_control l) (λ f. []) stored) (sym first_live) (record { chain = (λ f. refl, tt); stands = λ f b low none. absurd (omega (arith, low)) }))
 
     first_opened : OpenedFrom (opening (history (control 0 1 (counts_in []) true ∷ [])).live) (λ f. [])
-    first_opened = subst (λ (l : List Event). OpenedFrom (opening l) (λ f. [])) (sym first_live) (record { leads = λ f b x at. absurd (none_not_some x at); linked = λ xs ys f b before after old at last. absurd (not_empty xs ys (change f b before after) (sym at)) })
+    first_opened = subst (λ (l : List Event). OpenedFrom (opening l) (λ f. [])) (sym first_live) (record { leads = λ f b x at. absurd (none-some x at); linked = λ xs ys f b before after old at last. absurd (not_empty xs ys (change f b before after) (sym at)) })
 
     first_numbered : Numbered (history (control 0 1 (counts_in []) true ∷ [])).live (next_number (control 0 1 (counts_in []) true ∷ []))
     first_numbered = subst (λ (l : List Event). Numbered l (next_number (control 0 1 (counts_in []) true ∷ []))) (sym first_live) (numbers_first (counts_in []) true)

@@ -1,7 +1,7 @@
 -- What each step makes of the list of the live points.
 use Rattle.std.specs.Prelude.{◌&&◌, not, nat_le}
 use Rattle.std.proofs.Common.{ℕ, ◌≤◌, ◌<◌, ◌≡◌, inl, inr, true, false, cond, List, [], ◌∷◌, ◌++◌, map, refl, sym, ◌∙◌, ap, subst, arith, append_assoc}
-use Rattle.std.proofs.lemmas.Bool.{cases_lt}
+use Rattle.std.proofs.lemmas.Bool.{cases_lt, true≢false}
 use Rattle.std.proofs.lemmas.Bool.Decides.{nat_tests}
 use Rattle.dms_history.proofs.Picks.{some_is}
 use Rattle.dms_history.specs.Events.{AllBlocks, Stored, Event, change, quiet, control, begin}
@@ -23,9 +23,6 @@ use Rattle.dms_history.proofs.Running.{above_all, quiet_is_live}
 use Rattle.dms_history.proofs.Runs.{quiets}
 use Rattle.dms_history.proofs.Stops.{has_self, restore_begins}
 use Rattle.dms_history.proofs.Listed.{numbers_append, EachLive, all_live, points_listed, one_list, points_alike, numbers_rise, listed_rising, rest_above, points_front}
-
-true_not_false : true ≡ false → ⊥
-true_not_false e = absurd cc
 
 -- ---- rising lists
 
@@ -136,7 +133,7 @@ module _ (live : List Event) (next m : ℕ) (numbered : Numbered live next) (at 
   all_up (n ∷ ns) all = (
     elim (cases_lt m n) [
       | inr low ↦ low
-      | inl above ↦ absurd (true_not_false (sym all.0.found ∙ (rolls_back live next m numbered at).none_above n above))
+      | inl above ↦ absurd (true≢false (sym all.0.found ∙ (rolls_back live next m numbered at).none_above n above))
     ],
     all_up ns all.1,
   )

@@ -3,6 +3,7 @@ use Rattle.std.specs.Prelude.{◌&&◌, not}
 use Rattle.std.proofs.Common.{ℕ, ◌≤◌, ◌<◌, ◌≡◌, ◌==◌, ◌||◌, inl, inr, Bool, true, false, cond, List, [], ◌∷◌, ◌++◌, map, refl, sym, ◌∙◌, ap, subst, arith, append_assoc}
 use Rattle.std.proofs.lemmas.List.{map-append}
 use Rattle.std.proofs.lemmas.Bool.Decides.{nat_tests}
+use Rattle.std.proofs.lemmas.Bool.{true≢false}
 use Rattle.dms_history.specs.Events.{Stored, Event, change, quiet, control, begin}
 use Rattle.dms_history.specs.Lists.{has, until_first}
 use Rattle.dms_history.specs.Places.{is_point, is_described, point_numbers, IsLive}
@@ -17,9 +18,6 @@ use Rattle.dms_history.proofs.Order.{append_none, eq_of}
 use Rattle.dms_history.proofs.Given.{at_point}
 use Rattle.dms_history.proofs.Turns.{until_at}
 use Rattle.dms_history.proofs.Running.{points_go_on}
-
-true_not_false : true ≡ false → ⊥
-true_not_false e = absurd cc
 
 pub same_number : (n : ℕ) → (n == n) ≡ true
 same_number n = grind (arith, nat_tests)
@@ -92,7 +90,7 @@ place_above n k front e rest found le above = go (has (is_point k) front) (has i
     go : (a b : Bool) → has (is_point k) front ≡ a → AllAbove n (cond (not a && b) (k ∷ []) [] ++ rest)
     go true b is = above
     go false false is = above
-    go false true is = (omega (arith, le, λ (same : n ≡ k). true_not_false (sym found ∙ ap (λ j. has (is_point j) front) same ∙ is)), above)
+    go false true is = (omega (arith, le, λ (same : n ≡ k). true≢false (sym found ∙ ap (λ j. has (is_point j) front) same ∙ is)), above)
 
 -- numbers behind one that has its place are above it
 pub rest_above : (n : ℕ) (front es : List Event) → has (is_point n) front ≡ true → ((ys zs : List ℕ) (m : ℕ) → point_numbers es ≡ ys ++ m ∷ zs → n ≤ m) → AllAbove n (numbers_from front es)
@@ -143,7 +141,7 @@ place_listed n k front e rest same off told =
     (λ i. lists n (cond (not ((ap (λ j. has (is_point j) front) same ∙ off) i) && told i) (k ∷ []) [] ++ rest)) ∙ true_or (k == n) (lists n rest) (grind (arith, nat_tests, same))
 
 listed_from : (n : ℕ) (front es : List Event) → has (is_point n) front ≡ false → has (is_point n) es ≡ true → has is_described (until_first (is_point n) (front ++ es)) ≡ true → lists n (numbers_from front es) ≡ true
-listed_from n front [] off found told = absurd (true_not_false (sym found))
+listed_from n front [] off found told = absurd (true≢false (sym found))
 listed_from n front (e ∷ es) off found told = elim (or_at (is_point n e) (has (is_point n) es) found) [
   | inl at ↦ here e at (ap (λ (l : List Event). has is_described l) (sym (until_at (is_point n) front e es off at)) ∙ told)
   | inr more ↦
@@ -153,10 +151,10 @@ listed_from n front (e ∷ es) off found told = elim (or_at (is_point n e) (has 
 ]
   where
     here : (e : Event) → is_point n e ≡ true → has is_described (front ++ e ∷ []) ≡ true → lists n (new_place front e ++ numbers_from (front ++ e ∷ []) es) ≡ true
-    here (change f b before after) at told = absurd (true_not_false (sym at))
+    here (change f b before after) at told = absurd (true≢false (sym at))
     here (quiet k) at told = place_listed n k front (quiet k) (numbers_from (front ++ quiet k ∷ []) es) (eq_of k n at) off told
     here (control k next counts described) at told = place_listed n k front (control k next counts described) (numbers_from (front ++ control k next counts described ∷ []) es) (eq_of k n at) off told
-    here (begin k how) at told = absurd (true_not_false (sym at))
+    here (begin k how) at told = absurd (true≢false (sym at))
 
 pub live_is_listed : (live : List Event) (n : ℕ) → IsLive live n → has (λ m. m == n) (live_numbers live) ≡ true
 unfolding live_numbers
@@ -186,7 +184,7 @@ points_listed live next counted numbered = listed_rising live counted (numbers_r
 -- ---- only one list
 
 above_in : (n k : ℕ) (ns : List ℕ) → AllAbove n ns → lists k ns ≡ true → n < k
-above_in n k [] above found = absurd (true_not_false (sym found))
+above_in n k [] above found = absurd (true≢false (sym found))
 above_in n k (m ∷ ns) above found = elim (or_at (m == k) (lists k ns) found) [
   | inl same ↦ omega (arith, above.0, eq_of m k same)
   | inr more ↦ above_in n k ns above.1 more.1
@@ -194,8 +192,8 @@ above_in n k (m ∷ ns) above found = elim (or_at (m == k) (lists k ns) found) [
 
 same_rising : (ns ms : List ℕ) → Rises ns → Rises ms → ((k : ℕ) → lists k ns ≡ true → lists k ms ≡ true) → ((k : ℕ) → lists k ms ≡ true → lists k ns ≡ true) → ns ≡ ms
 same_rising [] [] one two there back = refl
-same_rising [] (m ∷ ms) one two there back = absurd (true_not_false (sym (back m (true_or (m == m) (lists m ms) (same_number m)))))
-same_rising (n ∷ ns) [] one two there back = absurd (true_not_false (sym (there n (true_or (n == n) (lists n ns) (same_number n)))))
+same_rising [] (m ∷ ms) one two there back = absurd (true≢false (sym (back m (true_or (m == m) (lists m ms) (same_number m)))))
+same_rising (n ∷ ns) [] one two there back = absurd (true≢false (sym (there n (true_or (n == n) (lists n ns) (same_number n)))))
 same_rising (n ∷ ns) (m ∷ ms) one two there back =
     let head : n ≡ m = elim (or_at (m == n) (lists n ms) (there n (true_or (n == n) (lists n ns) (same_number n)))) [
       | inl same ↦ sym (eq_of m n same)
@@ -218,7 +216,7 @@ same_rising (n ∷ ns) (m ∷ ms) one two there back =
     λ i. head i ∷ rest i
 
 live_listed : (live : List Event) (counted : Stored) (ps : List LivePoint) (n : ℕ) → AllLive live counted ps → lists n (numbers_of ps) ≡ true → IsLive live n
-live_listed live counted [] n all found = absurd (true_not_false (sym found))
+live_listed live counted [] n all found = absurd (true≢false (sym found))
 live_listed live counted (p ∷ ps) n all found = elim (or_at (p.number == n) (lists n (numbers_of ps)) found) [
   | inl same ↦ subst (λ k. IsLive live k) (eq_of p.number n same) all.0.lives
   | inr more ↦ live_listed live counted ps n all.1 more.1

@@ -1,6 +1,7 @@
 -- The numbers of points stay in order.
 use Rattle.std.proofs.Common.{ℕ, ◌+◌, ◌-◌, ◌^◌, ◌<◌, ◌≤◌, min, max, ◌≡◌, ◌==◌, ◌||◌, ◌⊎◌, inl, inr, Bool, true, false, cond, Option, Some, None, List, [], ◌∷◌, ◌++◌, refl, sym, ◌∙◌, ap, subst, arith, append_assoc}
 use Rattle.std.proofs.lemmas.Bool.Decides.{nat_tests}
+use Rattle.std.proofs.lemmas.Bool.{cases_Bool, true≢false}
 use Rattle.dms_history.specs.Events.{Counts, Event, change, quiet, control, begin}
 use Rattle.dms_history.specs.Lists.{has, until_first, after_first}
 use Rattle.dms_history.specs.Places.{is_control, is_described, is_point, IsLive, point_numbers}
@@ -9,13 +10,10 @@ use Rattle.dms_history.specs.Agrees.{Numbered}
 use Rattle.dms_history.specs.Numbers.{RollsBack, EachLast, LastLives, EachNext, Carries, NextStays, UsedOnce, NumbersChange, NumbersQuiet, NumbersBegin, NumbersControl, TrueDumpServes, NumbersFirst}
 use Rattle.dms_history.proofs.Cuts.{until_none}
 use Rattle.dms_history.proofs.Picks.{some_is}
-use Rattle.dms_history.proofs.AtPoints.{bool_cases, split_first, true_or, or_true_right}
+use Rattle.dms_history.proofs.AtPoints.{split_first, true_or, or_true_right}
 use Rattle.dms_history.proofs.HalfDone.{has_front, until_until, or_at}
 use Rattle.dms_history.proofs.Base.{has_append}
 use Rattle.dms_history.proofs.Stops.{has_self}
-
-true_not_false : true ≡ false → ⊥
-true_not_false e = absurd cc
 
 -- ---- lists
 
@@ -48,7 +46,7 @@ eq_of m n is = grind (arith, nat_tests)
 
 -- a point that is there is among the numbers
 pub point_among : (es : List Event) (n : ℕ) → has (is_point n) es ≡ true → (ys : List ℕ) × (zs : List ℕ) × (point_numbers es ≡ ys ++ n ∷ zs)
-point_among [] n found = absurd (true_not_false (sym found))
+point_among [] n found = absurd (true≢false (sym found))
 point_among (change f b before after ∷ es) n found = point_among es n found
 point_among (quiet m ∷ es) n found = elim (or_at (m == n) (has (is_point n) es) found) [
   | inl counted ↦ ([], point_numbers es, ap (λ k. k ∷ point_numbers es) (eq_of m n counted))
@@ -62,7 +60,7 @@ point_among (begin m how ∷ es) n found = point_among es n found
 
 -- a prefix ends with its point
 pub front_ends : (es : List Event) (m : ℕ) → has (is_point m) es ≡ true → (xs : List ℕ) × (point_numbers (until_first (is_point m) es) ≡ xs ++ m ∷ [])
-front_ends [] m found = absurd (true_not_false (sym found))
+front_ends [] m found = absurd (true≢false (sym found))
 front_ends (change f b before after ∷ es) m found =
     let r = front_ends es m found in (r.0, ap (λ k. point_numbers (cond k (change f b before after ∷ until_first (is_point m) es) [])) found ∙ r.1)
 front_ends (quiet n ∷ es) m found = elim (or_at (n == m) (has (is_point m) es) found) [
@@ -90,7 +88,7 @@ module _ (live : List Event) (next m : ℕ) (numbered : Numbered live next) (pla
   halves = ap point_numbers (sym (split_first (is_point m) live placed)) ∙ points_append front (after_first (is_point m) live)
 
   none_above : (n : ℕ) → m < n → has (is_point n) front ≡ false
-  none_above n above = elim (bool_cases (has (is_point n) front)) [
+  none_above n above = elim (cases_Bool (has (is_point n) front)) [
     | inr off ↦ off
     | inl found ↦
         let ends = front_ends live m placed in
@@ -110,7 +108,7 @@ module _ (live : List Event) (next m : ℕ) (numbered : Numbered live next) (pla
 
   kept_below : (n : ℕ) → n ≤ m → IsLive live n → IsLive front n
   kept_below n le lives =
-      let found : has (is_point n) front ≡ true = elim (bool_cases (has (is_point n) front)) [
+      let found : has (is_point n) front ≡ true = elim (cases_Bool (has (is_point n) front)) [
         | inl on ↦ on
         | inr off ↦
             let late = after_first (is_point m) live in
@@ -148,7 +146,7 @@ last_push (control n next counts described ∷ es) k e m ends = last_push es (So
 last_push (begin n how ∷ es) k e m ends = last_push es k e m ends
 
 pub last_front : (es : List Event) (k : Option ℕ) (m : ℕ) → has (is_point m) es ≡ true → last_number k (until_first (is_point m) es) ≡ Some m
-last_front [] k m found = absurd (true_not_false (sym found))
+last_front [] k m found = absurd (true≢false (sym found))
 last_front (change f b before after ∷ es) k m found = ap (λ t. last_number k (cond t (change f b before after ∷ until_first (is_point m) es) [])) found ∙ last_front es k m found
 last_front (quiet n ∷ es) k m found = elim (or_at (n == m) (has (is_point m) es) found) [
   | inl here ↦ ap (λ t. last_number k (cond t (quiet n ∷ []) (cond (has (is_point m) es) (quiet n ∷ until_first (is_point m) es) []))) here ∙ ap (λ j. Some j) (eq_of n m here)
@@ -162,7 +160,7 @@ last_front (begin n how ∷ es) k m found = ap (λ t. last_number k (cond t (beg
 
 pub last_points : EachLast
 last_points h m = record {
-  begin = λ how. elim (bool_cases (has (is_point m) h.live)) [
+  begin = λ how. elim (cases_Bool (has (is_point m) h.live)) [
     | inl found ↦ last_front h.live (Some m) m found
     | inr off ↦ ap (λ (l : List Event). last_number (Some m) l) (until_none (is_point m) h.live off)
   ];
@@ -200,7 +198,7 @@ among_has (control k next counts described ∷ es) (x ∷ xs) ys n is = let tail
 among_has (begin k how ∷ es) xs ys n is = among_has es xs ys n is
 
 control_numbered : (es : List Event) → has is_control es ≡ true → point_numbers es ≡ [] → ⊥
-control_numbered [] found none = true_not_false (sym found)
+control_numbered [] found none = true≢false (sym found)
 control_numbered (change f b before after ∷ es) found none = control_numbered es found none
 control_numbered (quiet n ∷ es) found none = not_empty [] (point_numbers es) n none
 control_numbered (control n next counts described ∷ es) found none = not_empty [] (point_numbers es) n none

@@ -3,6 +3,7 @@ use Rattle.std.proofs.Common.{ℕ, suc, ◌+◌, ◌<◌, ◌≤◌, ◌≡◌, 
 use Rattle.std.proofs.lemmas.List.{get_or_at, get_or_append_left, get_or-take, get_or-drop, get_or-append_right}
 use Rattle.std.proofs.lemmas.Bool.{cases_eq, cases_lt}
 use Rattle.std.proofs.lemmas.Bool.Decides.{nat_tests}
+use Rattle.std.proofs.lemmas.Option.{cond_some}
 use Rattle.dms_history.specs.Events.{BlockBytes, AllBlocks, Event, change, quiet, control, begin, block_in}
 use Rattle.dms_history.specs.Replay.{with_block, replay, TellsBefore, Chain}
 use Rattle.dms_history.specs.Images.{is_at, or_else, last_after, first_before, else_stored, value, choice}
@@ -94,10 +95,6 @@ pub if_none : {A : Type 0} (b : Bool) (x : A) → cond b (Some x) None ≡ None 
 if_none true x e = absurd cc
 if_none false x e = refl
 
-pub if_some : {A : Type 0} (b : Bool) (x y : A) → cond b (Some x) None ≡ Some y → (b ≡ true) × (x ≡ y)
-if_some true x y e = (refl, cc)
-if_some false x y e = absurd cc
-
 pub some_is : {A : Type 0} (x y : A) → Some x ≡ Some y → x ≡ y
 some_is x y e = cc
 
@@ -136,7 +133,7 @@ last_stands (change g k before after ∷ es) c f b x chain last =
     elim (option_cases (last_after f b es)) [
       | inr (y, is) ↦ last_stands es next f b x chain.1 (is ∙ (sym (ap (λ o. or_else o (cond (is_at f b g k) (Some after) None)) is) ∙ last))
       | inl none ↦
-          let (at, same) = if_some (is_at f b g k) after x (sym (ap (λ o. or_else o (cond (is_at f b g k) (Some after) None)) none) ∙ last) in
+          let (at, same) = cond_some (is_at f b g k) after x (sym (ap (λ o. or_else o (cond (is_at f b g k) (Some after) None)) none) ∙ last) in
           elim (place_cases f b g k) [
             | inl place ↦
                 let here : block_in next f b ≡ after = subst (λ j. block_in next j b ≡ after) place.0 (subst (λ j. block_in next g j ≡ after) place.1 (write_here c g k after le)) in

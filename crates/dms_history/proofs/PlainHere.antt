@@ -1,6 +1,7 @@
 -- What counts as a block, put together from its parts.
 use Rattle.std.proofs.Common.{ℕ, ◌<◌, ◌≤◌, ◌≡◌, true, false, cond, List, [], Option, Some, None, sym, ◌∙◌, ap, subst, arith}
 use Rattle.std.proofs.lemmas.List.{get_or_past}
+use Rattle.std.proofs.lemmas.Bool.{false≢true}
 use Rattle.dms_history.specs.declared.dumped.Dumped.{Dumped}
 use Rattle.dms_history.specs.Events.{BlockBytes, Stored, How, halt_load, back_out, roll_back, rebuild, reconstruct, Event, block_in}
 use Rattle.dms_history.specs.Lists.{has, until_first, after_first}
@@ -30,15 +31,12 @@ by_dump live dump n f b late o is last = sym (λ i. value ((ap (λ (l : List Eve
 
 -- ---- a restore's block
 
-not_true : false ≡ true → ⊥
-not_true e = absurd cc
-
 pub restore_by_dump : (how : How) (dumps : Dumps) (live : List Event) (n f b : ℕ) (stored : Stored) (dumped : Dumped) (x : BlockBytes) → may_hold_anything how f b ≡ true → GoesBy how dumps f b dumped
     → ((dump : Dump) → IsDumped dump f b dumped → x ≡ dump_pick live dump n f b) → x ≡ restore_pick how dumps live n stored f b
 unfolding restore_pick
-restore_by_dump halt_load dumps live n f b stored dumped x on goes is = absurd (not_true on)
-restore_by_dump back_out dumps live n f b stored dumped x on goes is = absurd (not_true on)
-restore_by_dump roll_back dumps live n f b stored dumped x on goes is = absurd (not_true on)
+restore_by_dump halt_load dumps live n f b stored dumped x on goes is = absurd (false≢true on)
+restore_by_dump back_out dumps live n f b stored dumped x on goes is = absurd (false≢true on)
+restore_by_dump roll_back dumps live n f b stored dumped x on goes is = absurd (false≢true on)
 restore_by_dump (rebuild d) dumps live n f b stored dumped x on goes is = is (dumps d) goes
 restore_by_dump (reconstruct d named) dumps live n f b stored dumped x on goes is =
     is (dumps d) goes ∙ sym (ap (λ k. cond k (dump_pick live (dumps d) n f b) (pick live n stored f b)) on)
@@ -48,7 +46,7 @@ unfolding restore_pick
 restore_by_audit halt_load dumps live n f b stored x off is = is
 restore_by_audit back_out dumps live n f b stored x off is = is
 restore_by_audit roll_back dumps live n f b stored x off is = is
-restore_by_audit (rebuild d) dumps live n f b stored x off is = absurd (not_true (sym off))
+restore_by_audit (rebuild d) dumps live n f b stored x off is = absurd (false≢true (sym off))
 restore_by_audit (reconstruct d named) dumps live n f b stored x off is = is ∙ sym (ap (λ k. cond k (dump_pick live (dumps d) n f b) (pick live n stored f b)) off)
 
 -- ---- what counts

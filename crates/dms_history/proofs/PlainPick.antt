@@ -1,5 +1,5 @@
 -- A block at a point, put together from its parts.
-use Rattle.std.proofs.Common.{ℕ, ◌≡◌, true, false, List, [], ◌∷◌, ◌++◌, map, suc, ◌+◌, Bor, add-one, Option, Some, None, length, take, drop, ◌-◌, length-drop, arith, sym, ◌∙◌, ap}
+use Rattle.std.proofs.Common.{ℕ, ◌≡◌, false, List, [], ◌∷◌, ◌++◌, map, suc, ◌+◌, Bor, add-one, Option, Some, None, length, take, drop, ◌-◌, length-drop, arith, sym, ◌∙◌, ap}
 use Rattle.std.proofs.lemmas.List.{take_all, map-append}
 use Rattle.std.proofs.lemmas.List.FromFn.{length-map-range_with_len, take-map-range_with_len, get_or-map-range_with_len}
 use Rattle.std.proofs.Math.Seq.{take-suc}
@@ -38,9 +38,6 @@ module _ (live : List Event) (n f b : ℕ) (stored : BlockBytes) where
       sym (λ i. value ((ap (λ (l : List Event). last_after f b (after_last is_control l)) cut ∙ ap (λ (l : List Event). last_after f b l) behind ∙ none) i) (first_before f b (follows i)) stored)
 
 -- ---- counts
-
-true_not_false : true ≡ false → ⊥
-true_not_false e = absurd cc
 
 -- the count that a prefix reaches is the count at its last point
 pub count_there : (live front : List Event) (n f : ℕ) → until_first (is_point n) live ≡ front → reached_count f 0 front ≡ count_at live n f

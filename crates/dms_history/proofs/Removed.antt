@@ -1,5 +1,6 @@
 -- Old files are removed from the front of a trail.
 use Rattle.std.proofs.Common.{ℕ, ◌<◌, ◌≡◌, inl, inr, Bool, true, false, cond, List, [], ◌∷◌, ◌++◌, length, Some, refl, sym, ◌∙◌, ap, subst, append_assoc}
+use Rattle.std.proofs.lemmas.Bool.{cases_Bool}
 use Rattle.dms_history.specs.Events.{AllBlocks, Event, change, block_in}
 use Rattle.dms_history.specs.Replay.{Chain, replay}
 use Rattle.dms_history.specs.Images.{or_else, last_after}
@@ -8,13 +9,10 @@ use Rattle.dms_history.specs.Places.{is_control, is_described, is_point, IsLive}
 use Rattle.dms_history.specs.Base.{Sound, opening, from_control, OpenedFrom}
 use Rattle.dms_history.specs.LawsOfBase.{PrefixGoes}
 use Rattle.dms_history.proofs.Picks.{last_append, last_stands, chain_split}
-use Rattle.dms_history.proofs.AtPoints.{bool_cases, or_no, replay_append, or_true_right}
+use Rattle.dms_history.proofs.AtPoints.{or_no, replay_append, or_true_right}
 use Rattle.dms_history.proofs.Base.{has_append, parts, after_behind}
 use Rattle.dms_history.proofs.Converse.{opening_append, logged_below, told}
 use Rattle.dms_history.proofs.Given.{controlled, peel, from_has, at_point}
-
-true_not_false : true ≡ false → ⊥
-true_not_false e = absurd cc
 
 -- a prefix without the point
 until_past : (p : Event → Bool) (xs ys : List Event) → has p xs ≡ false → has p ys ≡ true → until_first p (xs ++ ys) ≡ xs ++ until_first p ys
@@ -61,7 +59,7 @@ live_whole xs ys n at off = record {
 -- the opening of a list that has a live point has no such point
 opening_on : (p : Event → Bool) (es : List Event) → has is_control (until_first p es) ≡ true → until_first p es ≡ opening es ++ until_first p (from_control es)
 opening_on p [] found = refl
-opening_on p (e ∷ es) found = elim (bool_cases (is_control e)) [
+opening_on p (e ∷ es) found = elim (cases_Bool (is_control e)) [
   | inl on ↦ λ i. cond (sym on i) [] (e ∷ opening es) ++ until_first p (cond (sym on i) (e ∷ es) (from_control es))
   | inr off ↦
       let r = peel (p e) (has p es) e (until_first p es) off found in
@@ -74,7 +72,7 @@ not_opening : (es : List Event) (n : ℕ) → IsLive es n → until_first (is_po
 not_opening es n at = opening_on (is_point n) es (controlled es n at)
 
 pub front_goes : PrefixGoes
-front_goes xs ys base counted sound opened found = elim (bool_cases (has is_control xs)) [
+front_goes xs ys base counted sound opened found = elim (cases_Bool (has is_control xs)) [
   | inr off ↦
       let r = behind_none xs ys off in
       let same : Sound (from_control ys) base counted = subst (λ (l : List Event). Sound l base counted) r.1 sound in record {

@@ -1,6 +1,7 @@
 -- A database that runs: its points go on, and what a block seals at once.
 use Rattle.std.proofs.Common.{ℕ, ◌<◌, ◌≤◌, ◌≡◌, ◌||◌, ◌==◌, inl, inr, Bool, true, false, cond, List, [], ◌∷◌, ◌++◌, length, None, refl, sym, ◌∙◌, ap, subst, arith, append_assoc}
 use Rattle.std.proofs.lemmas.Bool.Decides.{nat_tests}
+use Rattle.std.proofs.lemmas.Bool.{cases_Bool, true≢false}
 use Rattle.dms_history.specs.Events.{AllBlocks, Stored, Event, change, quiet, control, begin}
 use Rattle.dms_history.specs.Replay.{Chain, replay}
 use Rattle.dms_history.specs.Lists.{has, until_first, after_last}
@@ -11,7 +12,7 @@ use Rattle.dms_history.specs.Images.{last_after}
 use Rattle.dms_history.specs.Base.{from_control, Sound}
 use Rattle.dms_history.specs.Agrees.{Numbered}
 use Rattle.dms_history.specs.LawsOfRunning.{PointsGoOn, SealsRun, QuietIsLive, ControlStands}
-use Rattle.dms_history.proofs.AtPoints.{bool_cases, replay_append, true_or}
+use Rattle.dms_history.proofs.AtPoints.{replay_append, true_or}
 use Rattle.dms_history.proofs.Base.{has_append, content_length, content_block}
 use Rattle.dms_history.proofs.Converse.{opening_append}
 use Rattle.dms_history.proofs.Given.{controlled, live_from, at_point, described_control, from_until}
@@ -38,13 +39,10 @@ points_go_on live more base counted later n sound grown at =
     ap (λ (l : List Event). until_first (is_point n) l) split ∙ until_append (is_point n) (from_control live) more (live_from live n at).found in
     record { lives = on; same = at_point (live ++ more) base later n grown on ∙ ap (λ (l : List Event). replay l base) same ∙ sym (at_point live base counted n sound at) }
 
-true_not_false : true ≡ false → ⊥
-true_not_false e = absurd cc
-
 -- ---- a new quiet point
 
 pub above_all : (live : List Event) (next n : ℕ) → Numbered live next → next ≤ n → has (is_point n) live ≡ false
-above_all live next n numbered le = elim (bool_cases (has (is_point n) live)) [
+above_all live next n numbered le = elim (cases_Bool (has (is_point n) live)) [
   | inr off ↦ off
   | inl on ↦
       let among = point_among live n on in
@@ -61,8 +59,8 @@ until_new (e ∷ es) n off = go (is_point n e) (has (is_point n) es) (has (is_po
   where
     go : (b c d : Bool) → b || c ≡ false → d ≡ true → (c ≡ false → until_first (is_point n) (es ++ quiet n ∷ []) ≡ es ++ quiet n ∷ [])
         → cond b (e ∷ []) (cond d (e ∷ until_first (is_point n) (es ++ quiet n ∷ [])) []) ≡ e ∷ (es ++ quiet n ∷ [])
-    go true c d none on rest = absurd (true_not_false none)
-    go false true d none on rest = absurd (true_not_false none)
+    go true c d none on rest = absurd (true≢false none)
+    go false true d none on rest = absurd (true≢false none)
     go false false d none on rest = λ i. cond (on i) (e ∷ rest refl i) []
 
     or_true : (b c : Bool) → c ≡ true → b || c ≡ true
@@ -157,7 +155,7 @@ seals (quiet n ∷ es) dumps h base stored none found sound chain off =
     (subst (λ (l : List Event). Sound l base stored) (sym split) (quiets all base stored n sound))
     (subst (λ (l : List Event). Chain l base) (sym (append_assoc all (e ∷ []) es) ∙ ap (λ (l : List Event). l ++ es) (sym split)) chain) off in
     (rest.0 ∙ append_assoc h.live (e ∷ []) es, rest.1, rest.2)
-seals (control n next counts described ∷ es) dumps h base stored none found sound chain off = absurd (true_not_false off)
+seals (control n next counts described ∷ es) dumps h base stored none found sound chain off = absurd (true≢false off)
 seals (begin n how ∷ es) dumps h base stored none found sound chain off = absurd ((chain_split (from_control h.live) (begin n how ∷ es) base chain).1)
 
 pub seals_run : SealsRun

@@ -1,5 +1,6 @@
 -- What keeps entries and stored blocks sound.
 use Rattle.std.proofs.Common.{ℕ, ◌<◌, ◌≡◌, ◌||◌, inl, inr, Bool, true, false, cond, List, [], ◌∷◌, ◌++◌, length, Option, Some, None, refl, sym, ◌∙◌, ap, subst}
+use Rattle.std.proofs.lemmas.Bool.{cases_Bool, true≢false}
 use Rattle.dms_history.specs.Events.{BlockBytes, AllBlocks, Event, change, quiet, control, begin, block_in}
 use Rattle.dms_history.specs.Replay.{TellsBefore, Chain, replay, with_block}
 use Rattle.dms_history.specs.Images.{is_at, last_after}
@@ -7,7 +8,7 @@ use Rattle.dms_history.specs.Lists.{has, after_last}
 use Rattle.dms_history.specs.Places.{is_control}
 use Rattle.dms_history.specs.LawsOfRunning.{ChangesBlock, Quiets, WritesEarly, Controls}
 use Rattle.dms_history.proofs.Picks.{or_none, last_append, tells_le, write_other, write_old, place_cases}
-use Rattle.dms_history.proofs.AtPoints.{bool_cases, replay_append}
+use Rattle.dms_history.proofs.AtPoints.{replay_append}
 use Rattle.dms_history.proofs.HalfDone.{chain_control}
 
 chain_push : (es : List Event) (c : AllBlocks) (f b : ℕ) (before : Option BlockBytes) (after : BlockBytes) → Chain es c → TellsBefore b before (replay es c f) → Chain (es ++ change f b before after ∷ []) c
@@ -35,7 +36,7 @@ has_push p (e ∷ es) x off = ap (λ b. p e || b) (has_push p es x off)
 -- behind the last Control there is one entry more
 pub after_push : (p : Event → Bool) (es : List Event) (x : Event) → p x ≡ false → after_last p (es ++ x ∷ []) ≡ after_last p es ++ x ∷ []
 after_push p [] x off = ap (λ b. cond (b || false) [] (x ∷ [])) off
-after_push p (e ∷ es) x off = elim (bool_cases (has p (e ∷ es))) [
+after_push p (e ∷ es) x off = elim (cases_Bool (has p (e ∷ es))) [
   | inl found ↦
       ap (λ b. cond (p e || b) (after_last p (es ++ x ∷ [])) (e ∷ (es ++ x ∷ []))) (has_push p es x off)
       ∙ ap (λ b. cond b (after_last p (es ++ x ∷ [])) (e ∷ (es ++ x ∷ []))) found ∙ after_push p es x off
@@ -45,9 +46,6 @@ after_push p (e ∷ es) x off = elim (bool_cases (has p (e ∷ es))) [
       ∙ ap (λ b. cond b (after_last p (es ++ x ∷ [])) (e ∷ (es ++ x ∷ []))) none
       ∙ sym (ap (λ b. cond b (after_last p es) (e ∷ es) ++ x ∷ []) none)
 ]
-
-true_not_false : true ≡ false → ⊥
-true_not_false e = absurd cc
 
 if_none : (b : Bool) (x : BlockBytes) → cond b (Some x) None ≡ None → b ≡ false
 if_none true x e = absurd cc
@@ -66,7 +64,7 @@ changes entries base stored f b before after sound tells =
           let both = or_none (last_after g k (e ∷ [])) (last_after g k (after_last is_control entries)) (sym (last_append (after_last is_control entries) (e ∷ []) g k) ∙ more) in
           let off : is_at g k f b ≡ false = if_none (is_at g k f b) after both.0 in
           elim (place_cases g k f b) [
-            | inl place ↦ absurd (true_not_false (sym place.2 ∙ off))
+            | inl place ↦ absurd (true≢false (sym place.2 ∙ off))
             | inr apart ↦
                 let counted : k < length (with_block now f b after g) = subst (λ (c : AllBlocks). k < length (c g)) grown low in
                 let old : k < length (now g) = write_old now f b after g k le apart.0 counted in

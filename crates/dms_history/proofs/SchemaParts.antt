@@ -26,7 +26,7 @@ parts_say_nothing es ps all =
     let same : logged (es ++ ps) ≡ logged es = logged_append es ps no_parts ∙ ap (λ (l : List Logged). logged es ++ l) (nothing_said ps (parts_from no_parts es) all) ∙ append_none (logged es) in
     (same, ap told_events same)
 
-take_nothing : (k : ℕ) (l : List Entry) → l ≡ [] → take k l ≡ []
+pub take_nothing : (k : ℕ) (l : List Entry) → l ≡ [] → take k l ≡ []
 take_nothing zero l is = refl
 take_nothing (suc k) [] is = refl
 take_nothing (suc k) (e ∷ es) is = absurd cc

@@ -1,6 +1,7 @@
 -- The Schema at a point.
 use Rattle.std.proofs.Common.{ℕ, ◌+◌, ◌<◌, ◌≡◌, ◌==◌, ◌||◌, inl, inr, Bool, true, false, cond, List, [], ◌∷◌, ◌++◌, length, Option, Some, None, refl, sym, ◌∙◌, ap, arith, append_assoc}
 use Rattle.std.proofs.lemmas.Bool.Decides.{nat_tests}
+use Rattle.std.proofs.lemmas.Bool.{cases_Bool, true≢false}
 use Rattle.dms_history.specs.Events.{BlockBytes, Event}
 use Rattle.dms_history.specs.Images.{last_after}
 use Rattle.dms_history.specs.Lists.{has, until_first}
@@ -11,27 +12,24 @@ use Rattle.dms_history.specs.Schemas.{no_parts, after_entry, parts_from, is_whol
 use Rattle.dms_history.specs.EntryEvents.{logged_from, logged, is_place, live_after, live_entries_from, live_entries, live_of}
 use Rattle.dms_history.specs.SchemaAt.{SchemaRead, no_schema, after_schema, last_schema, schema_of, schema_at, joined}
 use Rattle.dms_history.specs.LawsOfSchemas.{EachSchema, SchemaStays, SchemaOfNew, LiveHasSchema}
-use Rattle.dms_history.proofs.AtPoints.{bool_cases, true_or, or_true_right, or_no}
+use Rattle.dms_history.proofs.AtPoints.{true_or, or_true_right, or_no}
 use Rattle.dms_history.proofs.Base.{has_append}
 use Rattle.dms_history.proofs.HalfDone.{or_at}
 use Rattle.dms_history.proofs.Order.{append_none}
 use Rattle.dms_history.proofs.Turns.{live_of_ranges, changes_until}
 use Rattle.dms_history.proofs.Schemas.{parts_append, cut_logged, live_of_entries}
 
-true_not_false : true ≡ false → ⊥
-true_not_false e = absurd cc
-
 -- ---- cuts of entries
 
-has_more : (p : Entry → Bool) (xs ys : List Entry) → has p xs ≡ true → has p (xs ++ ys) ≡ true
-has_more p [] ys found = absurd (true_not_false (sym found))
+pub has_more : (p : Entry → Bool) (xs ys : List Entry) → has p xs ≡ true → has p (xs ++ ys) ≡ true
+has_more p [] ys found = absurd (true≢false (sym found))
 has_more p (x ∷ xs) ys found = elim (or_at (p x) (has p xs) found) [
   | inl here ↦ true_or (p x) (has p (xs ++ ys)) here
   | inr more ↦ or_true_right (p x) (has p (xs ++ ys)) (has_more p xs ys more.1)
 ]
 
 until_more : (p : Entry → Bool) (xs ys : List Entry) → has p xs ≡ true → until_first p (xs ++ ys) ≡ until_first p xs
-until_more p [] ys found = absurd (true_not_false (sym found))
+until_more p [] ys found = absurd (true≢false (sym found))
 until_more p (x ∷ xs) ys found = elim (or_at (p x) (has p xs) found) [
   | inl here ↦ ap (λ k. cond k (x ∷ []) (cond (has p (xs ++ ys)) (x ∷ until_first p (xs ++ ys)) [])) here ∙ sym (ap (λ k. cond k (x ∷ []) (cond (has p xs) (x ∷ until_first p xs) [])) here)
   | inr more ↦
@@ -52,13 +50,13 @@ until_end p (y ∷ xs) x off on =
 -- a cut of a cut
 in_cut : (p q : Entry → Bool) (xs : List Entry) → has q (until_first p xs) ≡ true → until_first q (until_first p xs) ≡ until_first q xs
 in_cut p q [] found = refl
-in_cut p q (x ∷ xs) found = elim (bool_cases (p x)) [
+in_cut p q (x ∷ xs) found = elim (cases_Bool (p x)) [
   | inl on ↦
       let cut : until_first p (x ∷ xs) ≡ x ∷ [] = ap (λ k. cond k (x ∷ []) (cond (has p xs) (x ∷ until_first p xs) [])) on in
       let at : q x ≡ true = alone (q x) (ap (λ (l : List Entry). has q l) (sym cut) ∙ found) in
       ap (λ (l : List Entry). until_first q l) cut ∙ ap (λ k. cond k (x ∷ []) []) at ∙ sym (ap (λ k. cond k (x ∷ []) (cond (has q xs) (x ∷ until_first q xs) [])) at)
-  | inr off ↦ elim (bool_cases (has p xs)) [
-    | inr none ↦ absurd (true_not_false (sym found ∙ (λ i. has q (cond (off i) (x ∷ []) (cond (none i) (x ∷ until_first p xs) [])))))
+  | inr off ↦ elim (cases_Bool (has p xs)) [
+    | inr none ↦ absurd (true≢false (sym found ∙ (λ i. has q (cond (off i) (x ∷ []) (cond (none i) (x ∷ until_first p xs) [])))))
     | inl more ↦
         let cut : until_first p (x ∷ xs) ≡ x ∷ until_first p xs = λ i. cond (off i) (x ∷ []) (cond (more i) (x ∷ until_first p xs) []) in
         ap (λ (l : List Entry). until_first q l) cut
@@ -72,7 +70,7 @@ in_cut p q (x ∷ xs) found = elim (bool_cases (p x)) [
   where
     alone : (b : Bool) → b || false ≡ true → b ≡ true
     alone true on = refl
-    alone false on = absurd (true_not_false (sym on))
+    alone false on = absurd (true≢false (sym on))
 
     found_in : (p q : Entry → Bool) (xs : List Entry) → has q (until_first p xs) ≡ true → has q xs ≡ true
     found_in p q [] found = found
@@ -81,19 +79,19 @@ in_cut p q (x ∷ xs) found = elim (bool_cases (p x)) [
         go : (b c : Bool) → has q (cond b (x ∷ []) (cond c (x ∷ until_first p xs) [])) ≡ true → (has q (until_first p xs) ≡ true → has q xs ≡ true) → q x || has q xs ≡ true
         go true c found rest = true_or (q x) (has q xs) (alone (q x) found)
         go false true found rest = elim (or_at (q x) (has q (until_first p xs)) found) [ inl at ↦ true_or (q x) (has q xs) at | inr more ↦ or_true_right (q x) (has q xs) (rest more.1) ]
-        go false false found rest = absurd (true_not_false (sym found))
+        go false false found rest = absurd (true≢false (sym found))
 
-live_push : (xs : List Entry) (live : List Entry) (e : Entry) → live_entries_from live (xs ++ e ∷ []) ≡ live_after (live_entries_from live xs) e
+pub live_push : (xs : List Entry) (live : List Entry) (e : Entry) → live_entries_from live (xs ++ e ∷ []) ≡ live_after (live_entries_from live xs) e
 live_push [] live e = refl
 live_push (x ∷ xs) live e = live_push xs (live_after live x) e
 
-live_grows : (live : List Entry) (e : Entry) → is_begin e ≡ false → live_after live e ≡ live ++ e ∷ []
+pub live_grows : (live : List Entry) (e : Entry) → is_begin e ≡ false → live_after live e ≡ live ++ e ∷ []
 live_grows live (schema_part part parts bytes) off = refl
 live_grows live (image f b before after) off = refl
 live_grows live (byte_range f b place bytes) off = refl
 live_grows live (quiet_point n) off = refl
 live_grows live (control_point n next counts) off = refl
-live_grows live (begin_restore n kind) off = absurd (true_not_false off)
+live_grows live (begin_restore n kind) off = absurd (true≢false off)
 
 -- ---- what is read
 
@@ -205,8 +203,8 @@ changes_told (x ∷ xs) acc found = elim (or_at (has is_described (acc ++ change
       where
         single : (b : Bool) → b || false ≡ true → b ≡ true
         single true on = refl
-        single false on = absurd (true_not_false (sym on))
-    one (range f b place bytes) on = absurd (true_not_false (sym on ∙ range_plain f b place bytes (last_after f b acc)))
+        single false on = absurd (true≢false (sym on))
+    one (range f b place bytes) on = absurd (true≢false (sym on ∙ range_plain f b place bytes (last_after f b acc)))
 
 abbrev HasOne : Option (List ℕ) → Type 0
 HasOne o = (bytes : List ℕ) × (o ≡ Some bytes)
@@ -220,17 +218,17 @@ kept_one (e ∷ es) r found one = kept_one es (after_schema r e) (cond (is_whole
     either false = one
 
 finds_one : (es : List Entry) (r : SchemaRead) (found : Option (List ℕ)) → (is_whole r.parts ≡ true → HasOne found) → has told_whole (logged_from r.parts es) ≡ true → HasOne (last_schema r found es)
-finds_one [] r found was told = absurd (true_not_false (sym told))
+finds_one [] r found was told = absurd (true≢false (sym told))
 finds_one (schema_part part parts bytes ∷ es) r found was told =
     finds_one es (after_schema r (schema_part part parts bytes)) (cond (is_whole (after_schema r (schema_part part parts bytes)).parts) (Some (after_schema r (schema_part part parts bytes)).bytes) found) (λ on. ((after_schema r (schema_part part parts bytes)).bytes, ap (λ c. cond c (Some (after_schema r (schema_part part parts bytes)).bytes) found) on)) told
-finds_one (image f b before after ∷ es) r found was told = finds_one es no_schema found (λ on. absurd (true_not_false (sym on))) told
-finds_one (byte_range f b place bytes ∷ es) r found was told = finds_one es no_schema found (λ on. absurd (true_not_false (sym on))) told
-finds_one (quiet_point n ∷ es) r found was told = finds_one es no_schema found (λ on. absurd (true_not_false (sym on))) told
+finds_one (image f b before after ∷ es) r found was told = finds_one es no_schema found (λ on. absurd (true≢false (sym on))) told
+finds_one (byte_range f b place bytes ∷ es) r found was told = finds_one es no_schema found (λ on. absurd (true≢false (sym on))) told
+finds_one (quiet_point n ∷ es) r found was told = finds_one es no_schema found (λ on. absurd (true≢false (sym on))) told
 finds_one (control_point n next counts ∷ es) r found was told = elim (or_at (is_whole r.parts) (has told_whole (logged_from no_parts es)) told) [
   | inl whole ↦ kept_one es no_schema found (was whole)
-  | inr more ↦ finds_one es no_schema found (λ on. absurd (true_not_false (sym on))) more.1
+  | inr more ↦ finds_one es no_schema found (λ on. absurd (true≢false (sym on))) more.1
 ]
-finds_one (begin_restore n kind ∷ es) r found was told = finds_one es no_schema found (λ on. absurd (true_not_false (sym on))) told
+finds_one (begin_restore n kind ∷ es) r found was told = finds_one es no_schema found (λ on. absurd (true≢false (sym on))) told
 
 pub live_has_schema : LiveHasSchema
 unfolding schema_at all_changes
@@ -239,4 +237,4 @@ live_has_schema entries n at =
     let told : all_changes (logged front) ≡ until_first (is_point n) (live_of entries) =
     ap all_changes (cut_logged n (live_entries entries) no_parts) ∙ changes_until n (logged (live_entries entries))
     ∙ ap (λ (l : List Logged). until_first (is_point n) (all_changes l)) (live_of_entries entries) ∙ ap (λ (l : List Event). until_first (is_point n) l) (sym (live_of_ranges (logged entries))) in
-    finds_one front no_schema None (λ on. absurd (true_not_false (sym on))) (changes_told (logged front) [] (ap (λ (l : List Event). has is_described l) told ∙ at.described))
+    finds_one front no_schema None (λ on. absurd (true≢false (sym on))) (changes_told (logged front) [] (ap (λ (l : List Event). has is_described l) told ∙ at.described))

@@ -1,6 +1,7 @@
 -- Whole Schemas, and the live entries.
 use Rattle.std.proofs.Common.{ℕ, ◌+◌, ◌*◌, ◌<◌, ◌≤◌, ◌≡◌, ◌==◌, ◌&&◌, ◌||◌, ◌⊎◌, inl, inr, Bool, true, false, cond, List, [], ◌∷◌, ◌++◌, length, length-append, refl, sym, ◌∙◌, ap, subst, arith, append_assoc}
 use Rattle.std.proofs.lemmas.Bool.Decides.{nat_tests}
+use Rattle.std.proofs.lemmas.Bool.{cases_Bool, true≢false}
 use Rattle.dms_history.specs.Events.{change, quiet, control, begin}
 use Rattle.dms_history.specs.Lists.{has, until_first}
 use Rattle.dms_history.specs.Ranges.{Logged, event, range, is_point_logged, live_logged}
@@ -9,12 +10,8 @@ use Rattle.dms_history.specs.Schemas.{Parts, no_parts, after_entry, parts_from, 
 use Rattle.dms_history.specs.EntryEvents.{said_by, logged_from, logged, is_place, live_entries_from}
 use Rattle.dms_history.specs.LawsOfEntries.{EndsWithSchema, WholeSchemas, LiveOfEntries, RowsOfBlocks}
 use Rattle.dms_history.proofs.Cuts.{until_none}
-use Rattle.dms_history.proofs.AtPoints.{bool_cases}
 use Rattle.dms_history.proofs.HalfDone.{or_at}
 use Rattle.dms_history.proofs.Order.{append_none, eq_of}
-
-true_not_false : true ≡ false → ⊥
-true_not_false e = absurd cc
 
 pub rows_of_blocks : RowsOfBlocks
 rows_of_blocks f b r = record {
@@ -69,7 +66,7 @@ goes_on : (done : List Entry) (p : Parts) (part parts : ℕ) (bytes : List ℕ) 
 goes_on done p part parts bytes ends off on =
     let both = two_tests part (p.read + 1) parts p.all on in
     elim ends [
-      | inl none ↦ absurd (true_not_false (sym (is_one part (both.0 ∙ ap (λ k. k + 1) none)) ∙ off))
+      | inl none ↦ absurd (true≢false (sym (is_one part (both.0 ∙ ap (λ k. k + 1) none)) ∙ off))
       | inr more ↦ inr (
         more.0,
         more.1 ++ bytes ∷ [],
@@ -88,11 +85,11 @@ goes_on done p part parts bytes ends off on =
     number is same = omega (arith, is, same)
 
 ends_step : (done : List Entry) (p : Parts) (e : Entry) → EndsSchema p done → EndsSchema (after_entry p e) (done ++ e ∷ [])
-ends_step done p (schema_part part parts bytes) ends = elim (bool_cases (part == 1)) [
+ends_step done p (schema_part part parts bytes) ends = elim (cases_Bool (part == 1)) [
   | inl one ↦ subst (λ t. EndsSchema (cond t (record { read = 1; all = parts }) (cond ((part == p.read + 1) && (parts == p.all)) (record { read = part; all = parts }) no_parts)) (done ++ schema_part part parts bytes ∷ [])) (sym one)
       (inr (done, bytes ∷ [], ap (λ k. done ++ schema_part k parts bytes ∷ []) (eq_of part 1 one), refl))
   | inr off ↦ subst (λ t. EndsSchema (cond t (record { read = 1; all = parts }) (cond ((part == p.read + 1) && (parts == p.all)) (record { read = part; all = parts }) no_parts)) (done ++ schema_part part parts bytes ∷ [])) (sym off)
-      (elim (bool_cases ((part == p.read + 1) && (parts == p.all))) [
+      (elim (cases_Bool ((part == p.read + 1) && (parts == p.all))) [
         | inl on ↦ subst (λ t. EndsSchema (cond t (record { read = part; all = parts }) no_parts) (done ++ schema_part part parts bytes ∷ [])) (sym on) (goes_on done p part parts bytes ends off on)
         | inr no_more ↦ subst (λ t. EndsSchema (cond t (record { read = part; all = parts }) no_parts) (done ++ schema_part part parts bytes ∷ [])) (sym no_more) (inl refl)
       ])
@@ -177,7 +174,7 @@ cut_logged n (begin_restore m kind ∷ xs) p =
 
 -- a cut ends with a point, so no Schema part stands last
 cut_found : (n : ℕ) (xs : List Entry) (p : Parts) → has (is_place n) xs ≡ true → parts_from p (until_first (is_place n) xs) ≡ no_parts
-cut_found n [] p found = absurd (true_not_false (sym found))
+cut_found n [] p found = absurd (true≢false (sym found))
 cut_found n (schema_part part parts bytes ∷ xs) p found =
     ap (λ c. parts_from p (cond c (schema_part part parts bytes ∷ until_first (is_place n) xs) [])) found ∙ cut_found n xs (after_entry p (schema_part part parts bytes)) found
 cut_found n (image f b before after ∷ xs) p found = ap (λ c. parts_from p (cond c (image f b before after ∷ until_first (is_place n) xs) [])) found ∙ cut_found n xs no_parts found
@@ -193,7 +190,7 @@ cut_found n (control_point m next counts ∷ xs) p found = elim (or_at (m == n) 
 cut_found n (begin_restore m kind ∷ xs) p found = ap (λ c. parts_from p (cond c (begin_restore m kind ∷ until_first (is_place n) xs) [])) found ∙ cut_found n xs no_parts found
 
 cut_parts : (n : ℕ) (xs : List Entry) → parts_from no_parts (until_first (is_place n) xs) ≡ no_parts
-cut_parts n xs = elim (bool_cases (has (is_place n) xs)) [
+cut_parts n xs = elim (cases_Bool (has (is_place n) xs)) [
   | inl found ↦ cut_found n xs no_parts found
   | inr off ↦ ap (λ (l : List Entry). parts_from no_parts l) (until_none (is_place n) xs off)
 ]

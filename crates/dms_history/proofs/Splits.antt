@@ -1,17 +1,15 @@
 -- What follows a Control is turned by itself.
 use Rattle.std.proofs.Common.{ℕ, ◌≡◌, ◌⊎◌, inl, inr, Bool, true, false, cond, List, [], ◌∷◌, ◌++◌, None, refl, sym, ◌∙◌, ap, append_assoc}
+use Rattle.std.proofs.lemmas.Bool.{cases_Bool, true≢false}
 use Rattle.dms_history.specs.Events.{Event, control}
 use Rattle.dms_history.specs.Images.{or_else, last_after}
 use Rattle.dms_history.specs.Ranges.{Logged, event, range, range_change, changes_of, changes_from, all_changes, is_image, is_control_logged, is_point_logged}
 use Rattle.dms_history.specs.Lists.{has, after_last, until_first}
 use Rattle.dms_history.specs.LawsOfRanges.{is_range, RangesSplit, ImagesGoOn}
 use Rattle.dms_history.proofs.Picks.{option_cases, last_append}
-use Rattle.dms_history.proofs.AtPoints.{bool_cases, or_true_right}
+use Rattle.dms_history.proofs.AtPoints.{or_true_right}
 use Rattle.dms_history.proofs.Order.{split_push, not_empty}
 use Rattle.dms_history.proofs.Turns.{out_right}
-
-true_not_false : true ≡ false → ⊥
-true_not_false e = absurd cc
 
 change_behind : (P Q : List Event) (x : Logged) → ((f b place : ℕ) (bytes : List ℕ) → x ≡ range f b place bytes → last_after f b Q ≡ None → ⊥) → changes_of (P ++ Q) x ≡ changes_of Q x
 change_behind P Q (event e) some = refl
@@ -45,7 +43,7 @@ behind_append (x ∷ xs) ys found =
 
 some_behind : (p : Logged → Bool) (us : List Logged) → has p (after_last is_control_logged us) ≡ true → has p us ≡ true
 some_behind p [] found = found
-some_behind p (x ∷ us) found = elim (bool_cases (has is_control_logged (x ∷ us))) [
+some_behind p (x ∷ us) found = elim (cases_Bool (has is_control_logged (x ∷ us))) [
   | inl on ↦ or_true_right (p x) (has p us) (some_behind p us (ap (λ k. has p (cond k (after_last is_control_logged us) (x ∷ us))) (sym on) ∙ found))
   | inr off ↦ ap (λ k. has p (cond k (after_last is_control_logged us) (x ∷ us))) (sym off) ∙ found
 ]
@@ -60,10 +58,10 @@ ranges_split xs ys n next counts described ranged =
     let image = ranged.images (xs ++ c ∷ us) vs f b place bytes all (inr (some_append is_control_logged xs (c ∷ us) refl)) in
     let late : after_last is_control_logged (xs ++ c ∷ us) ≡ after_last is_control_logged us = behind_append xs (c ∷ us) refl in
     let found : has (is_image f b) us ≡ true = some_behind (is_image f b) us (ap (λ (l : List Logged). has (is_image f b) l) (sym late) ∙ image) in
-    true_not_false (sym found ∙ (out_right f b us (e ∷ []) none).1))
+    true≢false (sym found ∙ (out_right f b us (e ∷ []) none).1))
 
 not_range : (x : Logged) (f b place : ℕ) (bytes : List ℕ) → is_range x ≡ false → range f b place bytes ≡ x → ⊥
-not_range x f b place bytes off is = true_not_false (ap is_range is ∙ off)
+not_range x f b place bytes off is = true≢false (ap is_range is ∙ off)
 
 split_entry : (p : Logged → Bool) (xs : List Logged) → (rest : List Logged) × ((until_first p xs ≡ []) ⊎ (until_first p xs ++ rest ≡ xs))
 split_entry p [] = ([], inl refl)

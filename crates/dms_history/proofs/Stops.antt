@@ -2,6 +2,8 @@
 use Rattle.std.proofs.Common.{ℕ, ◌<◌, ◌≡◌, ◌||◌, ◌&&◌, inl, inr, Bool, true, false, cond, List, [], ◌∷◌, ◌++◌, map, length, Option, Some, None, refl, sym, ◌∙◌, ap, subst, arith}
 use Rattle.std.specs.List.{range_with_len}
 use Rattle.std.proofs.lemmas.List.FromFn.{fill_by_all}
+use Rattle.std.proofs.lemmas.Bool.{cases_Bool, true≢false}
+use Rattle.std.proofs.lemmas.Option.{none-some}
 use Rattle.dms_history.specs.Events.{BlockBytes, AllBlocks, Stored, Counts, How, halt_load, back_out, roll_back, rebuild, reconstruct, Event, control, block_in}
 use Rattle.dms_history.specs.Replay.{Chain, replay}
 use Rattle.dms_history.specs.Images.{last_after, first_before, value, choice}
@@ -14,17 +16,11 @@ use Rattle.dms_history.specs.History.{Pending, History}
 use Rattle.dms_history.specs.Restores.{is_none, is_unlogged, has_no_before, takes_stored}
 use Rattle.dms_history.specs.LawsOfRestores.{RestoreBegins, RestoreWrites, RestoreEnds, EndsFirst, PendingWritesFirst}
 use Rattle.dms_history.proofs.Picks.{chain_split, some_is}
-use Rattle.dms_history.proofs.AtPoints.{bool_cases, split_first, replay_append, true_or, or_true_right}
+use Rattle.dms_history.proofs.AtPoints.{split_first, replay_append, true_or, or_true_right}
 use Rattle.dms_history.proofs.HalfDone.{has_front, until_until, chain_control}
 use Rattle.dms_history.proofs.Base.{content_length, content_block, has_append}
 use Rattle.dms_history.proofs.Converse.{opening_append}
 use Rattle.dms_history.proofs.Given.{controlled, from_until, live_from, at_point, outcome_right}
-
-true_not_false : true ≡ false → ⊥
-true_not_false e = absurd cc
-
-none_not_some : {A : Type 0} (x : A) → None ≡ Some x → ⊥
-none_not_some x e = absurd cc
 
 -- ---- prefixes
 
@@ -35,16 +31,16 @@ has_self p (e ∷ es) found = go (p e) (has p es) refl found (λ more. has_self 
     go : (b c : Bool) → p e ≡ b → b || c ≡ true → (c ≡ true → has p (until_first p es) ≡ true) → has p (cond b (e ∷ []) (cond c (e ∷ until_first p es) [])) ≡ true
     go true c is some rest = ap (λ k. k || false) is
     go false true is some rest = or_true_right (p e) (has p (until_first p es)) (rest refl)
-    go false false is some rest = absurd (true_not_false (sym some))
+    go false false is some rest = absurd (true≢false (sym some))
 
 pub until_append : (p : Event → Bool) (xs ys : List Event) → has p xs ≡ true → until_first p (xs ++ ys) ≡ until_first p xs
-until_append p [] ys found = absurd (true_not_false (sym found))
+until_append p [] ys found = absurd (true≢false (sym found))
 until_append p (e ∷ xs) ys found = go (p e) (has p xs) (has p (xs ++ ys)) found (λ more. has_append p xs ys ∙ true_or (has p xs) (has p ys) more) (λ more. until_append p xs ys more)
   where
     go : (b c d : Bool) → b || c ≡ true → (c ≡ true → d ≡ true) → (c ≡ true → until_first p (xs ++ ys) ≡ until_first p xs) → cond b (e ∷ []) (cond d (e ∷ until_first p (xs ++ ys)) []) ≡ cond b (e ∷ []) (cond c (e ∷ until_first p xs) [])
     go true c d some leads rest = refl
     go false true d some leads rest = λ i. cond (leads refl i) (e ∷ rest refl i) []
-    go false false d some leads rest = absurd (true_not_false (sym some))
+    go false false d some leads rest = absurd (true≢false (sym some))
 
 pub front_live : (entries : List Event) (m : ℕ) → IsLive entries m → IsLive (until_first (is_point m) entries) m
 front_live entries m at =
@@ -155,7 +151,7 @@ restore_ends dumps t base stored written p next counts described is steady count
           let under : b < counts f = omega (arith, subst (λ (c : AllBlocks). b < length (c f)) now low, count_is f) in
           stand f b under ∙ ap (λ (s : Stored). s f b) (here_is dumps t p stored is) ∙ ap (λ (c : AllBlocks). block_in c f b) (right ∙ sym now);
     } in record {
-      steady = record { sound = sound; restored = λ q none. absurd (none_not_some q none); point_lives = λ q none. absurd (none_not_some q none) };
+      steady = record { sound = sound; restored = λ q none. absurd (none-some q none); point_lives = λ q none. absurd (none-some q none) };
       points = λ n live.
           let more : until_first (is_point n) (t.live ++ e ∷ []) ≡ until_first (is_point n) t.live = until_append (is_point n) t.live (e ∷ []) live.found in
           let live_on : IsLive (t.live ++ e ∷ []) n = record {
@@ -187,7 +183,7 @@ ends_first dumps t base right stored written p next d named counts described is 
     λ f b s low. ap (λ (r : Stored). r f b) (here_is dumps t p s is) ∙ outcome_block p.how dumps p.entries m f b s (low_is f b low) in
     let ended = restore_ends dumps t base right mixed p next counts described is steady
     (λ f. count f ∙ outcome_length p.how dumps p.entries m f stored ∙ sym (outcome_length p.how dumps p.entries m f right))
-    (λ f b low. elim (bool_cases (named f b)) [
+    (λ f b low. elim (cases_Bool (named f b)) [
       | inl on ↦ ap (λ k. cond k (here dumps t right f b) (written f b)) on
       | inr off ↦
           ap (λ k. cond k (here dumps t right f b) (written f b)) off ∙ stand f b low off ∙ block f b stored low
@@ -215,27 +211,27 @@ unfolding pick choice
 log_takes entries m f b s on = go (last_after f b (after_last is_control (until_first (is_point m) entries))) (first_before f b (after_first (is_point m) entries)) on
   where
     go : (o : Option BlockBytes) (first : Option (Option BlockBytes)) → is_none o && has_no_before first ≡ true → value o first (s f b) ≡ s f b
-    go (Some x) first at = absurd (true_not_false (sym at))
+    go (Some x) first at = absurd (true≢false (sym at))
     go None None at = refl
     go None (Some None) at = refl
-    go None (Some (Some old)) at = absurd (true_not_false (sym at))
+    go None (Some (Some old)) at = absurd (true≢false (sym at))
 
 pub takes_is : (how : How) (dumps : Dumps) (entries : List Event) (m f b : ℕ) (s : Stored) → takes_stored how entries m f b ≡ true → restore_pick how dumps entries m s f b ≡ s f b
 unfolding restore_pick
 takes_is halt_load dumps entries m f b s on = log_takes entries m f b s on
 takes_is back_out dumps entries m f b s on = log_takes entries m f b s on
 takes_is roll_back dumps entries m f b s on = log_takes entries m f b s on
-takes_is (rebuild d) dumps entries m f b s on = absurd (true_not_false (sym on))
+takes_is (rebuild d) dumps entries m f b s on = absurd (true≢false (sym on))
 takes_is (reconstruct d named) dumps entries m f b s on = go (named f b) on
   where
     go : (k : Bool) → cond k false (is_unlogged entries m f b) ≡ true → cond k (dump_pick entries (dumps d) m f b) (pick entries m s f b) ≡ s f b
-    go true at = absurd (true_not_false (sym at))
+    go true at = absurd (true≢false (sym at))
     go false at = log_takes entries m f b s at
 
 pub pending_writes_first : PendingWritesFirst
 pending_writes_first dumps t base right stored written p named is steady same kept =
     let m = p.point in
-    restore_writes dumps t base right (λ f b. cond (named f b) (here dumps t right f b) (written f b)) p is steady (λ f b low on. elim (bool_cases (named f b)) [
+    restore_writes dumps t base right (λ f b. cond (named f b) (here dumps t right f b) (written f b)) p is steady (λ f b low on. elim (cases_Bool (named f b)) [
       | inl yes_named ↦
           ap (λ k. cond k (here dumps t right f b) (written f b)) yes_named
           ∙ ap (λ (s : Stored). s f b) (here_is dumps t p right is) ∙ outcome_block p.how dumps p.entries m f b right low ∙ takes_is p.how dumps p.entries m f b right on

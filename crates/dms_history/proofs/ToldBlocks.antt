@@ -1,9 +1,10 @@
 -- What the audit tells of a block.
 use Rattle.std.specs.Prelude.{nat_lt, slice_index_or}
 use Rattle.std.proofs.Common.{ℕ, ◌<◌, ◌≤◌, ◌≡◌, ◌&&◌, inl, inr, Bool, true, false, List, [], length, Option, Some, None, refl, sym, ◌∙◌, ap, arith}
-use Rattle.std.proofs.lemmas.Bool.{cases_lt}
+use Rattle.std.proofs.lemmas.Bool.{cases_lt, true≢false}
 use Rattle.std.proofs.lemmas.Bool.Decides.{nat_tests}
 use Rattle.std.proofs.lemmas.List.{get_or_past}
+use Rattle.std.proofs.lemmas.Option.{none-some}
 use Rattle.dms_history.specs.Events.{BlockBytes, Stored, Event}
 use Rattle.dms_history.specs.Lists.{has, until_first, after_first, after_last}
 use Rattle.dms_history.specs.Places.{is_control, is_point}
@@ -17,35 +18,29 @@ use Rattle.dms_history.proofs.Picks.{some_is}
 use Rattle.dms_history.proofs.Cuts.{until_none, after_none}
 use Rattle.dms_history.proofs.Stops.{log_same, log_takes, restore_same, takes_is, outcome_block, outcome_length}
 
-none_not_some : {A : Type 0} (x : A) → None ≡ Some x → ⊥
-none_not_some x e = absurd cc
-
-true_not_false : true ≡ false → ⊥
-true_not_false e = absurd cc
-
 told_value : (o : Option BlockBytes) (first : Option (Option BlockBytes)) (st x : BlockBytes) → or_else o (undone_to first) ≡ Some x → value o first st ≡ x
 told_value (Some y) first st x is = some_is y x is
-told_value None None st x is = absurd (none_not_some x is)
-told_value None (Some None) st x is = absurd (none_not_some x is)
+told_value None None st x is = absurd (none-some x is)
+told_value None (Some None) st x is = absurd (none-some x is)
 told_value None (Some (Some old)) st x is = some_is old x is
 
 kept_value : (o : Option BlockBytes) (first : Option (Option BlockBytes)) (st : BlockBytes) → or_else o (undone_to first) ≡ None → value o first st ≡ st
-kept_value (Some y) first st is = absurd (none_not_some y (sym is))
+kept_value (Some y) first st is = absurd (none-some y (sym is))
 kept_value None None st is = refl
 kept_value None (Some None) st is = refl
-kept_value None (Some (Some old)) st is = absurd (none_not_some old (sym is))
+kept_value None (Some (Some old)) st is = absurd (none-some old (sym is))
 
 none_unlogged : (o : Option BlockBytes) (first : Option (Option BlockBytes)) → or_else o (undone_to first) ≡ None → is_none o && has_no_before first ≡ true
-none_unlogged (Some y) first is = absurd (none_not_some y (sym is))
+none_unlogged (Some y) first is = absurd (none-some y (sym is))
 none_unlogged None None is = refl
 none_unlogged None (Some None) is = refl
-none_unlogged None (Some (Some old)) is = absurd (none_not_some old (sym is))
+none_unlogged None (Some (Some old)) is = absurd (none-some old (sym is))
 
 unlogged_none : (o : Option BlockBytes) (first : Option (Option BlockBytes)) → is_none o && has_no_before first ≡ true → or_else o (undone_to first) ≡ None
-unlogged_none (Some y) first is = absurd (true_not_false (sym is))
+unlogged_none (Some y) first is = absurd (true≢false (sym is))
 unlogged_none None None is = refl
 unlogged_none None (Some None) is = refl
-unlogged_none None (Some (Some old)) is = absurd (true_not_false (sym is))
+unlogged_none None (Some (Some old)) is = absurd (true≢false (sym is))
 
 pub tells_blocks : EachTold
 unfolding told_block pick choice
@@ -63,7 +58,7 @@ tells_blocks live m f b =
 
 and_both : (a b : Bool) → a && b ≡ true → (a ≡ true) × (b ≡ true)
 and_both true b on = (refl, on)
-and_both false b on = absurd (true_not_false (sym on))
+and_both false b on = absurd (true≢false (sym on))
 
 counts_is : (o : Option Pending) (dumps : Dumps) (stored : Stored) (f b : ℕ) → counts_stored o f b ≡ true → here_by o dumps stored f b ≡ stored f b
 counts_is None dumps stored f b on = refl
@@ -76,7 +71,7 @@ past_end : (blocks : List BlockBytes) (b : ℕ) → length blocks ≤ b → slic
 past_end blocks b high = get_or_past blocks b [] high
 
 counts_elsewhere : (o : Option Pending) (dumps : Dumps) (one two : Stored) (f b : ℕ) → counts_stored o f b ≡ false → here_by o dumps one f b ≡ here_by o dumps two f b
-counts_elsewhere None dumps one two f b off = absurd (true_not_false off)
+counts_elsewhere None dumps one two f b off = absurd (true≢false off)
 counts_elsewhere (Some p) dumps one two f b off = elim (cases_lt b (count_at p.entries p.point f)) [
   | inr high ↦
       past_end (outcome p.how dumps p.entries p.point one f) b (omega (arith, high, outcome_length p.how dumps p.entries p.point f one))
@@ -85,7 +80,7 @@ counts_elsewhere (Some p) dumps one two f b off = elim (cases_lt b (count_at p.e
       let test : nat_lt b (count_at p.entries p.point f) ≡ true = grind (arith, nat_tests, low) in
       let free : takes_stored p.how p.entries p.point f b ≡ false = ap (λ k. k && takes_stored p.how p.entries p.point f b) (sym test) ∙ off in
       outcome_block p.how dumps p.entries p.point f b one low
-      ∙ restore_same p.how dumps p.entries p.point f b one two (λ on. absurd (true_not_false (sym on ∙ free)))
+      ∙ restore_same p.how dumps p.entries p.point f b one two (λ on. absurd (true≢false (sym on ∙ free)))
       ∙ sym (outcome_block p.how dumps p.entries p.point f b two low)
 ]
 

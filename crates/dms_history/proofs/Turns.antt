@@ -1,5 +1,6 @@
 -- Ranges as changes.
 use Rattle.std.proofs.Common.{ℕ, ◌≡◌, ◌||◌, inl, inr, Bool, true, false, cond, List, [], ◌∷◌, ◌++◌, map, Option, Some, None, refl, sym, ◌∙◌, ap, subst, append_assoc}
+use Rattle.std.proofs.lemmas.Bool.{cases_Bool, true≢false}
 use Rattle.dms_history.specs.Events.{BlockBytes, Event, change, quiet, control, begin, block_in}
 use Rattle.dms_history.specs.Images.{is_at, or_else, last_after}
 use Rattle.dms_history.specs.Replay.{replay, with_block}
@@ -11,14 +12,11 @@ use Rattle.dms_history.specs.Ranges.{Logged, event, range, patched, range_change
 use Rattle.dms_history.specs.LawsOfRanges.{NoRanges, LiveOfRanges, LeftOut, RangeChanges}
 use Rattle.dms_history.proofs.Cuts.{until_none}
 use Rattle.dms_history.proofs.Picks.{place_cases, if_none, or_none, last_append, last_stands}
-use Rattle.dms_history.proofs.AtPoints.{bool_cases, replay_append, or_true_right, true_or, or_no}
+use Rattle.dms_history.proofs.AtPoints.{replay_append, or_true_right, true_or, or_no}
 use Rattle.dms_history.proofs.Runs.{changes}
 use Rattle.dms_history.proofs.Base.{has_append}
 use Rattle.dms_history.proofs.Converse.{logged_below}
 use Rattle.dms_history.proofs.Order.{append_none}
-
-true_not_false : true ≡ false → ⊥
-true_not_false e = absurd cc
 
 pub range_changes : RangeChanges
 range_changes entries base stored f b place bytes old sound last =
@@ -38,7 +36,7 @@ pub no_ranges : NoRanges
 unfolding all_changes
 no_ranges es = changes_of_events es []
 
-some_not_none : {A : Type 0} (x : A) → Some x ≡ None → ⊥
+pub some_not_none : {A : Type 0} (x : A) → Some x ≡ None → ⊥
 some_not_none x e = absurd cc
 
 -- ---- cuts
@@ -91,11 +89,11 @@ changes_has n (x ∷ xs) acc =
 
 point_head : (n : ℕ) (x : Logged) → is_point_logged n x ≡ true → (e : Event) × (x ≡ event e) × (is_point n e ≡ true)
 point_head n (event e) on = (e, refl, on)
-point_head n (range f b place bytes) on = absurd (true_not_false (sym on))
+point_head n (range f b place bytes) on = absurd (true≢false (sym on))
 
 changes_cut : (n : ℕ) (xs : List Logged) (acc : List Event) → has (is_point n) acc ≡ false → has (is_point_logged n) xs ≡ true → changes_from acc (until_first (is_point_logged n) xs) ≡ until_first (is_point n) (changes_from acc xs)
-changes_cut n [] acc off found = absurd (true_not_false (sym found))
-changes_cut n (x ∷ xs) acc off found = elim (bool_cases (is_point_logged n x)) [
+changes_cut n [] acc off found = absurd (true≢false (sym found))
+changes_cut n (x ∷ xs) acc off found = elim (cases_Bool (is_point_logged n x)) [
   | inl on ↦
       let r = point_head n x on in
       ap (λ k. changes_from acc (cond k (x ∷ []) (cond (has (is_point_logged n) xs) (x ∷ until_first (is_point_logged n) xs) []))) on
@@ -118,7 +116,7 @@ entry_none p (x ∷ xs) off = let both = or_no (p x) (has p xs) off in λ i. con
 
 pub changes_until : (n : ℕ) (xs : List Logged) → all_changes (until_first (is_point_logged n) xs) ≡ until_first (is_point n) (all_changes xs)
 unfolding all_changes
-changes_until n xs = elim (bool_cases (has (is_point_logged n) xs)) [
+changes_until n xs = elim (cases_Bool (has (is_point_logged n) xs)) [
   | inl found ↦ changes_cut n xs [] refl found
   | inr none ↦ ap (λ (l : List Logged). changes_from [] l) (entry_none (is_point_logged n) xs none) ∙ sym (until_none (is_point n) (changes_from [] xs) (changes_has n xs [] ∙ none))
 ]

@@ -1,6 +1,7 @@
 -- Trails, dumps and blocks that agree are steady.
 use Rattle.std.proofs.Common.{ℕ, ◌<◌, ◌≡◌, ◌||◌, inl, inr, Bool, true, false, List, [], ◌∷◌, ◌++◌, length, Some, None, refl, sym, ◌∙◌, ap, subst, arith, append_assoc}
 use Rattle.std.proofs.lemmas.List.{ext_get_or}
+use Rattle.std.proofs.lemmas.Bool.{cases_Bool, true≢false}
 use Rattle.dms_history.specs.Events.{BlockBytes, AllBlocks, Stored, How, Event, change, quiet, control, begin, block_in}
 use Rattle.dms_history.specs.Replay.{replay}
 use Rattle.dms_history.specs.Images.{or_else, last_after}
@@ -13,7 +14,7 @@ use Rattle.dms_history.specs.History.{Pending, History, after_event, history_fro
 use Rattle.dms_history.specs.Agrees.{ends_restore, BeginsAloneEvents}
 use Rattle.dms_history.specs.LawsOfBase.{AgreesIsSteady, SteadyAgrees}
 use Rattle.dms_history.proofs.Picks.{option_cases, or_none, some_is, last_append, last_stands, none_stands, replay_length}
-use Rattle.dms_history.proofs.AtPoints.{bool_cases, suffix_none}
+use Rattle.dms_history.proofs.AtPoints.{suffix_none}
 use Rattle.dms_history.proofs.HalfDone.{has_front, until_until}
 use Rattle.dms_history.proofs.Base.{has_append, parts, agrees_has_base}
 use Rattle.dms_history.proofs.Converse.{logged_below, agrees_leads, base_agrees}
@@ -21,14 +22,11 @@ use Rattle.dms_history.proofs.Given.{controlled, from_until, count_right}
 use Rattle.dms_history.proofs.Order.{append_none}
 use Rattle.dms_history.proofs.Stops.{has_self, here_is, outcome_length}
 
-true_not_false : true ≡ false → ⊥
-true_not_false e = absurd cc
-
 -- no Begin is live
 clean_front : (p : Event → Bool) (es : List Event) → has is_begin es ≡ false → has is_begin (until_first p es) ≡ false
-clean_front p es off = elim (bool_cases (has is_begin (until_first p es))) [
+clean_front p es off = elim (cases_Bool (has is_begin (until_first p es))) [
   | inr none ↦ none
-  | inl some ↦ absurd (true_not_false (sym (has_front p is_begin es some) ∙ off))
+  | inl some ↦ absurd (true≢false (sym (has_front p is_begin es some) ∙ off))
 ]
 
 clean_push : (es : List Event) (e : Event) → has is_begin es ≡ false → is_begin e ≡ false → has is_begin (es ++ e ∷ []) ≡ false
@@ -56,7 +54,7 @@ record CutHistory (t : History) (xs : List Event) : Type 0 where
 not_pending : (t : History) (xs es : List Event) (e : Event) → BeginsAloneEvents (xs ++ e ∷ es) → CutHistory t xs → ends_restore e ≡ false → (p : Pending) → t.pending ≡ Some p → ⊥
 not_pending t xs es e alone cut off p is =
     let r = cut.last p is in
-    true_not_false (sym (alone r.0 es r.1 r.2 e (ap (λ (l : List Event). l ++ e ∷ es) r.3 ∙ append_assoc r.0 (begin r.1 r.2 ∷ []) (e ∷ es))) ∙ off)
+    true≢false (sym (alone r.0 es r.1 r.2 e (ap (λ (l : List Event). l ++ e ∷ es) r.3 ∙ append_assoc r.0 (begin r.1 r.2 ∷ []) (e ∷ es))) ∙ off)
 
 none_not_some : (p : Pending) → None ≡ Some p → ⊥
 none_not_some p e = absurd cc

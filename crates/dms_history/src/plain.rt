@@ -1,12 +1,11 @@
 //! Blocks at a point, as a plain program over a small list of live events.
 
-ghost use Rattle.std.specs.Prelude.{◌≡◌, ℕ, ◌≤◌, true, false, length, take, drop, map, IfNone, IfSome, IfOk, slice_get, IsTrue, ◌↔◌, option_map};
+ghost use Rattle.std.specs.Prelude.{◌≡◌, ◌≤◌, true, false, length, take, drop, IfNone, IfSome, IfOk, IsTrue, ◌↔◌, option_map};
 ghost use Rattle.std.specs.Option.{option_copied};
-ghost use Rattle.dms_history.specs.Events.{block_in};
 ghost use Rattle.dms_history.specs.Lists.{has, until_first, after_first, after_last};
 ghost use Rattle.dms_history.specs.Places.{is_control, is_described, is_point, IsLive};
 ghost use Rattle.dms_history.specs.Images.{is_at, last_after, first_before, else_stored};
-ghost use Rattle.dms_history.specs.Pick.{Dump, reached_count, count_at, pick, dump_pick, blocks_at};
+ghost use Rattle.dms_history.specs.Pick.{reached_count, count_at, pick, blocks_at};
 ghost use Rattle.dms_history.specs.Told.{undone_to, told_block};
 ghost use Rattle.dms_history.specs.Ranges.{patched};
 ghost use Rattle.dms_history.specs.Entries.{counts_in, is_in_row, named_by};

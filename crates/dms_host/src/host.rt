@@ -1,4 +1,4 @@
-ghost use Rattle.std.specs.Prelude.{false, Ok, Err, None, [], ◌≡◌, MatchResult, IfOk};
+ghost use Rattle.std.specs.Prelude.{false, Ok, Err, None, [], ◌≡◌, MatchResult};
 ghost use Rattle.std.proofs.lemmas.Bool.{false≢true};
 ghost use Rattle.dms_calls.specs.Untold.{no_world, untold};
 
@@ -18,7 +18,9 @@ pub struct Host<R: Files> {
 
 impl<R: Files> Host<R> {
     /// The folder in which the program runs.
-    pub fn new(rt: R) -> Host<R> {
+    pub fn new(rt: R) -> Host<R>
+        ensures { result.rt ≡ rt }
+    {
         Host { rt }
     }
 }

@@ -1,4 +1,4 @@
-ghost use Rattle.std.specs.Prelude.{◌≤◌, length, IfOk};
+ghost use Rattle.std.specs.Prelude.{◌≡◌, ◌≤◌, ◌<◌, length, IfOk};
 
 use crate::host::failed;
 use dms_site::Failed;
@@ -20,7 +20,10 @@ pub struct Listing<D> {
 
 impl<D: Read> Listing<D> {
     /// A listing of which no name was read.
-    pub fn new(dir: D) -> Listing<D> {
+    pub fn new(dir: D) -> Listing<D>
+        ensures dir { result.dir ≡ dir }
+        ensures none { result.from ≡ result.to }
+    {
         Listing {
             dir,
             names: [0; ROOM],
@@ -30,7 +33,9 @@ impl<D: Read> Listing<D> {
     }
 
     /// Reads names, where each that was read was given. Answers Err where the reading failed.
-    pub fn fill(&mut self) -> Result<(), Failed> {
+    pub fn fill(&mut self) -> Result<(), Failed>
+        ensures kept { self.old.from < self.old.to → self.new ≡ self.old }
+    {
         if self.from < self.to {
             return Ok(());
         }

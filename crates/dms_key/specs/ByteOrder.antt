@@ -19,7 +19,7 @@ equal_is a b h = grind (arith, nat_tests, h)
 pub greater_is : (a b : ℕ) → b < a → nat_cmp a b ≡ Greater
 greater_is a b h = grind (arith, nat_tests, h)
 
-then_assoc : (o p r : Ordering) → ordering_then (ordering_then o p) r ≡ ordering_then o (ordering_then p r)
+pub then_assoc : (o p r : Ordering) → ordering_then (ordering_then o p) r ≡ ordering_then o (ordering_then p r)
 then_assoc Less p r = refl
 then_assoc Equal p r = refl
 then_assoc Greater p r = refl

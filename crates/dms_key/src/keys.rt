@@ -1,4 +1,4 @@
-ghost use Rattle.std.specs.Prelude.{◌≡◌, ◌++◌, ◌≤◌, OnOk, IfOk, length, slice_get, map};
+ghost use Rattle.std.specs.Prelude.{◌≡◌, ◌++◌, ◌≤◌, OnOk, IfOk, length};
 ghost use Rattle.dms_key.specs.KeyBytes.{turned_bytes, kind_of, part_bytes, part_width, key_bytes, key_width};
 
 use crate::fields::put_field;

@@ -3,6 +3,7 @@ use Rattle.std.proofs.Common.{◌≡◌, ℕ, List, [], ◌∷◌, ◌++◌, Boo
 use Rattle.std.specs.Prelude.{◌≢◌, filter}
 use Rattle.std.specs.Str.{bytes_eq}
 use Rattle.std.proofs.lemmas.Slice.Eq.{bytes_eq-Decides}
+use Rattle.std.proofs.lemmas.Bool.{false_from_ne_true}
 use Rattle.dms_desc.specs.Shape.{Described}
 use Rattle.dms_model.specs.Programs.{Wait}
 use Rattle.dms_model.specs.declared.reply.Reply.{Reply}
@@ -12,13 +13,9 @@ use Rattle.dms_model.specs.Session.{Session, is_of_other, step, waits_after}
 use Rattle.dms_model.proofs.Rises.{step_waits}
 use Rattle.dms_laws.specs.Waiting.{WaitsAsTold, named_by, waited_for}
 
-is_false : (b : Bool) → (b ≡ true → ⊥) → b ≡ false
-is_false true f = absurd (f refl)
-is_false false f = refl
-
 -- two names that differ
 unlike : (x y : List ℕ) → x ≢ y → bytes_eq x y ≡ false
-unlike x y apart = is_false (bytes_eq x y) (λ e. apart ((bytes_eq-Decides x y).0 e))
+unlike x y apart = false_from_ne_true (bytes_eq x y) (λ e. apart ((bytes_eq-Decides x y).0 e))
 
 itself : (x : List ℕ) → bytes_eq x x ≡ true
 itself x = (bytes_eq-Decides x x).1 refl

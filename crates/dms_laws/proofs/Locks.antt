@@ -5,6 +5,7 @@ use Rattle.std.specs.List.{list_any, AllByRecursion}
 use Rattle.std.specs.declared.option.Option.{Option}
 use Rattle.std.specs.FinMap.{get, insert}
 use Rattle.std.proofs.lemmas.Bool.Decides.{nat_tests}
+use Rattle.std.proofs.lemmas.Bool.{or_right, and_parts}
 use Rattle.dms_desc.specs.Shape.{Described}
 use Rattle.dms_desc.specs.declared.record.Record.{Record}
 use Rattle.dms_base.specs.declared.category.Category.{Category}
@@ -50,14 +51,10 @@ any_end t (x ∷ xs) y h e = or_end (t x) (list_any t xs) (list_any t (xs ++ y �
 
 lock_place : (place : Place) (set number : ℕ) → is_lock place.0 place.1 (record { set = set; number = number }) ≡ true → place ≡ (set, number)
 lock_place place set number h =
-    let both = parts (set == place.0) (number == place.1) h in
+    let both = and_parts (set == place.0) (number == place.1) h in
     let a : place.0 ≡ set = grind (arith, nat_tests, both.0) in
     let b : place.1 ≡ number = grind (arith, nat_tests, both.1) in
     λ i. (a i, b i)
-  where
-    parts : (a b : Bool) → (a && b) ≡ true → (a ≡ true) × (b ≡ true)
-    parts true b h = (refl, h)
-    parts false b h = absurd (cc)
 
 none_is_none : (o : Option Record) → o ≡ None → is_some o ≡ true → ⊥
 none_is_none o e h = let gone = ap is_some e in absurd (cc)
@@ -66,13 +63,9 @@ or_still : (b u w : Bool) → (u ≡ true → w ≡ true) → (b || u) ≡ true 
 or_still true u w k e = refl
 or_still false u w k e = k e
 
-or_more : (b w : Bool) → w ≡ true → (b || w) ≡ true
-or_more true w e = refl
-or_more false w e = e
-
 filter_at : {A : Type 0} (t f : A → Bool) (x : A) (xs : List A) (b : Bool) → (list_any t (filter f xs) ≡ true → list_any t xs ≡ true) → list_any t (cond b (x ∷ filter f xs) (filter f xs)) ≡ true → (t x || list_any t xs) ≡ true
 filter_at t f x xs true k h = or_still (t x) (list_any t (filter f xs)) (list_any t xs) k h
-filter_at t f x xs false k h = or_more (t x) (list_any t xs) (k h)
+filter_at t f x xs false k h = or_right (t x) (list_any t xs) (k h)
 
 -- what is left of a list by a test passes no test that the list doesn't
 any_filter : {A : Type 0} (t f : A → Bool) (xs : List A) → list_any t (filter f xs) ≡ true → list_any t xs ≡ true

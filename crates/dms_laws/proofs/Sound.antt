@@ -6,6 +6,7 @@ use Rattle.std.specs.List.{list_any, AllByRecursion}
 use Rattle.std.specs.declared.option.Option.{Option}
 use Rattle.std.specs.FinMap.{get, insert, get-empty, entries, len-entries, len-empty}
 use Rattle.std.proofs.lemmas.Bool.Decides.{nat_tests}
+use Rattle.std.proofs.lemmas.Bool.{and_parts}
 use Rattle.dms_base.specs.declared.value.Value.{Value}
 use Rattle.dms_base.specs.declared.value.Value.TheVariants.{Null}
 use Rattle.dms_base.specs.declared.category.Category.TheVariants.{LimitError, AuditError, Abort as AbortDue}
@@ -115,14 +116,10 @@ plain_olds db k some (Some r) at = some r at
 is_no_set : (s : Shape) → is_data_set (Some s) ≡ true → is_set s ≡ false
 is_no_set s h = by (is_set s) refl
   where
-    parts : (a b : Bool) → (a && b) ≡ true → (a ≡ true) × (b ≡ true)
-    parts true b h = (refl, h)
-    parts false b h = absurd (cc)
-
     by : (b : Bool) → is_set s ≡ b → b ≡ false
     by true e =
-        let low = (parts (nat_lt 2 s.kind) (nat_lt s.kind 6) e).0 in
-        let high = (parts (nat_lt 0 s.kind) (nat_lt s.kind 3) h).1 in
+        let low = (and_parts (nat_lt 2 s.kind) (nat_lt s.kind 6) e).0 in
+        let high = (and_parts (nat_lt 0 s.kind) (nat_lt s.kind 3) h).1 in
         absurd (grind (arith, nat_tests, low, high))
     by false e = refl
 

@@ -130,7 +130,7 @@ zeros_are (b ∷ bytes) h =
     let zero_here : b ≡ 0 = same_of b 0 both.0 in
     (λ j. zero_here j ∷ zeros_are bytes both.1 j)
 
-are_zeros : (n : ℕ) → list_all is_zero (replicate n 0) ≡ true
+pub are_zeros : (n : ℕ) → list_all is_zero (replicate n 0) ≡ true
 are_zeros zero = refl
 are_zeros (suc n) = are_zeros n
 
@@ -173,7 +173,7 @@ bad_is s bytes kinds h = (
   (λ slot fits e. used_not_bad slot (sym (slot_again s slot kinds fits) ∙ ap (slot_of s) (sym e) ∙ h)),
 )
 
-used_one : (a b : Slot) → Used a ≡ Used b → a ≡ b
+pub used_one : (a b : Slot) → Used a ≡ Used b → a ≡ b
 used_one a b h = cc
 
 -- two records that fit have two spellings

@@ -1,4 +1,4 @@
-ghost use Rattle.std.specs.Prelude.{◌≡◌, ◌+◌, ◌<◌, ◌≤◌, ℕ, [], ◌∷◌, ◌++◌, true, false, length, take, IfOk, OnOk, IsTrue, option_map};
+ghost use Rattle.std.specs.Prelude.{◌≡◌, ◌+◌, ◌<◌, ◌≤◌, [], ◌∷◌, ◌++◌, true, false, length, take, IfOk, OnOk, IsTrue, option_map};
 ghost use Rattle.std.proofs.Common.{refl};
 ghost use Rattle.dms_moments.specs.Moments.{Steps};
 ghost use Rattle.dms_sitemem.specs.Slots.{files_of};

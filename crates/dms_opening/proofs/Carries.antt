@@ -1,6 +1,7 @@
 -- A plan that is carried out.
 use Rattle.std.proofs.Common.{ℕ, ◌/◌, ◌≡◌, ◌⊎◌, inl, inr, Bool, true, false, cond, IsTrue, List, [], ◌∷◌, ◌++◌, append_assoc, length, take, Option, Some, None, refl, sym, ◌∙◌, ap, subst, arith}
 use Rattle.std.proofs.lemmas.List.{take_all}
+use Rattle.std.proofs.lemmas.Option.{none-some}
 use Rattle.dms_moments.specs.Moments.{After, Clock, Now, Runs, Steps}
 use Rattle.dms_site.specs.declared.site.Site.{Ghosts}
 use Rattle.dms_site.specs.Files.{Files, Left, stored_of}
@@ -43,9 +44,6 @@ use Rattle.dms_opening.specs.Plans.{Plans}
 use Rattle.dms_opening.specs.Openings.{begin_where_none, opening_entries, RunsFrom, MayHaveWritten, Reopens, text_of}
 use Rattle.dms_opening.specs.Carrying.{IsFitPlan, IsPlanned}
 use Rattle.dms_opening.proofs.LastPoint.{last_is, left_is}
-
-none_not_some : {A : Type 0} (x : A) → None ≡ Some x → ⊥
-none_not_some x e = absurd cc
 
 -- By the plan of a trail that was scanned the restore is begun, or goes on: its Begin alone stands behind the entries that there were.
 pub record BeginsPlan (a : LogView) (plan : OpeningPlan) (b : LogView) : Type 0 where
@@ -195,7 +193,7 @@ runs_both {a} {b} {P} {Q} {R} one two both = record {
 -- the text that is told is the one that was printed
 said_is : (b : Bool) (said s : List ℕ) → cond b (Some said) None ≡ Some s → IsTrue b × (said ≡ s)
 said_is true said s is = (refl, some_is said s is)
-said_is false said s is = absurd (none_not_some s is)
+said_is false said s is = absurd (none-some s is)
 
 module _ {S : Type 0} (g : Ghosts S) (now_said : (s : S) (x : Left) → IsTrue g.tells_said → Now (g.clock s) x → x.said ≡ g.said s) (t : Telling) (site : S) (later : Clock Left) where
   text_left : (x : Left) → After (g.clock site) PrintsNothing x → (s : List ℕ) → text_of g site ≡ Some s → x.said ≡ s

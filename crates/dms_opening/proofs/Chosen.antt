@@ -1,5 +1,6 @@
 -- What an opening does that isn't refused.
 use Rattle.std.proofs.Common.{ℕ, ◌≡◌, true, false, List, Option, Some, None, refl, sym, ◌∙◌, ap, subst}
+use Rattle.std.proofs.lemmas.Bool.{true≢false}
 use Rattle.dms_site.specs.Files.{Files}
 use Rattle.dms_history.specs.Events.{How, halt_load, back_out, roll_back, rebuild, reconstruct}
 use Rattle.dms_history.specs.Places.{IsLive}
@@ -54,12 +55,9 @@ begins_at h next point k pending none last is =
       is = record {
         point_is = refl;
         new = λ b. (pending, l.last ∙ ap (λ n. Some n) (sym same), subst (λ n. IsLive h.live n) (sym same) l.lives, refl);
-        goes_on = λ b. absurd (true_not_false b);
+        goes_on = λ b. absurd (true≢false b);
       };
     }
-  where
-    true_not_false : true ≡ false → ⊥
-    true_not_false e = absurd cc
 
 pub goes_on_with : (files : Files) (entries : List Entry) (h : TrailHistory) (q : PendingAt) → h.pending ≡ Some q → IsTraced files entries h → dump_in (history_of entries).pending ≡ None → judge_opening (history_of entries) (next_of entries) ≡ None
     → Chooses (history_of entries) (next_of entries) (record { begins = false; point = q.point })
@@ -70,13 +68,10 @@ goes_on_with files entries h q some t dump none =
       restore = s.p;
       is = record {
         point_is = s.at.point_is;
-        new = λ b. absurd (true_not_false (sym b));
+        new = λ b. absurd (true≢false (sym b));
         goes_on = λ b. (s.is, by_audit s.p.how (ap dump_in (sym s.is) ∙ dump));
       };
     }
-  where
-    true_not_false : true ≡ false → ⊥
-    true_not_false e = absurd cc
 
 pub dump_none : (files : Files) (entries : List Entry) (h : TrailHistory) → h.pending ≡ None → IsTraced files entries h → None ≡ dump_in (history_of entries).pending
 dump_none files entries h none t = sym (ap dump_in (none_pending files entries h none t))

@@ -1,6 +1,7 @@
 -- Files that hold a database are opened.
 use Rattle.std.proofs.Common.{ℕ, ◌<◌, ◌≡◌, inl, inr, Bool, true, false, List, Option, Some, None, length, refl, sym, ◌∙◌, ap, subst, arith}
-use Rattle.std.proofs.lemmas.Bool.{cases_lt}
+use Rattle.std.proofs.lemmas.Bool.{cases_lt, true≢false}
+use Rattle.std.proofs.lemmas.Option.{none-some}
 use Rattle.dms_site.specs.Files.{Files}
 use Rattle.dms_history.specs.Events.{Event}
 use Rattle.dms_history.specs.Lists.{has, until_first}
@@ -26,12 +27,6 @@ use Rattle.dms_opening.specs.Refusals.{at_point, judge_pending, judge_last, or_t
 use Rattle.dms_opening.specs.Plans.{HasNoDescription}
 use Rattle.dms_opening.specs.Laws.{LastIsDescribed, WholeIsOpened}
 
-true_not_false : true ≡ false → ⊥
-true_not_false e = absurd cc
-
-none_not_some : {A : Type 0} (x : A) → None ≡ Some x → ⊥
-none_not_some x e = absurd cc
-
 some_is : {A : Type 0} (x y : A) → Some x ≡ Some y → x ≡ y
 some_is x y is = cc
 
@@ -39,7 +34,7 @@ some_is x y is = cc
 below : (live : List Event) (next n : ℕ) → Numbered live next → has (is_point n) live ≡ true → n < next
 below live next n numbered found = elim (cases_lt n next) [
   | inl less ↦ less
-  | inr not ↦ absurd (true_not_false (sym found ∙ above_all live next n numbered not))
+  | inr not ↦ absurd (true≢false (sym found ∙ above_all live next n numbered not))
 ]
 
 -- a point that is live in what a cut leaves is live
@@ -104,8 +99,8 @@ whole_is_opened total first files fault whole last refuses = elim refuses [
     | inl points ↦ elim points [
       | inl memory ↦ inr memory
       | inr more ↦ elim more [
-        | inl by_dump ↦ absurd (none_not_some by_dump.0 (sym whole.no_dump ∙ by_dump.1))
-        | inr refused ↦ absurd (none_not_some refused.refused (sym (judged total first files whole last) ∙ refused.is))
+        | inl by_dump ↦ absurd (none-some by_dump.0 (sym whole.no_dump ∙ by_dump.1))
+        | inr refused ↦ absurd (none-some refused.refused (sym (judged total first files whole last) ∙ refused.is))
       ]
     ]
     | inr none ↦ absurd (described total first files whole last none.1)

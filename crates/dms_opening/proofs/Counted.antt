@@ -25,14 +25,12 @@ use Rattle.dms_audfile.specs.declared.fault.AudFault.TheVariants.{Disk, Memory}
 use Rattle.dms_opening.specs.PointCounts.{AllAtMost, IsNoCount, IsNoCountAmong}
 use Rattle.dms_restore.specs.LiveEntries.{event_at, events_at}
 use Rattle.dms_restore.proofs.Spots.{no_entry, events_more}
+use Rattle.dms_wal.proofs.Tabled.{count_low}
 
 -- ---- one place of a table
 
 high_count : (counts : List ℕ) (f : ℕ) → 30000 < f → count_of counts f ≡ get_or counts (f - 30001) 0
 high_count counts f high = grind (arith, nat_tests, high)
-
-low_count : (counts : List ℕ) (f : ℕ) → f ≤ 30000 → count_of counts f ≡ 0
-low_count counts f low = grind (arith, nat_tests, low)
 
 pub count_set : (counts : List ℕ) (file n f : ℕ) → length counts ≡ 200 → 30001 ≤ file → file ≤ 30200 → count_of (set counts (file - 30001) n) f ≡ (if file == f then n else count_of counts f)
 count_set counts file n f size low high = elim (cases_eq file f) [
@@ -48,7 +46,7 @@ count_set counts file n f size low high = elim (cases_eq file f) [
         | inl up ↦
             let apart : f - 30001 ≡ file - 30001 → ⊥ = λ e. other (omega (arith, e, up, low)) in
             high_count (set counts (file - 30001) n) f up ∙ get_or-set_other counts (file - 30001) (f - 30001) n 0 apart ∙ sym (high_count counts f up)
-        | inr down ↦ low_count (set counts (file - 30001) n) f down ∙ sym (low_count counts f down)
+        | inr down ↦ count_low (set counts (file - 30001) n) f down ∙ sym (count_low counts f down)
       ]))
 ]
   where
@@ -63,7 +61,7 @@ most_set counts file n size low high few all f = subst (λ k. k ≤ 2097152) (sy
     either false = all f
 
 pub none_counted : (counts : List ℕ) → ((i : ℕ) → get_or counts i 0 ≡ 0) → (f : ℕ) → count_of counts f ≡ 0
-none_counted counts none f = elim (cases_lt 30000 f) [ inl up ↦ high_count counts f up ∙ none (f - 30001) | inr down ↦ low_count counts f down ]
+none_counted counts none f = elim (cases_lt 30000 f) [ inl up ↦ high_count counts f up ∙ none (f - 30001) | inr down ↦ count_low counts f down ]
 
 -- ---- a list of counts
 
@@ -188,11 +186,6 @@ module _ (bytes : List ℕ) (file number : ℕ) (one : file ≡ from_be_bytes w3
   unfolding counts_at
   rises_not zero low some bad = absurd (omega arith)
   rises_not (suc k) low some bad = grind (arith, nat_tests, one, two)
-
-pub rises_end : (k low : ℕ) (bytes : List ℕ) → k ≡ 0 → true ≡ counts_rise low (counts_at k bytes)
-unfolding counts_at
-rises_end zero low bytes e = refl
-rises_end (suc k) low bytes e = absurd (omega arith)
 
 -- ---- where a count can't be known
 

@@ -1,6 +1,6 @@
 -- The bytes of a Schema are read from the places of its parts.
 use Rattle.std.proofs.Common.{ℕ, zero, suc, ◌+◌, ◌-◌, ◌<◌, ◌≤◌, min, ◌≡◌, ◌⊎◌, inl, inr, Bool, true, false, List, [], ◌∷◌, ◌++◌, map, length, take, drop, get_or, Some, None, refl, sym, ◌∙◌, ap, arith, append_assoc}
-use Rattle.std.proofs.lemmas.Bool.{cases_lt}
+use Rattle.std.proofs.lemmas.Bool.{cases_lt, true≢false}
 use Rattle.std.proofs.lemmas.List.{take_all}
 use Rattle.dms_site.specs.Files.{Files}
 use Rattle.dms_history.specs.Events.{Event}
@@ -22,7 +22,7 @@ use Rattle.dms_restore.specs.Scanned.{IsNoEntryOf}
 use Rattle.dms_restore.specs.SchemaSpans.{part_bytes, span_bytes}
 use Rattle.dms_restore.specs.Traces.{IsTraceOf}
 use Rattle.dms_restore.proofs.ReadOn.{no_place, get_place, there_at, map_length, entries_more}
-use Rattle.dms_restore.proofs.Spanned.{until_some, events_length}
+use Rattle.dms_restore.proofs.Spanned.{until_some, events_length, length_take}
 
 -- ---- where it stands
 
@@ -32,17 +32,12 @@ pub record SchemaThere (entries : List Entry) (t : TrailTrace) (point k : ℕ) :
   pub within : k ≤ length t.schemas.before.items
   pub is : span_bytes entries (get_or t.schemas.before.items (k - 1) None) ≡ schema_at entries point
 
-take_short : {A : Type 0} (k : ℕ) (xs : List A) → k ≤ length xs → length (take k xs) ≡ k
-take_short zero xs le = refl
-take_short (suc k) [] le = absurd (omega (arith, le))
-take_short (suc k) (x ∷ xs) le = ap suc (take_short k xs (omega (arith, le)))
-
 pub schema_there : (files : Files) (entries : List Entry) (t : TrailTrace) (point k : ℕ) (lent : List LiveEntry) → lent ≡ t.history.live.items → k ≤ length lent → until_first (is_point point) (events_at files lent) ≡ events_at files (take k lent)
     → IsTraceOf files entries t → has (is_point point) (live_of entries) ≡ true → SchemaThere entries t point k
 schema_there files entries t point k lent same le front is found =
     let live : live_of entries ≡ events_at files lent = is.history.live_is ∙ ap (events_at files) (sym same) in
     let size : length (until_first (is_point point) (live_of entries)) ≡ k =
-    ap (λ (l : List Event). length (until_first (is_point point) l)) live ∙ ap length front ∙ events_length files (take k lent) ∙ take_short k lent le in
+    ap (λ (l : List Event). length (until_first (is_point point) l)) live ∙ ap length front ∙ events_length files (take k lent) ∙ length_take k lent le in
     let some : 0 < k = omega (arith, until_some (is_point point) (live_of entries) found, size) in
     record {
       some = some;
@@ -55,10 +50,7 @@ schema_there files entries t point k lent same le front is found =
 
 pub no_place_there : (files : Files) (entries : List Entry) (t : TrailTrace) (point : ℕ) (lent : List LiveEntry) → lent ≡ t.history.live.items → has (is_point point) (events_at files lent) ≡ false → IsTraceOf files entries t → has (is_point point) (live_of entries) ≡ true → ⊥
 no_place_there files entries t point lent same off is found =
-    true_not_false (sym found ∙ ap (λ (l : List Event). has (is_point point) l) (is.history.live_is ∙ ap (events_at files) (sym same)) ∙ off)
-  where
-    true_not_false : true ≡ false → ⊥
-    true_not_false e = absurd cc
+    true≢false (sym found ∙ ap (λ (l : List Event). has (is_point point) l) (is.history.live_is ∙ ap (events_at files) (sym same)) ∙ off)
 
 -- ---- the parts, one after another
 

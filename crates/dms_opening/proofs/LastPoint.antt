@@ -1,6 +1,7 @@
 -- What an opening is to leave is the content of the last point.
 use Rattle.std.proofs.Common.{ℕ, ◌≤◌, ◌≡◌, Bool, true, false, List, [], ◌∷◌, map, Option, Some, None, refl, sym, ◌∙◌, ap, subst, arith}
 use Rattle.std.specs.Prelude.{◌==◌}
+use Rattle.std.proofs.lemmas.Bool.{true≢false}
 use Rattle.dms_site.specs.Files.{Files, stored_of}
 use Rattle.dms_history.specs.Events.{AllBlocks, Stored, Event, halt_load}
 use Rattle.dms_history.specs.Lists.{has, until_first}
@@ -30,16 +31,13 @@ use Rattle.dms_wal.specs.Lifting.{last_blocks}
 use Rattle.dms_wal.specs.Marks.{number_from, last_number}
 use Rattle.dms_wal.proofs.Pointing.{IsTop, top_is}
 
-true_not_false : true ≡ false → ⊥
-true_not_false e = absurd cc
-
 number_some : (before : Option ℕ) (q : DescribedPoint) (ps : List DescribedPoint) → (n : ℕ) × (number_from before (q ∷ ps) ≡ Some n)
 number_some before q [] = (q.number, refl)
 number_some before q (r ∷ ps) = number_some (Some q.number) r ps
 
 -- where there is a point there is a last one
 last_some : (es : List Entry) (ps : List LivePoint) (m : ℕ) → has (λ j. j == m) (numbers_of ps) ≡ true → (n : ℕ) × (last_number (map (described_in es) ps) ≡ Some n)
-last_some es [] m on = absurd (true_not_false (sym on))
+last_some es [] m on = absurd (true≢false (sym on))
 last_some es (q ∷ ps) m on = number_some None (described_in es q) (map (described_in es) ps)
 
 halt_left : (dumps : Dumps) (live : List Event) (m : ℕ) (stored : Stored) → blocks_at live stored m ≡ outcome halt_load dumps live m stored

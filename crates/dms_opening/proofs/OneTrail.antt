@@ -1,10 +1,8 @@
 -- Files have one trail at most, and what a call leaves of it that changes nothing.
-use Rattle.std.proofs.Common.{ℕ, ◌-◌, ◌≤◌, ◌<◌, ◌≡◌, inl, inr, List, [], length, sym, ◌∙◌, ap, subst, arith}
-use Rattle.std.proofs.lemmas.Bool.{cases_lt}
+use Rattle.std.proofs.Common.{ℕ, ◌-◌, ◌≤◌, ◌≡◌, inl, inr, List, [], sym, ◌∙◌, ap, subst, arith}
 use Rattle.dms_moments.specs.Moments.{Clock, Now, Runs, Steps}
 use Rattle.dms_site.specs.Files.{Files, Left, Same, Only}
 use Rattle.dms_audfile.specs.Header.{blocks_said}
-use Rattle.dms_audfile.specs.Trail.{Span}
 use Rattle.dms_audfile.specs.AuditTrail.{IsFound}
 use Rattle.dms_audfile.specs.Ends.{EndsAt}
 use Rattle.dms_audfile.specs.declared.audit_end.AuditEnd.{AuditEnd}
@@ -12,28 +10,13 @@ use Rattle.dms_audfile.specs.declared.place.EntryPlace.{EntryPlace}
 use Rattle.dms_audfile.proofs.Followed.{fits_says}
 use Rattle.dms_restore.specs.Laying.{IsAtStart}
 use Rattle.dms_opening.specs.Openings.{IsTrailFound}
-
-not_both : (bytes : List ℕ) → bytes ≡ [] → 0 < length bytes → ⊥
-not_both bytes none some = omega (arith, ap length none, some)
-
-last_le : (files : Files) (f l g m : ℕ) → Span files f l → Span files g m → m ≤ l
-last_le files f l g m one two = elim (cases_lt l m) [
-  | inl less ↦ absurd (not_both (files m) (one.absent m less two.high) (two.present m two.order (omega arith)))
-  | inr not ↦ not
-]
-
-first_le : (files : Files) (f l g m : ℕ) → Span files f l → Span files g m → g ≤ f
-first_le files f l g m one two = elim (cases_lt f g) [
-  | inl less ↦ (let p : ℕ = g - 1 in
-      absurd (not_both (files p) (two.before p (omega (arith, less, one.low)) (omega (arith, less))) (one.present p (omega (arith, less)) (omega (arith, less, two.order, last_le files f l g m one two)))))
-  | inr not ↦ not
-]
+use Rattle.dms_audfile.proofs.There.{span_first}
 
 found_first : (files : Files) (f g : ℕ) (ps qs : List EntryPlace) → IsFound files f ps → IsFound files g qs → f ≡ g
 found_first files f g ps qs one two =
     let s = one.trail in
     let t = two.trail in
-    omega (arith, one.first_is, two.first_is, first_le files s.first s.last t.first t.last s.span t.span, first_le files t.first t.last s.first s.last t.span s.span)
+    omega (arith, one.first_is, two.first_is, span_first files s.first s.last t.first t.last s.span t.span, span_first files t.first t.last s.first s.last t.span s.span)
 
 -- its first file and the number of blocks a file
 pub one_first : (t f u g : ℕ) (files : Files) → IsTrailFound t f files → IsTrailFound u g files → f ≡ g

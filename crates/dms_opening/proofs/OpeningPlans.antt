@@ -2,6 +2,8 @@
 use Rattle.std.specs.Prelude.{◌||◌}
 use Rattle.std.proofs.Common.{ℕ, ◌≡◌, ◌⊎◌, inl, inr, Bool, true, false, cond, IsTrue, List, [], ◌∷◌, ◌++◌, map, take, drop, Option, Some, None, refl, sym, ◌∙◌, ap, subst, append-nil}
 use Rattle.std.proofs.lemmas.List.{map-append, take-append-drop}
+use Rattle.std.proofs.lemmas.Bool.{true≢false}
+use Rattle.std.proofs.lemmas.Option.{none-some}
 use Rattle.dms_site.specs.Files.{Files}
 use Rattle.dms_history.specs.Events.{Event}
 use Rattle.dms_history.specs.Lists.{has, until_first}
@@ -48,12 +50,6 @@ use Rattle.dms_opening.specs.declared.plan.OpeningPlan.{OpeningPlan}
 use Rattle.dms_opening.specs.Plans.{IsTrailRead, Plans, HasNoDescriptionAt, IsPlainFault, RefusesPlan}
 use Rattle.dms_opening.proofs.Faults.{plain_audit}
 
-true_not_false : true ≡ false → ⊥
-true_not_false e = absurd cc
-
-none_not_some : {A : Type 0} (x : A) → None ≡ Some x → ⊥
-none_not_some x e = absurd cc
-
 -- nothing was sealed yet
 pub read_now : (total first : ℕ) (files : Files) (places : List EntryPlace) (t : TrailTrace) → IsTrailRead total first files places t → IsTraceOf files (trail_entries total first files) t
 read_now total first files places t r = r.stays files (record { made = []; trail = sym (append-nil _); filled = tt })
@@ -61,7 +57,7 @@ read_now total first files places t r = r.stays files (record { made = []; trail
 -- ---- the point of an opening is live
 
 found_front : (p : Event → Bool) (xs ys : List Event) → has p xs ≡ true → has p (xs ++ ys) ≡ true
-found_front p [] ys found = absurd (true_not_false (sym found))
+found_front p [] ys found = absurd (true≢false (sym found))
 found_front p (x ∷ xs) ys found = go (p x) (has p xs) found (λ more. found_front p xs ys more)
   where
     go : (a b : Bool) → a || b ≡ true → (b ≡ true → has p (xs ++ ys) ≡ true) → a || has p (xs ++ ys) ≡ true
@@ -75,7 +71,7 @@ front_has p (x ∷ xs) found = go (p x) (has p xs) refl refl found (λ more. fro
     go : (a b : Bool) → p x ≡ a → has p xs ≡ b → a || b ≡ true → (has p xs ≡ true → has p (until_first p xs) ≡ true) → has p (cond a (x ∷ []) (cond b (x ∷ until_first p xs) [])) ≡ true
     go true b one two found more = ap (λ k. k || false) one
     go false true one two found more = λ i. one i || more two i
-    go false false one two found more = absurd (true_not_false (sym found))
+    go false false one two found more = absurd (true≢false (sym found))
 
 -- a point that is live is so in what a cut at its place leaves, and whatever follows
 live_front : (xs ys rest : List Event) (n : ℕ) → IsLive xs n → ys ≡ until_first (is_point n) xs ++ rest → IsLive ys n
@@ -123,7 +119,7 @@ pub none_there : LiveHasSchema → (total first : ℕ) (files : Files) (places :
 none_there law total first files places t point span none said r lives =
     let entries = trail_entries total first files in
     let there = law entries point lives in
-    none_not_some there.0 (ap (span_bytes entries) none ∙ said files entries (read_now total first files places t r) lives.found ∙ there.1)
+    none-some there.0 (ap (span_bytes entries) none ∙ said files entries (read_now total first files places t r) lives.found ∙ there.1)
 
 pub bytes_there : (total first : ℕ) (files : Files) (places : List EntryPlace) (t : TrailTrace) (point : ℕ) (found : Option SchemaSpan) (span : SchemaSpan) (bytes : List ℕ) → found ≡ Some span
     → ((files : Files) (entries : List Entry) → IsTraceOf files entries t → has (is_point point) (live_of entries) ≡ true → span_bytes entries found ≡ schema_at entries point)

@@ -1,5 +1,6 @@
 -- Entries that stand whole in the audit are told and counted.
-use Rattle.std.proofs.Common.{ℕ, ◌≡◌, ◌⊎◌, inl, inr, Bool, true, false, IsTrue, List, [], ◌∷◌, ◌++◌, ◌∙◌, sym, subst, arith}
+use Rattle.std.proofs.Common.{ℕ, ◌≡◌, ◌⊎◌, inl, inr, Bool, true, IsTrue, List, [], ◌∷◌, ◌++◌, ◌∙◌, sym, subst, arith}
+use Rattle.std.proofs.lemmas.Bool.{true≢false}
 use Rattle.dms_site.specs.Files.{Files}
 use Rattle.dms_audfile.specs.declared.fault.AudFault.{AudFault}
 use Rattle.dms_audfile.specs.declared.fault.AudFault.TheVariants.{Disk, Memory}
@@ -48,9 +49,6 @@ one_at : (files : Files) (before after : List LiveEntry) (e : LiveEntry) → All
 one_at files [] after e all = all.0
 one_at files (x ∷ before) after e all = one_at files before after e all.1
 
-true_not_false : true ≡ false → ⊥
-true_not_false e = absurd cc
-
 one_counted : (tells : Bool) (files : Files) (l : LiveEntry) (e : AudFault) → IsTrue tells → StandsWhole files l → IsNoCount tells files l e → ⊥
 one_counted tells files (Changed i) e t w is = elim is.1 [
   | inl low ↦ omega (arith, low, w.2)
@@ -61,7 +59,7 @@ one_counted tells files (Controlled c) e t w is = elim is.1 [
   | inl large ↦ omega (arith, large, w.0)
   | inr rest ↦ elim rest [
     | inl far ↦ omega (arith, far, w.1)
-    | inr bytes ↦ elim (bytes t) [ inl short ↦ omega (arith, short, w.2) | inr falls ↦ true_not_false (sym w.3 ∙ falls) ]
+    | inr bytes ↦ elim (bytes t) [ inl short ↦ omega (arith, short, w.2) | inr falls ↦ true≢false (sym w.3 ∙ falls) ]
   ]
 ]
 

@@ -3,7 +3,6 @@
 ghost use Rattle.std.specs.Prelude.{◌≡◌, ◌≤◌, ℕ, List, Option, None, Some, IfOk, IfErr};
 ghost use Rattle.dms_site.specs.Files.{Files};
 ghost use Rattle.dms_history.specs.Events.{How};
-ghost use Rattle.dms_history.specs.History.{History};
 ghost use Rattle.dms_history.specs.Entries as meaning;
 ghost use Rattle.dms_history.specs.EntryEvents.{history_of, next_of};
 ghost use Rattle.dms_running.specs.FromDumps.{dump_by, dump_in, NoDumpPending};

@@ -8,6 +8,7 @@ use Rattle.std.specs.Ordering.{is_eq, is_lt, is_gt}
 use Rattle.std.specs.declared.cmp.Ordering.{Ordering}
 use Rattle.std.specs.declared.cmp.Ordering.TheVariants.{Less, Equal, Greater}
 use Rattle.std.specs.Cmp.Lexicographic.{nat_list_cmp_total}
+use Rattle.std.proofs.lemmas.Bool.{and_parts, and_from}
 use Rattle.dms_ordlist.specs.Lists.{AreAllAbove, ByteSet, AreInByteOrder, bytes_cmp, bytes_same, first, has_entry, is_same, is_under, keys_rise, keys_with, keys_without, last, not_below, or_else, with_entry, without}
 use Rattle.dms_ordlist.specs.ListBlocks.{before_first, is_rising}
 
@@ -39,21 +40,13 @@ true_less Less h = refl
 true_less Equal h = absurd (cc h)
 true_less Greater h = absurd (cc h)
 
-pub both_of : (a b : Bool) → (a && b) ≡ true → (a ≡ true) × (b ≡ true)
-both_of true b h = (refl, h)
-both_of false b h = absurd (cc h)
-
-pub both_are : (a b : Bool) → a ≡ true → b ≡ true → (a && b) ≡ true
-both_are true b p q = q
-both_are false b p q = absurd (cc p)
-
 before_is : (x : List ℕ) (xs : List (List ℕ)) → AreAllAbove x xs → before_first x xs ≡ true
 before_is x [] all = refl
 before_is x (y ∷ ys) all = less_true (bytes_cmp x y) all.0
 
 pub rising_is : (xs : List (List ℕ)) → AreInByteOrder xs → is_rising xs ≡ true
 rising_is [] r = refl
-rising_is (x ∷ xs) r = both_are (before_first x xs) (is_rising xs) (before_is x xs r.0) (rising_is xs r.1)
+rising_is (x ∷ xs) r = and_from (before_first x xs) (is_rising xs) (before_is x xs r.0) (rising_is xs r.1)
 
 above_by : (x : List ℕ) (xs : List (List ℕ)) → before_first x xs ≡ true → AreInByteOrder xs → AreAllAbove x xs
 above_by x [] h r = tt
@@ -62,7 +55,7 @@ above_by x (y ∷ ys) h r = let low = true_less (bytes_cmp x y) h in (low, above
 pub is_rises : (xs : List (List ℕ)) → is_rising xs ≡ true → AreInByteOrder xs
 is_rises [] h = tt
 is_rises (x ∷ xs) h =
-    let parts = both_of (before_first x xs) (is_rising xs) h in
+    let parts = and_parts (before_first x xs) (is_rising xs) h in
     let rest = is_rises xs parts.1 in
     (above_by x xs parts.0 rest, rest)
 

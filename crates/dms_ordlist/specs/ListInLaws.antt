@@ -4,8 +4,9 @@ use Rattle.std.specs.Prelude.{◌&&◌}
 use Rattle.std.specs.declared.option.Option.{Option}
 use Rattle.std.specs.List.{list_all}
 use Rattle.std.proofs.lemmas.Bool.Decides.{nat_tests}
+use Rattle.std.proofs.lemmas.Bool.{and_parts, and_from}
 use Rattle.dms_ordlist.specs.Lists.{AreInByteOrder}
-use Rattle.dms_ordlist.specs.Leads.{both_of, both_are, is_rises, rising_is}
+use Rattle.dms_ordlist.specs.Leads.{is_rises, rising_is}
 use Rattle.dms_ordlist.specs.ListBlocks.{free_in, head_in, is_rising, leaf_in}
 use Rattle.dms_ordlist.specs.Linked.{numbers, said_by, times, walk}
 use Rattle.dms_ordlist.specs.LinkedLaws.{Found, numbers_length, times_append, times_own, walk_finds, walk_is}
@@ -17,10 +18,10 @@ true_eq a b h = grind (arith, nat_tests)
 eq_true : (a b : ℕ) → a ≡ b → eqb a b ≡ true
 eq_true a b h = grind (arith, nat_tests)
 
-true_lt : (a b : ℕ) → ltb a b ≡ true → a < b
+pub true_lt : (a b : ℕ) → ltb a b ≡ true → a < b
 true_lt a b h = grind (arith, nat_tests)
 
-lt_true : (a b : ℕ) → a < b → ltb a b ≡ true
+pub lt_true : (a b : ℕ) → a < b → ltb a b ≡ true
 lt_true a b h = grind (arith, nat_tests)
 
 -- each number of a list passes a test
@@ -31,7 +32,7 @@ all_here p x n xs false other here rest some = rest (omega (arith, some))
 all_at : (p : ℕ → Bool) (xs : List ℕ) (n : ℕ) → list_all p xs ≡ true → 0 < times n xs → p n ≡ true
 all_at p [] n all some = absurd (omega arith)
 all_at p (x ∷ xs) n all some =
-    let parts = both_of (p x) (list_all p xs) all in
+    let parts = and_parts (p x) (list_all p xs) all in
     all_here p x n xs (eqb x n) refl parts.0 (λ more. all_at p xs n parts.1 more) some
 
 times_first : (x : ℕ) (xs : List ℕ) → 0 < times x (x ∷ xs)
@@ -39,7 +40,7 @@ times_first x xs = omega (arith, times_own x)
 
 all_by : (p : ℕ → Bool) (xs : List ℕ) → ((n : ℕ) → 0 < times n xs → p n ≡ true) → list_all p xs ≡ true
 all_by p [] each = refl
-all_by p (x ∷ xs) each = both_are (p x) (list_all p xs) (each x (times_first x xs)) (all_by p xs (λ n some. each n (omega arith)))
+all_by p (x ∷ xs) each = and_from (p x) (list_all p xs) (each x (times_first x xs)) (all_by p xs (λ n some. each n (omega arith)))
 
 -- two chains that are all blocks
 
@@ -55,10 +56,10 @@ size_of ls fs = omega (arith, length-append (numbers ls) (numbers fs), numbers_l
 all_is : (count : ℕ) (ls : List Leaf) (fs : List Spare) → AllOf count ls fs → are_all count (numbers ls ++ numbers fs) (entries_of ls) ≡ true
 all_is count ls fs all =
     let nums = numbers ls ++ numbers fs in
-    both_are _ _ (both_are _ _
+    and_from _ _ (and_from _ _
     (all_by (is_one count nums) nums (λ n some.
     let parts = times_append n (numbers ls) (numbers fs) in
-    both_are _ _ (eq_true (times n nums) 1 (omega (arith, parts, all.once n, some))) (lt_true n count (all.low n (omega (arith, parts, some))))))
+    and_from _ _ (eq_true (times n nums) 1 (omega (arith, parts, all.once n, some))) (lt_true n count (all.low n (omega (arith, parts, some))))))
     (eq_true (1 + length nums) count (omega (arith, size_of ls fs, all.count_is)))) (rising_is (entries_of ls) all.rises)
 
 one_at_most : (t : ℕ) → (0 < t → t ≡ 1) → t ≤ 1
@@ -68,10 +69,10 @@ one_at_most (suc t) h = omega (arith, h (omega arith))
 is_all : (count : ℕ) (ls : List Leaf) (fs : List Spare) → are_all count (numbers ls ++ numbers fs) (entries_of ls) ≡ true → AllOf count ls fs
 is_all count ls fs h =
     let nums = numbers ls ++ numbers fs in
-    let outer = both_of (list_all (is_one count nums) nums && eqb (1 + length nums) count) (is_rising (entries_of ls)) h in
-    let inner = both_of (list_all (is_one count nums) nums) (eqb (1 + length nums) count) outer.0 in
+    let outer = and_parts (list_all (is_one count nums) nums && eqb (1 + length nums) count) (is_rising (entries_of ls)) h in
+    let inner = and_parts (list_all (is_one count nums) nums) (eqb (1 + length nums) count) outer.0 in
     let one : (n : ℕ) → 0 < times n nums → (times n nums ≡ 1) × (n < count) = λ n some.
-    let both = both_of (eqb (times n nums) 1) (ltb n count) (all_at (is_one count nums) nums n inner.0 some) in
+    let both = and_parts (eqb (times n nums) 1) (ltb n count) (all_at (is_one count nums) nums n inner.0 some) in
     (true_eq (times n nums) 1 both.0, true_lt n count both.1) in
     record {
       count_is = omega (arith, size_of ls fs, true_eq (1 + length nums) count inner.1);

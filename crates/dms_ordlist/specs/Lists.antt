@@ -152,7 +152,7 @@ second_true : (a b : Bool) → T (a && b) → T b
 second_true true b p = p
 second_true false b p = absurd p
 
-less_of : (o : Ordering) → T (is_lt o) → o ≡ Less
+pub less_of : (o : Ordering) → T (is_lt o) → o ≡ Less
 less_of Less h = refl
 less_of Equal h = absurd h
 less_of Greater h = absurd h

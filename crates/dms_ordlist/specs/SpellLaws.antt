@@ -9,8 +9,9 @@ use Rattle.std.proofs.lemmas.List.{take_at, drop_at, length-take-le, length-repl
 use Rattle.std.proofs.Math.Nat as nat
 use Rattle.std.proofs.lemmas.Nat.{from_be_bytes-to_be_bytes_2, from_be_bytes-to_be_bytes_4}
 use Rattle.std.proofs.lemmas.Slice.Eq.{bytes_eq-Decides}
-use Rattle.dms_ordlist.specs.Leads.{both_of, both_are}
+use Rattle.std.proofs.lemmas.Bool.{and_parts, and_from, and_right, and_left}
 use Rattle.dms_ordlist.specs.ListBlocks.{cut, filled, flat, free_as, free_bytes, free_if, free_in, head_as, head_bytes, head_if, head_in, is_rising, leaf_as, leaf_bytes, leaf_if, leaf_in, may_hold}
+use Rattle.dms_ordlist.specs.ListInLaws.{true_lt, lt_true}
 
 -- all entries have one width
 abbrev pub AllWide : ℕ → List (List ℕ) → Type 0
@@ -59,9 +60,6 @@ cut_again width (x ∷ es) rest all =
 true_le : (a b : ℕ) → leb a b ≡ true → a ≤ b
 true_le a b h = grind (arith, nat_tests)
 
-true_lt : (a b : ℕ) → ltb a b ≡ true → a < b
-true_lt a b h = grind (arith, nat_tests)
-
 pub record HoldsEntries (width : ℕ) (es : List (List ℕ)) : Type 0 where
   pub some : 0 < length es
   pub room : length es * width ≤ 1017
@@ -69,18 +67,15 @@ pub record HoldsEntries (width : ℕ) (es : List (List ℕ)) : Type 0 where
 
 pub may_holds : (width : ℕ) (es : List (List ℕ)) → may_hold width es ≡ true → HoldsEntries width es
 may_holds width es h =
-    let outer = both_of (ltb 0 (length es) && leb (length es * width) 1017) (is_rising es) h in
-    let inner = both_of (ltb 0 (length es)) (leb (length es * width) 1017) outer.0 in
+    let outer = and_parts (ltb 0 (length es) && leb (length es * width) 1017) (is_rising es) h in
+    let inner = and_parts (ltb 0 (length es)) (leb (length es * width) 1017) outer.0 in
     record { some = true_lt 0 (length es) inner.0; room = true_le (length es * width) 1017 inner.1; rising = outer.1 }
 
 le_true : (a b : ℕ) → a ≤ b → leb a b ≡ true
 le_true a b h = grind (arith, nat_tests)
 
-lt_true : (a b : ℕ) → a < b → ltb a b ≡ true
-lt_true a b h = grind (arith, nat_tests)
-
 pub holds_may : (width : ℕ) (es : List (List ℕ)) → HoldsEntries width es → may_hold width es ≡ true
-holds_may width es h = both_are _ _ (both_are _ _ (lt_true 0 (length es) h.some) (le_true (length es * width) 1017 h.room)) h.rising
+holds_may width es h = and_from _ _ (and_from _ _ (lt_true 0 (length es) h.some) (le_true (length es * width) 1017 h.room)) h.rising
 
 count_low : (width : ℕ) (es : List (List ℕ)) → 0 < width → length es * width ≤ 1017 → length es < 2 ^ 16
 count_low (suc w) es low room = omega (arith, room, product (length es) w)
@@ -96,7 +91,7 @@ leaf_again width next es some low wide holds =
     let count : from_be_bytes w16 (take 2 (drop 1 (leaf_bytes next es))) ≡ length es = ap (from_be_bytes w16) parts.0 ∙ from_be_bytes-to_be_bytes_2 (length es) (count_low width es some holds.room) in
     let number : from_be_bytes w32 (take 4 (drop 3 (leaf_bytes next es))) ≡ next = ap (from_be_bytes w32) parts.1 ∙ from_be_bytes-to_be_bytes_4 next low in
     let again : cut width (from_be_bytes w16 (take 2 (drop 1 (leaf_bytes next es)))) (drop 7 (leaf_bytes next es)) ≡ es = (λ i. cut width (count i) (parts.2 i)) ∙ cut_again width es _ wide in
-    (λ i. leaf_as width (number i) (again i) (leaf_bytes next es)) ∙ ap (λ b. leaf_if b next es) (both_are (may_hold width es) (bytes_eq (leaf_bytes next es) (leaf_bytes next es)) (holds_may width es holds) (same_bytes (leaf_bytes next es)))
+    (λ i. leaf_as width (number i) (again i) (leaf_bytes next es)) ∙ ap (λ b. leaf_if b next es) (and_from (may_hold width es) (bytes_eq (leaf_bytes next es) (leaf_bytes next es)) (holds_may width es holds) (same_bytes (leaf_bytes next es)))
 
 -- what a block of entries says
 
@@ -132,7 +127,7 @@ leaf_by width k next b may is =
 leaf_where : (width k n : ℕ) (b : List ℕ) (t : Bool) (next : ℕ) (es : List (List ℕ)) → (may_hold width (cut width k (drop 7 b)) && bytes_eq b (leaf_bytes n (cut width k (drop 7 b)))) ≡ t → leaf_if t n (cut width k (drop 7 b)) ≡ Some (next, es) → IsLeaf width next es
 leaf_where width k n b false next es tested is = absurd (cc is)
 leaf_where width k n b true next es tested is =
-    let parts = both_of (may_hold width (cut width k (drop 7 b))) (bytes_eq b (leaf_bytes n (cut width k (drop 7 b)))) tested in
+    let parts = and_parts (may_hold width (cut width k (drop 7 b))) (bytes_eq b (leaf_bytes n (cut width k (drop 7 b)))) tested in
     let here = leaf_by width k n b parts.0 ((bytes_eq-Decides b (leaf_bytes n (cut width k (drop 7 b)))).0 parts.1) in
     let held : cut width k (drop 7 b) ≡ es = ap entries is in
     subst (IsLeaf width next) held (record { wide = here.wide; holds = here.holds })
@@ -172,14 +167,6 @@ leaf_read width b spelled count next es t one two three is tested =
     ap (λ x. leaf_if x next es) (sym tested ∙ ap (λ l. may_hold width es && bytes_eq b l) is)
     ∙ (λ i. leaf_as width (two i) ((three ∙ ap (λ n. cut width n (drop 7 b)) one) i) b)
 
-false_first : (a b : Bool) → a ≡ false → (a && b) ≡ false
-false_first true b h = absurd (cc h)
-false_first false b h = refl
-
-pub false_second : (a b : Bool) → b ≡ false → (a && b) ≡ false
-false_second true b h = h
-false_second false b h = refl
-
 -- it is no block of entries: it has none, too many, some that don't rise, or other bytes
 pub few_may : (width : ℕ) (es : List (List ℕ)) → length es ≡ 0 → may_hold width es ≡ false
 few_may width [] h = refl
@@ -189,16 +176,16 @@ many_le : (a b : ℕ) → b < a → leb a b ≡ false
 many_le a b h = grind (arith, nat_tests)
 
 pub many_may : (width : ℕ) (es : List (List ℕ)) → 1017 < length es * width → may_hold width es ≡ false
-many_may width es h = false_first _ _ (false_second _ _ (many_le (length es * width) 1017 h))
+many_may width es h = and_left _ _ (and_right _ _ (many_le (length es * width) 1017 h))
 
 pub mixed_may : (width : ℕ) (es : List (List ℕ)) → is_rising es ≡ false → may_hold width es ≡ false
-mixed_may width es h = false_second _ _ h
+mixed_may width es h = and_right _ _ h
 
 pub none_read : (width : ℕ) (b : List ℕ) (count : ℕ) → count ≡ from_be_bytes w16 (take 2 (drop 1 b)) → may_hold width (cut width count (drop 7 b)) ≡ false → leaf_in width b ≡ None
 none_read width b count one h =
     let next = from_be_bytes w32 (take 4 (drop 3 b)) in
     let es = cut width count (drop 7 b) in
-    sym (leaf_read width b (leaf_bytes next es) count next es false one refl refl refl (false_first _ _ h))
+    sym (leaf_read width b (leaf_bytes next es) count next es false one refl refl refl (and_left _ _ h))
 
 flat_wide : (width : ℕ) (es : List (List ℕ)) → AllWide width es → length (flat es) ≡ length es * width
 flat_wide width [] all = omega arith

@@ -1,4 +1,4 @@
-ghost use Rattle.std.specs.Prelude.{◌≡◌, ◌+◌, ◌*◌, ◌≤◌, ◌<◌, IfOk, length, take, drop, option_map, Some};
+ghost use Rattle.std.specs.Prelude.{◌≡◌, ◌+◌, ◌*◌, ◌≤◌, IfOk, length, take, drop, option_map, Some};
 ghost use Rattle.std.specs.Int.{w16, w32, from_be_bytes};
 ghost use Rattle.dms_ordlist.specs.ListBlocks.{cut, flat, free_bytes, free_in, head_bytes, head_in, leaf_bytes, leaf_in};
 ghost use Rattle.dms_ordlist.specs.Spelled.{leaf_opt};

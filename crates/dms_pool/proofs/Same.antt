@@ -1,6 +1,6 @@
 -- What the calls of the cache make of what is held and of the order.
 use Rattle.std.proofs.Common.{◌≡◌, ◌-◌, ◌<◌, ◌++◌, ℕ, List, [], ◌∷◌, Bool, true, false, not, filter, if◌then◌else◌, cond, eqb, Some, None, refl, sym, ap, ◌∙◌, subst, arith, length, take, append-nil}
-use Rattle.std.specs.Prelude.{◌&&◌, ◌||◌, nat_lt, is_some, option_map, reverse}
+use Rattle.std.specs.Prelude.{◌||◌, nat_lt, is_some, option_map, reverse}
 use Rattle.std.specs.declared.option.Option.{Option}
 use Rattle.std.specs.List.{AllByRecursion, IsDistinct}
 use Rattle.std.specs.Option.{option_map_or}
@@ -8,6 +8,7 @@ use Rattle.std.specs.Map.{keys_of, lookup, lookup_entry, remove_entry}
 use Rattle.std.proofs.lemmas.List.{reverse-append, take_all}
 use Rattle.std.proofs.lemmas.List.Elements.{filter-append}
 use Rattle.std.proofs.lemmas.Bool.Decides.{nat_tests}
+use Rattle.std.proofs.lemmas.Bool.{and_parts}
 use Rattle.lru.specs.LruCache.{LruCache, promoted, put_entries}
 use Rattle.dms_block.specs.declared.block.BlockId.{BlockId}
 use Rattle.dms_pool.specs.declared.frame.BufferFrame.{BufferFrame}
@@ -15,13 +16,9 @@ use Rattle.dms_pool.specs.declared.frame.FrameKey.{FrameKey}
 use Rattle.dms_pool.specs.Entries.{Entries, id_of, ids_of, is_id, is_key, key_of, same_key}
 use Rattle.dms_pool.specs.Held.{used}
 
-both_true : (a b : Bool) → (a && b) ≡ true → (a ≡ true) × (b ≡ true)
-both_true true b h = (refl, h)
-both_true false b h = absurd (cc)
-
 pub same_id : (a b : BlockId) → is_id a b ≡ true → b ≡ a
 same_id a b h =
-    let parts = both_true (eqb a.file b.file) (eqb a.block b.block) h in
+    let parts = and_parts (eqb a.file b.file) (eqb a.block b.block) h in
     let p : b.file ≡ a.file = grind (arith, nat_tests, parts.0) in
     let q : b.block ≡ a.block = grind (arith, nat_tests, parts.1) in
     λ i. record { file = p i; block = q i }

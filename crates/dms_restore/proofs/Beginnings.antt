@@ -1,5 +1,6 @@
 -- A restore by the audit over a log.
-use Rattle.std.proofs.Common.{ℕ, zero, suc, ◌<◌, ◌≡◌, true, false, List, [], ◌∷◌, ◌++◌, take, drop, refl, sym, ◌∙◌, ap, subst, arith}
+use Rattle.std.proofs.Common.{ℕ, zero, suc, ◌<◌, ◌≡◌, true, List, [], ◌∷◌, ◌++◌, take, drop, refl, sym, ◌∙◌, ap, subst, arith}
+use Rattle.std.proofs.lemmas.Bool.{true≢false}
 use Rattle.dms_moments.specs.Moments.{Clock, Steps}
 use Rattle.dms_moments.specs.MomentLaws.{steps_on}
 use Rattle.dms_site.specs.Files.{Files, Left, Only, Same}
@@ -40,28 +41,19 @@ kind_is (by_reconstruct d rows) by_audit = absurd by_audit
 
 -- a Begin never waits
 none_waits : (w : List Entry) (m : ℕ) (kind : Kind) (k : ℕ) → AreNoBegins (drop k (w ++ begin_restore m kind ∷ [])) → drop k (w ++ begin_restore m kind ∷ []) ≡ []
-none_waits [] m kind zero plain = absurd (true_not_false plain.1)
-  where
-    true_not_false : true ≡ false → ⊥
-    true_not_false e = absurd cc
+none_waits [] m kind zero plain = absurd (true≢false plain.1)
 none_waits [] m kind (suc zero) plain = refl
 none_waits [] m kind (suc (suc k)) plain = refl
 none_waits (e ∷ w) m kind zero plain = absurd (not_plain w plain.2)
   where
     not_plain : (w : List Entry) → AreNoBegins (w ++ begin_restore m kind ∷ []) → ⊥
-    not_plain [] plain = true_not_false plain.1
-      where
-        true_not_false : true ≡ false → ⊥
-        true_not_false e = absurd cc
+    not_plain [] plain = true≢false plain.1
     not_plain (d ∷ w) plain = not_plain w plain.2
 none_waits (e ∷ w) m kind (suc k) plain = none_waits w m kind k plain
 
 -- where nothing waited the Begin alone is sealed
 begin_taken : (m : ℕ) (kind : Kind) (k : ℕ) → AreNoBegins (drop k (begin_restore m kind ∷ [])) → take k (begin_restore m kind ∷ []) ≡ begin_restore m kind ∷ []
-begin_taken m kind zero plain = absurd (true_not_false plain.1)
-  where
-    true_not_false : true ≡ false → ⊥
-    true_not_false e = absurd cc
+begin_taken m kind zero plain = absurd (true≢false plain.1)
 begin_taken m kind (suc zero) plain = refl
 begin_taken m kind (suc (suc k)) plain = refl
 

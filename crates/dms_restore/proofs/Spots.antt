@@ -7,6 +7,7 @@ use Rattle.std.specs.declared.cmp.Ordering.{Ordering}
 use Rattle.std.specs.declared.cmp.Ordering.TheVariants.{Less, Equal, Greater}
 use Rattle.std.specs.Ordering.{is_eq, nat_cmp, ordering_then}
 use Rattle.std.specs.BTreeMap.{Updates}
+use Rattle.std.proofs.lemmas.Bool.{true≢false}
 use Rattle.dms_site.specs.Files.{Files}
 use Rattle.dms_history.specs.Events.{BlockBytes, Event, quiet}
 use Rattle.dms_history.specs.Images.{is_at, or_else, last_after, first_before}
@@ -84,11 +85,8 @@ none_off (Some x) off = absurd cc
 pub key_is : (spots : Spots) (f b g k : ℕ) → is_at f b g k ≡ true → spot_of spots f b ≡ spot_of spots g k
 key_is spots f b g k on = elim (place_cases f b g k) [
   | inl at ↦ λ i. spot_of spots (sym at.0 i) (sym at.1 i)
-  | inr apart ↦ absurd (true_not_false (sym on ∙ apart.1))
+  | inr apart ↦ absurd (true≢false (sym on ∙ apart.1))
 ]
-  where
-    true_not_false : true ≡ false → ⊥
-    true_not_false e = absurd cc
 
 pub new_there : (spots : Spots) (f b g k : ℕ) → is_some (spot_of spots g k) ≡ false → is_at f b g k ≡ true → spot_of spots f b ≡ None
 new_there spots f b g k off on = key_is spots f b g k on ∙ none_off (spot_of spots g k) off

@@ -1,6 +1,7 @@
 -- A table of what the audit tells, from the places of the blocks that entries name.
 use Rattle.std.specs.Prelude.{option_map}
 use Rattle.std.proofs.Common.{ℕ, ◌≡◌, ◌⊎◌, inl, inr, Bool, true, false, cond, List, [], ◌∷◌, ◌++◌, length, Option, Some, None, refl, sym, ◌∙◌, ap, subst}
+use Rattle.std.proofs.lemmas.Option.{none-some}
 use Rattle.dms_site.specs.Files.{Files}
 use Rattle.dms_history.specs.Events.{BlockBytes, Event}
 use Rattle.dms_history.specs.Lists.{until_first, after_first, until_last, after_last}
@@ -16,12 +17,6 @@ use Rattle.dms_restore.specs.declared.told.Told.{Told}
 use Rattle.dms_restore.specs.LiveEntries.{events_at, before_in, after_in, AllStandWhole}
 use Rattle.dms_restore.specs.Named.{Spots, spot_of, bytes_of, named, AllFromSpots}
 use Rattle.dms_restore.specs.Table.{bytes_at, IsBlock, AreBlocks, EachIsTold, IsAmong, IsTable}
-
-true_not_false : true ≡ false → ⊥
-true_not_false e = absurd cc
-
-none_not_some : {A : Type 0} (x : A) → None ≡ Some x → ⊥
-none_not_some x e = absurd cc
 
 -- ---- one more block in a table
 
@@ -52,7 +47,7 @@ pub record ListsSoFar (spots left : Spots) (table : List Told) : Type 0 where
   pub blocks : AreBlocks table
 
 taken : {A : Type 0} (t : Bool) (x : Option A) (y : A) → cond t None x ≡ Some y → x ≡ Some y
-taken true x y is = absurd (none_not_some y is)
+taken true x y is = absurd (none-some y is)
 taken false x y is = is
 
 module _ (spots left later : Spots) (table : List Told) (g k : ℕ) (o : Option AuditSpot) (so : ListsSoFar spots left table) (found : spot_of left g k ≡ Some o)
@@ -90,10 +85,10 @@ module _ (spots left later : Spots) (table : List Told) (g k : ℕ) (o : Option 
 some_or : (o : Option BlockBytes) (t : Bool) (x y : BlockBytes) → or_else o (cond t (Some x) None) ≡ Some y → (o ≡ Some y) ⊎ (x ≡ y)
 some_or (Some z) t x y is = inl is
 some_or None true x y is = inr (some_is x y is)
-some_or None false x y is = absurd (none_not_some y is)
+some_or None false x y is = absurd (none-some y is)
 
 whole_last : (files : Files) (f b : ℕ) (es : List LiveEntry) (x : BlockBytes) → AllStandWhole files es → last_after f b (events_at files es) ≡ Some x → length x ≡ 1024
-whole_last files f b [] x all is = absurd (none_not_some x is)
+whole_last files f b [] x all is = absurd (none-some x is)
 whole_last files f b (Changed i ∷ es) x all is = elim (some_or (last_after f b (events_at files es)) (is_at f b i.file i.block) (after_in files i) x is) [
   | inl later ↦ whole_last files f b es x all.1 later
   | inr here ↦ ap length (sym here) ∙ all.0.0
@@ -106,11 +101,11 @@ some_cond true o z y is = inl (some_is o (Some y) is)
 some_cond false o z y is = inr is
 
 before_whole : (new : Bool) (x y : BlockBytes) → cond new None (Some x) ≡ Some y → (new ≡ false → length x ≡ 1024) → length y ≡ 1024
-before_whole true x y is whole = absurd (none_not_some y is)
+before_whole true x y is whole = absurd (none-some y is)
 before_whole false x y is whole = ap length (sym (some_is x y is)) ∙ whole refl
 
 whole_first : (files : Files) (f b : ℕ) (es : List LiveEntry) (x : BlockBytes) → AllStandWhole files es → first_before f b (events_at files es) ≡ Some (Some x) → length x ≡ 1024
-whole_first files f b [] x all is = absurd (none_not_some (Some x) is)
+whole_first files f b [] x all is = absurd (none-some (Some x) is)
 whole_first files f b (Changed i ∷ es) x all is = elim (some_cond (is_at f b i.file i.block) (before_in files i) (first_before f b (events_at files es)) x is) [
   | inl here ↦ before_whole i.is_new _ x here all.0.1
   | inr later ↦ whole_first files f b es x all.1 later
@@ -126,12 +121,12 @@ told_cases (Some x) first = refl
 
 told_whole : (o : Option BlockBytes) (first : Option (Option BlockBytes)) (x : BlockBytes) → or_else o (undone_to first) ≡ Some x → (o ≡ Some x) ⊎ (first ≡ Some (Some x))
 told_whole (Some y) first x is = inl is
-told_whole None None x is = absurd (none_not_some x is)
+told_whole None None x is = absurd (none-some x is)
 told_whole None (Some before) x is = inr (ap (λ (p : Option BlockBytes). Some p) is)
 
 has_spot : (files : Files) (o : Option (Option AuditSpot)) (x : BlockBytes) → undone_to (option_map (bytes_of files) o) ≡ Some x → (s : AuditSpot) × (o ≡ Some (Some s))
-has_spot files None x is = absurd (none_not_some x is)
-has_spot files (Some None) x is = absurd (none_not_some x is)
+has_spot files None x is = absurd (none-some x is)
+has_spot files (Some None) x is = absurd (none-some x is)
 has_spot files (Some (Some s)) x is = (s, refl)
 
 module _ (files : Files) (spots : Spots) (front behind : List LiveEntry) (live : List Event) (m : ℕ) (until : until_first (is_point m) live ≡ events_at files front)

@@ -11,15 +11,14 @@ use Rattle.dms_moments.specs.MomentLaws.{steps_weaken}
 use Rattle.dms_site.specs.Files.{Files, Left, InFile, Torn, OnDisk}
 use Rattle.dms_history.specs.Entries.{Entry, schema_part, image, byte_range, quiet_point, control_point, begin_restore, is_begin}
 use Rattle.dms_audrec.specs.declared.entry.Entry.TheVariants.{Image}
-use Rattle.dms_audrec.specs.Spelling.{spelling}
 use Rattle.dms_audrec.specs.Seen.{entry_seen}
 use Rattle.dms_audfile.specs.declared.audit_end.AuditEnd.{AuditEnd}
 use Rattle.dms_audfile.specs.Gates.{sealed, is_full}
 use Rattle.dms_audfile.specs.Blocks.{block_entries}
-use Rattle.dms_audfile.specs.BlockLaws.{spellings, AreNoBegins, IsAlone, entered_at}
+use Rattle.dms_audfile.specs.BlockLaws.{spellings, AreNoBegins, IsAlone}
 use Rattle.dms_audfile.specs.Unsealed.{block_with}
 use Rattle.dms_audfile.specs.Trail.{trail_from}
-use Rattle.dms_audfile.specs.TrailEntries.{entry_of, entries_of, entries_in, trail_entries}
+use Rattle.dms_audfile.specs.TrailEntries.{entries_of, entries_in, trail_entries}
 use Rattle.dms_audfile.specs.Ends as ends
 use Rattle.dms_audfile.specs.Ends.{EndsAt, Appends}
 use Rattle.dms_audfile.specs.Sealing.{IsWrittenUpTo}
@@ -32,7 +31,7 @@ use Rattle.dms_audfile.proofs.Again.{scans_again}
 use Rattle.dms_audfile.proofs.BlockRead.{block_is_read}
 use Rattle.dms_audfile.proofs.Followed.{fits_says, scans_trail}
 use Rattle.dms_audfile.proofs.Growing.{writes_same}
-use Rattle.dms_audfile.proofs.Ended.{entries_settled, writes_once}
+use Rattle.dms_audfile.proofs.Ended.{entries_settled, writes_once, entered_entries}
 use Rattle.dms_audfile.proofs.Kept.{long_head, found_is_kept}
 use Rattle.dms_running.specs.Telling.{IsTelling}
 use Rattle.dms_running.specs.Sealing.{SealsSome, Appended, AreSealed, Settled}
@@ -163,10 +162,6 @@ pub first_low : (end : AuditEnd) (first : ℕ) (w : List Entry) (files : Files) 
 first_low end first w files clock e = omega (arith, e.writes.order, end.high)
 
 -- ---- what waits
-
-entered_entries : (at : ℕ) (es : List Entry) → map entry_of (entered_at at es) ≡ es
-entered_entries at [] = refl
-entered_entries at (e ∷ es) = ap (λ (l : List Entry). e ∷ l) (entered_entries (at + length (spelling e)) es)
 
 pub waits_is : (end : AuditEnd) (first : ℕ) (w : List Entry) (files : Files) (clock : Clock Left) → EndsAt end first w files clock → waits end ≡ w
 unfolding waits

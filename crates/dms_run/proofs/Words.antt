@@ -3,6 +3,7 @@ use Rattle.std.proofs.Common.{ℕ, ◌≡◌, ◌∙◌, ◌⊎◌, inl, inr, �
 use Rattle.std.specs.Str.{bytes_eq}
 use Rattle.std.proofs.lemmas.List.{append_assoc, map-append}
 use Rattle.std.proofs.lemmas.Slice.Eq.{bytes_eq-Decides}
+use Rattle.std.proofs.lemmas.Option.{same_Some}
 use Rattle.dms_block.specs.Content.{Content}
 use Rattle.dms_block.specs.Held.{BlockPoint}
 use Rattle.dms_desc.specs.Shape.{Described}
@@ -52,14 +53,11 @@ ends_same (a ∷ []) [] x y e = absurd (cc)
 ends_same (a ∷ c ∷ xs) [] x y e = absurd (cc)
 ends_same (a ∷ xs) (b ∷ ys) x y e = let tails : xs ++ x ∷ [] ≡ ys ++ y ∷ [] = cc in ends_same xs ys x y tails
 
-some_same : (a b : Db) → ◌≡◌ {A = Option Db} (Some a) (Some b) → a ≡ b
-some_same a b e = cc
-
 pub one_state : OneStateLaw
 one_state points n m a b s t =
     let point : s.point ≡ t.point = ends_same s.before t.before s.point t.point (sym s.are ∙ t.are) in
     let same : known (n, a) ≡ known (m, b) = sym s.is ∙ ap told point ∙ t.is in
-    (ap (λ (x : ℕ × Option Db). x.0) same, some_same a b (ap (λ (x : ℕ × Option Db). x.1) same))
+    (ap (λ (x : ℕ × Option Db). x.0) same, same_Some a b (ap (λ (x : ℕ × Option Db). x.1) same))
 
 -- ---- points of blocks
 

@@ -1,13 +1,14 @@
 -- What the grammar says of entries that scanning finds, and of the events that they are.
 use Rattle.std.specs.Prelude.{◌==◌, ◌&&◌, nat_le, option_map}
 use Rattle.std.specs.Int.{w16, w32, w64}
-use Rattle.std.proofs.Common.{ℕ, ◌+◌, ◌*◌, ◌≤◌, ◌≡◌, ◌≢◌, ◌⊎◌, inl, inr, Bool, true, false, cond, max, List, [], ◌∷◌, ◌++◌, map, Option, Some, None, refl, sym, ◌∙◌, ap, arith}
+use Rattle.std.proofs.Common.{ℕ, ◌+◌, ◌*◌, ◌≤◌, ◌≡◌, inl, inr, Bool, true, false, cond, max, List, [], ◌∷◌, ◌++◌, map, Option, Some, None, refl, sym, ◌∙◌, ap, arith}
 use Rattle.std.specs.Prelude.{nat_eq}
-use Rattle.std.proofs.lemmas.Bool.{cases_eq}
+use Rattle.std.proofs.lemmas.Bool.{cases_eq, true≢false}
 use Rattle.std.proofs.lemmas.Bool.Decides.{nat_tests}
+use Rattle.std.proofs.lemmas.Option.{cond_some, none-some}
 use Rattle.dms_site.specs.Files.{Files}
 use Rattle.dms_fields.specs.Prefix.{byte_first, number_first, bytes_first}
-use Rattle.dms_fields.specs.PrefixLaws.{bind_some, go_some}
+use Rattle.dms_fields.specs.PrefixLaws.{bind_some}
 use Rattle.dms_history.specs.Events.{BlockBytes, Event, change, quiet, control, begin}
 use Rattle.dms_history.specs.Lists.{has, until_first}
 use Rattle.dms_history.specs.Places.{is_point}
@@ -24,13 +25,8 @@ use Rattle.dms_audrec.specs.Spelling.{counts_rise}
 use Rattle.dms_audfile.specs.Scanning.{Placed, entry_in}
 use Rattle.dms_audfile.specs.AuditTrail.{entry_from, entry_there, AreThere}
 use Rattle.dms_audfile.specs.declared.place.EntryPlace.{EntryPlace}
-use Rattle.dms_restore.proofs.EntryPlaces.{ImageThere, image_there, control_there}
-
-true_not_false : true ≡ false → ⊥
-true_not_false e = absurd cc
-
-none_not_some : {A : Type 0} (x : A) → None ≡ Some x → ⊥
-none_not_some x e = absurd cc
+use Rattle.dms_restore.proofs.EntryPlaces.{ImageThere, image_there, control_there, by_test}
+use Rattle.dms_running.proofs.Rewriting.{other_test}
 
 -- ---- no Range is read
 
@@ -49,7 +45,7 @@ schema_read bytes x e =
     let (parts, e2, r2) = bind_some (number_first w16 part.1) _ x r1 in
     let (len, e3, r3) = bind_some (number_first w16 parts.1) _ x r2 in
     let (text, e4, r4) = bind_some (bytes_first len.0 len.1) _ x r3 in
-    ap (λ (y : Entry × List ℕ). is_range y.0) (sym (go_some _ (schema_part part.0 parts.0 text.0, text.1) x r4).1)
+    ap (λ (y : Entry × List ℕ). is_range y.0) (sym (cond_some _ (schema_part part.0 parts.0 text.0, text.1) x r4).1)
 
 image_read : (bytes : List ℕ) (x : Entry × List ℕ) → image_at bytes ≡ Some x → is_range x.0 ≡ false
 unfolding image_at
@@ -58,7 +54,7 @@ image_read bytes x e =
     let (block, e2, r2) = bind_some (number_first w32 file.1) _ x r1 in
     let (before, e3, r3) = bind_some (before_at block.1) _ x r2 in
     let (after, e4, r4) = bind_some (bytes_first 1024 before.1) _ x r3 in
-    ap (λ (y : Entry × List ℕ). is_range y.0) (sym (go_some _ (image file.0 block.0 before.0 after.0, after.1) x r4).1)
+    ap (λ (y : Entry × List ℕ). is_range y.0) (sym (cond_some _ (image file.0 block.0 before.0 after.0, after.1) x r4).1)
 
 quiet_read : (bytes : List ℕ) (x : Entry × List ℕ) → quiet_at bytes ≡ Some x → is_range x.0 ≡ false
 unfolding quiet_at
@@ -74,7 +70,7 @@ control_read bytes x e =
     let (next, e2, r2) = bind_some (number_first w64 n.1) _ x r1 in
     let (files, e3, r3) = bind_some (number_first w16 next.1) _ x r2 in
     let (list, e4, r4) = bind_some (bytes_first (8 * files.0) files.1) _ x r3 in
-    ap (λ (y : Entry × List ℕ). is_range y.0) (sym (go_some _ (control_point n.0 next.0 (counts_at files.0 list.0), list.1) x r4).1)
+    ap (λ (y : Entry × List ℕ). is_range y.0) (sym (cond_some _ (control_point n.0 next.0 (counts_at files.0 list.0), list.1) x r4).1)
 
 begin_read : (bytes : List ℕ) (x : Entry × List ℕ) → begin_at bytes ≡ Some x → is_range x.0 ≡ false
 unfolding begin_at
@@ -84,15 +80,11 @@ begin_read bytes x e =
     let (dump, e3, r3) = bind_some (number_first w16 how.1) _ x r2 in
     let (rows, e4, r4) = bind_some (number_first w16 dump.1) _ x r3 in
     let (list, e5, r5) = bind_some (bytes_first (8 * rows.0) rows.1) _ x r4 in
-    ap (λ (y : Entry × List ℕ). is_range y.0) (sym (go_some _ _ x r5).1)
-
-by_test : {A : Type 0} (b : Bool) (p q o : Option A) → cond b p q ≡ o → (p ≡ o) ⊎ (q ≡ o)
-by_test true p q o is = inl is
-by_test false p q o is = inr is
+    ap (λ (y : Entry × List ℕ). is_range y.0) (sym (cond_some _ _ x r5).1)
 
 entry_read : (bytes : List ℕ) (x : Entry × List ℕ) → entry_at bytes ≡ Some x → is_range x.0 ≡ false
 unfolding entry_at
-entry_read [] x e = absurd (none_not_some x e)
+entry_read [] x e = absurd (none-some x e)
 entry_read (kind ∷ rest) x e = elim (by_test (kind == 1) (schema_at rest) _ (Some x) e) [
   | inl one ↦ schema_read rest x one
   | inr r1 ↦ elim (by_test (kind == 2) (image_at rest) _ (Some x) r1) [
@@ -103,7 +95,7 @@ entry_read (kind ∷ rest) x e = elim (by_test (kind == 1) (schema_at rest) _ (S
         | inl four ↦ control_read rest x four
         | inr r4 ↦ elim (by_test (kind == 5) (begin_at rest) None (Some x) r4) [
           | inl five ↦ begin_read rest x five
-          | inr none ↦ absurd (none_not_some x none)
+          | inr none ↦ absurd (none-some x none)
         ]
       ]
     ]
@@ -111,12 +103,12 @@ entry_read (kind ∷ rest) x e = elim (by_test (kind == 1) (schema_at rest) _ (S
 ]
 
 mapped : (o : Option (Entry × List ℕ)) (e : Entry) → ((x : Entry × List ℕ) → o ≡ Some x → is_range x.0 ≡ false) → option_map (λ (y : Entry × List ℕ). y.0) o ≡ Some e → is_range e ≡ false
-mapped None e each is = absurd (none_not_some e is)
+mapped None e each is = absurd (none-some e is)
 mapped (Some x) e each is = let same : x.0 ≡ e = cc is in ap is_range (sym same) ∙ each x refl
 
 tested : (b : Bool) (o : Option (Entry × List ℕ)) (e : Entry) → ((x : Entry × List ℕ) → o ≡ Some x → is_range x.0 ≡ false) → cond b (option_map (λ (y : Entry × List ℕ). y.0) o) None ≡ Some e → is_range e ≡ false
 tested true o e each is = mapped o e each is
-tested false o e each is = absurd (none_not_some e is)
+tested false o e each is = absurd (none-some e is)
 
 no_range : (files : Files) (p : EntryPlace) (e : Entry) → entry_there files p ≡ Some e → is_range e ≡ false
 unfolding entry_there entry_from
@@ -144,7 +136,7 @@ sized_there files p f b (Some old) after t = record { was = (t.old old refl).1; 
 fine_there : (files : Files) (p : EntryPlace) (e : Entry) → entry_there files p ≡ Some e → IsFine e
 fine_there files p (schema_part part parts bytes) is = tt
 fine_there files p (image f b before after) is = let t = image_there files p f b before after is in (t.bounds.0, t.bounds.1, sized_there files p f b before after t)
-fine_there files p (byte_range f b place bytes) is = absurd (true_not_false (no_range files p (byte_range f b place bytes) is))
+fine_there files p (byte_range f b place bytes) is = absurd (true≢false (no_range files p (byte_range f b place bytes) is))
 fine_there files p (quiet_point n) is = tt
 fine_there files p (control_point n next counts) is = (control_there files p n next counts is).rise
 fine_there files p (begin_restore n kind) is = tt
@@ -191,12 +183,9 @@ le_of a b e = grind (arith, nat_tests, e)
 
 three_of : (a b c d : Bool) → a && (b && (c && d)) ≡ true → (a ≡ true) × (b ≡ true) × (d ≡ true)
 three_of true true true d e = (refl, refl, e)
-three_of true true false d e = absurd (true_not_false (sym e))
-three_of true false c d e = absurd (true_not_false (sym e))
-three_of false b c d e = absurd (true_not_false (sym e))
-
-other_test : (m n : ℕ) → m ≢ n → nat_eq m n ≡ false
-other_test m n other = grind (arith, nat_tests)
+three_of true true false d e = absurd (true≢false (sym e))
+three_of true false c d e = absurd (true≢false (sym e))
+three_of false b c d e = absurd (true≢false (sym e))
 
 counts_outside : (low : ℕ) (cs : List FileCount) (f : ℕ) → 30001 ≤ low → counts_rise low cs ≡ true → IsOutside f → counts_in cs f ≡ 0
 counts_outside low [] f from rise out = refl

@@ -2,6 +2,7 @@
 use Rattle.std.proofs.Common.{ℕ, ◌<◌, ◌≤◌, ◌≡◌, ◌==◌, ◌||◌, Bool, true, false, List, [], ◌∷◌, ◌++◌, map, Some, refl, sym, ◌∙◌, ap, subst, arith}
 use Rattle.std.proofs.lemmas.Bool.Decides.{nat_tests}
 use Rattle.std.proofs.lemmas.List.{map-append}
+use Rattle.std.proofs.lemmas.Bool.{true≢false}
 use Rattle.dms_desc.specs.Shape.{Described}
 use Rattle.dms_desc_bytes.specs.Spelling.{spelling}
 use Rattle.dms_site.specs.Files.{Files, stored_of}
@@ -29,14 +30,11 @@ use Rattle.dms_run.specs.State.{StateAt}
 use Rattle.dms_run.specs.States.{LivesEndWith, HasLive}
 use Rattle.dms_runlaws.specs.Held.{NextIsOne}
 
-true_not_false : true ≡ false → ⊥
-true_not_false e = absurd cc
-
-or_cases : (a b : Bool) {A : Type 0} → (a ≡ true → A) → (b ≡ true → A) → (a || b) ≡ true → A
+pub or_cases : (a b : Bool) {A : Type 0} → (a ≡ true → A) → (b ≡ true → A) → (a || b) ≡ true → A
 or_cases true b one two on = one refl
 or_cases false b one two on = two on
 
-same_number : (a b : ℕ) → (a == b) ≡ true → a ≡ b
+pub same_number : (a b : ℕ) → (a == b) ≡ true → a ≡ b
 same_number a b on = grind (arith, nat_tests, on)
 
 -- the point of this number among some, and those behind it
@@ -48,7 +46,7 @@ record AtNumber (ps : List LivePoint) (n : ℕ) : Type 0 where
   number : point.number ≡ n
 
 at_number : (ps : List LivePoint) (n : ℕ) → has (λ (m : ℕ). m == n) (numbers_of ps) ≡ true → AtNumber ps n
-at_number [] n on = absurd (true_not_false (sym on))
+at_number [] n on = absurd (true≢false (sym on))
 at_number (p ∷ ps) n on = or_cases (p.number == n) (has (λ (m : ℕ). m == n) (numbers_of ps))
     (λ is. record { front = []; point = p; behind = ps; are = refl; number = same_number p.number n is })
     (λ more. let r = at_number ps n more in record { front = p ∷ r.front; point = r.point; behind = r.behind; are = ap (λ (l : List LivePoint). p ∷ l) r.are; number = r.number }) on

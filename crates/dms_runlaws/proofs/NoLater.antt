@@ -1,7 +1,7 @@
 -- The numbers of quiet points rise, so none that is told is above the last one.
-use Rattle.std.proofs.Common.{ℕ, zero, suc, ◌≡◌, ◌≤◌, ◌<◌, ◌+◌, ◌==◌, ◌||◌, ◌∙◌, inl, inr, Bool, true, false, List, [], ◌∷◌, ◌++◌, map, take, length, refl, sym, subst, ap, arith}
+use Rattle.std.proofs.Common.{ℕ, zero, suc, ◌≡◌, ◌≤◌, ◌<◌, ◌+◌, ◌==◌, ◌∙◌, inl, inr, true, List, [], ◌∷◌, ◌++◌, map, take, length, sym, subst, ap, arith}
 use Rattle.std.specs.List.{range_with_len}
-use Rattle.std.proofs.lemmas.Bool.Decides.{nat_tests}
+use Rattle.std.proofs.lemmas.Bool.{true≢false, or_right, or_left}
 use Rattle.dms_model.specs.Points.{Quiet}
 use Rattle.dms_runner.specs.Events.{RunEvent, text_of, quiets_of, durable_after}
 use Rattle.dms_runner.proofs.Happening.{quiets_on}
@@ -10,24 +10,7 @@ use Rattle.dms_scriptlaws.specs.Truths.{is_quiet_in, IsTruthful, RiseFrom}
 use Rattle.dms_scriptlaws.proofs.Scripts.{tells_true, stay_valid}
 use Rattle.dms_run.specs.Stops.{last_quiet_number, IsOneOf}
 use Rattle.dms_runlaws.specs.Told.{TellsNoLater, ScriptsTellNoLater}
-
-true_not_false : true ≡ false → ⊥
-true_not_false e = absurd cc
-
-or_cases : (a b : Bool) {A : Type 0} → (a ≡ true → A) → (b ≡ true → A) → (a || b) ≡ true → A
-or_cases true b one two on = one refl
-or_cases false b one two on = two on
-
-or_right : (a b : Bool) → b ≡ true → (a || b) ≡ true
-or_right true b on = refl
-or_right false b on = on
-
-or_left : (a b : Bool) → a ≡ true → (a || b) ≡ true
-or_left true b on = refl
-or_left false b on = absurd (true_not_false (sym on))
-
-same_number : (a b : ℕ) → (a == b) ≡ true → a ≡ b
-same_number a b on = grind (arith, nat_tests, on)
+use Rattle.dms_runlaws.proofs.Lives.{or_cases, same_number}
 
 -- ---- numbers that rise by one
 
@@ -49,7 +32,7 @@ last_low n first (q ∷ made) rest low rises = omega (arith, last_low q.0 (first
 
 -- nor below one among them
 number_low : (n first m d : ℕ) (made rest : List Quiet) → RisesBy first (made ++ rest) → d ≤ length made → is_quiet_in (take d (made ++ rest)) m ≡ true → m ≤ last_quiet_number n made
-number_low n first m zero made rest rises few on = absurd (true_not_false (sym on))
+number_low n first m zero made rest rises few on = absurd (true≢false (sym on))
 number_low n first m (suc d) [] rest rises few on = absurd (omega (arith, few))
 number_low n first m (suc d) (q ∷ made) rest rises few on = or_cases (q.0 == m) (is_quiet_in (take d (made ++ rest)) m)
     (λ here. omega (arith, same_number q.0 m here, last_low q.0 (first + 1) made rest (omega (arith, rises.0)) rises.1))
@@ -70,8 +53,8 @@ number_high n first (p ∷ made) rest q low rises one = number_high p.0 (first +
 
 -- one of the first so many of some is one of the first so many of more
 any_more : (m d : ℕ) (xs ys : List Quiet) → is_quiet_in (take d xs) m ≡ true → is_quiet_in (take d (xs ++ ys)) m ≡ true
-any_more m zero xs ys on = absurd (true_not_false (sym on))
-any_more m (suc d) [] ys on = absurd (true_not_false (sym on))
+any_more m zero xs ys on = absurd (true≢false (sym on))
+any_more m (suc d) [] ys on = absurd (true≢false (sym on))
 any_more m (suc d) (x ∷ xs) ys on = or_cases (x.0 == m) (is_quiet_in (take d xs) m)
     (λ here. or_left (x.0 == m) (is_quiet_in (take d (xs ++ ys)) m) here) (λ more. or_right (x.0 == m) (is_quiet_in (take d (xs ++ ys)) m) (any_more m d xs ys more)) on
 

@@ -1,5 +1,6 @@
 -- The Schemas at points while entries are appended.
 use Rattle.std.proofs.Common.{ℕ, ◌+◌, ◌≡◌, ◌||◌, inl, inr, Bool, true, false, cond, List, [], ◌∷◌, ◌++◌, map, length, Option, Some, refl, sym, ◌∙◌, ap, append_assoc}
+use Rattle.std.proofs.lemmas.Bool.{cases_Bool, true≢false}
 use Rattle.dms_history.specs.Events.{BlockBytes, Stored, Event}
 use Rattle.dms_history.specs.Lists.{has, until_first}
 use Rattle.dms_history.specs.Places.{is_point, IsLive}
@@ -7,22 +8,17 @@ use Rattle.dms_history.specs.Ranges.{Logged, all_changes}
 use Rattle.dms_history.specs.declared.event.FileCount.{FileCount}
 use Rattle.dms_history.specs.Entries.{Kind, Entry, schema_part, image, byte_range, quiet_point, control_point, begin_restore, is_begin}
 use Rattle.dms_history.specs.Schemas.{Parts, no_parts, after_entry, parts_from, is_whole, parts_of_schema, schema_entries}
-use Rattle.dms_history.specs.EntryEvents.{logged, is_place, live_after, live_entries_from, live_entries, live_of}
+use Rattle.dms_history.specs.EntryEvents.{logged, is_place, live_entries, live_of}
 use Rattle.dms_history.specs.SchemaAt.{schema_of, schema_at, joined}
 use Rattle.dms_history.specs.LawsOfEntries.{IsSchemaPart, AllSchemaParts}
 use Rattle.dms_history.specs.Points.{LivePoint, AllLive}
-use Rattle.dms_history.proofs.AtPoints.{bool_cases, true_or, or_true_right}
-use Rattle.dms_history.proofs.HalfDone.{or_at}
 use Rattle.dms_history.proofs.Order.{append_none}
 use Rattle.dms_history.proofs.Turns.{live_of_ranges, changes_until, changes_push}
 use Rattle.dms_history.proofs.Schemas.{parts_append, cut_logged, live_of_entries, logged_append}
 use Rattle.dms_history.proofs.Cuts.{until_none}
-use Rattle.dms_history.proofs.SchemaReads.{each_schema, schema_stays, schema_of_new, live_has_schema}
+use Rattle.dms_history.proofs.SchemaReads.{each_schema, schema_stays, schema_of_new, live_has_schema, live_push, live_grows, has_more}
 use Rattle.dms_running.specs.Points.{schema_bytes, described_in}
 use Rattle.dms_running.specs.Running.{IsPlainEntry, AllPlain}
-
-true_not_false : true ≡ false → ⊥
-true_not_false e = absurd cc
 
 -- ---- places and points
 
@@ -34,9 +30,9 @@ events_front entries n =
 
 none_front : (p : Event → Bool) (es : List Event) → until_first p es ≡ [] → has p es ≡ false
 none_front p [] none = refl
-none_front p (e ∷ es) none = elim (bool_cases (p e)) [
+none_front p (e ∷ es) none = elim (cases_Bool (p e)) [
   | inl on ↦ absurd (not_nothing e [] (sym (ap (λ k. cond k (e ∷ []) (cond (has p es) (e ∷ until_first p es) [])) on) ∙ none))
-  | inr off ↦ elim (bool_cases (has p es)) [
+  | inr off ↦ elim (cases_Bool (has p es)) [
     | inl more ↦ absurd (not_nothing e (until_first p es) (sym (λ i. cond (off i) (e ∷ []) (cond (more i) (e ∷ until_first p es) [])) ∙ none))
     | inr rest ↦ λ i. off i || rest i
   ]
@@ -53,8 +49,8 @@ pub record EndsAtPoint (n : ℕ) (es : List Entry) : Type 0 where
   pub is : until_first (is_place n) es ≡ before ++ last ∷ []
 
 pub ends_there : (n : ℕ) (es : List Entry) → has (is_place n) es ≡ true → EndsAtPoint n es
-ends_there n [] found = absurd (true_not_false (sym found))
-ends_there n (e ∷ es) found = elim (bool_cases (is_place n e)) [
+ends_there n [] found = absurd (true≢false (sym found))
+ends_there n (e ∷ es) found = elim (cases_Bool (is_place n e)) [
   | inl on ↦ record { before = []; last = e; at = on; is = ap (λ k. cond k (e ∷ []) (cond (has (is_place n) es) (e ∷ until_first (is_place n) es) [])) on }
   | inr off ↦
       let more : has (is_place n) es ≡ true = ap (λ k. k || has (is_place n) es) (sym off) ∙ found in
@@ -64,12 +60,12 @@ ends_there n (e ∷ es) found = elim (bool_cases (is_place n e)) [
 
 -- a place says one event
 one_event : (n : ℕ) (es : List Entry) (e : Entry) → is_place n e ≡ true → (x : Event) × (all_changes (logged (es ++ e ∷ [])) ≡ all_changes (logged es) ++ x ∷ [])
-one_event n es (schema_part part parts bytes) on = absurd (true_not_false (sym on))
-one_event n es (image f b before after) on = absurd (true_not_false (sym on))
-one_event n es (byte_range f b place bytes) on = absurd (true_not_false (sym on))
+one_event n es (schema_part part parts bytes) on = absurd (true≢false (sym on))
+one_event n es (image f b before after) on = absurd (true≢false (sym on))
+one_event n es (byte_range f b place bytes) on = absurd (true≢false (sym on))
 one_event n es (quiet_point m) on = (_, ap all_changes (logged_append es (quiet_point m ∷ []) no_parts) ∙ changes_push (logged es) _)
 one_event n es (control_point m next counts) on = (_, ap all_changes (logged_append es (control_point m next counts ∷ []) no_parts) ∙ changes_push (logged es) _)
-one_event n es (begin_restore m kind) on = absurd (true_not_false (sym on))
+one_event n es (begin_restore m kind) on = absurd (true≢false (sym on))
 
 something : (xs : List Event) (x : Event) → xs ++ x ∷ [] ≡ [] → ⊥
 something [] x e = absurd cc
@@ -78,8 +74,8 @@ something (y ∷ xs) x e = absurd cc
 -- a point has its place among the live entries exactly where it has one among the live events
 pub place_is_point : (entries : List Entry) (n : ℕ) → has (is_place n) (live_entries entries) ≡ has (is_point n) (live_of entries)
 unfolding all_changes
-place_is_point entries n = elim (bool_cases (has (is_place n) (live_entries entries))) [
-  | inl on ↦ elim (bool_cases (has (is_point n) (live_of entries))) [
+place_is_point entries n = elim (cases_Bool (has (is_place n) (live_entries entries))) [
+  | inl on ↦ elim (cases_Bool (has (is_point n) (live_of entries))) [
     | inl found ↦ on ∙ sym found
     | inr none ↦
         let r = ends_there n (live_entries entries) on in
@@ -90,18 +86,6 @@ place_is_point entries n = elim (bool_cases (has (is_place n) (live_entries entr
 ]
 
 -- ---- live entries, with one more
-
-live_push : (xs : List Entry) (live : List Entry) (e : Entry) → live_entries_from live (xs ++ e ∷ []) ≡ live_after (live_entries_from live xs) e
-live_push [] live e = refl
-live_push (x ∷ xs) live e = live_push xs (live_after live x) e
-
-live_grows : (live : List Entry) (e : Entry) → is_begin e ≡ false → live_after live e ≡ live ++ e ∷ []
-live_grows live (schema_part part parts bytes) off = refl
-live_grows live (image f b before after) off = refl
-live_grows live (byte_range f b place bytes) off = refl
-live_grows live (quiet_point n) off = refl
-live_grows live (control_point n next counts) off = refl
-live_grows live (begin_restore n kind) off = absurd (true_not_false off)
 
 pub live_more : (es : List Entry) (e : Entry) → is_begin e ≡ false → live_entries (es ++ e ∷ []) ≡ live_entries es ++ e ∷ []
 live_more es e goes = live_push es [] e ∙ live_grows (live_entries es) e goes
@@ -152,13 +136,6 @@ AllPlaced es (p ∷ ps) = (has (is_place p.number) (live_entries es) ≡ true) �
 pub all_placed : (es : List Entry) (counted : Stored) (ps : List LivePoint) → AllLive (live_of es) counted ps → AllPlaced es ps
 all_placed es counted [] all = tt
 all_placed es counted (p ∷ ps) all = (place_is_point es p.number ∙ all.0.lives.found, all_placed es counted ps all.1)
-
-has_more : (p : Entry → Bool) (xs ys : List Entry) → has p xs ≡ true → has p (xs ++ ys) ≡ true
-has_more p [] ys found = absurd (true_not_false (sym found))
-has_more p (x ∷ xs) ys found = elim (or_at (p x) (has p xs) found) [
-  | inl here ↦ true_or (p x) (has p (xs ++ ys)) here
-  | inr more ↦ or_true_right (p x) (has p (xs ++ ys)) (has_more p xs ys more.1)
-]
 
 placed_more : (es : List Entry) (e : Entry) → is_begin e ≡ false → (ps : List LivePoint) → AllPlaced es ps → AllPlaced (es ++ e ∷ []) ps
 placed_more es e goes [] all = tt

@@ -1,6 +1,7 @@
 -- Frames over a running database.
 use Rattle.std.proofs.Common.{ℕ, ◌+◌, ◌*◌, ◌≤◌, ◌<◌, ◌≡◌, ◌⊎◌, inl, inr, true, false, cond, List, [], ◌∷◌, ◌++◌, length, Option, Some, None, refl, sym, ◌∙◌, ap, subst, arith}
-use Rattle.std.proofs.lemmas.Bool.{cases_eq}
+use Rattle.std.proofs.lemmas.Bool.{cases_eq, true≢false}
+use Rattle.std.proofs.lemmas.Option.{none-some}
 use Rattle.dms_site.specs.Files.{Files, with_file, overlaid, InFile, Torn, stored_of}
 use Rattle.dms_site.specs.Laws.{torn_overlaid, in_file_with}
 use Rattle.dms_site.specs.StoredLaws.{stored_whole, stored_apart}
@@ -19,12 +20,6 @@ use Rattle.dms_history.proofs.Sealed.{image_sealed, one_more_event}
 use Rattle.dms_running.specs.Telling.{Telling}
 use Rattle.dms_running.specs.Running.{State, entries_now, content_now, IsChanged, AllWritten}
 use Rattle.dms_running.specs.Frames.{Frame, Frames, with_frame, HoldsOne, FramesHold}
-
-true_not_false : true ≡ false → ⊥
-true_not_false e = absurd cc
-
-none_not_some : {A : Type 0} (x : A) → None ≡ Some x → ⊥
-none_not_some x e = absurd cc
 
 module _ (frames : Frames) (f b : ℕ) (o : Option Frame) where
   pub frame_here : with_frame frames f b o f b ≡ o
@@ -56,9 +51,9 @@ holds_with t s frames f b o one others g c = elim (same_place f b g c) [
 -- no block is held, and each stands in its file as the content has it
 pub holds_none : (t : Telling) (s : State) → AllWritten t s → FramesHold t s (λ f b. None)
 holds_none t s written f b = record {
-  held = λ x is. absurd (none_not_some x is);
+  held = λ x is. absurd (none-some x is);
   stands = λ low clean. written f b low;
-  changed = λ x is dirty. absurd (none_not_some x is);
+  changed = λ x is dirty. absurd (none-some x is);
 }
 
 -- ---- a block is read into a frame, or one that isn't to be written is given up
@@ -67,18 +62,18 @@ module _ (t : Telling) (s : State) (frames : Frames) (h : FramesHold t s frames)
   pub holds_read : frames f b ≡ None → b < length (content_now t s f) → FramesHold t s (with_frame frames f b (Some (record { block = stored_of s.files f b; dirty = false })))
   holds_read none low =
       let x : Frame = record { block = stored_of s.files f b; dirty = false } in
-      let at : stored_of s.files f b ≡ block_in (content_now t s) f b = (h f b).stands low (λ y is. absurd (none_not_some y (sym none ∙ is))) in
+      let at : stored_of s.files f b ≡ block_in (content_now t s) f b = (h f b).stands low (λ y is. absurd (none-some y (sym none ∙ is))) in
       holds_with t s frames f b (Some x) (record {
         held = λ y is. let own : x ≡ y = some_is x y is in (low, ap (λ (z : Frame). z.block) (sym own) ∙ at);
         stands = λ under clean. at;
-        changed = λ y is dirty. let own : x ≡ y = some_is x y is in absurd (true_not_false (sym dirty ∙ ap (λ (z : Frame). z.dirty) (sym own)));
+        changed = λ y is dirty. let own : x ≡ y = some_is x y is in absurd (true≢false (sym dirty ∙ ap (λ (z : Frame). z.dirty) (sym own)));
       }) (λ g c off. h g c)
 
   pub holds_given_up : ((x : Frame) → frames f b ≡ Some x → x.dirty ≡ false) → FramesHold t s (with_frame frames f b None)
   holds_given_up clean = holds_with t s frames f b None (record {
-    held = λ y is. absurd (none_not_some y is);
+    held = λ y is. absurd (none-some y is);
     stands = λ low off. (h f b).stands low clean;
-    changed = λ y is dirty. absurd (none_not_some y is);
+    changed = λ y is dirty. absurd (none-some y is);
   }) (λ g c off. h g c)
 
 -- ---- the state is another one with the same content and blocks, and changes stay changes
@@ -118,9 +113,9 @@ module _ (t : Telling) (a later : State) (frames : Frames) (h : FramesHold t a f
       holds_with t later frames f b (Some x) (record {
         held = λ y is. let own : x ≡ y = some_is x y is in
             (subst (λ (k : AllBlocks). b < length (k f)) (sym grown) long, ap (λ (z : Frame). z.block) (sym own) ∙ sym (ap (λ (k : AllBlocks). block_in k f b) grown ∙ write_here was f b after le));
-        stands = λ low clean. absurd (true_not_false (clean x refl));
+        stands = λ low clean. absurd (true≢false (clean x refl));
         changed = λ y is dirty none. elim (place_cases f b f b) [
-          | inl place ↦ absurd (true_not_false (sym place.2 ∙ (both f b none).0))
+          | inl place ↦ absurd (true≢false (sym place.2 ∙ (both f b none).0))
           | inr apart ↦ absurd (apart.0 refl refl)
         ];
       }) (λ g k off.

@@ -21,10 +21,11 @@ use Rattle.dms_running.specs.Points.{described_in, points_told}
 use Rattle.dms_running.specs.Sealing.{SealsSome, Settled}
 use Rattle.dms_running.specs.Running.{State, entries_now, next_now, points_now, durable_now, content_now, count_live, AllPlain, IsRunning, IsAnOutcome, IsChanged}
 use Rattle.dms_running.proofs.MayRun.{sound, has_one, points_are}
-use Rattle.dms_running.proofs.Plain.{take_nothing, take_whole}
+use Rattle.dms_running.proofs.Plain.{take_whole}
 use Rattle.dms_running.proofs.Stopped.{blocks_same}
 use Rattle.dms_running.proofs.Appending.{content_of, now_runs, content_is}
 use Rattle.dms_running.proofs.Early.{after_from}
+use Rattle.dms_history.proofs.SchemaParts.{take_nothing}
 
 -- Another state with the same entries over the same base has the same points, next number and content.
 module _ (t : Telling) (telling : IsTelling t) (a : State) (r : IsRunning t a) (read : IsAnOutcome a) (b : State) (same : entries_now t b ≡ entries_now t a)

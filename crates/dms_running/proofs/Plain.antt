@@ -11,6 +11,7 @@ use Rattle.dms_history.proofs.Base.{has_append}
 use Rattle.dms_history.proofs.Order.{append_none}
 use Rattle.dms_history.proofs.Sealed.{image_sealed, quiet_sealed, one_more_event}
 use Rattle.dms_running.specs.Running.{IsPlainEntry, AllPlain}
+use Rattle.dms_history.proofs.SchemaParts.{take_nothing}
 
 -- the live events only grow, and no Control is among what is new
 pub record EntriesGrow (xs ys : List Entry) : Type 0 where
@@ -57,11 +58,6 @@ plain_take (suc k) (e ∷ es) plain = (plain.0, plain_take k es plain.1)
 pub plain_push : (es : List Entry) (e : Entry) → AllPlain es → IsPlainEntry e → AllPlain (es ++ e ∷ [])
 plain_push [] e all one = (one, tt)
 plain_push (x ∷ es) e all one = (all.0, plain_push es e all.1 one)
-
-pub take_nothing : (k : ℕ) (l : List Entry) → l ≡ [] → take k l ≡ []
-take_nothing zero l is = refl
-take_nothing (suc k) [] is = refl
-take_nothing (suc k) (e ∷ es) is = absurd cc
 
 pub take_whole : (l : List Entry) → take (length l) l ≡ l
 take_whole l = ap (λ (k : List Entry). take (length l) k) (sym (append_none l)) ∙ take_at l [] (length l) refl

@@ -18,8 +18,8 @@ use Rattle.dms_running.specs.Sealing.{SealsSome, Appended, AreSealed, Settled}
 use Rattle.dms_running.specs.Running.{State, entries_now, count_live, AllPlain, IsRunning}
 use Rattle.dms_running.specs.Begun.{LeavesAll}
 use Rattle.dms_running.specs.Plans.{Planned, Lays, KeepsAll}
-use Rattle.dms_running.proofs.Plain.{take_nothing}
 use Rattle.dms_running.proofs.Stopped.{blocks_same, joined}
+use Rattle.dms_history.proofs.SchemaParts.{take_nothing}
 
 -- a stop leaves all of these points
 pub all_left : (t : Telling) (points : List DescribedPoint) (next : ℕ) (x : Left) → points_of t x.files ≡ points → next ≤ next_in t x.files → IsWhole t x.files → LeavesPointsPrefix t points (length points) next x

@@ -1,5 +1,5 @@
 -- Blocks that a restore writes.
-use Rattle.std.proofs.Common.{ℕ, suc, ◌+◌, ◌*◌, ◌^◌, ◌≤◌, ◌<◌, ◌≡◌, ◌≢◌, inl, inr, true, false, cond, List, [], ◌∷◌, ◌++◌, length, take, drop, get_or, Some, None, refl, sym, ◌∙◌, ap, subst, arith}
+use Rattle.std.proofs.Common.{ℕ, suc, ◌+◌, ◌*◌, ◌^◌, ◌≤◌, ◌<◌, ◌≡◌, ◌≢◌, inl, inr, true, false, cond, List, [], ◌∷◌, ◌++◌, length, take, drop, get_or, Some, refl, sym, ◌∙◌, ap, subst, arith}
 use Rattle.std.specs.Prelude.{nat_eq}
 use Rattle.std.proofs.lemmas.List.{take_more}
 use Rattle.std.proofs.Math.Seq.{split_at}
@@ -14,9 +14,7 @@ use Rattle.dms_history.specs.Told.{told_block}
 use Rattle.dms_history.specs.declared.event.FileCount.{FileCount}
 use Rattle.dms_history.specs.Entries.{counts_in}
 use Rattle.dms_running.specs.Restoring.{IsKept, Rewritten, Rewrites, Rising}
-
-some_not_none : {A : Type 0} (x : A) → Some x ≡ None → ⊥
-some_not_none x e = absurd cc
+use Rattle.dms_history.proofs.Turns.{some_not_none}
 
 module _ (keeps : ℕ → ℕ → Type 0) where
   pub rewritten_same : (files : Files) → Rewritten keeps files files
@@ -79,7 +77,7 @@ rising_at (x ∷ xs) ys c low rising = let r = rising_at xs ys c x.file rising.2
 same_test : (m n : ℕ) → m ≡ n → nat_eq m n ≡ true
 same_test m n same = grind (arith, nat_tests)
 
-other_test : (m n : ℕ) → m ≢ n → nat_eq m n ≡ false
+pub other_test : (m n : ℕ) → m ≢ n → nat_eq m n ≡ false
 other_test m n other = grind (arith, nat_tests)
 
 -- a count more at the end of a rising list

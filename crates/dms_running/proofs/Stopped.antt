@@ -22,7 +22,8 @@ use Rattle.dms_running.specs.Sealing.{SealsSome, Appended, AreSealed, Settled}
 use Rattle.dms_running.specs.Running.{State, entries_now, AllPlain, count_live, IsRunning, IsAnOutcome, LeavesPoints}
 use Rattle.dms_running.proofs.Described.{plain_on, described_on}
 use Rattle.dms_running.proofs.MayRun.{sound, points_are, points_placed}
-use Rattle.dms_running.proofs.Plain.{plain_grows, plain_drop, plain_take, take_nothing, take_whole, split_behind}
+use Rattle.dms_running.proofs.Plain.{plain_grows, plain_drop, plain_take, take_whole, split_behind}
+use Rattle.dms_history.proofs.SchemaParts.{take_nothing}
 
 -- how many points there are
 pub count_points : (live : List Event) (counted : Stored) → length (live_points live counted) ≡ length (live_numbers live)

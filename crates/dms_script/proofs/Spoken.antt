@@ -8,6 +8,7 @@ use Rattle.std.specs.declared.result.Result.{Result}
 use Rattle.std.specs.declared.result.Result.TheVariants.{Ok, Err}
 use Rattle.std.proofs.lemmas.Bool.Decides.{nat_tests}
 use Rattle.std.proofs.lemmas.List.{length-take}
+use Rattle.std.proofs.lemmas.Bool.{and_parts}
 use Rattle.dms_base.specs.declared.kind.ItemKind.{ItemKind}
 use Rattle.dms_base.specs.declared.kind.Literal.{Literal}
 use Rattle.dms_base.specs.Name.{IsName, is_name}
@@ -43,10 +44,6 @@ use Rattle.dms_script.specs.Looks.{is_wanted, if_wanted, structure_named, counte
 use Rattle.dms_script.specs.Reads.{LineRead, or_bad, ◌>>=◌}
 use Rattle.dms_script.specs.Spoken.{HasOrder, is_such, MaySetTo, TakeKey, TakesAt, IsWay, HasRestart, NamesWhatIsThere, SpeaksWell, LinesSpeakWell}
 use Rattle.dms_script.specs.Verbs.{close_line_at, word_then, open_at, close_at, first_at, last_at, member_at, path_at, find_at, create_at, store_at, list_of, list_at, setting_at, put_at, shown_at, is_over, all_shown_at, get_at, mode_at, begin_at, sync_at, finish_at, abort_at, transaction_at, area_at, verb_at}
-
-both : (a b : Bool) → (a && b) ≡ true → (a ≡ true) × (b ≡ true)
-both true b e = (refl, e)
-both false b e = absurd (cc)
 
 -- what reading gives, where it gives something
 
@@ -88,7 +85,7 @@ some_plain false o p h k = k
 
 text_plain : (bytes : List ℕ) (b : Bool) → (list_all is_printable bytes && nat_le (length (trimmed bytes)) 200) ≡ b → IfSome (text_literal (cond b (Some (trimmed bytes)) None)) IsPlainLiteral
 text_plain bytes true h =
-    let h' = both (list_all is_printable bytes) (nat_le (length (trimmed bytes)) 200) h in
+    let h' = and_parts (list_all is_printable bytes) (nat_le (length (trimmed bytes)) 200) h in
     texted bytes (trimmed bytes) refl h'.0 (grind (arith, nat_tests, h'.1))
 text_plain bytes false h = tt
 
@@ -189,7 +186,7 @@ module _ (desc : Described) (order : HasOrder desc) where
 
   kind_is : (name : List ℕ) (o : Option Item) → IfSome (kind_named name o) (HasKindOf o)
   kind_is name None = tt
-  kind_is name (Some i) = if_some (bytes_eq i.name name && not (is_link i.kind)) i.kind (HasKindOf (Some i)) (λ e. (not_true (is_link i.kind) (both (bytes_eq i.name name) (not (is_link i.kind)) e).1, refl))
+  kind_is name (Some i) = if_some (bytes_eq i.name name && not (is_link i.kind)) i.kind (HasKindOf (Some i)) (λ e. (not_true (is_link i.kind) (and_parts (bytes_eq i.name name) (not (is_link i.kind)) e).1, refl))
 
   key_gives : (o : Option Item) (ts : List Lexeme) → IfOk (key_item_at o ts) (λ r. HasKindOf o r.0)
   unfolding key_item_at

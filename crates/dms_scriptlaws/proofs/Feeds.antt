@@ -1,8 +1,9 @@
 -- Names, values and replies hold no line feed.
-use Rattle.std.proofs.Common.{ℕ, zero, suc, ◌≡◌, ◌/◌, ◌^◌, ◌==◌, ◌&&◌, Bool, true, false, cond, eqb, not, List, [], ◌∷◌, ◌++◌, refl, ap, arith, codes, decimal}
+use Rattle.std.proofs.Common.{ℕ, zero, suc, ◌≡◌, ◌/◌, ◌^◌, ◌==◌, Bool, true, false, cond, eqb, not, List, [], ◌∷◌, ◌++◌, refl, ap, arith, codes, decimal}
 use Rattle.std.specs.Prelude.{ℤ, pos, int_lt, unsigned_abs}
 use Rattle.std.specs.List.{AllByRecursion, list_all}
 use Rattle.std.proofs.lemmas.Bool.Decides.{nat_tests}
+use Rattle.std.proofs.lemmas.Bool.{and_parts}
 use Rattle.dms_base.specs.declared.category.Category.{Category}
 use Rattle.dms_base.specs.declared.category.Category.TheVariants.{NotFound, Duplicates, Deadlock, DataError, NotLocked, ReadOnly, LimitError, OpenError, NoRecord, InUse, AuditError, Abort}
 use Rattle.dms_base.specs.declared.kind.ItemKind.{ItemKind}
@@ -19,10 +20,6 @@ use Rattle.dms_model.specs.declared.reply.Reply.TheVariants.{Done, Exception, Wa
 use Rattle.dms_script.specs.Replies.{reply_text, bad_text, unanswered_text, answer_text, line_head, category_text, more_names, names_text, shown_text}
 use Rattle.dms_scriptlaws.proofs.Digits.{NoFeed, BeginsElse, decimal_feed, decimal_else}
 use Rattle.dms_scriptlaws.proofs.Lined.{TellsNone, none_line}
-
-both : (a b : Bool) → (a && b) ≡ true → (a ≡ true) × (b ≡ true)
-both true b e = (refl, e)
-both false b e = absurd (cc)
 
 pub feed_on : (a b : List ℕ) → NoFeed a → NoFeed b → NoFeed (a ++ b)
 feed_on [] b f g = g
@@ -43,7 +40,7 @@ not_feed test b none h = by (eqb b 10) refl
 all_feed : (test : ℕ → Bool) (bs : List ℕ) → test 10 ≡ false → list_all test bs ≡ true → NoFeed bs
 all_feed test [] none h = tt
 all_feed test (b ∷ bs) none h =
-    let h' = both (test b) (list_all test bs) h in
+    let h' = and_parts (test b) (list_all test bs) h in
     (not_feed test b none h'.0, all_feed test bs none h'.1)
 
 -- bytes of which none is a line feed, by a test
@@ -53,8 +50,8 @@ feed_of bs h = all_feed (λ b. not (b == 10)) bs refl h
 pub name_feed : (name : List ℕ) → IsName name → NoFeed name
 unfolding is_name is_word
 name_feed name h =
-    let word = (both _ _ (both _ _ h).0).1 in
-    all_feed is_word_byte name refl (both _ _ word).1
+    let word = (and_parts _ _ (and_parts _ _ h).0).1 in
+    all_feed is_word_byte name refl (and_parts _ _ word).1
 
 pub unknown_feed : NoFeed unknown_name
 unknown_feed = feed_of unknown_name refl

@@ -1,9 +1,10 @@
 -- Texts of whole lines: replies tell no point, and a syncpoint's line tells its own.
-use Rattle.std.proofs.Common.{ℕ, ◌≡◌, ◌≤◌, ◌<◌, ◌+◌, ◌^◌, ◌==◌, ◌&&◌, inl, inr, Bool, true, false, List, [], ◌∷◌, ◌++◌, length, refl, sym, subst, ap, arith, if◌then◌else◌, Option, Some, None, codes, decimal}
+use Rattle.std.proofs.Common.{ℕ, ◌≡◌, ◌≤◌, ◌<◌, ◌+◌, ◌^◌, ◌==◌, inl, inr, Bool, true, false, List, [], ◌∷◌, ◌++◌, length, refl, sym, subst, ap, arith, if◌then◌else◌, Option, Some, None, codes, decimal}
 use Rattle.std.specs.Str.{bytes_eq}
 use Rattle.std.proofs.lemmas.Bool.Decides.{nat_tests}
 use Rattle.std.proofs.lemmas.List.{append_assoc, append-nil}
 use Rattle.std.proofs.lemmas.Slice.Eq.{bytes_eq-Decides}
+use Rattle.std.proofs.lemmas.Bool.{and_parts}
 use Rattle.dms_model.specs.Points.{Quiet}
 use Rattle.dms_model.specs.declared.verb.Verb.{Verb}
 use Rattle.dms_model.specs.Session.{Session, Outcome}
@@ -31,10 +32,6 @@ if_safe : (first durable v : ℕ) (t : Bool) → (t ≡ true → IsSafe first du
 if_safe first durable v true h = h refl
 if_safe first durable v false h = inl refl
 
-both : (a b : Bool) → (a && b) ≡ true → (a ≡ true) × (b ≡ true)
-both true b e = (refl, e)
-both false b e = absurd (cc)
-
 same_bytes : (a b : List ℕ) → bytes_eq a b ≡ true → a ≡ b
 same_bytes a b e = (bytes_eq-Decides a b).0 e
 
@@ -48,7 +45,7 @@ unfolding told_line syncpoint_text first_of
 other_line first durable b bs other =
     let v = number_in (b ∷ bs) in
     if_safe first durable v _
-    (λ t. let e : (b ∷ bs) ++ 10 ∷ [] ≡ codes "SYNCPOINT " ++ decimal v ++ 10 ∷ [] = same_bytes _ _ (both _ _ t).1 in let is : b ≡ 83 = ap first_of e in absurd (grind (arith, nat_tests, other, is)))
+    (λ t. let e : (b ∷ bs) ++ 10 ∷ [] ≡ codes "SYNCPOINT " ++ decimal v ++ 10 ∷ [] = same_bytes _ _ (and_parts _ _ t).1 in let is : b ≡ 83 = ap first_of e in absurd (grind (arith, nat_tests, other, is)))
 
 front_same : (a b c : List ℕ) → a ++ b ≡ a ++ c → b ≡ c
 front_same [] b c e = e
@@ -70,7 +67,7 @@ point_line first durable n safe =
     let v = number_in l in
     if_safe first durable v _
     (λ t.
-    let h = both _ _ t in
+    let h = and_parts _ _ t in
     let small : v < 2 ^ 64 = grind (arith, nat_tests, h.0) in
     let texts = last_same l (codes "SYNCPOINT " ++ decimal v) (same_bytes _ _ h.1) in
     let same : n ≡ v = decimal_same n v small (front_same (codes "SYNCPOINT ") (decimal n) (decimal v) texts) in

@@ -1,5 +1,5 @@
 -- The laws of scripts, from those of one step.
-use Rattle.std.proofs.Common.{ℕ, ◌≡◌, ◌+◌, ◌-◌, ◌∙◌, List, [], ◌∷◌, Bool, true, false, cond, length, refl, sym, subst, Some, None}
+use Rattle.std.proofs.Common.{ℕ, ◌≡◌, ◌+◌, ◌-◌, ◌∙◌, List, [], ◌∷◌, length, sym, subst, Some, None}
 use Rattle.std.specs.List.{AllByRecursion}
 use Rattle.std.specs.Prelude.{slice_get}
 use Rattle.std.specs.declared.option.Option.{Option}
@@ -30,6 +30,7 @@ use Rattle.dms_scriptlaws.proofs.Feeds.{name_feed, reply_none, bad_none, unanswe
 use Rattle.dms_scriptlaws.proofs.Prefixes.{truthful, leaves_told, numbered_rise}
 use Rattle.dms_scriptlaws.proofs.Named.{AreNamed, step_named}
 use Rattle.dms_scriptlaws.proofs.Speaking.{LinesSpeak, IsTrueRun, true_run, run_next}
+use Rattle.dms_runner.proofs.Rooms.{ended_at}
 
 texts_of : (o : Option Item) (l : Literal) → MaySetTo o l → IsPlainLiteral l
 texts_of None l h = absurd h
@@ -108,11 +109,6 @@ tells_true desc run db start first lines = truthful first (StartQuiet desc run) 
 pub stops_told : (desc : Described) → IsRunnable desc → (db : Db) → IsStart desc db → (first : ℕ) (lines : List (List ℕ)) → StopsTold desc db first lines
 stops_told desc run db start first lines = leaves_told first (StartQuiet desc run) (script_events desc db first lines) (run_true desc run db start first lines)
 
--- going back to the last quiet point uses up no number
-ended_next : (s : Session) (b : Bool) → (cond b (record s { db = s.mark }) s).next ≡ s.next
-ended_next s true = refl
-ended_next s false = refl
-
 pub stay_valid : (desc : Described) → IsRunnable desc → (db : Db) → IsStart desc db → (first : ℕ) (lines : List (List ℕ)) → StayValid desc db first lines
 stay_valid desc run db start first lines =
     let r = run_true desc run db start first lines in
@@ -120,7 +116,7 @@ stay_valid desc run db start first lines =
       valid = r.points;
       left = last_start desc db (answers_quiets desc db first lines) start r.points;
       numbers = numbered_rise first (answers_quiets desc db first lines) r.numbered;
-      next = ended_next (script_run desc db first lines).going.session (someone_works (script_run desc db first lines).going.session.programs) ∙ next_after desc run db start first lines;
+      next = ended_at (script_run desc db first lines).going.session (someone_works (script_run desc db first lines).going.session.programs) ∙ next_after desc run db start first lines;
     }
 
 pub empty_start : (desc : Described) → IsStart desc empty_db

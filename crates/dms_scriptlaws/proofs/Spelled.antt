@@ -1,10 +1,11 @@
 -- A syncpoint's line tells the syncpoint's number, and worked texts.
-use Rattle.std.proofs.Common.{ℕ, ◌≡◌, ◌≤◌, ◌<◌, ◌+◌, ◌-◌, ◌*◌, ◌/◌, ◌%◌, ◌^◌, ◌∙◌, ◌&&◌, Bool, true, false, cond, List, [], ◌∷◌, ◌++◌, refl, sym, ap, arith, nat_lt, codes, decimal}
+use Rattle.std.proofs.Common.{ℕ, ◌≡◌, ◌≤◌, ◌<◌, ◌+◌, ◌-◌, ◌*◌, ◌/◌, ◌%◌, ◌^◌, ◌∙◌, Bool, true, false, cond, List, [], ◌∷◌, ◌++◌, refl, sym, ap, arith, nat_lt, codes, decimal}
 use Rattle.std.specs.Fmt.{digits}
 use Rattle.std.specs.Str.{bytes_eq}
 use Rattle.std.proofs.lemmas.Bool.Decides.{nat_tests}
 use Rattle.std.proofs.lemmas.Fmt.{decimal_by_steps}
 use Rattle.std.proofs.lemmas.Slice.Eq.{bytes_eq-Decides}
+use Rattle.std.proofs.lemmas.Bool.{and_from}
 use Rattle.dms_script.specs.Replies.{syncpoint_text}
 use Rattle.dms_scriptlaws.specs.Told.{value_from, number_in, told_line, told}
 use Rattle.dms_scriptlaws.proofs.Lined.{last_same}
@@ -23,10 +24,6 @@ cond_true : (b : Bool) (v n : ℕ) → b ≡ true → v ≡ n → cond b v 0 ≡
 cond_true true v n h e = e
 cond_true false v n h e = absurd (cc)
 
-both_so : (a b : Bool) → a ≡ true → b ≡ true → (a && b) ≡ true
-both_so true b h k = k
-both_so false b h k = absurd (cc)
-
 pub point_told : (n : ℕ) (line : List ℕ) → n < 2 ^ 64 → line ++ 10 ∷ [] ≡ syncpoint_text n → told_line line ≡ n
 unfolding told_line syncpoint_text
 point_told n line small is =
@@ -34,7 +31,7 @@ point_told n line small is =
     let number : number_in line ≡ n = ap number_in line_is ∙ value_decimal n small in
     let low : nat_lt (number_in line) (2 ^ 64) ≡ true = ap (λ (v : ℕ). nat_lt v (2 ^ 64)) number ∙ (grind (arith, nat_tests, small)) in
     let same : bytes_eq (line ++ 10 ∷ []) (syncpoint_text (number_in line)) ≡ true = (bytes_eq-Decides (line ++ 10 ∷ []) (syncpoint_text (number_in line))).1 (is ∙ ap syncpoint_text (sym number)) in
-    cond_true _ (number_in line) n (both_so _ _ low same) number
+    cond_true _ (number_in line) n (and_from _ _ low same) number
 
 -- worked texts: two syncpoints tell the greater number
 two : told (codes "SYNCPOINT 2" ++ 10 ∷ codes "7 P DONE" ++ 10 ∷ codes "SYNCPOINT 12" ++ 10 ∷ []) ≡ 12

@@ -5,6 +5,7 @@ use Rattle.std.specs.List.{AllByRecursion}
 use Rattle.std.specs.declared.option.Option.{Option}
 use Rattle.std.specs.FinMap.{get, entries}
 use Rattle.std.proofs.lemmas.Bool.Decides.{nat_tests}
+use Rattle.std.proofs.lemmas.Bool.{and_parts}
 use Rattle.dms_base.specs.declared.kind.ItemKind.{ItemKind}
 use Rattle.dms_desc.specs.declared.record.Record.{Record}
 use Rattle.dms_desc.specs.Shape.{Shape, Described}
@@ -18,7 +19,6 @@ use Rattle.dms_sets.specs.Owners.{EntriesFit}
 use Rattle.dms_sets.specs.Clashes.{key_front, look, new_taken, old_taken}
 use Rattle.dms_sets.specs.Entries.{IsSetKey}
 use Rattle.dms_ordlist.specs.Lists.{without_in}
-use Rattle.dms_sets.specs.Tests.{both_of}
 
 -- the entry of the record that is replaced
 abbrev pub old_entry : List ItemKind → Shape → Records → ℕ → Option ℕ → Option (List ℕ)
@@ -55,10 +55,10 @@ over_at false s set e h same = same
 
 pub closed_is : (s : Shape) (set : ℕ) (d t : Bool) → (nat_lt 2 s.kind && nat_lt s.kind 5 && (s.set == set) && d && t) ≡ true → IsOpenTo s set
 closed_is s set d t h =
-    let four = both_of (nat_lt 2 s.kind && nat_lt s.kind 5 && (s.set == set) && d) t h in
-    let three = both_of (nat_lt 2 s.kind && nat_lt s.kind 5 && (s.set == set)) d four.0 in
-    let two = both_of (nat_lt 2 s.kind && nat_lt s.kind 5) (s.set == set) three.0 in
-    let one = both_of (nat_lt 2 s.kind) (nat_lt s.kind 5) two.0 in
+    let four = and_parts (nat_lt 2 s.kind && nat_lt s.kind 5 && (s.set == set) && d) t h in
+    let three = and_parts (nat_lt 2 s.kind && nat_lt s.kind 5 && (s.set == set)) d four.0 in
+    let two = and_parts (nat_lt 2 s.kind && nat_lt s.kind 5) (s.set == set) three.0 in
+    let one = and_parts (nat_lt 2 s.kind) (nat_lt s.kind 5) two.0 in
     let same : s.set ≡ set = grind (arith, nat_tests, two.1) in
     record { auto = grind (arith, nat_tests, one.1); over = over_at (nat_lt s.kind 3) s set refl one.0 same }
 

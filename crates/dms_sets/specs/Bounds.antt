@@ -30,8 +30,9 @@ use Rattle.dms_key.specs.KeyBytes.{key_bytes, key_width, KeyHasKinds}
 use Rattle.dms_key.specs.KeyOrder.{equal_itself, prefix_order, key_length, split_key}
 use Rattle.dms_sets.specs.Entries.{entry_bytes, IsSetKey, fits_short, fits_take}
 use Rattle.std.proofs.lemmas.List.{length-take-le, take-append-drop}
+use Rattle.std.proofs.lemmas.Bool.{and_parts, not-true}
 use Rattle.dms_ordlist.specs.Lists.{AreInByteOrder, bytes_cmp, keys_rise}
-use Rattle.dms_sets.specs.Tests.{and_true, both_of, not_true, then_nothing}
+use Rattle.dms_sets.specs.Tests.{and_true, then_nothing}
 
 -- an entry stands behind a bound of an owner
 abbrev pub passes : List ItemKind → List KeyPart → ℕ → Bound → List ℕ → Bool
@@ -82,7 +83,7 @@ pub owner_first : (owner : ℕ) (p : List ℕ → Bool) (xs : List (List ℕ)) �
     → first p (of_owner owner xs) ≡ that_passes (is_of owner) (first p xs)
 owner_first owner p xs rise past =
     first_filter (is_of owner) p xs
-    ∙ first_narrow is_below p (λ x. is_of owner x && p x) (λ x h. (both_of (is_of owner x) (p x) h).1)
+    ∙ first_narrow is_below p (λ x. is_of owner x && p x) (λ x h. (and_parts (is_of owner x) (p x) h).1)
     (λ x y w n none.
     let off : is_of owner x ≡ false = and_was (is_of owner x) (p x) w n in
     let beyond = past_front (front_cmp (to_be_bytes w32 owner) x) (ap not (past x w)) off in
@@ -104,11 +105,11 @@ pub shorter : (p r q : List ℕ) → is_gt (front_cmp (p ++ r) q) ≡ false → 
 shorter p r q h = shorter_at (front_cmp p q) p r q refl h
 
 passes_owner : (kinds : List ItemKind) (ps : List KeyPart) (owner : ℕ) (bound : Bound) (q : List ℕ) → passes kinds ps owner bound q ≡ true → is_gt (front_cmp (to_be_bytes w32 owner) q) ≡ false
-passes_owner kinds ps owner Start q h = not_true (is_gt (front_cmp (to_be_bytes w32 owner) q)) h
+passes_owner kinds ps owner Start q h = not-true (is_gt (front_cmp (to_be_bytes w32 owner) q)) h
 passes_owner kinds ps owner End q h = absurd (cc)
 passes_owner kinds ps owner (At key n) q h =
     shorter (to_be_bytes w32 owner) (key_bytes kinds ps key ++ to_be_bytes w32 n) q (reaches_is (entry_bytes kinds ps owner key n) q ∙ lt_not_gt (bytes_cmp (entry_bytes kinds ps owner key n) q) h)
-passes_owner kinds ps owner (From key) q h = shorter (to_be_bytes w32 owner) (key_bytes kinds ps key ++ []) q (not_true _ h)
+passes_owner kinds ps owner (From key) q h = shorter (to_be_bytes w32 owner) (key_bytes kinds ps key ++ []) q (not-true _ h)
 
 -- keys by their first values
 
@@ -180,7 +181,7 @@ spot_fits_by false kinds s e xs at f rest = rest
 spots_fit : (kinds : List ItemKind) (s : Shape) (manual : List SubsetEntry) (owner : ℕ) (es : List (Place × Record)) → EntriesFit kinds s es → AllByRecursion (SpotKeyFits kinds s.parts) (spots_of s manual owner es)
 spots_fit kinds s manual owner [] all = tt
 spots_fit kinds s manual owner (e ∷ es) all =
-    spot_fits_by (belongs s manual owner e) kinds s e (spots_of s manual owner es) (λ h. (both_of (over s == e.0.0) _ h).0) all.0 (spots_fit kinds s manual owner es all.1)
+    spot_fits_by (belongs s manual owner e) kinds s e (spots_of s manual owner es) (λ h. (and_parts (over s == e.0.0) _ h).0) all.0 (spots_fit kinds s manual owner es all.1)
 
 pub members_fit : (desc : Described) (db : Db) (s : Shape) (owner : ℕ) → EntriesFit (kinds_over desc s) s (entries db.records) → AllByRecursion (SpotKeyFits (kinds_over desc s) s.parts) (members s db owner)
 members_fit desc db s owner all =

@@ -3,6 +3,7 @@ use Rattle.std.proofs.Common.{◌≡◌, ℕ, ◌+◌, ◌-◌, List, [], ◌∷
 use Rattle.std.specs.Prelude.{is_some}
 use Rattle.std.specs.declared.option.Option.{Option}
 use Rattle.std.specs.Int.{w32, to_be_bytes}
+use Rattle.std.proofs.lemmas.Option.{same_Some}
 use Rattle.dms_base.specs.declared.value.Value.{Value}
 use Rattle.dms_base.specs.declared.kind.ItemKind.{ItemKind}
 use Rattle.dms_desc.specs.declared.structure.KeyPart.{KeyPart}
@@ -37,9 +38,6 @@ front_long kinds s rec f =
     let key = key_long kinds s.parts rec.values f.parts in
     omega (arith, whole, key)
 
-some_bytes : (x y : List ℕ) → ◌≡◌ {A = Option (List ℕ)} (Some x) (Some y) → x ≡ y
-some_bytes x y h = cc
-
 taken_long : (b : Bool) (kinds : List ItemKind) (s : Shape) (number : ℕ) (rec : Record) (q : List ℕ) → HasEntry kinds s rec.values
     → cond b (Some (entry_bytes kinds s.parts rec.owner (key_of s.parts rec.values) number)) None ≡ Some q → length q ≡ entry_width kinds s.parts
 taken_long true kinds s number rec q f h =
@@ -47,7 +45,7 @@ taken_long true kinds s number rec q f h =
     let whole = length-append (to_be_bytes w32 rec.owner) (key ++ to_be_bytes w32 number) in
     let rest = length-append key (to_be_bytes w32 number) in
     let long = key_long kinds s.parts rec.values f.parts in
-    ap length (sym (some_bytes _ q h)) ∙ omega (arith, whole, rest, long)
+    ap length (sym (same_Some _ q h)) ∙ omega (arith, whole, rest, long)
 taken_long false kinds s number rec q f h = absurd (cc)
 
 -- and those of an entry

@@ -16,7 +16,7 @@ use Rattle.dms_base.specs.declared.kind.ItemKind.{ItemKind}
 use Rattle.dms_desc.specs.declared.structure.KeyPart.{KeyPart}
 use Rattle.dms_desc.specs.declared.record.Record.{Record}
 use Rattle.dms_desc.specs.Shape.{Shape}
-use Rattle.dms_model.specs.MemberLaws.{key_total}
+use Rattle.dms_model.specs.MemberLaws.{key_total, equal_of}
 use Rattle.dms_model.specs.Db.{SubsetEntry, Records, Place, place_cmp}
 use Rattle.dms_desc.specs.Keys.{key_of, key_cmp}
 use Rattle.dms_desc.specs.Kinds.{takes, over}
@@ -31,7 +31,7 @@ use Rattle.dms_key.specs.KeyBytes.{key_bytes}
 use Rattle.dms_key.specs.KeyOrder.{four_cmp}
 use Rattle.dms_sets.specs.Entries.{entry_bytes, IsSetKey, whole_order, whole_width}
 use Rattle.dms_ordlist.specs.Lists.{ByteSet, any_with, bytes_cmp, empty_keys, entries_removed, keys_rise, with_in, without_in}
-use Rattle.dms_sets.specs.Tests.{and_true, then_nothing, tied}
+use Rattle.dms_sets.specs.Tests.{and_true, then_nothing}
 use Rattle.dms_model.specs.Places.{places_same, places_total}
 
 -- the prefix that the entries of an owner with a key have
@@ -47,7 +47,7 @@ not_eq a b Less h = grind (arith, nat_tests, h)
 not_eq a b Equal h = grind (arith, nat_tests, h)
 not_eq a b Greater h = grind (arith, nat_tests, h)
 
-eq_of_then : (c o : Ordering) → is_eq (ordering_then c o) ≡ (is_eq c && is_eq o)
+pub eq_of_then : (c o : Ordering) → is_eq (ordering_then c o) ≡ (is_eq c && is_eq o)
 eq_of_then Less o = refl
 eq_of_then Equal o = refl
 eq_of_then Greater o = refl
@@ -135,7 +135,7 @@ module _ (kinds : List ItemKind) (s : Shape) (manual : List SubsetEntry) (rec : 
 
   own_number : (n : ℕ) (e : Place × Record) → eq_by_cmp place_cmp (over s, n) e.0 ≡ true → (n == e.0.1) ≡ true
   own_number n e h =
-      let same : (over s, n) ≡ e.0 = places_same (over s, n) e.0 (tied (place_cmp (over s, n) e.0) h) in
+      let same : (over s, n) ≡ e.0 = places_same (over s, n) e.0 (equal_of (place_cmp (over s, n) e.0) h) in
       let number : n ≡ e.0.1 = ap (λ (p : Place). p.1) same in
       grind (arith, nat_tests, number)
 

@@ -18,11 +18,11 @@ use Rattle.dms_sets.specs.Padded.{IsSetEntry, entries_shaped}
 use Rattle.dms_key.specs.KeyBytes.{key_width}
 use Rattle.dms_key.specs.KeyOrder.{equal_itself}
 use Rattle.dms_ordlist.specs.Lists.{AreAllAbove, AreInByteOrder, bytes_cmp, bytes_same, has_entry, is_same, keys_rise}
-use Rattle.dms_sets.specs.Tests.{tied}
+use Rattle.dms_model.specs.MemberLaws.{equal_of}
 
 -- what holds of all entries holds of one that is there
 has_at : (P : List ℕ → Type 0) (b : Bool) (q x : List ℕ) (r : Bool) → is_same q x ≡ b → P x → (r ≡ true → P q) → (b || r) ≡ true → P q
-has_at P true q x r e h rest has = subst P (sym (bytes_same q x (tied (bytes_cmp q x) e))) h
+has_at P true q x r e h rest has = subst P (sym (bytes_same q x (equal_of (bytes_cmp q x) e))) h
 has_at P false q x r e h rest has = rest has
 
 has_all : (P : List ℕ → Type 0) (q : List ℕ) (xs : List (List ℕ)) → AllByRecursion P xs → has_entry q xs ≡ true → P q
@@ -32,7 +32,7 @@ has_all P q (x ∷ xs) all has = has_at P (is_same q x) q x (has_entry q xs) ref
 -- an entry that passes is there among those that pass
 kept_at : (p : List ℕ → Bool) (c : Bool) (q x : List ℕ) (r : Bool) → p q ≡ true → is_same q x ≡ c → has_entry q (cond (p x) (x ∷ []) []) ≡ c
 kept_at p true q x r h e =
-    let same : p x ≡ true = ap p (sym (bytes_same q x (tied (bytes_cmp q x) e))) ∙ h in
+    let same : p x ≡ true = ap p (sym (bytes_same q x (equal_of (bytes_cmp q x) e))) ∙ h in
     ap (λ b. has_entry q (cond b (x ∷ []) [])) same ∙ or_false (is_same q x) ∙ e
   where
     or_false : (b : Bool) → (b || false) ≡ b

@@ -20,7 +20,7 @@ use Rattle.dms_sets.specs.Entries.{entry_bytes}
 use Rattle.dms_sets.specs.Listing.{listing, with_opt}
 use Rattle.dms_sets.specs.Sets.{entries_of, entry_of, kinds_over}
 use Rattle.dms_sets.specs.Spots.{StandsAmong, all_found}
-use Rattle.dms_sets.specs.Tests.{first_true, second_true}
+use Rattle.dms_model.specs.Fresh.{second_true, first_true}
 
 -- a record of the data set has a number behind the first of these and up to the last
 abbrev Within : ℕ → ℕ → ℕ → Place → Type 0

@@ -10,6 +10,7 @@ use Rattle.std.specs.declared.cmp.Ordering.{Ordering}
 use Rattle.std.specs.declared.cmp.Ordering.TheVariants.{Less, Equal, Greater}
 use Rattle.std.proofs.lemmas.Cmp.{ranked}
 use Rattle.std.specs.Int.{w32, to_be_bytes}
+use Rattle.std.proofs.lemmas.Bool.{not-true}
 use Rattle.dms_base.specs.declared.kind.ItemKind.{ItemKind}
 use Rattle.dms_desc.specs.declared.structure.KeyPart.{KeyPart}
 use Rattle.dms_desc.specs.declared.bound.Bound.{Bound}
@@ -29,7 +30,7 @@ use Rattle.dms_key.specs.KeyBytes.{key_bytes}
 use Rattle.dms_key.specs.KeyOrder.{equal_itself}
 use Rattle.dms_sets.specs.Entries.{entry_bytes}
 use Rattle.dms_ordlist.specs.Lists.{AreAllAbove, AreInByteOrder, bytes_cmp, keys_rise}
-use Rattle.dms_sets.specs.Tests.{gt_reverse, not_true}
+use Rattle.dms_sets.specs.Tests.{gt_reverse}
 
 -- an entry stands before a bound of an owner
 abbrev pub precedes : List ItemKind → List KeyPart → ℕ → Bound → List ℕ → Bool
@@ -149,7 +150,7 @@ below_at Greater p r q is h = refl
 
 precedes_owner : (kinds : List ItemKind) (ps : List KeyPart) (owner : ℕ) (bound : Bound) (q : List ℕ) → precedes kinds ps owner bound q ≡ true → is_lt (front_cmp (to_be_bytes w32 owner) q) ≡ false
 precedes_owner kinds ps owner Start q h = absurd (cc)
-precedes_owner kinds ps owner End q h = not_true (is_lt (front_cmp (to_be_bytes w32 owner) q)) h
+precedes_owner kinds ps owner End q h = not-true (is_lt (front_cmp (to_be_bytes w32 owner) q)) h
 precedes_owner kinds ps owner (At key n) q h =
     let o = to_be_bytes w32 owner in
     below_at (front_cmp o q) o (key_bytes kinds ps key ++ to_be_bytes w32 n) q refl (reaches_is (entry_bytes kinds ps owner key n) q ∙ h)

@@ -13,8 +13,9 @@ use Rattle.dms_desc.specs.declared.record.Record.{Record}
 use Rattle.dms_model.specs.Db.{Records, Place, place_cmp}
 use Rattle.dms_desc.specs.Sorted.{or_else}
 use Rattle.dms_ordlist.specs.Lists.{bytes_cmp, ByteSet, bytes_same}
-use Rattle.dms_sets.specs.Tests.{first_true, second_true, tied}
 use Rattle.dms_model.specs.Places.{places_same, places_total}
+use Rattle.dms_model.specs.Fresh.{second_true, first_true}
+use Rattle.dms_model.specs.MemberLaws.{equal_of}
 
 abbrev pub with_opt : Option (List ℕ) → ByteSet → ByteSet
 with_opt None m = m
@@ -81,7 +82,7 @@ module _ (member : Place → Record → Option (List ℕ)) where
     none_at : (o : Option (List ℕ)) (k : Place) (q : List ℕ) → ((x : List ℕ) → o ≡ Some x → k ≡ at x) → (at q ≡ k → ⊥) → test_of q o ≡ None
     none_at None k q from apart = refl
     none_at (Some x) k q from apart =
-        never (eq_by_cmp bytes_cmp q x) (λ e. apart (ap at (bytes_same q x (tied (bytes_cmp q x) e)) ∙ sym (from x refl)))
+        never (eq_by_cmp bytes_cmp q x) (λ e. apart (ap at (bytes_same q x (equal_of (bytes_cmp q x) e)) ∙ sym (from x refl)))
 
     -- the member of another place's record isn't q
     pub other_member : (k : Place) (r : Record) (q : List ℕ) → Small k → (at q ≡ k → ⊥) → test_of q (member k r) ≡ None
@@ -112,7 +113,7 @@ module _ (member : Place → Record → Option (List ℕ)) where
         → or_else (test_of q (member e.0 e.1)) (test_of q (member_opt member (at q) (find place_cmp (at q) es)))
         ≡ test_of q (member_opt member (at q) (cond b (Some e.1) (find place_cmp (at q) es)))
     step true q e es h small below =
-        let same : at q ≡ e.0 = places_same (at q) e.0 (tied (place_cmp (at q) e.0) h) in
+        let same : at q ≡ e.0 = places_same (at q) e.0 (equal_of (place_cmp (at q) e.0) h) in
         let none : find place_cmp (at q) es ≡ None = ap (λ p. find place_cmp p es) same ∙ find_below e.0 es below in
         ap (λ o. or_else (test_of q (member e.0 e.1)) (test_of q (member_opt member (at q) o))) none
         ∙ or_none (test_of q (member e.0 e.1))
@@ -135,7 +136,7 @@ module _ (member : Place → Record → Option (List ℕ)) where
         → test_of q (member_opt member (at q) (cond b (Some v) (get m (at q))))
         ≡ or_else (test_of q (member k v)) (minus (test_of q (member_opt member k (get m k))) (test_of q (member_opt member (at q) (get m (at q)))))
     change_at true m k v q small h =
-        let same : at q ≡ k = places_same (at q) k (tied (place_cmp (at q) k) h) in
+        let same : at q ≡ k = places_same (at q) k (equal_of (place_cmp (at q) k) h) in
         ap (λ p. test_of q (member p v)) same
         ∙ sym (or_none (test_of q (member k v)))
         ∙ ap (or_else (test_of q (member k v))) (sym (minus_itself (test_of q (member_opt member k (get m k)))) ∙ ap (λ p. minus (test_of q (member_opt member k (get m k))) (test_of q (member_opt member p (get m p)))) (sym same))
@@ -159,7 +160,7 @@ module _ (member : Place → Record → Option (List ℕ)) where
         → test_of q (member_opt member (at q) (cond b None (get m (at q))))
         ≡ minus (test_of q (member_opt member k (get m k))) (test_of q (member_opt member (at q) (get m (at q))))
     left_at true m k q small h =
-        let same : at q ≡ k = places_same (at q) k (tied (place_cmp (at q) k) h) in
+        let same : at q ≡ k = places_same (at q) k (equal_of (place_cmp (at q) k) h) in
         sym (minus_itself (test_of q (member_opt member k (get m k)))) ∙ ap (λ p. minus (test_of q (member_opt member k (get m k))) (test_of q (member_opt member p (get m p)))) (sym same)
     left_at false m k q small h =
         let apart = apart_of (at q) k h in
@@ -179,7 +180,7 @@ module _ (member : Place → Record → Option (List ℕ)) where
     still_at : (b : Bool) (m : Records) (k : Place) (v : Record) (q : List ℕ) → eq_by_cmp place_cmp (at q) k ≡ b → member k v ≡ member_opt member k (get m k)
         → test_of q (member_opt member (at q) (cond b (Some v) (get m (at q)))) ≡ test_of q (member_opt member (at q) (get m (at q)))
     still_at true m k v q h same =
-        let here : at q ≡ k = places_same (at q) k (tied (place_cmp (at q) k) h) in
+        let here : at q ≡ k = places_same (at q) k (equal_of (place_cmp (at q) k) h) in
         ap (λ p. test_of q (member p v)) here ∙ ap (test_of q) same ∙ ap (λ p. test_of q (member_opt member p (get m p))) (sym here)
     still_at false m k v q h same = refl
 

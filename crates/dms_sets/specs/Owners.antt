@@ -10,6 +10,7 @@ use Rattle.std.specs.declared.cmp.Ordering.TheVariants.{Less, Equal, Greater}
 use Rattle.std.specs.Cmp.Lexicographic.{nat_list_cmp_total}
 use Rattle.std.specs.Int.{w32, to_be_bytes}
 use Rattle.std.proofs.lemmas.Bool.Decides.{nat_tests}
+use Rattle.std.proofs.lemmas.Bool.{and_parts}
 use Rattle.dms_base.specs.declared.value.Value.{Value}
 use Rattle.dms_base.specs.declared.kind.ItemKind.{ItemKind}
 use Rattle.dms_desc.specs.declared.structure.KeyPart.{KeyPart}
@@ -29,7 +30,7 @@ use Rattle.dms_key.specs.KeyBytes.{key_bytes}
 use Rattle.dms_key.specs.KeyOrder.{four_cmp, equal_itself}
 use Rattle.dms_sets.specs.Entries.{entry_bytes, IsSetKey, whole_order, whole_width}
 use Rattle.dms_ordlist.specs.Lists.{AreAllAbove, AreInByteOrder, bytes_cmp, bytes_same, empty_keys, keys_rise, with_entry, with_in}
-use Rattle.dms_sets.specs.Tests.{both_of, first_true, second_true}
+use Rattle.dms_model.specs.Fresh.{second_true, first_true}
 
 abbrev pub is_of : ℕ → List ℕ → Bool
 is_of owner q = starts (to_be_bytes w32 owner) q
@@ -177,7 +178,7 @@ module _ (kinds : List ItemKind) (s : Shape) (manual : List SubsetEntry) (owner 
 
   alike_by : (b : Bool) (e d : Place × Record) (xs : List Spot) → belongs s manual owner d ≡ b → EntryFits kinds s e → EntryFits kinds s d → (over s == e.0.0) ≡ true → T (is_lt (place_cmp e.0 d.0))
       → AllByRecursion (IsAlike s.parts B (spot_of s.parts e)) xs → AllByRecursion (IsAlike s.parts B (spot_of s.parts e)) (cond b (spot_of s.parts d ∷ xs) xs)
-  alike_by true e d xs is f g at less rest = (alike_at e d f g at (both_of (over s == d.0.0) _ is).0 less, rest)
+  alike_by true e d xs is f g at less rest = (alike_at e d f g at (and_parts (over s == d.0.0) _ is).0 less, rest)
   alike_by false e d xs is f g at less rest = rest
 
   all_alike : (e : Place × Record) (es : List (Place × Record)) → EntryFits kinds s e → EntriesFit kinds s es → (over s == e.0.0) ≡ true → T (below_all place_cmp e.0 es)

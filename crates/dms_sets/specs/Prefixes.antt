@@ -8,7 +8,7 @@ use Rattle.std.specs.declared.cmp.Ordering.TheVariants.{Less, Equal, Greater}
 use Rattle.std.specs.Cmp.Lexicographic.{nat_list_cmp_total}
 use Rattle.std.proofs.lemmas.Cmp.{ranked}
 use Rattle.dms_desc.specs.Sorted.{first, NoneLess, InOrder, that_passes, first_narrow}
-use Rattle.dms_key.specs.ByteOrder.{less_is, equal_is}
+use Rattle.dms_key.specs.ByteOrder.{less_is, equal_is, then_assoc}
 use Rattle.dms_ordlist.specs.Lists.{AreAllAbove, AreInByteOrder, bytes_cmp, bytes_same}
 
 -- a prefix against the beginning of a string
@@ -24,11 +24,6 @@ starts p q = is_eq (front_cmp p q)
 -- a string isn't below this prefix
 abbrev pub reaches : List ℕ → List ℕ → Bool
 reaches p q = not (is_gt (front_cmp p q))
-
-then_assoc : (o p r : Ordering) → ordering_then (ordering_then o p) r ≡ ordering_then o (ordering_then p r)
-then_assoc Less p r = refl
-then_assoc Equal p r = refl
-then_assoc Greater p r = refl
 
 -- prefixes of strings that begin with as many bytes
 pub front_append : (x y p q : List ℕ) → length x ≡ length y → front_cmp (x ++ p) (y ++ q) ≡ ordering_then (bytes_cmp x y) (front_cmp p q)

@@ -11,6 +11,7 @@ use Rattle.std.specs.Int.{w32, to_be_bytes, from_be_bytes}
 use Rattle.std.proofs.lemmas.Nat.{from_be_bytes-to_be_bytes_4}
 use Rattle.std.proofs.lemmas.List.{drop_at}
 use Rattle.std.proofs.lemmas.Bool.Decides.{nat_tests}
+use Rattle.std.proofs.lemmas.Option.{same_Some}
 use Rattle.dms_base.specs.declared.value.Value.{Value}
 use Rattle.dms_base.specs.declared.kind.ItemKind.{ItemKind}
 use Rattle.dms_desc.specs.declared.structure.Item.{Item}
@@ -70,14 +71,11 @@ entry_number kinds ps owner key n small =
     ap number_in (sym (append_assoc (to_be_bytes w32 owner) (key_bytes kinds ps key) (to_be_bytes w32 n)))
     ∙ number_again (to_be_bytes w32 owner ++ key_bytes kinds ps key) n small
 
-some_same : (x q : List ℕ) → ◌≡◌ {A = Option (List ℕ)} (Some x) (Some q) → x ≡ q
-some_same x q h = cc
-
 own_at : (a b : Bool) (kinds : List ItemKind) (s : Shape) (k : Place) (r : Record) (q : List ℕ) → (over s == k.0) ≡ a → k.1 < 2 ^ 32
     → cond (a && b) (Some (entry_bytes kinds s.parts r.owner (key_of s.parts r.values) k.1)) None ≡ Some q → k ≡ place_in_entry s q
 own_at true true kinds s k r q e small h =
     let set : k.0 ≡ over s = grind (arith, nat_tests, e) in
-    let number : k.1 ≡ number_in q = sym (entry_number kinds s.parts r.owner (key_of s.parts r.values) k.1 small) ∙ ap number_in (some_same _ q h) in
+    let number : k.1 ≡ number_in q = sym (entry_number kinds s.parts r.owner (key_of s.parts r.values) k.1 small) ∙ ap number_in (same_Some _ q h) in
     λ i. (set i, number i)
 own_at true false kinds s k r q e small h = absurd (cc)
 own_at false b kinds s k r q e small h = absurd (cc)

@@ -6,11 +6,11 @@ use Rattle.std.specs.declared.option.Option.{Option}
 use Rattle.std.specs.Option.{option_map}
 use Rattle.std.specs.FinMap.{get, insert, get-insert, entries, entries_sorted, get-entries, find, is_sorted}
 use Rattle.std.specs.FinMap.Entries.{below_all}
-use Rattle.std.specs.Ordering.{eq_by_cmp, is_eq, is_lt, ordering_reverse}
-use Rattle.std.specs.declared.cmp.Ordering.{Ordering}
-use Rattle.std.specs.declared.cmp.Ordering.TheVariants.{Less, Equal, Greater}
+use Rattle.std.specs.Ordering.{eq_by_cmp, is_eq}
 use Rattle.std.proofs.lemmas.Cmp.{eq_by_cmp_equiv}
 use Rattle.std.proofs.lemmas.Bool.Decides.{nat_tests}
+use Rattle.std.proofs.lemmas.Option.{same_Some}
+use Rattle.std.proofs.lemmas.Bool.{and_parts}
 use Rattle.dms_base.specs.declared.value.Value.{Value}
 use Rattle.dms_desc.specs.declared.structure.Item.{Item}
 use Rattle.dms_desc.specs.declared.structure.KeyPart.{KeyPart}
@@ -33,8 +33,10 @@ use Rattle.dms_sets.specs.Sets.{place_in_entry, number_in, entry_number, entries
 use Rattle.dms_sets.specs.Owners.{is_of, spot_bytes, EntryFits, EntriesFit, all_sorted}
 use Rattle.dms_sets.specs.Bounds.{passes, BoundKeyFits, first_member_is}
 use Rattle.dms_sets.specs.Lasts.{precedes, last_member_is}
-use Rattle.dms_sets.specs.Tests.{both_of, first_true, second_true, tied}
 use Rattle.dms_model.specs.Places.{places_same, places_total}
+use Rattle.dms_model.specs.Founds.{not_tied}
+use Rattle.dms_model.specs.Fresh.{second_true, first_true}
+use Rattle.dms_model.specs.MemberLaws.{equal_of}
 
 abbrev pub and_then : {A B : Type 0} → Option A → (A → Option B) → Option B
 and_then None f = None
@@ -46,18 +48,13 @@ spot_at s db q = option_map (λ r. spot_of s.parts (place_in_entry s q, r)) (get
 
 -- each entry of a sorted list is found
 
-above_not : (o : Ordering) → T (is_lt o) → is_eq (ordering_reverse o) ≡ false
-above_not Less h = refl
-above_not Equal h = absurd h
-above_not Greater h = absurd h
-
 abbrev pub StandsAmong : List (Place × Record) → Place × Record → Type 0
 StandsAmong es e = find place_cmp e.0 es ≡ Some e.1
 
 found_later : (e : Place × Record) (es fs : List (Place × Record)) → T (below_all place_cmp e.0 fs) → AllByRecursion (StandsAmong es) fs → AllByRecursion (StandsAmong (e ∷ es)) fs
 found_later e es [] below all = tt
 found_later e es (d ∷ fs) below all =
-    let off : eq_by_cmp place_cmp d.0 e.0 ≡ false = ap is_eq (places_total.antisymm d.0 e.0) ∙ above_not (place_cmp e.0 d.0) (first_true _ _ below) in
+    let off : eq_by_cmp place_cmp d.0 e.0 ≡ false = ap is_eq (places_total.antisymm d.0 e.0) ∙ not_tied (place_cmp e.0 d.0) (first_true _ _ below) in
     (ap (λ b. cond b (Some e.1) (find place_cmp d.0 es)) off ∙ all.0, found_later e es fs (second_true _ _ below) all.1)
 
 pub all_found : (es : List (Place × Record)) → T (is_sorted place_cmp es) → AllByRecursion (StandsAmong es) es
@@ -86,7 +83,7 @@ module _ (s : Shape) (db : Db) (kinds : List ItemKind) (owner : ℕ) where
   all_back : (manual : List SubsetEntry) (es : List (Place × Record)) → EntriesFit kinds s es → AllByRecursion (StandsAmong (entries db.records)) es → AllByRecursion IsBack (spots_of s manual owner es)
   all_back manual [] fits found = tt
   all_back manual (e ∷ es) fits found =
-      back_by (belongs s manual owner e) e (spots_of s manual owner es) (λ h. back_at e (both_of (over s == e.0.0) _ h).0 fits.0 found.0) (all_back manual es fits.1 found.1)
+      back_by (belongs s manual owner e) e (spots_of s manual owner es) (λ h. back_at e (and_parts (over s == e.0.0) _ h).0 fits.0 found.0) (all_back manual es fits.1 found.1)
 
   -- each member is that of its entry
   pub members_back : EntriesFit kinds s (entries db.records) → AllByRecursion IsBack (members s db owner)
@@ -138,12 +135,9 @@ ValuesFit items values = (k : ℕ) (item : Item) → slice_get items k ≡ Some 
 abbrev pub NameItems : List Item → List KeyPart → Type 0
 NameItems items ps = AllByRecursion (λ p. (item : Item) × (slice_get items (p.item - 1) ≡ Some item)) ps
 
-pub some_item : (x y : Item) → ◌≡◌ {A = Option Item} (Some x) (Some y) → x ≡ y
-some_item x y h = cc
-
 got : (items : List Item) (i : ℕ) (item : Item) → slice_get items i ≡ Some item → slice_get (kinds_of items) i ≡ Some item.kind
 got [] i item h = absurd (cc)
-got (x ∷ xs) zero item h = let same : x ≡ item = some_item x item h in ap (λ (y : Item). Some y.kind) same
+got (x ∷ xs) zero item h = let same : x ≡ item = same_Some x item h in ap (λ (y : Item). Some y.kind) same
 got (x ∷ xs) (suc i) item h = got xs i item h
 
 values_fit : (items : List Item) (ps : List KeyPart) (values : List Value) → ValuesFit items values → NameItems items ps → KeyHasKinds (kinds_of items) ps (key_of ps values)
@@ -191,7 +185,7 @@ all_fit desc db s named fits = all_fit_in desc db s (entries db.records) named f
 fit_at : (b : Bool) (desc : Described) (db : Db) (k q : Place) (v r : Record) → eq_by_cmp place_cmp q k ≡ b → RecordsHaveSpots desc db → RecordHasSpot desc k v → cond b (Some v) (get db.records q) ≡ Some r → RecordHasSpot desc q r
 fit_at true desc db k q v r e fits new at =
     let same : v ≡ r = cc in
-    subst (λ (p : Place). RecordHasSpot desc p r) (sym (places_same q k (tied (place_cmp q k) e))) (subst (RecordHasSpot desc k) same new)
+    subst (λ (p : Place). RecordHasSpot desc p r) (sym (places_same q k (equal_of (place_cmp q k) e))) (subst (RecordHasSpot desc k) same new)
 fit_at false desc db k q v r e fits new at = fits q r at
 
 -- and they do after one that fits was put

@@ -5,7 +5,8 @@ use Rattle.std.specs.declared.option.Option.{Option}
 use Rattle.std.specs.FinMap.{get, entries}
 use Rattle.std.specs.Int.{w32, to_be_bytes}
 use Rattle.std.proofs.lemmas.Bool.Decides.{nat_tests}
-use Rattle.std.proofs.lemmas.Bool.{cases_lt}
+use Rattle.std.proofs.lemmas.Bool.{cases_lt, and_parts}
+use Rattle.std.proofs.lemmas.Option.{slice_get_within, same_Some}
 use Rattle.dms_base.specs.declared.kind.ItemKind.{ItemKind}
 use Rattle.dms_desc.specs.declared.record.Record.{Record}
 use Rattle.dms_desc.specs.Shape.{Shape, Described}
@@ -28,7 +29,6 @@ use Rattle.dms_sets.specs.Padded.{IsSetEntry, entry_width, entries_shaped, all_w
 use Rattle.dms_sets.specs.Puts.{all_small}
 use Rattle.dms_sets.specs.Sets.{IsSmall, entry_of, entries_of, items_over, kinds_over, entries_changed, entries_left}
 use Rattle.dms_sets.specs.Spots.{ValuesFit, all_fit, key_fits}
-use Rattle.dms_sets.specs.Tests.{both_of}
 use Rattle.dms_sets.specs.Told.{ChangeStands, KeepsSets, Upto, answer_of, clash_opt, db_with, is_refused}
 
 -- ---- what is over the data set
@@ -37,7 +37,7 @@ over_set : (s : Shape) (set : ℕ) → is_over s set ≡ true → over s ≡ set
 over_set s set h = (closed_is s set true true (ap (λ b. (b && true) && true) h)).over
 
 pub over_kept : (s : Shape) (set : ℕ) → is_over s set ≡ true → is_set_or_automatic s ≡ true
-over_kept s set h = (both_of (is_set_or_automatic s) (s.set == set) h).0
+over_kept s set h = (and_parts (is_set_or_automatic s) (s.set == set) h).0
 
 over_at : (b : Bool) (s : Shape) → nat_lt s.kind 3 ≡ b → nat_lt 2 s.kind ≡ true → cond b s.number s.set ≡ s.set
 over_at true s e h = absurd (grind (arith, nat_tests, e, h))
@@ -45,7 +45,7 @@ over_at false s e h = refl
 
 elsewhere : (s : Shape) (set : ℕ) → is_set_or_automatic s ≡ true → is_over s set ≡ false → (over s == set) ≡ false
 elsewhere s set kept off =
-    let own : over s ≡ s.set = over_at (nat_lt s.kind 3) s refl (both_of (nat_lt 2 s.kind) (nat_lt s.kind 5) kept).0 in
+    let own : over s ≡ s.set = over_at (nat_lt s.kind 3) s refl (and_parts (nat_lt 2 s.kind) (nat_lt s.kind 5) kept).0 in
     ap (λ n. n == set) own ∙ sym (ap (λ b. b && (s.set == set)) kept) ∙ off
 
 member_here : (kinds : List ItemKind) (s : Shape) (set n : ℕ) (o : Option Record) → over s ≡ set → member_opt (entry_of kinds s) (set, n) o ≡ entry_opt kinds s n o
@@ -150,17 +150,9 @@ module _ (desc : Described) (db : Db) (set : ℕ) (number : Option ℕ) (rec : R
 
 -- ---- one structure after another
 
-found_low : (ss : List Shape) (j : ℕ) (s : Shape) → slice_get ss j ≡ Some s → j < length ss
-found_low [] j s at = absurd (cc)
-found_low (t ∷ ss) zero s at = omega arith
-found_low (t ∷ ss) (suc j) s at = omega (arith, found_low ss j s at)
-
-some_one : (x y : Shape) → ◌≡◌ {A = Option Shape} (Some x) (Some y) → x ≡ y
-some_one x y h = cc
-
 module _ (desc : Described) (db : Db) (set number : ℕ) (old new : Option Record) (judged : ChangeStands desc db set number old new) where
   same_at : (j k : ℕ) (t s : Shape) → j ≡ k → slice_get desc.structures j ≡ Some t → slice_get desc.structures k ≡ Some s → s ≡ t
-  same_at j k t s e p q = some_one s t (sym q ∙ ap (slice_get desc.structures) (sym e) ∙ p)
+  same_at j k t s e p q = same_Some s t (sym q ∙ ap (slice_get desc.structures) (sym e) ∙ p)
 
   number_off : (j k : ℕ) (t s : Shape) → (j ≡ k → ⊥) → slice_get desc.structures j ≡ Some t → slice_get desc.structures k ≡ Some s → (t.number == s.number) ≡ false
   number_off j k t s off p q = number_by (t.number == s.number) refl
@@ -214,7 +206,7 @@ pub upto_end : (desc : Described) (db : Db) (set number : ℕ) (old new : Option
 upto_end desc db set number old new judged now u =
     record {
       answer_is = ap answer_of (sym (no_clash desc db set number old new judged now u));
-      lists = λ h. λ j s at kept. u.done j s (found_low desc.structures j s at) at kept;
+      lists = λ h. λ j s at kept. u.done j s (slice_get_within desc.structures j s at) at kept;
     }
 
 -- one refuses
@@ -253,7 +245,7 @@ clash_new desc db set n rec none (s ∷ ss) =
 pub number_over : (ss : List Shape) (k : ℕ) (s : Shape) (set m : ℕ) → slice_get ss k ≡ Some s → is_over s set ≡ true → (m == s.number) ≡ true → has_number ss set m ≡ true
 number_over [] k s set m at h same = absurd (cc)
 number_over (t ∷ ss) zero s set m at h same =
-    let here : t ≡ s = some_one t s at in
+    let here : t ≡ s = same_Some t s at in
     (λ i. (is_over (here i) set && (m == (here i).number)) || has_number ss set m) ∙ (λ i. (h i && same i) || has_number ss set m)
 number_over (t ∷ ss) (suc k) s set m at h same = ap (λ b. (is_over t set && (m == t.number)) || b) (number_over ss k s set m at h same) ∙ or_true (is_over t set && (m == t.number))
   where

@@ -1,10 +1,9 @@
-ghost use Rattle.std.specs.Prelude.{◌≡◌, ◌++◌, ◌+◌, ◌-◌, ◌≤◌, ℕ, IfOk, IfSome, OnOk, length, map, replicate, slice_get};
-ghost use Rattle.std.specs.Int.{w32, to_be_bytes};
+ghost use Rattle.std.specs.Prelude.{◌≡◌, IfOk};
+ghost use Rattle.std.specs.Int.{to_be_bytes};
 ghost use Rattle.dms_desc.specs.Shape.{shape_of};
 ghost use Rattle.dms_key.specs.KeyBytes.{key_bytes};
 ghost use Rattle.dms_sets.specs.Changes.{entry_in, front_in};
-ghost use Rattle.dms_sets.specs.Entries.{entry_bytes, kinds_of};
-ghost use Rattle.dms_sets.specs.Padded.{entry_width};
+ghost use Rattle.dms_sets.specs.Entries.{kinds_of};
 
 use dms_base::{Bytes, ItemKind, Memory};
 use dms_desc::{Item, Record, Structure};

@@ -1,4 +1,4 @@
-ghost use Rattle.std.specs.Prelude.{◌≡◌, ◌+◌, ℕ, List, ◌++◌, not, length, take, OnOk, OnErr, IfOk, IsTrue};
+ghost use Rattle.std.specs.Prelude.{◌≡◌, ◌+◌, ℕ, ◌++◌, not, length, take, OnOk, OnErr, IfOk, IsTrue};
 ghost use Rattle.dms_moments.specs.Moments.{Steps};
 ghost use Rattle.dms_site.specs.Files.{with_file, overlaid, InFile, Torn, Cut, OnDisk, PrintsPartOf, Same, Only};
 ghost use Rattle.dms_sitemem.specs.Keeping.{KeepsEvent, IsLookEvent, IsWrite, IsCut, IsSync, IsSaying};

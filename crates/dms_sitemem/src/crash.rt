@@ -4,8 +4,8 @@ ghost use Rattle.std.specs.BTreeMap.{get, btree_map_len};
 ghost use Rattle.dms_site.specs.Files.{with_file};
 ghost use Rattle.dms_sitemem.specs.Slots.{files_of};
 ghost use Rattle.dms_sitemem.specs.Events.{said_after, is_sync, through};
-ghost use Rattle.dms_sitemem.specs.Replay.{Replayed, state_of};
-ghost use Rattle.dms_sitemem.specs.Picks.{marked, seed_behind, count_of, Struck, struck, fill_of, cuts_of, picked_after};
+ghost use Rattle.dms_sitemem.specs.Replay.{state_of};
+ghost use Rattle.dms_sitemem.specs.Picks.{marked, seed_behind, count_of, struck, fill_of, picked_after};
 
 use crate::event::SiteEvent;
 use crate::image::Image;

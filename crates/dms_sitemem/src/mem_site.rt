@@ -1,13 +1,13 @@
-ghost use Rattle.std.specs.Prelude.{◌≡◌, ◌+◌, ◌-◌, ◌^◌, ◌<◌, ◌≤◌, ℕ, List, [], ◌++◌, true, None, length, take, drop, min, nat_lt, if◌then◌else◌, IfOk, OnOk, OnErr, IsTrue};
+ghost use Rattle.std.specs.Prelude.{◌≡◌, ◌+◌, ◌-◌, ◌^◌, ◌<◌, ◌≤◌, ℕ, [], ◌++◌, true, None, length, take, drop, min, nat_lt, if◌then◌else◌, IfOk, OnOk, OnErr};
 ghost use Rattle.dms_base.specs.Causes.{HasCause};
 ghost use Rattle.dms_moments.specs.Moments.{Steps};
-ghost use Rattle.dms_site.specs.Files.{Left, with_file, range, overlaid, InFile, Torn, Cut, OnDisk, PrintsPartOf, Same, Only, IsLastPresent};
+ghost use Rattle.dms_site.specs.Files.{with_file, range, overlaid, InFile, Torn, Cut, OnDisk, PrintsPartOf, Same, Only, IsLastPresent};
 ghost use Rattle.dms_sitemem.specs.Keeping.{KeptCall, IsLookEvent, IsWrite, IsCut, IsSync, IsSaying};
 ghost use Rattle.dms_sitemem.specs.Slots.{files_of};
 ghost use Rattle.dms_sitemem.specs.Plans.{EndsByPlan};
 ghost use Rattle.dms_sitemem.specs.Events.{through};
-ghost use Rattle.dms_sitemem.specs.Picks.{Struck, picked_after};
-ghost use Rattle.dms_sitemem.specs.Replay.{Replayed, MayLeave, state_of, clock_of};
+ghost use Rattle.dms_sitemem.specs.Picks.{picked_after};
+ghost use Rattle.dms_sitemem.specs.Replay.{MayLeave, state_of, clock_of};
 
 use crate::crash::{end_of, journal_of, last_sync, replay, strike_all};
 use crate::journal::Journal;

@@ -1,4 +1,4 @@
-ghost use Rattle.std.specs.Prelude.{◌≡◌, ◌+◌, ◌<◌, ◌≤◌, ℕ, length, replicate, OnOk, IfOk};
+ghost use Rattle.std.specs.Prelude.{◌≡◌, replicate, OnOk, IfOk};
 ghost use Rattle.dms_sitemem.specs.Picks.{drawn, seed_after, fill_of};
 
 use std::alloc::{AllocError, Global};

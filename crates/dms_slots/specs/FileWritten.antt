@@ -14,9 +14,9 @@ use Rattle.dms_block.specs.ContentLaws.{in_file}
 use Rattle.dms_layout.specs.declared.slot.Slot.{Slot}
 use Rattle.dms_layout.specs.declared.slot.SlotRead.{SlotRead}
 use Rattle.dms_layout.specs.declared.slot.SlotRead.TheVariants.{Free, Used, Bad}
-use Rattle.dms_layout.specs.Slots.{slot_width, slot_bytes, slot_of, is_zero, SlotFits, AreKinds}
+use Rattle.dms_layout.specs.Slots.{slot_width, slot_bytes, slot_of, SlotFits, AreKinds}
 use Rattle.dms_layout.specs.SlotLaws.{slot_again, slot_long}
-use Rattle.dms_layout.specs.ReadLaws.{used_fits, free_is, free_again}
+use Rattle.dms_layout.specs.ReadLaws.{used_fits, free_is, free_again, are_zeros}
 use Rattle.dms_slots.specs.SlotBlocks.{file_of, per_block, block_of, place_of, is_slot, are_slots, is_block, cut, slots_by, slots_in, or_free, slot_at, block_at, slot_put, MayPutSlot}
 use Rattle.dms_slots.specs.SlotBlockLaws.{bad_block, place_bad, slot_there, slot_past, slots_length, some_at, none_at}
 use Rattle.dms_slots.specs.Written.{room, block_written}
@@ -56,15 +56,11 @@ off_laid (suc b) (suc k) x (z ∷ bs) low other = off_laid b k x bs (omega arith
 
 -- ---- a block of zeros
 
-all_zeros : (n : ℕ) → list_all is_zero (replicate n 0) ≡ true
-all_zeros zero = refl
-all_zeros (suc n) = all_zeros n
-
 zeros_first : (s : Shape) (n : ℕ) → slot_width s.items ≤ n → slot_of s (take (slot_width s.items) (replicate n 0)) ≡ Free
 zeros_first s n low = ap (slot_of s) (take-replicate (slot_width s.items) n 0 low) ∙ free_again s
 
 zeros_good : (s : Shape) (k n : ℕ) → k * slot_width s.items ≤ n → are_slots s k (replicate n 0) ≡ true
-zeros_good s zero n low = all_zeros n
+zeros_good s zero n low = are_zeros n
 zeros_good s (suc k) n low =
     let w = slot_width s.items in
     let first : w ≤ n = omega (arith, low, nat.suc-mul k w) in

@@ -134,7 +134,7 @@ left_more i n low = omega arith
 pub walk_ends : (s : Shape) (i n k : ℕ) (rest : List ℕ) (b : Bool) → k ≡ n → k ≤ i → are_slots s (n - i) rest ≡ b → list_all is_zero rest ≡ b
 walk_ends s i n k rest b e past so_far = ap (λ j. are_slots s j rest) (let h : 0 ≡ n - i = omega (arith, e) in h) ∙ so_far
 
-both_false : (a : Bool) → (a && false) ≡ false
+pub both_false : (a : Bool) → (a && false) ≡ false
 both_false true = refl
 both_false false = refl
 

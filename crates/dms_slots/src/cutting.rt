@@ -2,7 +2,7 @@ ghost use Rattle.std.specs.Prelude.{◌≡◌, ◌+◌, ◌<◌, ◌≤◌, IfOk
 ghost use Rattle.std.specs.List.{list_all};
 ghost use Rattle.dms_desc.specs.Shape.{shape_of};
 ghost use Rattle.dms_layout.specs.Slots.{slot_width, is_zero};
-ghost use Rattle.dms_slots.specs.SlotBlocks.{file_of, per_block, is_slot, is_free, are_slots, is_block, cut, slots_in, or_free, before_free};
+ghost use Rattle.dms_slots.specs.SlotBlocks.{file_of, per_block, is_slot, is_free, is_block, cut, slots_in, or_free, before_free};
 
 use dms_base::Memory;
 use dms_block::Block;

@@ -1,11 +1,11 @@
-ghost use Rattle.std.specs.Prelude.{◌≡◌, ◌+◌, ◌-◌, ◌<◌, ◌≤◌, IfOk, IfSome, IfNone, IsTrue, length};
+ghost use Rattle.std.specs.Prelude.{◌≡◌, ◌+◌, ◌-◌, ◌<◌, ◌≤◌, IfOk, IfSome, IsTrue, length};
 ghost use Rattle.dms_desc.specs.Shape.{shape_of};
 ghost use Rattle.dms_layout.specs.Slots.{slot_width, SlotFits};
 ghost use Rattle.dms_block.specs.Held.{HasCausesOr};
-ghost use Rattle.dms_block.specs.View.{ReadsOverlay, seen, seen_counts, under};
+ghost use Rattle.dms_block.specs.View.{ReadsOverlay, under};
 ghost use Rattle.std.specs.Prelude.{◌/◌, slice_index_or, []};
 ghost use Rattle.dms_slots.specs.Seen.{blocks_of, count_of, BadAt, BadIn};
-ghost use Rattle.dms_slots.specs.SlotBlocks.{file_of, per_block, block_of, slot_at, slot_opt, slots_in, before_free, within, least_free, BadBlock};
+ghost use Rattle.dms_slots.specs.SlotBlocks.{file_of, per_block, block_of, slot_at, slot_opt, slots_in, before_free, within, least_free};
 
 use crate::cutting::{before_free, file_of, is_block, per_block, slot_in};
 use dms_block::{BlockFault, BlockId, Blocks, Overlay};

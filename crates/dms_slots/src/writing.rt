@@ -3,11 +3,11 @@ ghost use Rattle.dms_desc.specs.Shape.{shape_of};
 ghost use Rattle.dms_fields.specs.Fields.{laid};
 ghost use Rattle.dms_layout.specs.Slots.{slot_bytes, slot_width};
 ghost use Rattle.dms_desc.specs.Fitting.{values_fit};
-ghost use Rattle.dms_block.specs.Content.{raised, with_block};
+ghost use Rattle.dms_block.specs.Content.{raised};
 ghost use Rattle.dms_block.specs.Held.{HasCausesOr};
 ghost use Rattle.dms_block.specs.View.{ReadsOverlay, WritesOverlay, seen, seen_counts, under, written};
 ghost use Rattle.dms_slots.specs.Seen.{blocks_of, count_of, BadAt, with_slot};
-ghost use Rattle.dms_slots.specs.SlotBlocks.{file_of, block_of, place_of, is_block, block_at, BadBlock};
+ghost use Rattle.dms_slots.specs.SlotBlocks.{file_of, block_of, is_block, block_at};
 
 use crate::cutting::{ahead, file_of, is_block, per_block, width_of};
 use dms_block::{Block, BlockFault, BlockId, Blocks, Overlay};

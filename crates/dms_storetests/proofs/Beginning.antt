@@ -1,36 +1,18 @@
 -- New blocks in memory serve a store.
-use Rattle.std.proofs.Common.{◌≡◌, ◌∙◌, ◌+◌, ◌-◌, ◌≤◌, ℕ, zero, suc, List, [], ◌∷◌, Bool, true, false, Some, None, nat_lt, nat_le, refl, sym, ap, subst, cond, length, slice_get, arith}
-use Rattle.std.specs.Prelude.{◌&&◌, ◌==◌, IsSome}
+use Rattle.std.proofs.Common.{◌≡◌, ◌∙◌, ◌+◌, ◌≤◌, ℕ, [], Bool, true, false, Some, nat_lt, nat_le, refl, sym, ap, arith}
+use Rattle.std.specs.Prelude.{◌&&◌}
 use Rattle.std.proofs.lemmas.Bool.Decides.{nat_tests}
+use Rattle.std.proofs.lemmas.Bool.{and_parts}
 use Rattle.dms_block.specs.Content.{Content}
 use Rattle.dms_block.specs.Held.{Held}
-use Rattle.dms_desc.specs.Lookups.{structure_at}
-use Rattle.dms_desc.specs.Shape.{Shape, Described}
+use Rattle.dms_desc.specs.Shape.{Described}
+use Rattle.dms_desc.proofs.Numbers.{some_at}
 use Rattle.dms_desc_bytes.specs.Spelling.{spelling}
 use Rattle.dms_memblocks.specs.View.{IsNew}
 use Rattle.dms_model.specs.Db.{empty_db}
 use Rattle.dms_store.specs.Lifted.{Serves, db_of}
 use Rattle.dms_store.specs.Serving.{IsServed}
 use Rattle.dms_store.specs.Spelled.{spelled}
-
-both : (a b : Bool) → (a && b) ≡ true → (a ≡ true) × (b ≡ true)
-both true true h = (refl, refl)
-both true false h = absurd (cc)
-both false b h = absurd (cc)
-
-some_low : (ss : List Shape) (k : ℕ) → IsSome (slice_get ss k) → k + 1 ≤ length ss
-some_low [] k some = absurd (cc)
-some_low (s ∷ ss) zero some = omega arith
-some_low (s ∷ ss) (suc k) some = omega (arith, some_low ss k some)
-
--- a structure has a number from 1 to as many as there are
-some_at : (ss : List Shape) (n : ℕ) → IsSome (structure_at ss n) → (1 ≤ n) × (n ≤ length ss)
-some_at ss zero some = absurd (cc)
-some_at ss (suc k) some =
-    let t : (suc k == 0) ≡ false = grind (arith, nat_tests) in
-    let e : suc k - 1 ≡ k = omega arith in
-    let is : structure_at ss (suc k) ≡ slice_get ss k = ap (λ b. cond b None (slice_get ss (suc k - 1))) t ∙ ap (slice_get ss) e in
-    (omega arith, omega (arith, some_low ss k (subst IsSome is some)))
 
 owned : (n : ℕ) → 1 ≤ n → n ≤ 200 → (nat_lt 30000 (30000 + n) && nat_le (30000 + n) 30200) ≡ true
 owned n low most =
@@ -46,7 +28,7 @@ serves_new desc h served new schema = record {
       let at = some_at desc.structures n some in
       new.owns (30000 + n) ∙ owned n at.0 (omega (arith, at.1, served.count));
   only = λ file owns.
-      let t = both (nat_lt 30000 file) (nat_le file 30200) (sym (new.owns file) ∙ owns) in
+      let t = and_parts (nat_lt 30000 file) (nat_le file 30200) (sym (new.owns file) ∙ owns) in
       record { low = grind (arith, nat_tests, t.0); most = grind (arith, nat_tests, t.1) };
 }
 

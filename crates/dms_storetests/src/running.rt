@@ -1,7 +1,6 @@
-ghost use Rattle.std.specs.Prelude.{◌≡◌, IfSome};
+ghost use Rattle.std.specs.Prelude.{IfSome};
 ghost use Rattle.dms_desc.specs.Shape.{described};
 ghost use Rattle.dms_desc_bytes.specs.WellFormed.{IsWellFormed};
-ghost use Rattle.dms_model.specs.Seen.{Seen};
 ghost use Rattle.dms_storetests.specs.Beginnings.{StartsAtMark};
 
 use dasdl_compile::compile;

@@ -1,4 +1,4 @@
-ghost use Rattle.std.specs.Prelude.{◌≡◌, ◌++◌, ◌≤◌, ◌+◌, length, IfOk, ◌∷◌, [], List, ℕ, true};
+ghost use Rattle.std.specs.Prelude.{◌≡◌, ◌++◌, ◌≤◌, ◌+◌, length, IfOk, ◌∷◌, [], true};
 ghost use Rattle.dms_tokens.specs.Tokens.{first_digit, whole_digit, point_digit, number_token, character, fresh_byte, comment_byte, word_byte, dashes_byte, signed_byte, whole_byte, point_byte, fraction_byte, quoted_byte, quote_byte, less_byte, greater_byte, byte_turn, end_turn, then_end, then_bad, tokens_from, tokens_of, lexeme};
 ghost use Rattle.dms_tokens.specs.declared.reading.Reading.TheVariants.{Between, Stopped};
 ghost use Rattle.dms_tokens.specs.declared.token.Token.TheVariants.{Bad};

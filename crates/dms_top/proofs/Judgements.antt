@@ -43,7 +43,3 @@ no_more_over rest held left none h = no_more held left (subst (λ (r : List ℕ)
 -- with nothing held, what the source has left remains
 pub at_start : (held : List ℕ) (left : Option (List ℕ)) (all : List ℕ) → held ≡ [] → left ≡ Some all → Remains held left all
 at_start held left all none is = subst (λ (h : List ℕ). Remains h left all) (sym none) (subst (λ (l : Option (List ℕ)). Remains [] l all) (sym is) refl)
-
--- what answered didn't fail
-pub no_fault : {T E : Type 0} (x : T) (e : E) → Ok x ≡ Err e → ⊥
-no_fault x e is = cc

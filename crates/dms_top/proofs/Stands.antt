@@ -1,5 +1,5 @@
 -- A new database stands for point 0 and the empty database.
-use Rattle.std.proofs.Common.{◌≡◌, ℕ, zero, suc, ◌+◌, ◌*◌, ◌-◌, ◌<◌, ◌≤◌, ◌==◌, Bool, true, false, cond, List, [], ◌∷◌, ◌++◌, Some, None, refl, sym, ap, ◌∙◌, subst, arith, length, length-drop, take, drop, map, append_assoc, inl, inr}
+use Rattle.std.proofs.Common.{◌≡◌, ℕ, zero, suc, ◌+◌, ◌*◌, ◌<◌, ◌≤◌, ◌==◌, Bool, true, false, cond, List, [], ◌∷◌, ◌++◌, Some, None, refl, sym, ap, ◌∙◌, subst, arith, length, length-drop, take, drop, map, append_assoc, inl, inr}
 use Rattle.std.proofs.lemmas.List.{take-append-drop, append-nil}
 use Rattle.std.proofs.lemmas.Bool.{cases_lt}
 use Rattle.std.specs.List.{range_with_len}
@@ -36,6 +36,7 @@ use Rattle.dms_running.specs.FromDumps.{dump_in}
 use Rattle.dms_restore.specs.Dumped.{dumps_of}
 use Rattle.dms_scriptlaws.proofs.Scripts.{empty_start}
 use Rattle.dms_top.specs.State.{StandsNew, BecomesNew, MadeStands}
+use Rattle.dms_runtop.proofs.Formed.{some_bytes}
 
 -- ---- the counts of a new database
 
@@ -51,10 +52,6 @@ zero_same : (n : ℕ) → counts_in (zero_counts n 1) ≡ counts_in []
 zero_same n = λ i f. zero_count n 1 f i
 
 -- ---- the description in parts
-
-some_bytes : (d : Described) → 0 < length (spelling d)
-unfolding spelling
-some_bytes d = omega arith
 
 -- a list that has a first one
 record HasFirst (bs : List (List ℕ)) : Type 0 where

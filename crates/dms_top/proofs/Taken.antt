@@ -4,7 +4,7 @@ use Rattle.std.specs.Prelude.{codes}
 use Rattle.std.specs.declared.option.Option.{Option}
 use Rattle.std.proofs.lemmas.List.{append-nil, take_all}
 use Rattle.std.proofs.lemmas.Slice.Eq.{bytes_eq-Decides}
-use Rattle.dms_runner.proofs.Running.{lines_step}
+use Rattle.dms_runner.proofs.Running.{lines_step, some_first}
 use Rattle.dms_runner.proofs.Lining.{line_text_long}
 use Rattle.dms_feed.specs.Feeds.{Remains}
 use Rattle.dms_feed.specs.Lines.{raw_lines, first_line, after_line, line_text}
@@ -38,12 +38,8 @@ long_line all text some long =
     let other : is_script (first_line all) ≡ false = not_script (is_script (first_line all)) (first_line all) refl (omega (arith, long)) in
     omega (arith, long, length-append text (schema_text all), ap length (text_on all some other), length-append (first_line all) (schema_text (after_line all)))
 
-some_line : (all : List ℕ) → 0 < length (first_line all) → all ≢ []
-some_line [] h none = omega (arith, h)
-some_line (b ∷ bs) h none = cc
-
 pub long_first : (all text : List ℕ) → 1000008 < length (first_line all) → IsLong text all
-long_first all text long = long_line all text (some_line all (omega (arith, long))) long
+long_first all text long = long_line all text (some_first all (omega (arith, long))) long
 
 whole : (l kept : List ℕ) (n : ℕ) → kept ≡ take 1000008 l → n ≡ length l → n ≤ 1000008 → kept ≡ l
 whole l kept n is len small = is ∙ take_all 1000008 l (omega (arith, len, small))

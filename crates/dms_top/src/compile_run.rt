@@ -1,4 +1,4 @@
-ghost use Rattle.std.specs.Prelude.{◌≡◌, ◌≢◌, ◌≤◌, ◌<◌, [], ℕ, Some, Ok, Err, IfOk, IsOk, IsTrue, length};
+ghost use Rattle.std.specs.Prelude.{◌≡◌, ◌≢◌, ◌≤◌, [], ℕ, Some, Ok, Err, IfOk, IsOk, IsTrue, length};
 ghost use Rattle.dms_desc.specs.Shape.{Described, described};
 ghost use Rattle.dms_desc_bytes.specs.Spelling.{spelling};
 ghost use Rattle.dms_descfile.specs.DescriptionFile.{sealed_file, IsSealed, IsUnsealed};

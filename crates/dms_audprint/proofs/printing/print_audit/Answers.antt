@@ -1,4 +1,4 @@
-use Rattle.std.proofs.Common.{◌≡◌, ◌∙◌, List, subst, sym}
+use Rattle.std.proofs.Common.{List, subst, sym}
 use Rattle.dms_audfile.specs.AuditTrail.{IsFound}
 use Rattle.dms_audfile.specs.declared.place.EntryPlace.{EntryPlace}
 use Rattle.dms_audprint.proofs.Printed.{audit_printed, audit_found, audit_part, audit_refused, audit_silent, prints_same, prints_on}

@@ -1,4 +1,4 @@
-use Rattle.std.proofs.Common.{◌+◌, ◌<◌, ◌∙◌, sym, subst, arith, length, rules}
+use Rattle.std.proofs.Common.{◌<◌, ◌∙◌, sym, subst, arith, length, rules}
 use Rattle.dms_site.specs.Files.{Files}
 use Rattle.dms_audfile.specs.EntryReading.{IsCurrent}
 use Rattle.dms_audprint.proofs.Printed.{part_then, line_then, part_now, stands_then, prints_on}

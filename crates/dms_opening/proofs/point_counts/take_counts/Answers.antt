@@ -2,9 +2,10 @@ use Rattle.std.proofs.Common.{inl, inr, ◌∙◌, ◌≡◌, ℕ, ◌+◌, ◌-
 use Rattle.std.specs.Prelude.{slice_set}
 use Rattle.dms_audrec.specs.Reading.{counts_at}
 use Rattle.dms_audrec.specs.Spelling.{counts_rise}
-use Rattle.dms_opening.proofs.Counted.{CountsTaken, taken_more, taken_all, rises_on, rises_not, rises_end}
+use Rattle.dms_opening.proofs.Counted.{CountsTaken, taken_more, taken_all, rises_on, rises_not}
 use Rattle.dms_opening.proofs.point_counts.take_counts.Goals as goal
 use Rattle.dms_opening.proofs.point_counts.take_counts.Goals.{then-file-low-via-then-file-low, then-file-low-via-else-file-low+then-file-gt30200, then-file-low-via-else-file-low+else-file-gt30200+then-blocks-gt2097152}
+use Rattle.dms_audrec.proofs.Rising.{counts_end}
 
 pub loop-pair-preserved : goal.loop-pair-preserved
 loop-pair-preserved c =
@@ -37,4 +38,4 @@ returns-then-file-low-clause-rises c =
     ]) ∙ c.loop-pair.invariant.rises
 
 pub returns-clause-rises : goal.returns-clause-rises
-returns-clause-rises c = rises_end _ c.loop-pair.low c.loop-pair.rest.now (omega (arith, c.loop-pair-test.false)) ∙ c.loop-pair.invariant.rises
+returns-clause-rises c = counts_end _ c.loop-pair.low c.loop-pair.rest.now (omega (arith, c.loop-pair-test.false)) ∙ c.loop-pair.invariant.rises

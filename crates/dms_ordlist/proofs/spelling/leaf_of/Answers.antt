@@ -1,8 +1,8 @@
 use Rattle.std.proofs.Common.{◌≡◌, ◌*◌, ◌≤◌, ◌<◌, ℕ, List, ◌∙◌, sym, ap, subst, false, true, length, drop, arith}
 use Rattle.std.specs.Str.{bytes_eq}
-use Rattle.dms_ordlist.specs.Leads.{both_are}
+use Rattle.std.proofs.lemmas.Bool.{and_from, and_right}
 use Rattle.dms_ordlist.specs.ListBlocks.{cut, flat, is_rising, may_hold}
-use Rattle.dms_ordlist.specs.SpellLaws.{cut_length, cut_room, false_second, few_enough, few_may, holds_may, leaf_read, many_may, mixed_may, none_read, not_false, not_true}
+use Rattle.dms_ordlist.specs.SpellLaws.{cut_length, cut_room, few_enough, few_may, holds_may, leaf_read, many_may, mixed_may, none_read, not_false, not_true}
 use Rattle.dms_ordlist.proofs.spelling.leaf_of.Goals as goal
 
 pub returns-then-count-eq0 : goal.returns-then-count-eq0
@@ -52,7 +52,7 @@ returns-then-ne c =
     let es = c.in_ok-cut.field-0.items in
     let held : es ≡ cut w count (drop 7 b) = c.in_ok-cut.ensures ∙ ap (cut w count) c.entries_in.ensures.bytes in
     leaf_read w b c.leaf_block.result.0 count c.u32_in.result es false (c.from-count.ensures ∙ c.u16_in.ensures) c.u32_in.ensures held c.leaf_block.ensures
-    (false_second (may_hold w es) (bytes_eq b c.leaf_block.result.0) (not_false c.ne.result (bytes_eq b c.leaf_block.result.0) c.ne.ensures c.if-ne.true))
+    (and_right (may_hold w es) (bytes_eq b c.leaf_block.result.0) (not_false c.ne.result (bytes_eq b c.leaf_block.result.0) c.ne.ensures c.if-ne.true))
 
 pub returns : goal.returns
 returns c =
@@ -68,4 +68,4 @@ returns c =
       rising = sym (ap is_rising c.deref.ensures.value) ∙ sym c.is_rising.ensures ∙ c.if-not-is_rising.false;
     }) in
     leaf_read w b c.leaf_block.result.0 count c.u32_in.result es true (c.from-count.ensures ∙ c.u16_in.ensures) c.u32_in.ensures held c.leaf_block.ensures
-    (both_are (may_hold w es) (bytes_eq b c.leaf_block.result.0) may (not_true c.ne.result (bytes_eq b c.leaf_block.result.0) c.ne.ensures c.if-ne.false))
+    (and_from (may_hold w es) (bytes_eq b c.leaf_block.result.0) may (not_true c.ne.result (bytes_eq b c.leaf_block.result.0) c.ne.ensures c.if-ne.false))

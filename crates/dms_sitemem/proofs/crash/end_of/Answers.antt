@@ -1,4 +1,4 @@
-use Rattle.std.proofs.Common.{ℕ, ◌+◌, ◌-◌, ◌≡◌, ◌∙◌, ◌++◌, ap, sym, take, drop, length, arith, if◌then◌else◌, refl, Some, slice_get}
+use Rattle.std.proofs.Common.{ℕ, ◌+◌, ◌-◌, ◌≡◌, ◌∙◌, ◌++◌, ap, sym, take, drop, length, arith, refl, Some, slice_get}
 use Rattle.std.proofs.lemmas.Option.{slice_get_read}
 use Rattle.dms_sitemem.specs.Events.{through}
 use Rattle.dms_sitemem.proofs.Crashes.{through_end, through_step, through_all}

@@ -1,4 +1,4 @@
-use Rattle.std.proofs.Common.{ℕ, ◌≤◌, ◌≡◌, ◌∙◌, ap, sym, arith, List, take, length, refl, Some, slice_get}
+use Rattle.std.proofs.Common.{ℕ, ◌≡◌, ◌∙◌, ap, sym, arith, List, take, length, refl, Some, slice_get}
 use Rattle.std.proofs.lemmas.Option.{slice_get_read}
 use Rattle.dms_sitemem.specs.Events.{said_after}
 use Rattle.dms_sitemem.specs.Replay.{Replayed, state_of}

@@ -1,7 +1,7 @@
 use Rattle.std.proofs.Common.{◌∙◌, Err, ap, arith}
 use Rattle.dms_top.proofs.Taken.{reaches_on, reaches_end, reaches_long, reaches_over, reaches_cut}
-use Rattle.dms_top.proofs.Judgements.{no_fault}
 use Rattle.dms_top.proofs.schema.schema_text.Goals as goal
+use Rattle.dms_runner.proofs.Blames.{no_fault}
 
 pub returns-in-Err-Long-clause-long : goal.returns-in-Err-Long-clause-long
 returns-in-Err-Long-clause-long g c = λ _ all remains.

@@ -1,11 +1,12 @@
 use Rattle.std.proofs.Common.{◌≡◌, ◌∙◌, ◌++◌, ap, arith, false, sym, subst, inl, inr, [], ◌∷◌, drop}
 use Rattle.std.proofs.lemmas.Result.{on_ok_weaker}
+use Rattle.std.proofs.lemmas.Bool.{cases_Bool}
 use Rattle.dms_moments.specs.MomentLaws.{steps_on, steps_weaken}
 use Rattle.dms_audrec.specs.Seen.{entry_seen}
 use Rattle.dms_audfile.specs.declared.audit_end.AuditEnd.{AuditEnd}
 use Rattle.dms_audfile.specs.TrailEntries.{trail_entries}
 use Rattle.dms_audfile.specs.Ends.{EndsAt, Appends, Grown, is_past}
-use Rattle.dms_audfile.proofs.Ended.{seals_first, seals_then, between, held_ends, appends_held, appends_begun, bool_is, on_both, steps_as, entry_long}
+use Rattle.dms_audfile.proofs.Ended.{seals_first, seals_then, between, held_ends, appends_held, appends_begun, on_both, steps_as, entry_long}
 use Rattle.dms_audfile.proofs.audit_end.AuditEnd.append.Goals as goal
 
 pub returns-in-Err-clause-moments : goal.returns-in-Err-clause-moments
@@ -32,7 +33,7 @@ returns-clause-moments g c first waiting tells plain at =
     (λ z x now step. seals_first s.total s.tag first waiting (e ∷ []) z x step)
 
 pub returns-clause-appends : goal.returns-clause-appends
-returns-clause-appends g c = elim (bool_is c.begins-alone.result) [
+returns-clause-appends g c = elim (cases_Bool c.begins-alone.result) [
   | inl on ↦ on_ok_weaker c.seal_where.result (λ both first waiting tells plain at.
       let s = c.args.self.now in
       let one = c.make_room.new.self in

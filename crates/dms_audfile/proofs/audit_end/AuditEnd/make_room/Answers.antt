@@ -1,8 +1,9 @@
 use Rattle.std.proofs.Common.{◌≡◌, ◌∙◌, ◌++◌, ap, sym, subst, inl, inr}
+use Rattle.std.proofs.lemmas.Bool.{cases_Bool}
 use Rattle.dms_audfile.specs.declared.audit_end.AuditEnd.{AuditEnd}
 use Rattle.dms_audfile.specs.TrailEntries.{trail_entries}
 use Rattle.dms_audfile.specs.Ends.{Appends, Grown, SealsAll}
-use Rattle.dms_audfile.proofs.Ended.{appends_all, appends_none, seals_all_none, bool_is}
+use Rattle.dms_audfile.proofs.Ended.{appends_all, appends_none, seals_all_none}
 use Rattle.dms_audfile.proofs.Limits.{past_by, full_empty}
 use Rattle.dms_audfile.proofs.audit_end.AuditEnd.make_room.Goals as goal
 
@@ -11,7 +12,7 @@ returns-else-is_full-clause-appends g c first waiting tells plain at =
     let old = g.S.Site.files c.args.site.now in
     let new = g.S.Site.files c.seal_where.new.site in
     let end = c.seal_where.new.self in
-    elim (bool_is c.needs_block-needed.result) [
+    elim (cases_Bool c.needs_block-needed.result) [
       | inl on ↦ appends_all end first waiting old new (g.S.Site.clock c.seal_where.new.site)
           (subst (λ t. trail_entries t first new ≡ trail_entries t first old ++ waiting) (sym c.in-Ok.ensures.kind.0) (c.in-Ok.ensures.sealed on first waiting tells at))
           (subst (λ t. Grown t first old new) (sym c.in-Ok.ensures.kind.0) (c.in-Ok.ensures.grown first waiting tells at)) (c.in-Ok.ensures.ends on first waiting tells at)
@@ -33,7 +34,7 @@ returns-then-is_full-clause-kept g c is first waiting tells at =
     let old = g.S.Site.files c.args.site.now in
     let new = g.S.Site.files c.seal_where.new.site in
     let end = c.seal_where.new.self in
-    elim (bool_is c.needs_block-needed.result) [
+    elim (cases_Bool c.needs_block-needed.result) [
       | inl on ↦ record {
         sealed = subst (λ t. trail_entries t first new ≡ trail_entries t first old ++ waiting) (sym c.in-Ok.ensures.kind.0) (c.in-Ok.ensures.sealed on first waiting tells at);
         grown = subst (λ t. Grown t first old new) (sym c.in-Ok.ensures.kind.0) (c.in-Ok.ensures.grown first waiting tells at);

@@ -1,4 +1,4 @@
-use Rattle.std.proofs.Common.{◌≡◌, ◌∙◌, if◌then◌else◌, ◌==◌, ℕ, refl}
+use Rattle.std.proofs.Common.{◌∙◌, if◌then◌else◌, ◌==◌, refl}
 use Rattle.std.proofs.lemmas.Result.{on_ok_weaker}
 use Rattle.dms_site.specs.Files.{overlaid}
 use Rattle.dms_sitemem.specs.Slots.{files_of}

@@ -1,4 +1,4 @@
-use Rattle.std.proofs.Common.{◌≡◌, ◌≤◌, ◌<◌, List, ℕ, length, drop, take, ◌+◌, ◌-◌, [], ◌++◌, arith, ap, ◌∙◌, sym}
+use Rattle.std.proofs.Common.{◌≡◌, ◌≤◌, List, ℕ, length, drop, take, ◌+◌, ◌++◌, arith, ap, ◌∙◌, sym}
 use Rattle.std.proofs.lemmas.List.{length-drop, length-take-le, take_at, take-append-drop, drop-drop, nil_from_length, take_rest}
 use Rattle.dms_sitemem.proofs.mem_source.MemSourceSource.take.Goals as goal
 
