@@ -10,6 +10,7 @@ use Rattle.std.proofs.lemmas.Slice.Eq.{bytes_eq-Decides}
 use Rattle.std.specs.Prelude.{OnOk, OnErr}
 use Rattle.std.specs.declared.result.Result.{Result}
 use Rattle.std.specs.declared.result.Result.TheVariants.{Ok, Err}
+use Rattle.std.proofs.lemmas.Option.{same_Some}
 use Rattle.dms_block.specs.declared.change.Change.{Change}
 use Rattle.dms_block.specs.Content.{Content, block_in, with_block, changed, raised, grown, limit, FitsIn, is_of, NoneOf, AreApart, with_change, change_at, differs, differing}
 use Rattle.dms_block.specs.ContentLaws.{write_here, write_other, write_length, write_long, write_same, write_again, write_apart, in_file, in_others, laid_length}
@@ -19,12 +20,9 @@ abbrev pub Fits : List Change → Content → Type 0
 Fits [] c = Unit {0}
 Fits (x ∷ xs) c = (x.id.block ≤ length (c x.id.file)) × Fits xs (with_block c x.id.file x.id.block x.block.0)
 
-picked : {A : Type 0} (P : A → Type 0) (t : Bool) (a b : A) → (t ≡ true → P a) → (t ≡ false → P b) → P (if t then a else b)
+pub picked : {A : Type 0} (P : A → Type 0) (t : Bool) (a b : A) → (t ≡ true → P a) → (t ≡ false → P b) → P (if t then a else b)
 picked P true a b p q = p refl
 picked P false a b p q = q refl
-
-some_is : (x y : List ℕ) → Some x ≡ Some y → x ≡ y
-some_is x y e = cc e
 
 -- propositions
 
@@ -142,7 +140,7 @@ change_stands f b y (x ∷ xs) c fits other = picked (λ o. o ≡ Some y → blo
     (λ is at. let next = with_block c x.id.file x.id.block x.block.0 in
     let place : (f ≡ x.id.file) × (b ≡ x.id.block) = at_place f b x is in
     let here : block_in next f b ≡ x.block.0 = subst (λ j. block_in next j b ≡ x.block.0) (sym place.0) (subst (λ j. block_in next x.id.file j ≡ x.block.0) (sym place.1) (write_here c x.id.file x.id.block x.block.0 fits.0)) in
-    none_changed xs next f b fits.1 (none_here f b x xs other.0 is) ∙ here ∙ some_is _ _ at)
+    none_changed xs next f b fits.1 (none_here f b x xs other.0 is) ∙ here ∙ same_Some _ _ at)
     (λ is at. change_stands f b y xs (with_block c x.id.file x.id.block x.block.0) fits.1 other.1 at)
 
 abbrev pub no_change_of : Change

@@ -1,5 +1,5 @@
 -- What holds after a call on blocks, by its fault.
-use Rattle.std.specs.Prelude.{⊤}
+use Rattle.std.specs.Prelude.{ℕ, ⊤}
 use Rattle.std.specs.declared.result.Result.{Result}
 use Rattle.std.specs.declared.result.Result.TheVariants.{Ok, Err}
 use Rattle.dms_block.specs.declared.block_fault.BlockFault.{BlockFault}
@@ -31,3 +31,12 @@ NotFull (Err Memory) = ⊤
 NotFull (Err (Full f)) = ⊥
 NotFull (Err (Damaged f b)) = ⊤
 NotFull (Err Say) = ⊤
+
+-- this holds of the file that the audit could not go behind, where it had no room
+abbrev pub IfFull : {T : Type 0} → Result T BlockFault → (ℕ → Type 0) → Type 0
+IfFull (Ok x) P = ⊤
+IfFull (Err Disk) P = ⊤
+IfFull (Err Memory) P = ⊤
+IfFull (Err (Full f)) P = P f
+IfFull (Err (Damaged f b)) P = ⊤
+IfFull (Err Say) P = ⊤

@@ -8,7 +8,7 @@ use Rattle.dms_block.specs.declared.block_fault.BlockFault.{BlockFault}
 use Rattle.dms_block.specs.declared.block_fault.BlockFault.TheVariants.{Disk, Memory, Full, Damaged, Say}
 use Rattle.dms_block.specs.Content.{Content, block_in}
 use Rattle.dms_block.specs.Counts.{Faults, Raised}
-use Rattle.dms_block.specs.Faults.{NotFull, Unbroken}
+use Rattle.dms_block.specs.Faults.{IfFull, NotFull, Unbroken}
 use Rattle.dms_block.specs.Held.{Held, BlockStop, BlockPoint, Prefix, TextIs, Lasts, MakesNoPoint, Stays, SameBlocks, HasNextNumber, Leaves, Looks, Alters, Uses, Used, Caused, CausedOr, HasCauses, HasCausesOr, IsShort}
 
 pub unbroken_map : {T : Type 0} {P Q : Type 0} (r : Result T BlockFault) → (P → Q) → Unbroken r P → Unbroken r Q
@@ -118,6 +118,33 @@ not_full_err T U Memory p = tt
 not_full_err T U (Full f) p = p
 not_full_err T U (Damaged f d) p = tt
 not_full_err T U Say p = tt
+
+-- ---- where the audit had no room
+
+-- a call that had room
+pub full_none : {T : Type 0} (r : Result T BlockFault) (P : ℕ → Type 0) → NotFull r → IfFull r P
+full_none (Ok x) P room = tt
+full_none (Err Disk) P room = tt
+full_none (Err Memory) P room = tt
+full_none (Err (Full f)) P room = absurd room
+full_none (Err (Damaged f b)) P room = tt
+full_none (Err Say) P room = tt
+
+-- the same fault, handed on
+pub full_err : (T U : Type 0) (e : BlockFault) (P : ℕ → Type 0) → IfFull {T = T} (Err e) P → IfFull {T = U} (Err e) P
+full_err T U Disk P is = tt
+full_err T U Memory P is = tt
+full_err T U (Full f) P is = is
+full_err T U (Damaged f b) P is = tt
+full_err T U Say P is = tt
+
+pub full_weaker : {T : Type 0} (r : Result T BlockFault) (P Q : ℕ → Type 0) → ((f : ℕ) → P f → Q f) → IfFull r P → IfFull r Q
+full_weaker (Ok x) P Q on is = tt
+full_weaker (Err Disk) P Q on is = tt
+full_weaker (Err Memory) P Q on is = tt
+full_weaker (Err (Full f)) P Q on is = on f is
+full_weaker (Err (Damaged f b)) P Q on is = tt
+full_weaker (Err Say) P Q on is = tt
 
 -- the same fault, handed on
 pub looks_err : {T U : Type 0} {n : ℕ} (e : BlockFault) {a b : Held} → Looks {T = T} n (Err e) a b → Looks {T = U} n (Err e) a b

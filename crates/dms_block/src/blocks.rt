@@ -1,6 +1,7 @@
 ghost use Rattle.std.specs.Prelude.{◌≡◌, ◌≤◌, ◌<◌, ◌+◌, ◌^◌, ◌++◌, [], ◌∷◌, ℕ, IfOk, OnOk, IsErrOf, IsOkUnless, IsTrue, length, min, ◌-◌};
 ghost use Rattle.dms_block.specs.Content.{block_in, changed, grown, FitsIn};
 ghost use Rattle.dms_block.specs.Held.{BlocksAgree, Alters, HasCauses, Held, IfTold, Lasts, Leaves, LeavesText, Looks, MadeQuiet, MadeDurable, MakesNoPoint, HasNextNumber, SameBlocks, Stays, Synced, WentBack, one_more};
+ghost use Rattle.dms_block.specs.Faults.{IfFull};
 ghost use Rattle.dms_block.specs.Texts.{Prints, PrintsPrefix};
 
 use crate::{Block, BlockFault, BlockId, Changes};
@@ -16,6 +17,9 @@ pub trait Blocks {
 
     /// The same object, at another time.
     ghost same_blocks: { Self → Self → Type 0 };
+
+    /// The audit file that it doesn't go behind when something is changed.
+    ghost last: { Self → ℕ };
 
     /// How many blocks a file has.
     fn count(&self, file: u32) -> u32
@@ -43,6 +47,7 @@ pub trait Blocks {
         ensures spent { OnOk result ((held self.new).uses.spent ≡ min ((held self.old).uses.spent + length changes.now.items.items) (2 ^ 64 - 1)) }
         ensures causes { HasCauses result (held self.old) (held self.new) }
         ensures silent { IsErrOf result BlockFault.Say → ⊥ }
+        ensures full { IfFull result (λ f. f ≡ last self.old) }
         ensures same { same_blocks self.old self.new };
 
     /// Makes a quiet point, and answers its number. Takes no memory. Where the next number is 2^64 - 1 it stays so.
@@ -59,6 +64,7 @@ pub trait Blocks {
         ensures memory { IsErrOf result BlockFault.Memory → ⊥ }
         ensures causes { HasCauses result (held self.old) (held self.new) }
         ensures silent { IsErrOf result BlockFault.Say → ⊥ }
+        ensures full { IfFull result (λ f. f ≡ last self.old) }
         ensures same { same_blocks self.old self.new };
 
     /// Makes all quiet points so far durable. Takes no memory.
@@ -70,9 +76,10 @@ pub trait Blocks {
         ensures memory { IsErrOf result BlockFault.Memory → ⊥ }
         ensures causes { HasCauses result (held self.old) (held self.new) }
         ensures silent { IsErrOf result BlockFault.Say → ⊥ }
+        ensures full { IfFull result (λ f. f ≡ last self.old) }
         ensures same { same_blocks self.old self.new };
 
-    /// Goes back to the last quiet point, or to the content that it began with.
+    /// Goes back to the last quiet point, or to the content that it began with. The audit may go on up to file 9,999 for that.
     fn back_out(&mut self, alloc: Global) -> Result<(), BlockFault>
         requires { (held self.old).sound }
         ensures content { OnOk result (IsTrue (held self.old).told → (held self.new).content ≡ (held self.old).mark) }
@@ -81,6 +88,7 @@ pub trait Blocks {
         ensures uses { WentBack result (held self.old).uses (held self.new).uses }
         ensures causes { HasCauses result (held self.old) (held self.new) }
         ensures silent { IsErrOf result BlockFault.Say → ⊥ }
+        ensures full { IfFull result (λ f. f ≡ 9999) }
         ensures same { same_blocks self.old self.new };
 
     /// Prints. Takes no memory of its own. A failed call prints the first bytes or none.
@@ -104,4 +112,6 @@ pub trait Blocks {
     ghost same_again: { (s : Self) → same_blocks s s };
 
     ghost same_then: { (a b c : Self) → same_blocks a b → same_blocks b c → same_blocks a c };
+
+    ghost same_last: { (a b : Self) → same_blocks a b → last b ≡ last a };
 }

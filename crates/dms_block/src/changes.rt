@@ -1,4 +1,4 @@
-ghost use Rattle.std.specs.Prelude.{◌≡◌, ◌<◌, ℕ, [], length, true, IfSome, IfNone, OnErr, OnOk, option_map};
+ghost use Rattle.std.specs.Prelude.{◌≡◌, ◌<◌, [], length, true, IfSome, IfNone, OnErr, OnOk, option_map};
 ghost use Rattle.std.proofs.Props.{props};
 ghost use Rattle.dms_block.specs.Content.{AreApart, NoneOf, change_at, with_change};
 ghost use Rattle.dms_block.specs.Changing.{AreApart-prop, at_index};

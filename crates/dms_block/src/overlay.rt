@@ -29,6 +29,7 @@ fn with_block(n: u32, change: &Change, file: u32) -> u32
 impl<B: Blocks> Overlay<B> {
     ghost use Rattle.std.specs.Prelude.{◌≤◌, OnErr, OnOk, IsErrOf, IsTrue, length};
     ghost use Rattle.dms_block.specs.Content.{block_in, differing, with_block};
+    ghost use Rattle.dms_block.specs.Faults.{IfFull};
     ghost use Rattle.dms_block.specs.Held.{Alters, HasCauses};
     ghost use Rattle.dms_block.specs.View.{ReadsOverlay, seen, seen_counts, under, written};
 
@@ -97,6 +98,7 @@ impl<B: Blocks> Overlay<B> {
         ensures spent { OnOk result (IsTrue (under self.old).told → (under self.new).uses.spent ≤ (under self.old).uses.spent + length (differing (under self.old).content (written self.old))) }
         ensures causes { HasCauses result (under self.old) (under self.new) }
         ensures silent { IsErrOf result BlockFault.Say → ⊥ }
+        ensures full { IfFull result (λ f. f ≡ B.last self.old.below) }
         ensures same { B.same_blocks self.old.below self.new.below }
     {
         let kept = sifted(&mut self.below, alloc, &self.changes);

@@ -1,5 +1,5 @@
 -- Changes in memory, and how they are taken back.
-use Rattle.std.proofs.Common.{ℕ, zero, suc, ◌+◌, ◌≤◌, ◌<◌, ◌≡◌, ◌≢◌, ◌∙◌, ◌⊎◌, inl, inr, ◌&&◌, if◌then◌else◌, Bool, true, false, IsTrue, nat_lt, nat_le, List, [], ◌∷◌, ◌++◌, length, map, filter, get_or, set, take, drop, Option, Some, None, refl, sym, ap, subst, arith, length-append, length-take, append_assoc}
+use Rattle.std.proofs.Common.{ℕ, zero, suc, ◌+◌, ◌≤◌, ◌<◌, ◌≡◌, ◌≢◌, ◌∙◌, ◌⊎◌, inl, inr, ◌&&◌, true, false, IsTrue, nat_lt, nat_le, List, [], ◌∷◌, ◌++◌, length, map, filter, get_or, set, take, drop, Option, Some, None, refl, sym, ap, subst, arith, length-append, length-take, append_assoc}
 use Rattle.std.proofs.Props.{props}
 use Rattle.std.specs.Coded.{×_prop, Unit-prop, le_prop}
 use Rattle.std.proofs.lemmas.Bool.{cases_eq, cases_lt}
@@ -11,7 +11,7 @@ use Rattle.dms_block.specs.declared.block.BlockId.{BlockId}
 use Rattle.dms_moments.specs.Moments.{Runs}
 use Rattle.dms_block.specs.declared.change.Change.{Change}
 use Rattle.dms_block.specs.Content.{Content, FitsIn, grown, laid, limit, with_block}
-use Rattle.dms_block.specs.Changing.{changed_push, fits_at, fits_take, grown_is}
+use Rattle.dms_block.specs.Changing.{changed_push, fits_at, fits_take, grown_is, picked}
 use Rattle.dms_block.specs.ContentLaws.{in_file, in_others}
 use Rattle.dms_block.specs.Held.{BlocksAgree, BlockPoint, BlockStop, MakesNoPoint, Prefix, Stays, TextIs, Uses}
 use Rattle.dms_memblocks.specs.declared.undo.BlockUndo.{BlockUndo}
@@ -30,10 +30,6 @@ AreSmall-prop [] = Unit-prop
 AreSmall-prop (blocks ∷ files) = ×_prop le_prop (AreSmall-prop files)
 
 -- one file
-
-picked : {A : Type 0} (P : A → Type 0) (t : Bool) (a b : A) → (t ≡ true → P a) → (t ≡ false → P b) → P (if t then a else b)
-picked P true a b p q = p refl
-picked P false a b p q = q refl
 
 low_is : (a b : ℕ) → nat_lt a b ≡ true → a < b
 low_is a b is = grind (arith, nat_tests)

@@ -1,4 +1,4 @@
-ghost use Rattle.std.specs.Prelude.{ℕ};
+ghost use Rattle.std.proofs.Common.{refl};
 ghost use Rattle.dms_memblocks.specs.View.{held};
 ghost use Rattle.dms_memblocks.specs.UndoLaws.{agrees};
 ghost use Rattle.dms_memblocks.specs.Undoing.{rows};
@@ -13,11 +13,15 @@ impl Blocks for MemBlocks {
 
     ghost same_blocks = { λ a b. Unit {0} };
 
+    ghost last = { λ b. 9999 };
+
     ghost agrees = { λ b sound. agrees b.schema (rows b.files.items) b.log.items b.made b.durable _ b.durable_low };
 
     ghost same_again = { λ b. tt };
 
     ghost same_then = { λ a b c one two. tt };
+
+    ghost same_last = { λ a b same. refl };
 
     fn count(&self, file: u32) -> u32 {
         self.blocks_of(file).len() as u32

@@ -1,4 +1,4 @@
-ghost use Rattle.std.specs.Prelude.{◌≡◌, ◌≤◌, ◌<◌, ◌+◌, ◌^◌, ◌++◌, ◌∷◌, [], length, take, drop, OnOk, OnErr};
+ghost use Rattle.std.specs.Prelude.{◌≡◌, ◌<◌, ◌+◌, ◌^◌, ◌++◌, ◌∷◌, [], length, take, drop, OnOk, OnErr};
 ghost use Rattle.dms_block.specs.Content.{FitsIn};
 ghost use Rattle.dms_memblocks.specs.Undoing.{AreSmall, PutAll, content_of, owns_of, place, put_at, rows, undo, undo_entry, undone};
 

@@ -1,5 +1,5 @@
-ghost use Rattle.std.specs.Prelude.{◌≡◌, ◌≤◌, ◌<◌, ◌+◌, ◌^◌, ◌++◌, ◌∷◌, [], length, map, take, drop, slice_index_or, OnOk, OnErr};
-ghost use Rattle.dms_memblocks.specs.Undoing.{old_in, place, put_at, put_in, rows, taken_back, undo, undone};
+ghost use Rattle.std.specs.Prelude.{◌≡◌, ◌<◌, OnOk, OnErr};
+ghost use Rattle.dms_memblocks.specs.Undoing.{old_in, place, put_in, taken_back};
 
 use dms_block::{Block, BlockFault, BlockId, Change};
 

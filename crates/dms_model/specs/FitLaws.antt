@@ -8,6 +8,7 @@ use Rattle.std.specs.Ordering.{eq_by_cmp}
 use Rattle.std.proofs.lemmas.Option.{slice_get-map, slice_get_within}
 use Rattle.std.proofs.lemmas.List.{length-set, length-map}
 use Rattle.std.proofs.lemmas.Bool.Decides.{nat_tests}
+use Rattle.std.proofs.lemmas.Bool.{and_parts}
 use Rattle.dms_base.specs.declared.value.Value.{Value}
 use Rattle.dms_base.specs.declared.value.Value.TheVariants.{Null}
 use Rattle.dms_base.specs.declared.kind.ItemKind.{ItemKind}
@@ -316,24 +317,20 @@ answer_fits desc db set number rec h = unless_fits (clash desc.structures db set
 
 -- ---- the test of values
 
-both_hold : (a b : Bool) → (a && b) ≡ true → (a ≡ true) × (b ≡ true)
-both_hold true b h = (refl, h)
-both_hold false b h = absurd (cc)
-
 -- as many values as items
-lengths_are : (items : List Item) (values : List Value) → values_fit items values ≡ true → length values ≡ length items
+pub lengths_are : (items : List Item) (values : List Value) → values_fit items values ≡ true → length values ≡ length items
 lengths_are [] [] h = refl
 lengths_are [] (v ∷ vs) h = absurd (cc)
 lengths_are (i ∷ is) [] h = absurd (cc)
-lengths_are (i ∷ is) (v ∷ vs) h = ap suc (lengths_are is vs (both_hold (fits i.kind v) (values_fit is vs) h).1)
+lengths_are (i ∷ is) (v ∷ vs) h = ap suc (lengths_are is vs (and_parts (fits i.kind v) (values_fit is vs) h).1)
 
 each_is : (items : List Item) (values : List Value) → values_fit items values ≡ true → (k : ℕ) (item : Item) → slice_get items k ≡ Some item → fits item.kind (value_at values k) ≡ true
 each_is [] values h k item at = absurd (cc)
 each_is (i ∷ is) [] h k item at = absurd (cc)
 each_is (i ∷ is) (v ∷ vs) h zero item at =
     let same : i ≡ item = cc in
-    subst (λ (x : Item). fits x.kind v ≡ true) same (both_hold (fits i.kind v) (values_fit is vs) h).0
-each_is (i ∷ is) (v ∷ vs) h (suc k) item at = each_is is vs (both_hold (fits i.kind v) (values_fit is vs) h).1 k item at
+    subst (λ (x : Item). fits x.kind v ≡ true) same (and_parts (fits i.kind v) (values_fit is vs) h).0
+each_is (i ∷ is) (v ∷ vs) h (suc k) item at = each_is is vs (and_parts (fits i.kind v) (values_fit is vs) h).1 k item at
 
 pub are_fitting : (items : List Item) (values : List Value) → ArePlain values → values_fit items values ≡ true → AreFitting items values
 are_fitting items values plain h = record { lengths = lengths_are items values h; fit = each_is items values h; plain = plain }

@@ -1,9 +1,12 @@
 -- What a store takes and answers: structures of their kinds, numbers of records, values that fit, bounds of keys.
 use Rattle.std.specs.Prelude.{◌≡◌, ◌<◌, ◌+◌, ◌-◌, ◌^◌, ℕ, List, [], ◌∷◌, Bool, true, false, ◌&&◌, nat_le, Some, None, IsTrue, IfSome, ⊤, is_some, length, slice_get}
 use Rattle.std.specs.declared.option.Option.{Option}
+use Rattle.std.specs.declared.result.Result.{Result}
 use Rattle.std.specs.FinMap.{get}
 use Rattle.dms_base.specs.declared.value.Value.{Value}
 use Rattle.dms_base.specs.Fits.{fits}
+use Rattle.dms_block.specs.declared.block_fault.BlockFault.{BlockFault}
+use Rattle.dms_block.specs.Faults.{IfFull}
 use Rattle.dms_desc.specs.declared.structure.Item.{Item}
 use Rattle.dms_desc.specs.declared.structure.KeyPart.{KeyPart}
 use Rattle.dms_desc.specs.declared.record.Record.{Record}
@@ -113,6 +116,16 @@ abbrev pub Puts : Option Db → Option Db → Described → ℕ → Option ℕ �
 Puts None new desc set number rec answer = ⊤
 Puts (Some db) new desc set number rec answer =
     MayPut desc db set number rec → (answer ≡ put_answer desc db set number rec) × (new ≡ Some (put_after (put_answer desc db set number rec) desc db set rec))
+
+abbrev pub IsStored : Put → Type 0
+IsStored (Stored n) = ⊤
+IsStored (Duplicate s) = ⊥
+IsStored Full = ⊥
+
+-- where the audit had no room for a record that may be stored, it was to be stored: it is refused for nothing else
+abbrev pub FullWhereStored : Option Db → Described → ℕ → Option ℕ → Record → Result Put BlockFault → Type 0
+FullWhereStored None desc set number rec result = ⊤
+FullWhereStored (Some db) desc set number rec result = MayPut desc db set number rec → IfFull result (λ f. IsStored (put_answer desc db set number rec))
 
 -- a member: its number is one of its data set, its record fits, and its key is the record's
 pub record SpotFits (desc : Described) (path : ℕ) (x : Spot) : Type 0 where

@@ -21,6 +21,7 @@ use Rattle.dms_desc.specs.Sorted.{place_in, sorted, first, last, or_else}
 use Rattle.dms_model.specs.Fitting.{IsNumber, RecordFits, RecordsFit, SpotFits}
 use Rattle.dms_model.specs.Members.{belongs, spot_of, spots_of, members, is_before, first_of, last_of, first_member, last_member, is_after_bound, is_before_bound}
 use Rattle.dms_model.specs.Places.{places_total, itself}
+use Rattle.dms_model.specs.Fresh.{second_true, first_true}
 
 module _ {A : Type 0} {P Q : A → Type 0} (R : A → Type 0) where
   -- what follows of each, with what holds of each
@@ -28,15 +29,7 @@ module _ {A : Type 0} {P Q : A → Type 0} (R : A → Type 0) where
   all_both [] f a b = tt
   all_both (x ∷ xs) f a b = (f x a.0 b.0, all_both xs f a.1 b.1)
 
-first_true : (a b : Bool) → T (a && b) → T a
-first_true true b p = tt
-first_true false b p = absurd p
-
-second_true : (a b : Bool) → T (a && b) → T b
-second_true true b p = p
-second_true false b p = absurd p
-
-not_tied : (o : Ordering) → T (is_lt o) → is_eq (ordering_reverse o) ≡ false
+pub not_tied : (o : Ordering) → T (is_lt o) → is_eq (ordering_reverse o) ≡ false
 not_tied Less h = refl
 not_tied Equal h = absurd h
 not_tied Greater h = absurd h

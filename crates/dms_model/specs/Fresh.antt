@@ -52,11 +52,11 @@ gap_free n m [] above = tt
 gap_free n m (r ∷ rs) above = gap_turn (eqb n r.0) (nat_lt r.0 n) n m r rs refl refl above (gap_free (n + 1) (r.0 + 1) rs above.1) (gap_free n (r.0 + 1) rs above.1)
 
 -- the rows of a data set rise, since the entries do
-first_true : (a b : Bool) → T (a && b) → T a
+pub first_true : (a b : Bool) → T (a && b) → T a
 first_true true b p = tt
 first_true false b p = absurd p
 
-second_true : (a b : Bool) → T (a && b) → T b
+pub second_true : (a b : Bool) → T (a && b) → T b
 second_true true b p = p
 second_true false b p = absurd p
 

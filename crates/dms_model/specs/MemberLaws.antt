@@ -42,7 +42,7 @@ less_of Less h = refl
 less_of Equal h = absurd (cc)
 less_of Greater h = absurd (cc)
 
-equal_of : (o : Ordering) → is_eq o ≡ true → o ≡ Equal
+pub equal_of : (o : Ordering) → is_eq o ≡ true → o ≡ Equal
 equal_of Less h = absurd (cc)
 equal_of Equal h = refl
 equal_of Greater h = absurd (cc)

@@ -1,5 +1,5 @@
 -- What a store tells of itself, and what its calls leave of that.
-use Rattle.std.specs.Prelude.{ℕ, ◌≡◌, ◌≤◌, ◌<◌, ◌+◌, ◌-◌, ◌^◌, ◌++◌, [], ◌∷◌, List, length, Some, OnOk}
+use Rattle.std.specs.Prelude.{ℕ, ◌≡◌, ◌≤◌, ◌<◌, ◌+◌, ◌^◌, ◌++◌, [], ◌∷◌, List, length, Some, OnOk}
 use Rattle.std.specs.List.{AllByRecursion}
 use Rattle.std.specs.declared.option.Option.{Option}
 use Rattle.std.specs.declared.result.Result.{Result}
@@ -63,6 +63,8 @@ pub record Seen : Type 1 where
   -- what stops may leave, and what holds of the files in each of them
   pub clock : Clock Stop
   pub whole : StopFiles → Type 0
+  -- the audit file that it doesn't go behind when something is changed
+  pub last : ℕ
   -- how often calls failed
   pub faults : Faults
   -- how many blocks were read, and what else it did on its disk
@@ -77,6 +79,7 @@ IfPointsTold s P = s.tells → s.next + 1 < 2 ^ 64 → P
 pub record HasStoreCauses {T : Type 0} (result : Result T BlockFault) (old new : Seen) : Type 0 where
   pub tells : old.tells → new.tells
   pub desc : new.desc ≡ old.desc
+  pub last : new.last ≡ old.last
   pub whole : (files : StopFiles) → new.whole files → old.whole files
   pub whole_on : (files : StopFiles) → old.whole files → new.whole files
   pub cause : CausedBy result old.faults new.faults

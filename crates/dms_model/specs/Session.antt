@@ -1,5 +1,5 @@
 -- The machine of verbs: what each verb of each program answers and leaves.
-use Rattle.std.specs.Prelude.{ℕ, ◌+◌, ◌-◌, ◌^◌, List, [], ◌∷◌, ◌++◌, Bool, true, false, not, ◌||◌, ◌&&◌, ◌==◌, map, filter, length, Some, None, slice_get, slice_set, if◌then◌else◌, nat_le, suc, zero, replicate, is_some, codes}
+use Rattle.std.specs.Prelude.{ℕ, ◌+◌, ◌-◌, List, [], ◌∷◌, ◌++◌, Bool, true, false, not, ◌||◌, ◌&&◌, ◌==◌, map, filter, length, Some, None, slice_get, slice_set, if◌then◌else◌, nat_le, suc, zero, replicate, is_some, codes}
 use Rattle.std.specs.declared.option.Option.{Option}
 use Rattle.std.specs.List.{list_any}
 use Rattle.std.specs.Str.{bytes_eq}

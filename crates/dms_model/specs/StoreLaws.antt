@@ -3,6 +3,7 @@ use Rattle.std.proofs.Common.{◌≡◌, ℕ, List, [], ◌∷◌, Bool, true, f
 use Rattle.std.specs.Prelude.{is_some}
 use Rattle.std.specs.List.{AllByRecursion}
 use Rattle.std.specs.declared.option.Option.{Option}
+use Rattle.std.proofs.lemmas.Bool.{not-false}
 use Rattle.dms_desc.specs.declared.record.Record.{Record}
 use Rattle.dms_desc.specs.Lookups.{items_of, structure_of}
 use Rattle.dms_desc.specs.Shape.{Described}
@@ -41,10 +42,6 @@ pub record IsStorable (desc : Described) (p : Program) (db : Db) (set : ℕ) (a 
   pub verified : verified (structure_of desc set) (area_values a) ≡ true
   pub answer : put_of desc db set a (current_of p set) ≡ Stored n
 
-not_off : (b : Bool) → not b ≡ false → b ≡ true
-not_off true h = refl
-not_off false h = absurd (cc)
-
 none_off : (o : Option (List ℕ)) → is_some o ≡ false → o ≡ None
 none_off None h = refl
 none_off (Some x) h = absurd (cc)
@@ -53,7 +50,7 @@ stored_at : (P : StoreResult → Type 0) (desc : Described) (p : Program) (db : 
     → ((a : Area) (n : ℕ) → IsStorable desc p db set a n → P (Keeps (stored_program p set n a) (put_after (Stored n) desc db set (record_of a))))
     → (lacks_area desc o set).0 ≡ false → NoneHolds (area_refusals (or_no_area o) answer desc p set) → P (storing (or_no_area o) answer desc p db set)
 stored_at P desc p db set None answer area is made has off = absurd (cc)
-stored_at P desc p db set (Some a) (Stored n) area is made has off = made a n (record { area = area; free = not_off _ off.0; required = none_off _ off.1.0; verified = not_off _ off.1.1.0; answer = sym is })
+stored_at P desc p db set (Some a) (Stored n) area is made has off = made a n (record { area = area; free = not-false _ off.0; required = none_off _ off.1.0; verified = not-false _ off.1.1.0; answer = sym is })
 stored_at P desc p db set (Some a) (Duplicate d) area is made has off = absurd (let no = off.1.1.1.0 in cc)
 stored_at P desc p db set (Some a) Full area is made has off = absurd (let no = off.1.1.1.1.0 in cc)
 

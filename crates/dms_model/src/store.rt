@@ -6,8 +6,8 @@ ghost use Rattle.dms_model.specs.Points.{StoreLeaves};
 ghost use Rattle.dms_block.specs.Texts.{Prints};
 ghost use Rattle.dms_model.specs.Seen.{Seen, StoreAgrees, GoesBack, HasStoreCauses, IfPointsTold, IsMute, IsSilent, Keeps, KeepsPoints, QuietMade, PointsDurable, SaysPart, Spends, Syncs};
 ghost use Rattle.dms_model.specs.Stores.{Tells};
-ghost use Rattle.dms_model.specs.Fitting.{IsDataSet, IsNumber, IsStructure, MayStart, PutFits, Puts, RecordFits, SpotFits};
-ghost use Rattle.dms_block.specs.Faults.{Unbroken, Undamaged, NotFull};
+ghost use Rattle.dms_model.specs.Fitting.{FullWhereStored, IsDataSet, IsNumber, IsStructure, MayStart, PutFits, Puts, RecordFits, SpotFits};
+ghost use Rattle.dms_block.specs.Faults.{IfFull, Unbroken, Undamaged, NotFull};
 
 use crate::{Put, Spot};
 use dms_block::BlockFault;
@@ -110,6 +110,8 @@ pub trait Store {
         ensures effort { Spends (64 * length (seen self.old).desc.structures) (seen self.old).effort (seen self.new).effort }
         ensures undamaged { (d : Db) → (seen self.old).db ≡ Some d → Undamaged result }
         ensures mute_fault { IsErrOf result BlockFault.Say → ⊥ }
+        ensures full { IfFull result (λ f. f ≡ (seen self.old).last) }
+        ensures stored { FullWhereStored (seen self.old).db (seen self.old).desc set number rec.now result }
         ensures causes { HasStoreCauses result (seen self.old) (seen self.new) };
 
     /// Makes a quiet point, and answers its number. Takes no memory. Where the next number is 2^64 - 1 it stays so.
@@ -124,6 +126,7 @@ pub trait Store {
         ensures effort { (seen self.new).effort ≡ (seen self.old).effort }
         ensures undamaged { (d : Db) → (seen self.old).db ≡ Some d → Undamaged result }
         ensures mute_fault { IsErrOf result BlockFault.Say → ⊥ }
+        ensures full { IfFull result (λ f. f ≡ (seen self.old).last) }
         ensures causes { HasStoreCauses result (seen self.old) (seen self.new) };
 
     /// Makes all quiet points so far durable. Takes no memory.
@@ -136,9 +139,10 @@ pub trait Store {
         ensures effort { Syncs result (seen self.old).effort (seen self.new).effort }
         ensures undamaged { (d : Db) → (seen self.old).db ≡ Some d → Undamaged result }
         ensures mute_fault { IsErrOf result BlockFault.Say → ⊥ }
+        ensures full { IfFull result (λ f. f ≡ (seen self.old).last) }
         ensures causes { HasStoreCauses result (seen self.old) (seen self.new) };
 
-    /// Goes back to the last quiet point, or to the database that it began with.
+    /// Goes back to the last quiet point, or to the database that it began with. The audit may go on up to file 9,999 for that.
     fn back_out(&mut self, alloc: Global) -> Result<(), BlockFault>
         requires { (seen self.old).sound }
         ensures db { OnOk result ((seen self.new).db ≡ (seen self.old).mark) }
@@ -148,6 +152,7 @@ pub trait Store {
         ensures effort { GoesBack result (seen self.old).effort (seen self.new).effort }
         ensures undamaged { (d : Db) → (seen self.old).db ≡ Some d → Undamaged result }
         ensures mute_fault { IsErrOf result BlockFault.Say → ⊥ }
+        ensures full { IfFull result (λ f. f ≡ 9999) }
         ensures causes { HasStoreCauses result (seen self.old) (seen self.new) };
 
     /// Prints. Takes no memory of its own. A failed call prints the first bytes or none.

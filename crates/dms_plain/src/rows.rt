@@ -1,11 +1,11 @@
-ghost use Rattle.std.specs.Prelude.{◌≡◌, ◌≤◌, ◌<◌, length, IfOk, OnErr, OnOk, List, ℕ, insert, slice_set, slice_get, Some, not};
+ghost use Rattle.std.specs.Prelude.{◌≡◌, length, IfOk, OnErr, OnOk, insert, Some, not};
 ghost use Rattle.std.specs.Option.{option_copied};
 ghost use Rattle.std.specs.FinMap.{put, find};
 ghost use Rattle.std.specs.List.{filter};
 ghost use Rattle.std.specs.Ordering.{eq_by_cmp};
 ghost use Rattle.dms_model.specs.Db.{place_cmp, rows_of, gap_from};
 ghost use Rattle.dms_desc.specs.declared.record.Record.{Record};
-ghost use Rattle.dms_plain.specs.Rows.{entry_of, entries_of, IsWhere};
+ghost use Rattle.dms_plain.specs.Rows.{entries_of, IsWhere};
 ghost use Rattle.dms_plain.specs.declared.rows.RecordRow.{RecordRow};
 
 use dms_base::Memory;

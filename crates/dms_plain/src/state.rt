@@ -1,10 +1,10 @@
-ghost use Rattle.std.specs.Prelude.{◌≡◌, [], IfOk, OnOk, OnErr, List, ℕ};
+ghost use Rattle.std.specs.Prelude.{◌≡◌, [], IfOk, OnOk, OnErr};
 ghost use Rattle.std.specs.Option.{option_copied, option_map};
 ghost use Rattle.std.specs.FinMap.{insert, get};
 ghost use Rattle.dms_desc.specs.Shape.{shape_of, described};
 ghost use Rattle.dms_desc.specs.Lookups.{structure_of, items_of};
 ghost use Rattle.dms_model.specs.Members.{first_member, last_member};
-ghost use Rattle.dms_model.specs.Stores.{is_full, judged, kept_owner, linked, old_of, put_after, put_answer, values_of};
+ghost use Rattle.dms_model.specs.Stores.{is_full, kept_owner, linked, old_of, put_after, put_answer, values_of};
 ghost use Rattle.dms_plain.specs.Rows.{entries_of, records_in, db_of, IsInOrder, restore, undone};
 ghost use Rattle.dms_plain.specs.Clashes.{put_in};
 ghost use Rattle.dms_plain.specs.Scans.{spot_at, soonest, latest};

@@ -90,6 +90,7 @@ impl<S: Site> Store for PlainStore<S> {
       here = point_of s.next (described s.desc) (db_of (records_in s.rows.items));
       clock = no_clock;
       whole = λ files. ⊤;
+      last = 9999;
       faults = record { disk = S.disk_faults s.site; say = S.say_faults s.site; full = 0; damaged = 0 };
       reads = 0;
       effort = record { spent = 0; syncs = s.syncs; outs = s.outs };

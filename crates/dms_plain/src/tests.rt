@@ -1,6 +1,5 @@
-ghost use Rattle.std.specs.Prelude.{[], ◌≡◌, ⊤, false, true};
+ghost use Rattle.std.specs.Prelude.{[], ⊤, false, true};
 ghost use Rattle.std.proofs.lemmas.Bool.{false≢true};
-ghost use Rattle.dms_site.specs.Files.{Files};
 
 use crate::PlainStore;
 use dms_base::{ItemKind, Name, Op, Text, Value};

@@ -14,7 +14,7 @@ use Rattle.dms_runner.specs.Blaming.{IsBlamedOn, LastsRun}
 
 module _ {St : Type 0} {g : Ghosts St} {T : Type 0} {a b c : Engine St g} (then_ : (x y z : St) → g.same_store x y → g.same_store y z → g.same_store x z) where
   pub run_on_lasts : {x : T} → Lasted a b → LastsRun (Ok x) b c → Lasted a c
-  run_on_lasts {x} p q = lasts_on then_ p (let r : EngineLasts (Ok x) b c = record { sound = q.sound; description = q.description; same = q.same; causes = record { tells = q.tells; desc = q.desc; whole = q.whole; whole_on = q.whole_on; cause = q.cause; reads = q.reads } } in r)
+  run_on_lasts {x} p q = lasts_on then_ p (let r : EngineLasts (Ok x) b c = record { sound = q.sound; description = q.description; same = q.same; causes = record { tells = q.tells; desc = q.desc; last = q.last; whole = q.whole; whole_on = q.whole_on; cause = q.cause; reads = q.reads } } in r)
 
 -- nothing more happened to the engine, and the run stops for a reason of its own
 pub none_lasts : {St : Type 0} {g : Ghosts St} {T : Type 0} {a b : Engine St g} (result : Result T RunFault) → ((f : BlockFault) → IsErrOf result (Block f) → ⊥) → Lasted a b → LastsRun result a b
@@ -24,6 +24,7 @@ none_lasts {T = T} {a = a} {b = b} result block p = record {
   same = p.same;
   tells = p.causes.tells;
   desc = p.causes.desc;
+  last = p.causes.last;
   whole = p.causes.whole;
   whole_on = p.causes.whole_on;
   cause = at result block;

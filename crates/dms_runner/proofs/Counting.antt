@@ -3,6 +3,7 @@ use Rattle.std.proofs.Common.{◌≡◌, ◌≤◌, ◌+◌, ◌*◌, inl, inr, 
 use Rattle.std.specs.Prelude.{not, ◌&&◌, is_some, None}
 use Rattle.std.specs.declared.option.Option.{Option}
 use Rattle.std.proofs.lemmas.Bool.Decides.{nat_tests}
+use Rattle.std.proofs.lemmas.Bool.{and_right}
 use Rattle.dms_desc.specs.Shape.{Shape, Described}
 use Rattle.dms_desc_bytes.specs.WellFormed.{IsWellFormed, are_sound}
 use Rattle.dms_feed.specs.Lines.{line_text}
@@ -55,10 +56,6 @@ waits_undone (Done text) waits = absurd (cc)
 waits_undone (Exception category name) waits = refl
 waits_undone (Waits names) waits = refl
 
-and_false : (a b : Bool) → b ≡ false → (a && b) ≡ false
-and_false true b is = is
-and_false false b is = refl
-
 one_low : (b : Bool) → one_if b ≤ 1
 one_low true = omega arith
 one_low false = omega arith
@@ -95,9 +92,9 @@ module _ (desc : Described) (low : (b : Bool) → limit_if b desc ≤ 12800) whe
 few_waiting : (desc : Described) (verb : Verb) (o : Outcome) → is_waits o.reply ≡ true → o.sync ≡ None → Few desc 0 (calls verb o ∷ [])
 unfolding may_store
 few_waiting desc verb o waits unsynced = record {
-  blocks = omega (arith, ap (λ (b : Bool). limit_if b desc) (and_false (stores verb) (not (is_waits o.reply)) (ap not waits)));
+  blocks = omega (arith, ap (λ (b : Bool). limit_if b desc) (and_right (stores verb) (not (is_waits o.reply)) (ap not waits)));
   syncs = omega (arith, ap (λ (s : Option ℕ). one_if (is_some s)) unsynced);
-  backs = omega (arith, ap one_if (and_false (asks_back_out verb) (is_done o.reply) (waits_undone o.reply waits)));
+  backs = omega (arith, ap one_if (and_right (asks_back_out verb) (is_done o.reply) (waits_undone o.reply waits)));
 }
 
 -- Of so many lines so many are left waiting, and each of the others was answered by one call at most.

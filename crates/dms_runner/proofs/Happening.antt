@@ -5,12 +5,12 @@ use Rattle.std.specs.declared.result.Result.TheVariants.{Ok, Err}
 use Rattle.dms_block.specs.declared.block_fault.BlockFault.{BlockFault}
 use Rattle.dms_block.specs.declared.block_fault.BlockFault.TheVariants.{Disk, Memory, Full, Damaged, Say}
 use Rattle.dms_block.specs.Counts.{Faults, CausedBy}
-use Rattle.dms_block.specs.Faults.{NotFull, Undamaged}
+use Rattle.dms_block.specs.Faults.{IfFull, NotFull, Undamaged}
 use Rattle.dms_model.specs.Programs.{Program, Wait}
 use Rattle.dms_model.specs.BackOut.{asks_back_out}
 use Rattle.dms_model.specs.declared.reply.Reply.{Reply}
 use Rattle.dms_model.specs.Seen.{Effort, GoesBack, Seen, IsMute, IsSilent, Keeps, SaysPart, StaysDurable}
-use Rattle.dms_storeverbs.specs.Costs.{Costs, block_limit, changes, limit_if, stores, up_if}
+use Rattle.dms_storeverbs.specs.Costs.{Costs, IsFullFor, block_limit, limit_if, stores, up_if}
 use Rattle.std.proofs.Common.{ℕ, zero, suc, ◌≡◌, ◌≤◌, ◌+◌, ◌⊎◌, inl, inr, List, [], ◌∷◌, ◌++◌, length, take, map, Some, None, refl, sym, ◌∙◌, ap, subst, arith, append_assoc, length-append, Bool, true, false}
 use Rattle.std.specs.declared.option.Option.{Option}
 use Rattle.std.proofs.lemmas.List.{append-nil, map-append, length-map, take-append-le, take_all}
@@ -29,8 +29,8 @@ use Rattle.dms_storeverbs.specs.Laws.{MakesWhereQuiet}
 use Rattle.dms_storeverbs.proofs.Quiet.{quiet_rule}
 use Rattle.dms_storeverbs.specs.View.{View, PerformsCall, PointsGrow, LeavesQuiets, StandsFor, view_of}
 use Rattle.dms_storeverbs.proofs.Calls.{lower, stays}
-use Rattle.dms_runner.specs.Events.{IsTold, RunEvent, calls, says, goes_back, text_of, quiets_of, durable_by, durable_after, CrashesFrom, IsCutShort, Fate, fate_of, IsDue, SaidWhole, Performs, PerformsPrefix, SaidAtLeast, TakesEvents, TookAll, TookOneMore, TookPart, EndsAnswered, blocks_of, syncs_of, backs_of, may_store, one_if}
-use Rattle.dms_runner.specs.Blaming.{run_fate}
+use Rattle.dms_runner.specs.Events.{IsTold, RunEvent, calls, says, goes_back, text_of, quiets_of, durable_by, durable_after, CrashesFrom, IsCutShort, Fate, fate_of, IsDue, IsFullIn, IsFullOf, SaidWhole, Performs, PerformsPrefix, SaidAtLeast, TakesEvents, TookAll, TookOneMore, TookPart, EndsAnswered, blocks_of, syncs_of, backs_of, may_store, one_if}
+use Rattle.dms_runner.specs.Blaming.{IsFullRun, run_fate}
 use Rattle.dms_runner.specs.declared.run.RunFault.TheVariants.{Block}
 use Rattle.dms_runner.proofs.Texts.{prints_none, prints_on, front_none, front_all, front_of_first, front_on}
 use Rattle.dms_laws.specs.Exclusive.{is_done}
@@ -125,7 +125,7 @@ pub undamaged_by : {T : Type 0} (a b : Seen) (r : Result T BlockFault) → ((d :
 undamaged_by a b r u p t = damaged_same r a.faults b.faults (u t.db t.db_is) p
 
 pub ran_none : (a : Seen) → Performs a a []
-ran_none a = record { text = prints_none a.said a.said refl; tells = λ t. t; whole = λ files w. w; told = λ t. t; undamaged = λ t. refl; next = omega arith; next_high = omega arith; grew = λ t. grew_none a.points; durable = λ t. omega arith; moments = λ t. runs_none a.clock (CrashesFrom a []); desc = refl; effort = takes_still a.desc [] refl }
+ran_none a = record { text = prints_none a.said a.said refl; tells = λ t. t; whole = λ files w. w; told = λ t. t; undamaged = λ t. refl; next = omega arith; next_high = omega arith; grew = λ t. grew_none a.points; durable = λ t. omega arith; moments = λ t. runs_none a.clock (CrashesFrom a []); desc = refl; last = refl; effort = takes_still a.desc [] refl }
 
 -- a stop within the first events
 pub stopped_first : (a : Seen) (x y : List RunEvent) (stop : Stop) → CrashesFrom a x stop → CrashesFrom a (x ++ y) stop
@@ -162,6 +162,7 @@ ran_on a b c x y first next = record {
   durable = λ t. omega (arith, durable_on (length a.points) a.durable x y, ap (λ (n : ℕ). durable_after n (durable_after (length a.points) a.durable x) y) (length_grew (first.grew t)), durable_low_at (length b.points) (durable_after (length a.points) a.durable x) b.durable y (first.durable t), next.durable (told_on first t));
   moments = λ t. runs_on (runs_weaken (first.moments t) (stopped_first a x y)) (next.moments (told_on first t)) (λ stop s. stopped_on a b x y stop t first s);
   desc = next.desc ∙ first.desc;
+  last = next.last ∙ first.last;
   effort = takes_on a.desc x y first.effort (subst (λ (d : Described). TakesEvents d y b.effort c.effort) first.desc next.effort);
 }
 
@@ -338,43 +339,43 @@ get_behind [] y k = let e : 0 + k ≡ k = omega arith in ap (slice_get y) e
 get_behind (f ∷ x) y k = let e : suc (length x) + k ≡ suc (length x + k) = omega arith in ap (slice_get (f ∷ (x ++ y))) e ∙ get_behind x y k
 
 -- what is due in the first events is due in all
-pub due_front : (a b : Option (List ℕ)) (x y : List RunEvent) → IsDue a b x → IsDue a b (x ++ y)
-due_front a b x y d = record {
+pub due_front : (last f : ℕ) (a b : Option (List ℕ)) (x y : List RunEvent) → IsDue last f a b x → IsDue last f a b (x ++ y)
+due_front last f a b x y d = record {
   k = d.k;
   at = d.at;
   is = get_front x y d.k d.at d.is;
-  appends = d.appends;
+  full = d.full;
   text = subst (λ (e : List RunEvent). Prints a b (text_of e)) (sym (take-append-le d.k x y (omega (arith, slice_get_within x d.k d.at d.is)))) d.text;
 }
 
 -- what is due behind events is due in all
-pub due_on : (a b c : Option (List ℕ)) (x y : List RunEvent) → Prints a b (text_of x) → IsDue b c y → IsDue a c (x ++ y)
-due_on a b c x y first d = record {
+pub due_on : (last f : ℕ) (a b c : Option (List ℕ)) (x y : List RunEvent) → Prints a b (text_of x) → IsDue last f b c y → IsDue last f a c (x ++ y)
+due_on last f a b c x y first d = record {
   k = length x + d.k;
   at = d.at;
   is = get_behind x y d.k ∙ d.is;
-  appends = d.appends;
+  full = d.full;
   text = subst (λ (t : List ℕ). Prints a c t) (sym (ap text_of (take-append-add x y d.k) ∙ text_on x (take d.k y))) (prints_on a b c (text_of x) (text_of (take d.k y)) first d.text);
 }
 
--- nothing was said, and the only event appends
-due_first : (a b : Option (List ℕ)) (e : RunEvent) → b ≡ a → e.appends ≡ true → IsDue a b (e ∷ [])
-due_first a b e same appends = record { k = 0; at = e; is = refl; appends = appends; text = prints_none a b same }
+-- nothing was said, and the only event had no room
+due_first : (last f : ℕ) (a b : Option (List ℕ)) (e : RunEvent) → b ≡ a → IsFullIn last e f → IsDue last f a b (e ∷ [])
+due_first last f a b e same full = record { k = 0; at = e; is = refl; full = full; text = prints_none a b same }
 
 -- no event of them happened
-pub part_none : {fate : Fate} → (fate.full → ⊥) → (a : Seen) (x : List RunEvent) → PerformsPrefix fate a a x
-part_none room a x = record { text = front_none a.said a.said (text_of x) refl; said_whole = λ uncut. whole_none a.said a.said x refl; due = λ full. absurd (room full); undamaged = λ t. refl; moments = λ t. runs_none a.clock (CrashesFrom a x); took = took_none a a x refl refl refl }
+pub part_none : {fate : Fate} → ((f : ℕ) → fate.full f → ⊥) → (a : Seen) (x : List RunEvent) → PerformsPrefix fate a a x
+part_none room a x = record { text = front_none a.said a.said (text_of x) refl; said_whole = λ uncut. whole_none a.said a.said x refl; due = λ f full. absurd (room f full); undamaged = λ t. refl; moments = λ t. runs_none a.clock (CrashesFrom a x); took = took_none a a x refl refl refl }
 
 -- all of them happened
-pub part_all : {fate : Fate} → (fate.full → ⊥) → (a b : Seen) (x : List RunEvent) → Performs a b x → PerformsPrefix fate a b x
-part_all room a b x ran = record { text = front_all a.said b.said (text_of x) ran.text; said_whole = λ uncut. whole_all a.said b.said x ran.text; due = λ full. absurd (room full); undamaged = ran.undamaged; moments = ran.moments; took = took_all a b x ran }
+pub part_all : {fate : Fate} → ((f : ℕ) → fate.full f → ⊥) → (a b : Seen) (x : List RunEvent) → Performs a b x → PerformsPrefix fate a b x
+part_all room a b x ran = record { text = front_all a.said b.said (text_of x) ran.text; said_whole = λ uncut. whole_all a.said b.said x ran.text; due = λ f full. absurd (room f full); undamaged = ran.undamaged; moments = ran.moments; took = took_all a b x ran }
 
 -- a prefix of the first events is a prefix of all
 pub part_of_first : {fate : Fate} (a b : Seen) (x y : List RunEvent) → PerformsPrefix fate a b x → PerformsPrefix fate a b (x ++ y)
 part_of_first a b x y part = record {
   text = subst (λ (t : List ℕ). PrintsPrefix a.said b.said t) (sym (text_on x y)) (front_of_first a.said b.said (text_of x) (text_of y) part.text);
   said_whole = λ uncut. whole_of_first a.said b.said x y (part.said_whole uncut);
-  due = λ full. due_front a.said b.said x y (part.due full);
+  due = λ f full. due_front a.last f a.said b.said x y (part.due f full);
   undamaged = part.undamaged;
   moments = λ t. runs_weaken (part.moments t) (stopped_first a x y);
   took = took_of_first a b x y part.took;
@@ -384,7 +385,7 @@ part_behind : {fate : Fate} (a b c : Seen) (x y : List RunEvent) → Performs a 
 part_behind a b c x y first next took = record {
   text = subst (λ (t : List ℕ). PrintsPrefix a.said c.said t) (sym (text_on x y)) (front_on a.said b.said c.said (text_of x) (text_of y) first.text next.text);
   said_whole = λ uncut. whole_on a.said b.said c.said x y first.text (next.said_whole uncut);
-  due = λ full. due_on a.said b.said c.said x y first.text (next.due full);
+  due = λ f full. due_on a.last f a.said b.said c.said x y first.text (subst (λ (n : ℕ). IsDue n f b.said c.said y) first.last (next.due f full));
   undamaged = λ t. next.undamaged (first.told t) ∙ first.undamaged t;
   moments = λ t. runs_on (runs_weaken (first.moments t) (stopped_first a x y)) (next.moments (told_on first t)) (λ stop s. stopped_on a b x y stop t first s);
   took = took;
@@ -406,49 +407,77 @@ pub part_as : {fate : Fate} (a b : Seen) (x y : List RunEvent) → x ≡ y → P
 part_as {fate} a b x y is part = subst (λ (l : List RunEvent). PerformsPrefix fate a b l) is part
 
 -- where one is cut off the other is, too, and where the other had no room the one had none
-pub part_cut : {fate fate' : Fate} (a b : Seen) (x : List RunEvent) → (fate.cut → fate'.cut) → (fate'.full → fate.full) → PerformsPrefix fate a b x → PerformsPrefix fate' a b x
-part_cut a b x f room part = record { text = part.text; said_whole = λ uncut. part.said_whole (λ is. uncut (f is)); due = λ full. part.due (room full); undamaged = part.undamaged; moments = part.moments; took = took_cut a b x f part.took }
+pub part_cut : {fate fate' : Fate} (a b : Seen) (x : List RunEvent) → (fate.cut → fate'.cut) → ((f : ℕ) → fate'.full f → fate.full f) → PerformsPrefix fate a b x → PerformsPrefix fate' a b x
+part_cut a b x f room part = record { text = part.text; said_whole = λ uncut. part.said_whole (λ is. uncut (f is)); due = λ n full. part.due n (room n full); undamaged = part.undamaged; moments = part.moments; took = took_cut a b x f part.took }
 
 -- the same fault, of whatever else would be answered
 pub cut_as : {T : Type 0} (r : Result T BlockFault) (f : BlockFault) → IsErrAnd r (λ x. x ≡ f) → f ≡ Say → IsCutShort r
 cut_as (Ok x) f same is = absurd same
 cut_as (Err e) f same is = same ∙ is
 
-room_as : (T U : Type 0) (f : BlockFault) → NotFull {T = T} (Err f) → NotFull {T = U} (Err f)
-room_as T U Disk p = tt
-room_as T U Memory p = tt
-room_as T U (Full f) p = p
-room_as T U (Damaged f d) p = tt
-room_as T U Say p = tt
+not_full_is : {T : Type 0} (n : ℕ) (r : Result T BlockFault) → NotFull r → IsFullOf r n → ⊥
+not_full_is n (Ok x) room is = is
+not_full_is n (Err Disk) room is = is
+not_full_is n (Err Memory) room is = is
+not_full_is n (Err (Full f)) room is = room
+not_full_is n (Err (Damaged f b)) room is = is
+not_full_is n (Err Say) room is = is
+
+full_other : (T U : Type 0) (e : BlockFault) (n : ℕ) → IsFullOf {T = T} (Err e) n → IsFullOf {T = U} (Err e) n
+full_other T U Disk n is = is
+full_other T U Memory n is = is
+full_other T U (Full f) n is = is
+full_other T U (Damaged f b) n is = is
+full_other T U Say n is = is
 
 -- a fault that isn't a lack of room
-pub had_room : {T : Type 0} (r : Result T BlockFault) (f : BlockFault) → IsErrAnd r (λ x. x ≡ f) → NotFull {T = T} (Err f) → (NotFull r → ⊥) → ⊥
-had_room (Ok x) f same room full = absurd same
-had_room {T} (Err e) f same room full = full (subst (λ (y : BlockFault). NotFull {T = T} (Err y)) (sym same) room)
+pub had_room : {T : Type 0} (r : Result T BlockFault) (f : BlockFault) → IsErrAnd r (λ x. x ≡ f) → NotFull {T = T} (Err f) → (n : ℕ) → IsFullOf r n → ⊥
+had_room (Ok x) f same room n is = is
+had_room {T} (Err e) f same room n is = not_full_is {T = T} n (Err e) (subst (λ (y : BlockFault). NotFull {T = T} (Err y)) (sym same) room) is
 
-pub full_as : {T : Type 0} (U : Type 0) (r : Result T BlockFault) (f : BlockFault) → IsErrAnd r (λ x. x ≡ f) → (NotFull r → ⊥) → NotFull {T = U} (Err f) → ⊥
-full_as {T} U r f same full room = had_room r f same (room_as U T f room) full
+pub full_as : {T : Type 0} (U : Type 0) (r : Result T BlockFault) (f : BlockFault) → IsErrAnd r (λ x. x ≡ f) → (n : ℕ) → IsFullOf r n → IsFullOf {T = U} (Err f) n
+full_as U (Ok x) f same n is = absurd is
+full_as {T} U (Err e) f same n is = full_other T U f n (subst (λ (y : BlockFault). IsFullOf {T = T} (Err y) n) same is)
+
+-- where the audit had no room behind a file, what holds of that file
+pub full_at : {T : Type 0} (r : Result T BlockFault) (P : ℕ → Type 0) (n : ℕ) → IfFull r P → IsFullOf r n → P n
+full_at (Ok x) P n at is = absurd is
+full_at (Err Disk) P n at is = absurd is
+full_at (Err Memory) P n at is = absurd is
+full_at (Err (Full f)) P n at is = subst P is at
+full_at (Err (Damaged f b)) P n at is = absurd is
+full_at (Err Say) P n at is = absurd is
+
+pub full_call : {U : Type 0} (r : Result U BlockFault) (e : BlockFault) (P : ℕ → Type 0) → IsErrAnd r (λ x. x ≡ e) → IfFull {T = Answer} (Err e) P → (n : ℕ) → IsFullOf r n → P n
+full_call r e P same at n is = full_at {T = Answer} (Err e) P n at (full_as Answer r e same n is)
 
 -- the same fault, and the same events
 pub part_err : {T : Type 0} (U : Type 0) (r : Result T BlockFault) (f : BlockFault) (a b : Seen) (x : List RunEvent) → IsErrAnd r (λ y. y ≡ f) → PerformsPrefix (fate_of {T = U} (Err f)) a b x → PerformsPrefix (fate_of r) a b x
 part_err U r f a b x same part = part_cut a b x (cut_as r f same) (full_as U r f same) part
 
+pub run_full : (U : Type 0) (f : BlockFault) (n : ℕ) → IsFullRun {T = Unit {0}} (Err (Block f)) n → IsFullOf {T = U} (Err f) n
+run_full U f n is = full_other (Unit {0}) U f n is
+
 -- in a run
 pub part_run : (U : Type 0) (f : BlockFault) (a b : Seen) (x : List RunEvent) → PerformsPrefix (fate_of {T = U} (Err f)) a b x → PerformsPrefix (run_fate {T = Unit {0}} (Err (Block f))) a b x
-part_run U f a b x part = part_cut a b x (λ is. ap Block is) (λ full room. full (room_as U (Unit {0}) f room)) part
+part_run U f a b x part = part_cut a b x (λ is. ap Block is) (λ n is. run_full U f n is) part
 
 -- a call that prints had room
-pub says_room : {T : Type 0} (r : Result T BlockFault) → IsOkUnless r Say → (NotFull r → ⊥) → ⊥
-says_room (Ok x) only full = full tt
-says_room {T} (Err f) only full = full (subst (λ (y : BlockFault). NotFull {T = T} (Err y)) (sym only) tt)
+pub says_room : {T : Type 0} (r : Result T BlockFault) → IsOkUnless r Say → (n : ℕ) → IsFullOf r n → ⊥
+says_room (Ok x) only n is = is
+says_room {T} (Err f) only n is = not_full_is {T = T} n (Err f) (subst (λ (y : BlockFault). NotFull {T = T} (Err y)) (sym only) tt) is
 
-pub say_failed : {T : Type 0} (r : Result T BlockFault) (f : BlockFault) → IsErrAnd r (λ x. x ≡ f) → f ≡ Say → (NotFull r → ⊥) → ⊥
-say_failed {T} r f same is full = had_room r f same (subst (λ (y : BlockFault). NotFull {T = T} (Err y)) (sym is) tt) full
+pub say_failed : {T : Type 0} (r : Result T BlockFault) (f : BlockFault) → IsErrAnd r (λ x. x ≡ f) → f ≡ Say → (n : ℕ) → IsFullOf r n → ⊥
+say_failed {T} r f same is n full = had_room r f same (subst (λ (y : BlockFault). NotFull {T = T} (Err y)) (sym is) tt) n full
 
--- a call that had no room was of a verb that changes something
-pub full_changes : (b : Bool) (P : Type 0) → (b ≡ false → P) → (P → ⊥) → b ≡ true
-full_changes true P room full = refl
-full_changes false P room full = absurd (full (room refl))
+-- a call that may have room or not by a test had none where the test says so
+pub full_if : {T : Type 0} (b : Bool) (r : Result T BlockFault) (n : ℕ) → (b ≡ false → NotFull r) → IsFullOf r n → b ≡ true
+full_if {T} true r n room is = refl
+full_if {T} false r n room is = absurd (not_full_is {T = T} n r (room refl) is)
+
+-- a way back that had no room had none behind file 9,999
+pub full_back : (e : BlockFault) (b : Bool) → (b ≡ false → NotFull {T = Unit {0}} (Err e)) → IfFull {T = Unit {0}} (Err e) (λ f. f ≡ 9999) → (n : ℕ) → IsFullRun {T = Unit {0}} (Err (Block e)) n → (b ≡ true) × (n ≡ 9999)
+full_back e b room file n is = (full_if {T = Unit {0}} b (Err e) n room is, full_at {T = Unit {0}} (Err e) (λ f. f ≡ 9999) n file is)
 
 -- a fault of printing is the only one of a call that prints
 pub unless_cut : {T : Type 0} (r : Result T BlockFault) (P : Type 0) → IsOkUnless r Say → OnOk r P → (IsCutShort r → ⊥) → P
@@ -467,8 +496,8 @@ stopped_says a x stop p = record {
   text = λ t is. let n = p.1 t is in (n.0, n.1 ∙ ap (λ (l : List ℕ). l ++ take n.0 x) (sym (append-nil t)));
 }
 
-pub ran_says : (a b : Seen) (x y : List ℕ) → x ≡ y → (a.tells → b.tells) → ((files : StopFiles) → b.whole files → a.whole files) → b.desc ≡ a.desc → b.effort ≡ a.effort → FindsNoDamage a b → Prints a.said b.said x → SaysPart a b x → Keeps a b → a.next + 1 < 2 ^ 64 → Performs a b (says y ∷ [])
-ran_says a b x y is tells whole desc same undamaged text part keeps room = record {
+pub ran_says : (a b : Seen) (x y : List ℕ) → x ≡ y → (a.tells → b.tells) → ((files : StopFiles) → b.whole files → a.whole files) → b.desc ≡ a.desc → b.last ≡ a.last → b.effort ≡ a.effort → FindsNoDamage a b → Prints a.said b.said x → SaysPart a b x → Keeps a b → a.next + 1 < 2 ^ 64 → Performs a b (says y ∷ [])
+ran_says a b x y is tells whole desc last same undamaged text part keeps room = record {
   text = subst (λ (t : List ℕ). Prints a.said b.said t) (is ∙ sym (append-nil y)) text;
   tells = tells;
   whole = whole;
@@ -480,6 +509,7 @@ ran_says a b x y is tells whole desc same undamaged text part keeps room = recor
   durable = λ t. (keeps.points t room).1;
   moments = λ t. runs_weaken (part.leaves t room) (λ stop p. subst (λ (z : List ℕ). CrashesFrom a (says z ∷ []) stop) is (stopped_says a x stop p));
   desc = desc;
+  last = last;
   effort = takes_still a.desc (says y ∷ []) same;
 }
 
@@ -497,9 +527,9 @@ took_says a b x y is same part whole =
       took = inl (record { effort = takes_still a.desc (says y ∷ []) same; next = omega (arith, part.next) });
     }
 
-pub part_says : {fate : Fate} → (fate.full → ⊥) → (a b : Seen) (x y : List ℕ) → x ≡ y → b.effort ≡ a.effort → FindsNoDamage a b → SaysPart a b x → ((fate.cut → ⊥) → Prints a.said b.said x) → a.next + 1 < 2 ^ 64 → PerformsPrefix fate a b (says y ∷ [])
+pub part_says : {fate : Fate} → ((f : ℕ) → fate.full f → ⊥) → (a b : Seen) (x y : List ℕ) → x ≡ y → b.effort ≡ a.effort → FindsNoDamage a b → SaysPart a b x → ((fate.cut → ⊥) → Prints a.said b.said x) → a.next + 1 < 2 ^ 64 → PerformsPrefix fate a b (says y ∷ [])
 part_says fits a b x y is same undamaged part whole room = record {
-  due = λ full. absurd (fits full);
+  due = λ f full. absurd (fits f full);
   took = took_says a b x y is same part whole;
   said_whole = λ uncut. whole_all a.said b.said (says y ∷ []) (subst (λ (t : List ℕ). Prints a.said b.said t) (is ∙ sym (append-nil y)) (whole uncut));
   undamaged = undamaged;
@@ -509,7 +539,7 @@ part_says fits a b x y is same undamaged part whole room = record {
 
 -- nothing to say
 pub ran_silent : (a : Seen) (x : List ℕ) → x ≡ [] → Performs a a (says x ∷ [])
-ran_silent a x is = subst (λ (t : List ℕ). Performs a a (says t ∷ [])) (sym is) (record { text = prints_none a.said a.said refl; tells = λ t. t; whole = λ files w. w; told = λ t. t; undamaged = λ t. refl; next = omega arith; next_high = omega arith; grew = λ t. grew_none a.points; durable = λ t. omega arith; moments = λ t. runs_none a.clock (CrashesFrom a (says [] ∷ [])); desc = refl; effort = takes_still a.desc (says [] ∷ []) refl })
+ran_silent a x is = subst (λ (t : List ℕ). Performs a a (says t ∷ [])) (sym is) (record { text = prints_none a.said a.said refl; tells = λ t. t; whole = λ files w. w; told = λ t. t; undamaged = λ t. refl; next = omega arith; next_high = omega arith; grew = λ t. grew_none a.points; durable = λ t. omega arith; moments = λ t. runs_none a.clock (CrashesFrom a (says [] ∷ [])); desc = refl; last = refl; effort = takes_still a.desc (says [] ∷ []) refl })
 
 -- calls
 
@@ -579,9 +609,9 @@ took_call a b verb call result mute costs = record {
   });
 }
 
-pub ran_calls : (a b : Seen) {programs : List Program} {pending : Bool} {since : ℕ} {waits : List Wait} (verb : Verb) (o : Outcome) (answer : Answer) → (a.tells → b.tells) → ((files : StopFiles) → b.whole files → a.whole files) → b.desc ≡ a.desc → Costs (block_limit a.desc verb) (asks_back_out verb) (Ok answer) a.effort b.effort → (is_waits answer.reply ≡ true → b.effort.spent ≤ a.effort.spent)
+pub ran_calls : (a b : Seen) {programs : List Program} {pending : Bool} {since : ℕ} {waits : List Wait} (verb : Verb) (o : Outcome) (answer : Answer) → (a.tells → b.tells) → ((files : StopFiles) → b.whole files → a.whole files) → b.desc ≡ a.desc → b.last ≡ a.last → Costs (block_limit a.desc verb) (asks_back_out verb) (Ok answer) a.effort b.effort → (is_waits answer.reply ≡ true → b.effort.spent ≤ a.effort.spent)
     → b.faults ≡ a.faults → IsMute a b → b.next ≡ a.next + length o.quiets → PerformsCall o a b (view_of b.db b.mark b.next programs pending since waits) (Ok answer) → Performs a b (calls verb o ∷ [])
-ran_calls a b verb o answer tells whole desc costs idle same mute next did = record {
+ran_calls a b verb o answer tells whole desc last costs idle same mute next did = record {
   text = prints_none a.said b.said mute.said;
   tells = tells;
   whole = whole;
@@ -593,12 +623,13 @@ ran_calls a b verb o answer tells whole desc costs idle same mute next did = rec
   durable = λ t. covered_made o.sync a.durable (length a.points + length o.quiets) b.durable (did.made t).later (λ n is. (did.made t).synced n (did.answers.sync ∙ is) ∙ length_grew (did.made t).grew);
   moments = λ t. runs_weaken (did.leaves t) (stopped_calls a verb o);
   desc = desc;
+  last = last;
   effort = call_takes a.desc verb o answer did.answers.reply did.answers.sync costs idle;
 }
 
-pub part_calls : {fate : Fate} (a b : Seen) (v : View) (verb : Verb) (o : Outcome) {result : Result Answer BlockFault} → (fate.full → changes verb ≡ true) → Costs (block_limit a.desc verb) (asks_back_out verb) result a.effort b.effort → CausedBy result a.faults b.faults → IsMute a b → PerformsCall o a b v result → PerformsPrefix fate a b (calls verb o ∷ [])
+pub part_calls : {fate : Fate} (a b : Seen) (v : View) (verb : Verb) (o : Outcome) {result : Result Answer BlockFault} → ((f : ℕ) → fate.full f → IsFullFor a.last verb o f) → Costs (block_limit a.desc verb) (asks_back_out verb) result a.effort b.effort → CausedBy result a.faults b.faults → IsMute a b → PerformsCall o a b v result → PerformsPrefix fate a b (calls verb o ∷ [])
 part_calls a b v verb o {result} changed costs cause mute did = record {
-  due = λ full. due_first a.said b.said (calls verb o) mute.said (changed full);
+  due = λ f full. due_first a.last f a.said b.said (calls verb o) mute.said (changed f full);
   said_whole = λ uncut. whole_none a.said b.said (calls verb o ∷ []) mute.said;
   took = took_call a b verb (calls verb o) result mute costs;
   undamaged = λ t. damaged_same result a.faults b.faults did.undamaged cause;
@@ -623,8 +654,8 @@ pub back_takes : {T : Type 0} (r : Result T BlockFault) (works : Bool) (desc : D
 back_takes r true desc back stays = let p = back refl in record { spent = omega (arith, p.spent); syncs = omega (arith, p.syncs); outs = omega (arith, p.few.1) }
 back_takes r false desc back stays = takes_still desc (goes_back false ∷ []) (stays refl)
 
-pub ran_back : (works : Bool) (a b : Seen) → (a.tells → b.tells) → ((files : StopFiles) → b.whole files → a.whole files) → b.desc ≡ a.desc → TakesEvents a.desc (goes_back works ∷ []) a.effort b.effort → (IsTold a → IsTold b) → FindsNoDamage a b → IsSilent a b → StaysDurable a b → a.next + 1 < 2 ^ 64 → Performs a b (goes_back works ∷ [])
-ran_back works a b tells whole desc takes told undamaged silent points room = record {
+pub ran_back : (works : Bool) (a b : Seen) → (a.tells → b.tells) → ((files : StopFiles) → b.whole files → a.whole files) → b.desc ≡ a.desc → b.last ≡ a.last → TakesEvents a.desc (goes_back works ∷ []) a.effort b.effort → (IsTold a → IsTold b) → FindsNoDamage a b → IsSilent a b → StaysDurable a b → a.next + 1 < 2 ^ 64 → Performs a b (goes_back works ∷ [])
+ran_back works a b tells whole desc last takes told undamaged silent points room = record {
   text = prints_none a.said b.said silent.said;
   tells = tells;
   whole = whole;
@@ -636,6 +667,7 @@ ran_back works a b tells whole desc takes told undamaged silent points room = re
   durable = λ t. (points t room).1;
   moments = λ t. runs_weaken (silent.leaves t room) (stopped_back works a);
   desc = desc;
+  last = last;
   effort = takes;
 }
 
@@ -643,9 +675,9 @@ ran_back works a b tells whole desc takes told undamaged silent points room = re
 took_back : {cut : Type 0} (works : Bool) (a b : Seen) → TakesEvents a.desc (goes_back works ∷ []) a.effort b.effort → IsSilent a b → TookPart cut a b (goes_back works ∷ [])
 took_back works a b takes silent = took_by a b (goes_back works ∷ []) 1 (omega arith) (prints_none a.said b.said silent.said) takes (omega (arith, silent.next))
 
-pub part_back : {fate : Fate} (works : Bool) (a b : Seen) → (fate.full → works ≡ true) → TakesEvents a.desc (goes_back works ∷ []) a.effort b.effort → FindsNoDamage a b → IsSilent a b → a.next + 1 < 2 ^ 64 → PerformsPrefix fate a b (goes_back works ∷ [])
+pub part_back : {fate : Fate} (works : Bool) (a b : Seen) → ((f : ℕ) → fate.full f → (works ≡ true) × (f ≡ 9999)) → TakesEvents a.desc (goes_back works ∷ []) a.effort b.effort → FindsNoDamage a b → IsSilent a b → a.next + 1 < 2 ^ 64 → PerformsPrefix fate a b (goes_back works ∷ [])
 part_back works a b backs takes undamaged silent room = record {
-  due = λ full. due_first a.said b.said (goes_back works) silent.said (backs full);
+  due = λ f full. due_first a.last f a.said b.said (goes_back works) silent.said (inr (backs f full));
   took = took_back works a b takes silent;
   said_whole = λ uncut. whole_none a.said b.said (goes_back works ∷ []) silent.said;
   undamaged = undamaged;

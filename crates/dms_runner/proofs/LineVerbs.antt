@@ -4,6 +4,7 @@ use Rattle.std.specs.Prelude.{slice_get, ◌==◌, IsTrue}
 use Rattle.std.specs.List.{AllByRecursion}
 use Rattle.std.specs.declared.option.Option.{Option}
 use Rattle.std.proofs.lemmas.Bool.Decides.{nat_tests}
+use Rattle.std.proofs.lemmas.Bool.{and_from, and_parts}
 use Rattle.dms_base.specs.declared.kind.Literal.{Literal}
 use Rattle.dms_desc.specs.declared.structure.Item.{Item}
 use Rattle.dms_desc.specs.declared.structure.KeyPart.{KeyPart}
@@ -27,19 +28,11 @@ use Rattle.dms_script.specs.Lines.{line_of}
 use Rattle.dms_script.specs.Spoken.{HasOrder, HasRestart, IsWay, is_such, MaySetTo, NamesWhatIsThere, SpeaksWell, TakeKey, TakesAt}
 use Rattle.dms_script.proofs.Spoken.{lines_speak_well}
 
-both : (a b : Bool) → (a && b) ≡ true → (a ≡ true) × (b ≡ true)
-both true b e = (refl, e)
-both false b e = absurd (cc)
-
-and_so : (a b : Bool) → a ≡ true → b ≡ true → (a && b) ≡ true
-and_so true b h k = k
-and_so false b h k = absurd (cc)
-
 -- ---- literals
 
 takes_so : (o : Option Item) (l : Literal) → MaySetTo o l → TakesLiteral o l
 takes_so None l h = absurd h
-takes_so (Some i) l h = record { kind = and_so (not (is_link i.kind)) (has_kind i.kind l) (ap not h.0) h.1.0; plain = h.1.1 }
+takes_so (Some i) l h = record { kind = and_from (not (is_link i.kind)) (has_kind i.kind l) (ap not h.0) h.1.0; plain = h.1.1 }
 
 settings_so : (items : List Item) (ts : List Setting) → AllByRecursion (λ (t : Setting). MaySetTo (slice_get items (t.item - 1)) t.literal) ts → AllByRecursion (IsSettingOf items) ts
 settings_so items [] h = tt
@@ -58,7 +51,7 @@ path_so (Some s) h = h
 
 outer_shape : (s : Shape) → 1 ≤ s.kind → (nat_lt s.kind 3 && s.owner == 0) ≡ true → IsOuter (Some s)
 outer_shape s low h =
-    let h' = both (nat_lt s.kind 3) (s.owner == 0) h in
+    let h' = and_parts (nat_lt s.kind 3) (s.owner == 0) h in
     let above : nat_lt 0 s.kind ≡ true = grind (arith, nat_tests, low) in
     record { data_set = ap (λ (b : Bool). b && nat_lt s.kind 3) above ∙ h'.0; disjoint = grind (arith, nat_tests, h'.1) }
 
@@ -91,7 +84,7 @@ first_restart (x ∷ ss) (suc k) s at h = restart_here (is_restart x) x ss refl 
 
 restart_such : (o : Option Shape) → is_such Restart o ≡ true → (C : Type 0) → ((s : Shape) → o ≡ Some s → is_restart s ≡ true → C) → C
 restart_such None h C with_shape = absurd (cc)
-restart_such (Some s) h C with_shape = with_shape s refl (both (is_restart s) (s.owner == 0) h).0
+restart_such (Some s) h C with_shape = with_shape s refl (and_parts (is_restart s) (s.owner == 0) h).0
 
 slice_of : (ss : List Shape) (n : ℕ) (s : Shape) → cond (n == 0) None (slice_get ss (n - 1)) ≡ Some s → slice_get ss (n - 1) ≡ Some s
 slice_of ss n s h = by (eqb n 0) h

@@ -17,7 +17,7 @@ unfolding lines_run
 lines_low desc g [] = omega arith
 lines_low desc g (l ∷ ls) = low_at g (line_step desc g l) (lines_run desc (line_step desc g l).going ls) (length ls) (line_step desc g l).full (line_low desc g l).0 (lines_low desc (line_step desc g l).going ls)
 
-ended_at : (s : Session) (b : Bool) → (cond b (record s { db = s.mark }) s).next ≡ s.next
+pub ended_at : (s : Session) (b : Bool) → (cond b (record s { db = s.mark }) s).next ≡ s.next
 ended_at s true = refl
 ended_at s false = refl
 

@@ -153,7 +153,7 @@ read_more {i} r some =
 some_lines : (rest : List ℕ) → rest ≢ [] → 0 < length (raw_lines rest)
 some_lines rest some = omega (arith, ap length (lines_step rest some))
 
-some_first : (rest : List ℕ) → 0 < length (first_line rest) → rest ≢ []
+pub some_first : (rest : List ℕ) → 0 < length (first_line rest) → rest ≢ []
 some_first [] h none = omega (arith, h)
 some_first (b ∷ bs) h none = cc
 

@@ -80,7 +80,7 @@ module _ {St : Type 0} {g : Ghosts St} (old mid : Engine St g) (db : Db) (first 
   exactly n is = record { are = (sym is, ap front (sym is)); did = did }
 
   -- the run stops between two lines, but for the audit's room
-  stops_still : {T : Type 0} (fault : RunFault) (left' : Option (List ℕ)) → ((run_fate {T = T} (Err fault)).full → ⊥) → i ≤ 1000000 → (IsErrOf {T = T} (Err fault) Lines → StopsAtLines old mid db first all × (1000000 ≡ i))
+  stops_still : {T : Type 0} (fault : RunFault) (left' : Option (List ℕ)) → ((n : ℕ) → (run_fate {T = T} (Err fault)).full n → ⊥) → i ≤ 1000000 → (IsErrOf {T = T} (Err fault) Lines → StopsAtLines old mid db first all × (1000000 ≡ i))
       → (IsErrOf {T = T} (Err fault) Bytes → (p : StopsAtBytes old mid db first all) × (p.n ≡ i)) → (IsErrOf {T = T} (Err fault) Held → ⊥) → (IsErrOf {T = T} (Err fault) Input → (p : StopsAtInput left' old mid db first all) × (p.n ≡ i))
       → CarriesOut {T = T} (Err fault) left' old mid db first all
   stops_still fault left' fine few lines bytes held cut = record {
@@ -109,10 +109,10 @@ module _ {St : Type 0} {g : Ghosts St} (old mid : Engine St g) (db : Db) (first 
   stops_behind (Err (Block f)) left' end ended more cut limits block err = absurd (block f refl)
   stops_behind (Err Bytes) left' end ended more cut limits block err = absurd (limits.0 refl)
   stops_behind (Err Held) left' end ended more cut limits block err = absurd (limits.1 refl)
-  stops_behind (Err Memory) left' end ended more cut limits block err = stops_still Memory left' (λ f. f tt) (omega (arith, end)) (λ e. absurd (cc)) (λ e. absurd (cc)) (λ e. absurd (cc)) (λ e. absurd (cc))
-  stops_behind (Err Input) left' end ended more cut limits block err = stops_still Input left' (λ f. f tt) (omega (arith, end)) (λ e. absurd (cc)) (λ e. absurd (cc)) (λ e. absurd (cc))
+  stops_behind (Err Memory) left' end ended more cut limits block err = stops_still Memory left' (λ f is. is) (omega (arith, end)) (λ e. absurd (cc)) (λ e. absurd (cc)) (λ e. absurd (cc)) (λ e. absurd (cc))
+  stops_behind (Err Input) left' end ended more cut limits block err = stops_still Input left' (λ f is. is) (omega (arith, end)) (λ e. absurd (cc)) (λ e. absurd (cc)) (λ e. absurd (cc))
       (λ e. cut_at 0 left' ended (omega (arith, end)) (omega arith) (λ x. refl) (cut refl))
-  stops_behind (Err Lines) left' end ended more cut limits block err = stops_still Lines left' (λ f. f tt) (omega (arith, end))
+  stops_behind (Err Lines) left' end ended more cut limits block err = stops_still Lines left' (λ f is. is) (omega (arith, end))
       (λ e. (runs_lines desc db first i room all _ waiting feed left _ _ _ r (prints_none _ _ refl) end (more refl), sym end)) (λ e. absurd (cc)) (λ e. absurd (cc)) (λ e. absurd (cc))
 
   still : {T : Type 0} (fault : RunFault) (left' : Option (List ℕ)) (new : Engine St g) → new ≡ mid → CarriesOut {T = T} (Err fault) left' old mid db first all → CarriesOut {T = T} (Err fault) left' old new db first all
@@ -126,11 +126,11 @@ module _ {St : Type 0} {g : Ghosts St} (old mid : Engine St g) (db : Db) (first 
       → (IsErrOf {T = T} (Err fault) Lines → ⊥) → (IsErrOf {T = T} (Err fault) Input → CutLine room left' r.read.rest) → CarriesOut {T = U} (Err fault) left' old new db first all
   stops_at Lines left' new same few ended part untouched over held none cut = absurd (none refl)
   stops_at Memory left' new same few ended part untouched over held none cut =
-      still Memory left' new (untouched (inr (inl refl))) (stops_still Memory left' (λ f. f tt) (omega (arith, few)) (λ e. absurd (cc)) (λ e. absurd (cc)) (λ e. absurd (cc)) (λ e. absurd (cc)))
+      still Memory left' new (untouched (inr (inl refl))) (stops_still Memory left' (λ f is. is) (omega (arith, few)) (λ e. absurd (cc)) (λ e. absurd (cc)) (λ e. absurd (cc)) (λ e. absurd (cc)))
   stops_at Bytes left' new same few ended part untouched over held none cut =
-      still Bytes left' new (untouched (inr (inr refl))) (stops_still Bytes left' (λ f. f tt) (omega (arith, few)) (λ e. absurd (cc)) (λ e. over_at few (over refl)) (λ e. absurd (cc)) (λ e. absurd (cc)))
+      still Bytes left' new (untouched (inr (inr refl))) (stops_still Bytes left' (λ f is. is) (omega (arith, few)) (λ e. absurd (cc)) (λ e. over_at few (over refl)) (λ e. absurd (cc)) (λ e. absurd (cc)))
   stops_at Input left' new same few ended part untouched over held none cut =
-      still Input left' new (untouched (inl refl)) (stops_still Input left' (λ f. f tt) (omega (arith, few)) (λ e. absurd (cc)) (λ e. absurd (cc)) (λ e. absurd (cc))
+      still Input left' new (untouched (inl refl)) (stops_still Input left' (λ f is. is) (omega (arith, few)) (λ e. absurd (cc)) (λ e. absurd (cc)) (λ e. absurd (cc))
       (λ e. cut_at room left' ended (omega (arith, few)) (omega arith) (λ x. absurd (omega (arith, x, few))) (cut refl)))
   stops_at (Block f) left' new same few ended part untouched over held none cut =
       let p = part f refl in
@@ -154,7 +154,7 @@ module _ {St : Type 0} {g : Ghosts St} (old mid : Engine St g) (db : Db) (first 
         events = front (i + 1);
         front = read_keeps_more r.read h.some few h.fits;
         are = inl refl;
-        part = part_all (λ f. f tt) _ _ _ done;
+        part = part_all (λ f is. is) _ _ _ done;
         whole = tt;
         lines = λ e. absurd (cc);
         bytes = λ e. absurd (cc);

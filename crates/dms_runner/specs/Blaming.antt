@@ -1,15 +1,14 @@
 -- What a run leaves of its engine.
-use Rattle.std.specs.Prelude.{◌≡◌, ◌≤◌, OnOk, ⊤}
+use Rattle.std.specs.Prelude.{◌≡◌, ◌≤◌, ℕ, OnOk}
 use Rattle.std.specs.declared.result.Result.{Result}
 use Rattle.std.specs.declared.result.Result.TheVariants.{Ok, Err}
 use Rattle.dms_block.specs.declared.block_fault.BlockFault.TheVariants.{Say}
 use Rattle.dms_block.specs.Counts.{Faults, Raised}
-use Rattle.dms_block.specs.Faults.{NotFull}
 use Rattle.dms_model.specs.declared.store.Store.{Ghosts}
 use Rattle.dms_model.specs.Points.{StopFiles}
 use Rattle.dms_storeverbs.specs.declared.engine.Engine.{Engine}
 use Rattle.dms_storeverbs.specs.View.{seen}
-use Rattle.dms_runner.specs.Events.{Fate}
+use Rattle.dms_runner.specs.Events.{Fate, IsFullOf}
 use Rattle.dms_runner.specs.declared.run.RunFault.{RunFault}
 use Rattle.dms_runner.specs.declared.run.RunFault.TheVariants.{Block, Input, Lines, Bytes, Held, Memory}
 
@@ -31,18 +30,18 @@ abbrev pub CutRun : {T : Type 0} → Result T RunFault → Type 0
 CutRun (Ok x) = ⊥
 CutRun (Err f) = f ≡ Block Say
 
--- the run didn't stop since the audit had no room
-abbrev pub HadRoom : {T : Type 0} → Result T RunFault → Type 0
-HadRoom (Ok x) = ⊤
-HadRoom (Err (Block f)) = NotFull {T = Unit {0}} (Err f)
-HadRoom (Err Input) = ⊤
-HadRoom (Err Lines) = ⊤
-HadRoom (Err Bytes) = ⊤
-HadRoom (Err Held) = ⊤
-HadRoom (Err Memory) = ⊤
+-- the run stopped since the audit had no room behind this file
+abbrev pub IsFullRun : {T : Type 0} → Result T RunFault → ℕ → Type 0
+IsFullRun (Ok x) n = ⊥
+IsFullRun (Err (Block f)) n = IsFullOf {T = Unit {0}} (Err f) n
+IsFullRun (Err Input) n = ⊥
+IsFullRun (Err Lines) n = ⊥
+IsFullRun (Err Bytes) n = ⊥
+IsFullRun (Err Held) n = ⊥
+IsFullRun (Err Memory) n = ⊥
 
 abbrev pub run_fate : {T : Type 0} → Result T RunFault → Fate
-run_fate result = record { cut = CutRun result; full = HadRoom result → ⊥ }
+run_fate result = record { cut = CutRun result; full = IsFullRun result }
 
 -- whatever a run does, its engine stays the same one, usable without a fault, and a fault of the store has a cause
 pub record LastsRun {St : Type 0} {g : Ghosts St} {T : Type 0} (result : Result T RunFault) (old new : Engine St g) : Type 0 where
@@ -51,6 +50,7 @@ pub record LastsRun {St : Type 0} {g : Ghosts St} {T : Type 0} (result : Result 
   pub same : g.same_store old.store new.store
   pub tells : (seen old).tells → (seen new).tells
   pub desc : (seen new).desc ≡ (seen old).desc
+  pub last : (seen new).last ≡ (seen old).last
   pub whole : (files : StopFiles) → (seen new).whole files → (seen old).whole files
   pub whole_on : (files : StopFiles) → (seen old).whole files → (seen new).whole files
   pub cause : IsBlamedOn result (seen old).faults (seen new).faults

@@ -4,8 +4,7 @@ use Rattle.std.specs.declared.option.Option.{Option}
 use Rattle.std.specs.declared.result.Result.{Result}
 use Rattle.std.specs.declared.result.Result.TheVariants.{Ok, Err}
 use Rattle.dms_block.specs.declared.block_fault.BlockFault.{BlockFault}
-use Rattle.dms_block.specs.Faults.{NotFull}
-use Rattle.dms_block.specs.declared.block_fault.BlockFault.TheVariants.{Say}
+use Rattle.dms_block.specs.declared.block_fault.BlockFault.TheVariants.{Disk, Memory, Full, Damaged, Say}
 use Rattle.dms_moments.specs.Moments.{Runs}
 use Rattle.dms_model.specs.Points.{StopFiles, Point, Quiet, Stop}
 use Rattle.dms_block.specs.Texts.{Prints, PrintsPrefix}
@@ -16,12 +15,12 @@ use Rattle.dms_model.specs.declared.reply.Reply.{Reply}
 use Rattle.dms_model.specs.declared.verb.Verb.{Verb}
 use Rattle.dms_model.specs.Seen.{Effort, Seen}
 use Rattle.dms_model.specs.Session.{Outcome, is_waits}
-use Rattle.dms_storeverbs.specs.Costs.{changes, limit_if, stores}
+use Rattle.dms_storeverbs.specs.Costs.{appends, limit_if, stores}
 use Rattle.dms_storeverbs.specs.View.{PointsGrow, LeavesQuiets}
 use Rattle.dms_laws.specs.Exclusive.{is_done}
 
 -- an event: the quiet points that are made in it, the syncpoint that it takes, and the bytes that are said; whether a record may be stored
--- in it, whether the database goes back to the last quiet point, and whether the audit may grow
+-- in it, whether the database goes back to the last quiet point, and whether entries of the audit may be made
 pub record RunEvent : Type 0 where
   pub quiets : List Quiet
   pub sync : Option ℕ
@@ -34,9 +33,10 @@ pub record RunEvent : Type 0 where
 unfoldable pub may_store : Verb → Reply → Bool
 may_store verb reply = stores verb && not (is_waits reply)
 
--- a verb is called; nothing is said yet. Only an ABORT that is done goes back, and the audit may grow by STORE, BEGIN, END and ABORT alone
+-- a verb is called; nothing is said yet. Only an ABORT that is done goes back, and entries may be made only where a verb that is done stores a
+-- record or makes a quiet point
 abbrev pub calls : Verb → Outcome → RunEvent
-calls verb o = record { quiets = o.quiets; sync = o.sync; text = []; stores = may_store verb o.reply; backs = asks_back_out verb && is_done o.reply; appends = changes verb }
+calls verb o = record { quiets = o.quiets; sync = o.sync; text = []; stores = may_store verb o.reply; backs = asks_back_out verb && is_done o.reply; appends = appends verb o }
 
 -- bytes are said; no quiet point is made
 abbrev pub says : List ℕ → RunEvent
@@ -49,7 +49,7 @@ pause = says []
 -- the script ends: where a program is in transaction state, the database goes back to the last quiet point; nothing is said, and no quiet point is
 -- made
 abbrev pub goes_back : Bool → RunEvent
-goes_back works = record { quiets = []; sync = None; text = []; stores = false; backs = works; appends = works }
+goes_back works = record { quiets = []; sync = None; text = []; stores = false; backs = works; appends = false }
 
 -- all that is said
 abbrev pub text_of : List RunEvent → List ℕ
@@ -132,6 +132,7 @@ pub record Performs (b a : Seen) (events : List RunEvent) : Type 0 where
   pub durable : b.tells → durable_after (length b.points) b.durable events ≤ a.durable
   pub moments : b.tells → Runs b.clock a.clock (CrashesFrom b events)
   pub desc : a.desc ≡ b.desc
+  pub last : a.last ≡ b.last
   pub effort : TakesEvents b.desc events b.effort a.effort
 
 -- the answer is a fault of printing: the last text may have been cut off
@@ -139,13 +140,22 @@ abbrev pub IsCutShort : {T : Type 0} → Result T BlockFault → Type 0
 IsCutShort (Ok x) = ⊥
 IsCutShort (Err f) = f ≡ Say
 
--- what an answer tells of the way there: that the last text may have been cut off, and that the audit had no room
+-- the answer is that the audit had no room behind this file
+abbrev pub IsFullOf : {T : Type 0} → Result T BlockFault → ℕ → Type 0
+IsFullOf (Ok x) n = ⊥
+IsFullOf (Err Disk) n = ⊥
+IsFullOf (Err Memory) n = ⊥
+IsFullOf (Err (Full f)) n = f ≡ n
+IsFullOf (Err (Damaged f b)) n = ⊥
+IsFullOf (Err Say) n = ⊥
+
+-- what an answer tells of the way there: that the last text may have been cut off, and that the audit had no room behind this file
 pub record Fate : Type 1 where
   pub cut : Type 0
-  pub full : Type 0
+  pub full : ℕ → Type 0
 
 abbrev pub fate_of : {T : Type 0} → Result T BlockFault → Fate
-fate_of result = record { cut = IsCutShort result; full = NotFull result → ⊥ }
+fate_of result = record { cut = IsCutShort result; full = IsFullOf result }
 
 -- told text grew by the whole text of the first so many events
 abbrev pub SaidWhole : Option (List ℕ) → Option (List ℕ) → List RunEvent → Type 0
@@ -196,20 +206,25 @@ pub record TookPart (cut : Type 0) (b a : Seen) (events : List RunEvent) : Type 
   pub most : PrintsPrefix b.said a.said (text_of (take k events))
   pub took : TookAll b a (take k events) ⊎ TookOneMore b a whole k events
 
--- Exactly the text of the first k of these events was said, and behind them one was under way in which the audit may grow.
-pub record IsDue (before after : Option (List ℕ)) (events : List RunEvent) : Type 0 where
+-- An event in which the audit may have had no room behind file f: entries may be made in it, for which the audit goes on up to the last file; or the
+-- database goes back, for which it goes on up to file 9,999.
+abbrev pub IsFullIn : ℕ → RunEvent → ℕ → Type 0
+IsFullIn last e f = ((e.appends ≡ true) × (f ≡ last)) ⊎ ((e.backs ≡ true) × (f ≡ 9999))
+
+-- Exactly the text of the first k of these events was said, and behind them such a one was under way.
+pub record IsDue (last f : ℕ) (before after : Option (List ℕ)) (events : List RunEvent) : Type 0 where
   pub k : ℕ
   pub at : RunEvent
   pub is : slice_get events k ≡ Some at
-  pub appends : at.appends ≡ true
+  pub full : IsFullIn last at f
   pub text : Prints before after (text_of (take k events))
 
 -- a prefix of the text of these events was said, that of whole events where no text was cut off, and a stop on the way lies
--- within them. No more was done than that prefix may take. Where the audit had no room, it was to grow. Of what stands afterwards it says nothing else
+-- within them. No more was done than that prefix may take. Where the audit had no room, entries were to be made. Of what stands afterwards it says nothing else
 pub record PerformsPrefix (fate : Fate) (b a : Seen) (events : List RunEvent) : Type 0 where
   pub text : PrintsPrefix b.said a.said (text_of events)
   pub said_whole : (fate.cut → ⊥) → SaidWhole b.said a.said events
-  pub due : fate.full → IsDue b.said a.said events
+  pub due : (f : ℕ) → fate.full f → IsDue b.last f b.said a.said events
   pub undamaged : IsTold b → a.faults.damaged ≡ b.faults.damaged
   pub moments : b.tells → Runs b.clock a.clock (CrashesFrom b events)
   pub took : TookPart fate.cut b a events

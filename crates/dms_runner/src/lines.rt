@@ -1,4 +1,4 @@
-ghost use Rattle.std.specs.Prelude.{◌≡◌, ◌≤◌, ◌<◌, ◌+◌, ◌^◌, ◌++◌, [], ◌∷◌, take, ℕ, List, Bool, true, false, not, Some, None, IfOk, OnOk, IsErrOf, IsTrue, length, OnErr};
+ghost use Rattle.std.specs.Prelude.{true, false, IfOk, OnOk};
 ghost use Rattle.dms_desc.specs.Shape.{described};
 ghost use Rattle.dms_storeverbs.specs.View.{EngineLasts, seen};
 ghost use Rattle.dms_script.specs.declared.line.Line.TheVariants.{Verb as Spoken, Bad};

@@ -1,4 +1,4 @@
-ghost use Rattle.std.specs.Prelude.{◌≡◌, ◌≤◌, ◌<◌, ◌+◌, ◌^◌, ◌++◌, [], ◌∷◌, ℕ, List, Bool, true, false, not, Some, None, IfOk, IfSome, OnOk, IsErrOf, length, IsTrue};
+ghost use Rattle.std.specs.Prelude.{◌≡◌, ◌<◌, [], true, Some, None, IfOk, IfSome, OnOk, length};
 ghost use Rattle.dms_desc.specs.Shape.{described};
 ghost use Rattle.dms_storeverbs.specs.View.{EngineLasts, seen};
 ghost use Rattle.std.specs.Prelude.{slice_get, take, slice_set};

@@ -1,4 +1,4 @@
-ghost use Rattle.std.specs.Prelude.{◌≡◌, ◌≤◌, ◌<◌, ◌+◌, ◌^◌, ◌++◌, [], ◌∷◌, ℕ, List, Bool, true, false, not, ◌&&◌, Some, None, IfOk, OnOk, IsErrOf, IsTrue, length};
+ghost use Rattle.std.specs.Prelude.{◌≡◌, ◌<◌, ◌+◌, ◌^◌, ◌++◌, [], ◌∷◌, true, false, ◌&&◌, Some, None, IfOk, OnOk};
 ghost use Rattle.dms_desc.specs.Shape.{described};
 ghost use Rattle.dms_block.specs.Texts.{Prints, PrintsPrefix};
 ghost use Rattle.dms_model.specs.Session.{is_waits};

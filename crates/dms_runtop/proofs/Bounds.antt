@@ -153,13 +153,13 @@ bounds_none {t = t} s not_ok files same = bounds_opening s not_ok (omega (arith,
 
 -- ---- a cut text
 
-block_full_not_say : (f : ℕ) → Block (block.Full f) ≡ Block block.Say → ⊥
-block_full_not_say f is = absurd cc
+pub full_not_say : (f : ℕ) → Block (block.Full f) ≡ Block block.Say → ⊥
+full_not_say f is = absurd cc
 
 -- a fault of printing ends with its status
 say_within : (last : ℕ) (fault then : RunFault) → IsWithin last fault then → fault ≡ Block block.Say → run_status then ≡ SayFault
 say_within last fault then (inl within) is = ap run_status (within.0 ∙ is)
-say_within last fault then (inr memory) is = absurd (block_full_not_say memory.1.0 (sym memory.1.1 ∙ is))
+say_within last fault then (inr memory) is = absurd (full_not_say memory.1.0 (sym memory.1.1 ∙ is))
 
 -- where the script stopped at a line, so did its run
 pub at_line_of : {X : Type 0} (last : ℕ) (fault then : RunFault) → IsWithin last fault then → (fault ≡ run.Input → X) → (fault ≡ run.Lines → X) → (fault ≡ run.Bytes → X) → (fault ≡ run.Held → X) → StopsAtLine (run_status then) → X

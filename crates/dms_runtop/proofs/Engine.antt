@@ -15,7 +15,7 @@ use Rattle.dms_moments.specs.Moments.{Runs}
 use Rattle.dms_moments.specs.MomentLaws.{runs_none, runs_on}
 use Rattle.dms_runner.specs.Answers.{answers_text, last_quiet, script_events, script_run}
 use Rattle.dms_runner.specs.Blaming.{HasBlame}
-use Rattle.dms_runner.specs.Events.{RunEvent, pause, quiets_of}
+use Rattle.dms_runner.specs.Events.{IsDue, RunEvent, pause, quiets_of}
 use Rattle.dms_runner.specs.declared.run.RunFault.{RunFault}
 use Rattle.dms_runner.specs.declared.run.RunFault.TheVariants as run
 use Rattle.dms_runner.specs.declared.run.RunFault.TheVariants.{Block}
@@ -39,8 +39,8 @@ use Rattle.dms_run.specs.Stops.{RunLeaves, last_quiet_number}
 use Rattle.dms_status.specs.declared.status.Status.{Status}
 use Rattle.dms_status.specs.declared.status.Status.TheVariants.{Ok, Memory}
 use Rattle.dms_runtop.specs.Bound.{BoundsAudit}
-use Rattle.dms_runtop.specs.Faults.{IsWithin, MayBeFull, run_status}
-use Rattle.dms_runtop.proofs.Bounds.{bounds_none}
+use Rattle.dms_runtop.specs.Faults.{IsWithin, run_status}
+use Rattle.dms_runtop.proofs.Bounds.{bounds_none, full_not_say}
 use Rattle.dms_runtop.specs.Over.{BeginsAt, ClosesOver, FilesEndWith, RunsOver, ScriptRuns, seen_site}
 use Rattle.dms_runtop.specs.Statuses.{IsOfClosing}
 use Rattle.dms_runtop.proofs.Ran.{Carried, CarriedAll, moments_under, ends_under, closed_under, moments_below, closing_below, ran_nothing, ran_failed, ran_closed}
@@ -70,9 +70,6 @@ pub room_after : (d : Described) (db : Db) (next now : ℕ) (lines : List (List 
 room_after d db next now lines room keeps is = omega (arith, room, keeps.few, is, next_law d db next lines)
 
 -- ---- a fault that isn't another
-
-full_not_say : (f : ℕ) → Block (block.Full f) ≡ Block block.Say → ⊥
-full_not_say f is = absurd cc
 
 memory_not_block : (fault : BlockFault) → run.Memory ≡ Block fault → ⊥
 memory_not_block fault is = absurd cc
@@ -135,15 +132,31 @@ module _ {S : Type 0} (g : Ghosts S) (d e e' : Described) (r r' : Running S) (sa
         only = closes.only ok b.tells;
       }
 
+  -- what is changed goes on up to file FILES of the description
+  abbrev at_files : (left' : Option (List ℕ)) (fault : RunFault) → Carried r.log.end.limit d db r.next all left' entry (said_of g r'.log) fault → Carried d.files d db r.next all left' entry (said_of g r'.log) fault
+  at_files left' fault c = record {
+    lines = c.lines;
+    events = c.events;
+    front = c.front;
+    are = c.are;
+    part = c.part;
+    answers = c.answers;
+    due = λ f is. subst (λ (l : ℕ). IsDue l f entry (said_of g r'.log) c.events) b.limit_is (c.due f is);
+    many_lines = c.many_lines;
+    many_bytes = c.many_bytes;
+    many_held = c.many_held;
+    cut = c.cut;
+  }
+
   -- the script stopped before its end, and the site was given back
-  pub failed_over : (left' : Option (List ℕ)) (fault : RunFault) (status : Status) (site : S) → status ≡ run_status fault → site ≡ r'.log.site → (c : Carried d db r.next all left' entry (said_of g r'.log) fault)
+  pub failed_over : (left' : Option (List ℕ)) (fault : RunFault) (status : Status) (site : S) → status ≡ run_status fault → site ≡ r'.log.site → (c : Carried r.log.end.limit d db r.next all left' entry (said_of g r'.log) fault)
       → Runs (lifted e (held g r).clock) (lifted e' (held g r').clock) (RunLeaves (held g r).whole entry (map (point_of e) (held g r).points) n db r.next c.events)
-      → ((f k : ℕ) → fault ≡ Block (block.Damaged f k) → ⊥) → ((f : ℕ) → fault ≡ Block (block.Full f) → MayBeFull r'.log.end.limit f) → BoundsAudit 0 t d c.events (g.files r.log.site) (g.files r'.log.site) entry (said_of g r'.log) (run_status fault)
+      → ((f k : ℕ) → fault ≡ Block (block.Damaged f k) → ⊥) → BoundsAudit 0 t d c.events (g.files r.log.site) (g.files r'.log.site) entry (said_of g r'.log) (run_status fault)
       → ScriptRuns 0 t d ps n db r.next all (seen_site g r.log.site) (seen_site g site) left' status
-  failed_over left' fault status site status_is site_is c leaves damaged full bound =
+  failed_over left' fault status site status_is site_is c leaves damaged bound =
       subst (λ (x : Status). ScriptRuns 0 t d ps n db r.next all (seen_site g r.log.site) (seen_site g site) left' x) (sym status_is)
       (subst (λ (x : S). ScriptRuns 0 t d ps n db r.next all (seen_site g r.log.site) (seen_site g x) left' (run_status fault)) (sym site_is)
-      (ran_failed 0 t d ps n db r.next all (seen_site g r.log.site) (seen_site g r'.log.site) left' fault c (moments_of c.events leaves) damaged (λ f is. subst (λ (l : ℕ). MayBeFull l f) (pace.limit ∙ b.limit_is) (full f is)) bound))
+      (ran_failed 0 t d ps n db r.next all (seen_site g r.log.site) (seen_site g r'.log.site) left' fault (at_files left' fault c) (moments_of c.events leaves) damaged bound))
 
   -- the bound of one fault is that of the same one
   bound_at : (events : List RunEvent) (then fault : RunFault) → then ≡ fault → BoundsAudit 0 t d events (g.files r.log.site) (g.files r'.log.site) entry (said_of g r'.log) (run_status then)
@@ -152,7 +165,7 @@ module _ {S : Type 0} (g : Ghosts S) (d e e' : Described) (r r' : Running S) (sa
       subst (λ (x : RunFault). BoundsAudit 0 t d events (g.files r.log.site) (g.files r'.log.site) entry (said_of g r'.log) (run_status x)) same bound
 
   -- what was carried out at one fault, told of want of memory
-  abbrev carried_short : (left' : Option (List ℕ)) (fault : RunFault) → (fault ≡ Block block.Say → ⊥) → Carried d db r.next all left' entry (said_of g r'.log) fault → Carried d db r.next all left' entry (said_of g r'.log) run.Memory
+  abbrev carried_short : (left' : Option (List ℕ)) (fault : RunFault) → (fault ≡ Block block.Say → ⊥) → Carried r.log.end.limit d db r.next all left' entry (said_of g r'.log) fault → Carried r.log.end.limit d db r.next all left' entry (said_of g r'.log) run.Memory
   carried_short left' fault unsaid c = record {
     lines = c.lines;
     events = c.events;
@@ -169,15 +182,15 @@ module _ {S : Type 0} (g : Ghosts S) (d e e' : Described) (r r' : Running S) (sa
 
   -- the same, where a full audit at another file counted as want of memory
   pub within_over : (left' : Option (List ℕ)) (last : ℕ) (fault then : RunFault) (status : Status) (site : S) → IsWithin last fault then → last ≡ r'.log.end.limit → status ≡ run_status then → site ≡ r'.log.site
-      → (c : Carried d db r.next all left' entry (said_of g r'.log) fault)
+      → (c : Carried r.log.end.limit d db r.next all left' entry (said_of g r'.log) fault)
       → Runs (lifted e (held g r).clock) (lifted e' (held g r').clock) (RunLeaves (held g r).whole entry (map (point_of e) (held g r).points) n db r.next c.events)
       → ((f k : ℕ) → fault ≡ Block (block.Damaged f k) → ⊥) → BoundsAudit 0 t d c.events (g.files r.log.site) (g.files r'.log.site) entry (said_of g r'.log) (run_status then)
       → ScriptRuns 0 t d ps n db r.next all (seen_site g r.log.site) (seen_site g site) left' status
   within_over left' last fault then status site (inl within) last_is status_is site_is c leaves damaged bound =
-      failed_over left' fault status site (status_is ∙ ap run_status within.0) site_is c leaves damaged (λ f is. subst (λ (l : ℕ). MayBeFull l f) last_is (within.1 f is)) (bound_at c.events then fault within.0 bound)
+      failed_over left' fault status site (status_is ∙ ap run_status within.0) site_is c leaves damaged (bound_at c.events then fault within.0 bound)
   within_over left' last fault then status site (inr memory) last_is status_is site_is c leaves damaged bound =
       failed_over left' run.Memory status site (status_is ∙ ap run_status memory.0) site_is (carried_short left' fault (λ is. full_not_say memory.1.0 (sym memory.1.1 ∙ is)) c) leaves
-      (λ f k is. memory_not_block (block.Damaged f k) is) (λ f is. absurd (memory_not_block (block.Full f) is)) (bound_at c.events then run.Memory memory.0 bound)
+      (λ f k is. memory_not_block (block.Damaged f k) is) (bound_at c.events then run.Memory memory.0 bound)
 
   -- the script was carried out, and then the database closed
   pub closed_over : (left' : Option (List ℕ)) (status : Status) (site : S) → (status ≡ Ok) ⊎ IsOfClosing status → ClosesOver g r' status site → (IsTrue g.tells_said → g.said site ≡ g.said r'.log.site)

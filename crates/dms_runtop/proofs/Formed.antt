@@ -24,7 +24,7 @@ pub files_of : (d : Described) → IsWellFormed d → d.files ≤ 9999
 unfolding has_parameters
 files_of d w = le_of d.files 9999 (second_of _ _ (second_of _ _ w.parameters))
 
-some_bytes : (d : Described) → 0 < length (spelling d)
+pub some_bytes : (d : Described) → 0 < length (spelling d)
 unfolding spelling
 some_bytes d = omega arith
 

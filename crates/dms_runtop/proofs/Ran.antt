@@ -14,7 +14,7 @@ use Rattle.dms_block.specs.declared.block_fault.BlockFault.TheVariants as block
 use Rattle.dms_block.specs.declared.block_fault.BlockFault.TheVariants.{Say}
 use Rattle.dms_feed.specs.Lines.{raw_lines}
 use Rattle.dms_runner.specs.Answers.{LineEffect, answers_text, first_state, script_events}
-use Rattle.dms_runner.specs.Blaming.{HadRoom}
+use Rattle.dms_runner.specs.Blaming.{IsFullRun}
 use Rattle.dms_runner.specs.Events.{IsDue, Performs, RunEvent, SaidWhole, TookAll, pause, text_of}
 use Rattle.dms_runner.specs.Running.{AreOfFront, KeepsFront}
 use Rattle.dms_runner.specs.Starting.{CarriesOut}
@@ -49,8 +49,8 @@ use Rattle.dms_status.specs.declared.status.LimitKind.TheVariants.{AuditFile, Li
 use Rattle.dms_status.specs.declared.status.Status.{Status}
 use Rattle.dms_status.specs.declared.status.Status.TheVariants.{Ok, Limit}
 use Rattle.dms_runtop.specs.Bound.{BoundsAudit, StopsAtLine}
-use Rattle.dms_runtop.specs.Faults.{IsWithin, MayBeFull, run_status}
-use Rattle.dms_runtop.specs.Over.{CutsScript, IsToGrow, ReachesFiles, PassesScript, ScriptRuns, SiteSeen}
+use Rattle.dms_runtop.specs.Faults.{IsWithin, run_status}
+use Rattle.dms_runtop.specs.Over.{CutsScript, IsAtEnds, ReachesFiles, PassesScript, ScriptRuns, SiteSeen}
 use Rattle.dms_runtop.proofs.Bounds.{at_line_of}
 use Rattle.dms_runtop.proofs.Counted.{an_error}
 use Rattle.dms_runtop.proofs.Fronts.{leaves_wide, wider}
@@ -147,15 +147,16 @@ said_nothing said events = (0, λ t is. is ∙ ap (λ (s : List ℕ). Some s) (s
 
 -- ---- what was carried out
 
--- So much of a script was carried out where the run stopped with this fault, told by the text before it and behind it.
-pub record Carried (d : Described) (db : Db) (next : ℕ) (all : List ℕ) (left' : Option (List ℕ)) (said said' : Option (List ℕ)) (fault : RunFault) : Type 0 where
+-- So much of a script was carried out where the run stopped with this fault, told by the text before it and behind it. What is changed may go on up to
+-- this audit file.
+pub record Carried (last : ℕ) (d : Described) (db : Db) (next : ℕ) (all : List ℕ) (left' : Option (List ℕ)) (said said' : Option (List ℕ)) (fault : RunFault) : Type 0 where
   pub lines : ℕ
   pub events : List RunEvent
   pub front : KeepsFront (raw_lines all) lines
   pub are : AreOfFront d db next (raw_lines all) lines events
   pub part : PrintsPrefix said said' (text_of events)
   pub answers : (fault ≡ Block Say → ⊥) → SaidWhole said said' events
-  pub due : (f : ℕ) → fault ≡ Block (block.Full f) → IsDue said said' events
+  pub due : (f : ℕ) → fault ≡ Block (block.Full f) → IsDue last f said said' events
   pub many_lines : fault ≡ run.Lines → PassesScript Lines d db next (raw_lines all) lines events said said'
   pub many_bytes : fault ≡ run.Bytes → PassesScript Bytes d db next (raw_lines all) lines events said said'
   pub many_held : fault ≡ run.Held → PassesScript limits.Held d db next (raw_lines all) lines events said said'
@@ -175,11 +176,11 @@ fault_of fault = result.Err fault
 abbrev pub ok_of : Unit {0} → Result (Unit {0}) RunFault
 ok_of x = result.Ok x
 
-pub no_room : (fault : RunFault) (f : ℕ) → fault ≡ Block (block.Full f) → HadRoom (fault_of fault) → ⊥
-no_room fault f is room = subst (λ (x : RunFault). HadRoom (fault_of x)) is room
+pub full_run : (fault : RunFault) (f : ℕ) → fault ≡ Block (block.Full f) → IsFullRun (fault_of fault) f
+full_run fault f is = subst (λ (x : RunFault). IsFullRun (fault_of x) f) (sym is) refl
 
 module _ {St : Type 0} {g : store.Ghosts St} (left' : Option (List ℕ)) (old new : Engine St g) (db : Db) (first : ℕ) (all : List ℕ) where
-  abbrev pub carried_of : (fault : RunFault) → CarriesOut (fault_of fault) left' old new db first all → Carried (described old.desc) db first all left' (seen old).said (seen new).said fault
+  abbrev pub carried_of : (fault : RunFault) → CarriesOut (fault_of fault) left' old new db first all → Carried (seen old).last (described old.desc) db first all left' (seen old).said (seen new).said fault
   carried_of fault k = record {
     lines = k.n;
     events = k.events;
@@ -187,7 +188,7 @@ module _ {St : Type 0} {g : store.Ghosts St} (left' : Option (List ℕ)) (old ne
     are = k.are;
     part = k.part.text;
     answers = k.part.said_whole;
-    due = λ f is. k.part.due (no_room fault f is);
+    due = λ f is. k.part.due f (full_run fault f is);
     many_lines = λ is. let x = k.lines (an_error fault run.Lines is) in (x.0, x.1.are);
     many_bytes = λ is. let x = k.bytes (an_error fault run.Bytes is) in (x.0, x.1.are);
     many_held = λ is. let x = k.full_list (an_error fault run.Held is) in (x.0, x.1.are);
@@ -228,11 +229,11 @@ module _ (opening : ℕ) (t : Telling) (d : Described) (ps : List DescribedPoint
   paused : (events : List RunEvent) → Leaves events → Leaves (events ++ pause ∷ [])
   paused events moments = runs_weaken moments (leaves_wide (wider events (pause ∷ [])))
 
-  pub of_audit : (lines : ℕ) (events : List RunEvent) (k : LimitKind) → IsOfAuditLimit k → IsToGrow d db next (raw_lines all) events a.said b.said → PassesScript k d db next (raw_lines all) lines events a.said b.said
-  of_audit lines events (AuditFile f) is grows = inr (is, grows)
-  of_audit lines events Lines is grows = absurd is
-  of_audit lines events Bytes is grows = absurd is
-  of_audit lines events limits.Held is grows = absurd is
+  pub of_audit : (lines : ℕ) (events : List RunEvent) (k : LimitKind) → IsOfAuditLimit k → IsAtEnds d db next (raw_lines all) events a.said b.said → PassesScript k d db next (raw_lines all) lines events a.said b.said
+  of_audit lines events (AuditFile f) is ends = inr (is, ends)
+  of_audit lines events Lines is ends = absurd is
+  of_audit lines events Bytes is ends = absurd is
+  of_audit lines events limits.Held is ends = absurd is
 
   no_lines : KeepsFront (raw_lines all) 0
   no_lines = record { within = omega arith; few = omega arith; short = omega arith }
@@ -258,9 +259,9 @@ module _ (opening : ℕ) (t : Telling) (d : Described) (ps : List DescribedPoint
   }
 
   -- the script stopped before its end
-  pub ran_failed : (fault : RunFault) (c : Carried d db next all left' a.said b.said fault) → Leaves c.events
-      → ((f k : ℕ) → fault ≡ Block (block.Damaged f k) → ⊥) → ((f : ℕ) → fault ≡ Block (block.Full f) → MayBeFull d.files f) → Bound c.events (run_status fault) → ScriptRuns opening t d ps n db next all a b left' (run_status fault)
-  ran_failed fault c moments damaged full bound = record {
+  pub ran_failed : (fault : RunFault) (c : Carried d.files d db next all left' a.said b.said fault) → Leaves c.events
+      → ((f k : ℕ) → fault ≡ Block (block.Damaged f k) → ⊥) → Bound c.events (run_status fault) → ScriptRuns opening t d ps n db next all a b left' (run_status fault)
+  ran_failed fault c moments damaged bound = record {
     lines = c.lines;
     front = c.front;
     events = c.events;
@@ -279,11 +280,7 @@ module _ (opening : ℕ) (t : Telling) (d : Described) (ps : List DescribedPoint
   }
     where
       passes : (k : LimitKind) → run_status fault ≡ Limit k → PassesScript k d db next (raw_lines all) c.lines c.events a.said b.said
-      passes (AuditFile f) is = by_file (full f (run_full_is fault f is))
-        where
-          by_file : MayBeFull d.files f → PassesScript (AuditFile f) d db next (raw_lines all) c.lines c.events a.said b.said
-          by_file (inl files) = inl (files, c.due f (run_full_is fault f is))
-          by_file (inr last) = inr (last, inr (inl (c.due f (run_full_is fault f is))))
+      passes (AuditFile f) is = inl (c.due f (run_full_is fault f is))
       passes Lines is = c.many_lines (run_lines_is fault is)
       passes Bytes is = c.many_bytes (run_bytes_is fault is)
       passes limits.Held is = c.many_held (run_held_is fault is)
@@ -312,4 +309,4 @@ module _ (opening : ℕ) (t : Telling) (d : Described) (ps : List DescribedPoint
     where
       closing_limit : (s : Status) → (s ≡ Ok) ⊎ IsOfClosing s → (k : LimitKind) → s ≡ Limit k → PassesScript k d db next (raw_lines all) c.lines script a.said b.said
       closing_limit s (inl ok) k is = absurd (ok_not_limit k (sym ok ∙ is))
-      closing_limit s (inr of) k is = of_audit c.lines script k (subst IsOfClosing is of) (inr (inr (refl, prints)))
+      closing_limit s (inr of) k is = of_audit c.lines script k (subst IsOfClosing is of) (inr (refl, prints))

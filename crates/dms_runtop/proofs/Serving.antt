@@ -1,10 +1,10 @@
 -- The running database of a description serves a store of it.
-use Rattle.std.proofs.Common.{◌≡◌, ◌∙◌, ◌+◌, ◌-◌, ◌≤◌, inl, inr, ℕ, zero, suc, List, [], ◌∷◌, Bool, true, false, IsTrue, None, nat_lt, nat_le, sym, ap, subst, cond, length, slice_get, arith}
-use Rattle.std.specs.Prelude.{◌&&◌, ◌==◌, IsSome}
+use Rattle.std.proofs.Common.{◌≡◌, ◌+◌, ◌≤◌, inl, inr, ℕ, List, Bool, true, IsTrue, nat_lt, nat_le, sym, subst, length, arith}
+use Rattle.std.specs.Prelude.{◌&&◌}
 use Rattle.std.proofs.lemmas.Bool.Decides.{nat_tests}
 use Rattle.dms_block.specs.Held.{Held}
-use Rattle.dms_desc.specs.Lookups.{structure_at}
-use Rattle.dms_desc.specs.Shape.{Shape, Described}
+use Rattle.dms_desc.specs.Shape.{Described}
+use Rattle.dms_desc.proofs.Numbers.{some_at}
 use Rattle.dms_desc_bytes.specs.Spelling.{spelling}
 use Rattle.dms_desc_bytes.specs.WellFormed.{IsWellFormed}
 use Rattle.dms_opening.specs.Openings.{NamesStructures}
@@ -13,20 +13,6 @@ use Rattle.dms_runtop.specs.Describing.{IsUnderSchema}
 use Rattle.dms_store.specs.Lifted.{Serves}
 use Rattle.dms_store.specs.Serving.{IsServed}
 use Rattle.dms_wal.specs.Lifting.{owns_of}
-
-some_low : (ss : List Shape) (k : ℕ) → IsSome (slice_get ss k) → k + 1 ≤ length ss
-some_low [] k some = absurd (cc)
-some_low (s ∷ ss) zero some = omega arith
-some_low (s ∷ ss) (suc k) some = omega (arith, some_low ss k some)
-
--- a structure has a number from 1 to as many as there are
-some_at : (ss : List Shape) (n : ℕ) → IsSome (structure_at ss n) → (1 ≤ n) × (n ≤ length ss)
-some_at ss zero some = absurd (cc)
-some_at ss (suc k) some =
-    let t : (suc k == 0) ≡ false = grind (arith, nat_tests) in
-    let e : suc k - 1 ≡ k = omega arith in
-    let is : structure_at ss (suc k) ≡ slice_get ss k = ap (λ b. cond b None (slice_get ss (suc k - 1))) t ∙ ap (slice_get ss) e in
-    (omega arith, omega (arith, some_low ss k (subst IsSome is some)))
 
 owned : (many n : ℕ) → 1 ≤ n → n ≤ many → IsTrue (nat_lt 30000 (30000 + n) && nat_le (30000 + n) (30000 + many))
 owned many n low most =

@@ -1,6 +1,7 @@
 -- A run since the opening, and before it what the opening leaves.
 use Rattle.std.proofs.Common.{ℕ, ◌≡◌, ◌≤◌, ◌+◌, ◌∙◌, List, [], ◌∷◌, ◌++◌, length, Option, Some, None, refl, sym, ap, subst, arith}
 use Rattle.std.proofs.lemmas.List.{append-nil}
+use Rattle.std.proofs.lemmas.Option.{same_Some}
 use Rattle.dms_desc.specs.Shape.{Described}
 use Rattle.dms_model.specs.Db.{Db}
 use Rattle.dms_moments.specs.Moments.{Runs}
@@ -83,10 +84,7 @@ number_end : (before : Option ℕ) (ps : List DescribedPoint) (p : DescribedPoin
 number_end before [] p = refl
 number_end before (q ∷ qs) p = number_end (Some q.number) qs p
 
-some_same : (a b : ℕ) → ◌≡◌ {A = Option ℕ} (Some a) (Some b) → a ≡ b
-some_same a b e = cc
-
 -- the number of the last point
 pub last_is : (desc : Described) (ps : List DescribedPoint) (n m : ℕ) (db : Db) → LivesEndWith desc ps n db → last_number ps ≡ Some m → m ≡ n
 last_is desc ps n m db state is =
-    some_same m n (sym is ∙ ap last_number state.are ∙ number_end None state.before state.point ∙ ap (λ (k : ℕ). Some k) state.number)
+    same_Some m n (sym is ∙ ap last_number state.are ∙ number_end None state.before state.point ∙ ap (λ (k : ℕ). Some k) state.number)

@@ -51,18 +51,18 @@ pub record FilesEndWith (t : Telling) (desc : Described) (n : ℕ) (db : Db) (ne
   pub next_is : next_in t s.files ≡ next
   pub only : Only s.files s.clock
 
--- Nothing was printed, as at the opening; or an event in which the audit may grow comes behind the text of those before it; or the text of the whole
--- script was printed, as before the close.
-abbrev pub IsToGrow : Described → Db → ℕ → List (List ℕ) → List RunEvent → Option (List ℕ) → Option (List ℕ) → Type 0
-IsToGrow desc db first lines events before after =
-    Prints before after [] ⊎ (IsDue before after events ⊎ ((events ≡ script_events desc db first lines) × Prints before after (answers_text desc db first lines)))
+-- Nothing was printed, as at the opening; or the text of the whole script was, as before the close.
+abbrev pub IsAtEnds : Described → Db → ℕ → List (List ℕ) → List RunEvent → Option (List ℕ) → Option (List ℕ) → Type 0
+IsAtEnds desc db first lines events before after =
+    Prints before after [] ⊎ ((events ≡ script_events desc db first lines) × Prints before after (answers_text desc db first lines))
 
 -- The script passes this limit: what the whole lines before that place answer was printed, and these are their events, so nothing else was done; of a
 -- line that is one too many to hold its first try, if there is one, which waits, is among them. The audit may go on up to file FILES of the description
--- for what a script changes: then the call of a verb that may change the database was under way, or the way back at the script's end. At file 9,999,
--- up to which openings, ways back and closings go, that is so, or nothing was printed, or all that the script answers.
+-- for what a script changes: then the call of a verb was under way that is done, and stores a record or makes a quiet point. It goes on up to file 9,999
+-- for openings, ways back and closings: then an ABORT that is done was under way, or the way back at the script's end; or nothing was printed, or all
+-- that the script answers.
 abbrev pub PassesScript : LimitKind → Described → Db → ℕ → List (List ℕ) → ℕ → List RunEvent → Option (List ℕ) → Option (List ℕ) → Type 0
-PassesScript (AuditFile f) desc db first lines n events before after = ((f ≡ desc.files) × IsDue before after events) ⊎ ((f ≡ 9999) × IsToGrow desc db first lines events before after)
+PassesScript (AuditFile f) desc db first lines n events before after = IsDue desc.files f before after events ⊎ ((f ≡ 9999) × IsAtEnds desc db first lines events before after)
 PassesScript Lines desc db first lines n events before after = PassesLines desc db first lines before after × AreExactly desc db first lines n events 1000000
 PassesScript Bytes desc db first lines n events before after = (p : PassesBytes desc db first lines before after) × AreExactly desc db first lines n events p.n
 PassesScript Held desc db first lines n events before after = (p : PassesWaiting desc db first lines before after) × AreExactly desc db first lines n events (p.n + 1)

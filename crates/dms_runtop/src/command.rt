@@ -13,7 +13,6 @@ ghost use Rattle.dms_runtop.specs.Guard.{StaysBeside};
 ghost use Rattle.dms_runtop.specs.Inputs.{BlamesInput};
 ghost use Rattle.dms_runtop.specs.Statuses.{IsOfRun, IsOfScript, IsRefusal};
 ghost use Rattle.dms_wal.specs.Lifting.{AreCounts};
-ghost use Rattle.dms_wal.specs.Marks.{IsDescription};
 
 use crate::describing::describe;
 use crate::ended::Ended;

@@ -1,6 +1,6 @@
 //! A site that writes no file but those that a run may write.
 
-ghost use Rattle.std.specs.Prelude.{◌≡◌, ◌↔◌, ◌+◌, IsTrue};
+ghost use Rattle.std.specs.Prelude.{◌↔◌, ◌+◌, IsTrue};
 ghost use Rattle.dms_runtop.specs.Guard.{IsBeside, SameGuarded};
 
 use dms_site::{Failed, Site};

@@ -1,21 +1,17 @@
 //! A script over a database that was opened.
 
-ghost use Rattle.std.specs.Prelude.{◌≡◌, ◌≤◌, ◌⊎◌, [], ℕ, List, Some, IsTrue};
+ghost use Rattle.std.specs.Prelude.{◌≡◌, ◌⊎◌, [], ℕ, List, Some, IsTrue};
 ghost use Rattle.dms_audfile.specs.Counting.{CountedAt};
 ghost use Rattle.dms_desc.specs.Shape.{described};
 ghost use Rattle.dms_desc_bytes.specs.WellFormed.{IsWellFormed};
 ghost use Rattle.dms_model.specs.Db.{Db};
 ghost use Rattle.dms_model.specs.Session.{fresh_session};
-ghost use Rattle.dms_restore.specs.Logging.{telling, points};
-ghost use Rattle.dms_restore.specs.Views.{view_of};
 ghost use Rattle.dms_runtop.specs.Inputs.{BlamesInput};
 ghost use Rattle.dms_runtop.specs.Over.{RunsOver, ClosesOver, GrowsOver};
 ghost use Rattle.dms_runtop.specs.Statuses.{IsOfClosing, IsOfScript};
 ghost use Rattle.dms_store.specs.Lifted.{Serves};
 ghost use Rattle.dms_storeverbs.specs.View.{StandsFor, seen, view};
-ghost use Rattle.dms_wal.specs.Closing.{LeavesUntil};
 ghost use Rattle.dms_wal.specs.Database.{held};
-ghost use Rattle.dms_wal.specs.Lifting.{lifted};
 
 use crate::ended::Ended;
 use crate::ending::{fault_within, status_of_block, status_of_run};

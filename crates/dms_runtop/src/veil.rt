@@ -1,7 +1,7 @@
 //! A site whose files are told only where its user knows what they stand for.
 
-ghost use Rattle.std.specs.Prelude.{◌≡◌, ◌&&◌, Bool, IsTrue, true, refl};
-ghost use Rattle.dms_runtop.specs.Both.{first_of, both_of};
+ghost use Rattle.std.specs.Prelude.{◌&&◌, Bool, true};
+ghost use Rattle.dms_runtop.specs.Both.{first_of};
 
 use dms_site::{Failed, Site};
 use std::marker::{Brand, PhantomData};

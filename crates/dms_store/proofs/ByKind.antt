@@ -6,6 +6,7 @@ use Rattle.std.specs.Option.{option_copied, option_map}
 use Rattle.std.specs.declared.option.Option.{Option}
 use Rattle.std.specs.FinMap.{entries}
 use Rattle.std.proofs.lemmas.Bool.Decides.{nat_tests}
+use Rattle.std.proofs.lemmas.Bool.{and_from, and_right}
 use Rattle.dms_block.specs.declared.blocks.Blocks.{Ghosts}
 use Rattle.dms_block.specs.declared.overlay.Overlay.{Overlay}
 use Rattle.dms_block.specs.Content.{Content}
@@ -32,36 +33,25 @@ use Rattle.dms_store.specs.Noted.{tells_if}
 use Rattle.dms_store.specs.Serving.{IsServed}
 use Rattle.dms_store.specs.Spelled.{db_in}
 use Rattle.dms_store.specs.Undamaged.{no_bad_slot}
+use Rattle.dms_store.specs.SpelledLaws.{no_manual}
 
 -- the shape of a structure that was looked up
 pub found_shape : {o : Option Shape} {found : Option (Bor Structure)} {s : Bor Structure} → option_map shape_of (option_copied found) ≡ o → found ≡ Some s → o ≡ Some (shape_of s.now)
 found_shape is at = sym is ∙ ap (λ (f : Option (Bor Structure)). option_map shape_of (option_copied f)) at
 
-both_true : (a b : Bool) → a ≡ true → b ≡ true → (a && b) ≡ true
-both_true true b h k = k
-both_true false b h k = absurd (cc)
-
 -- ---- a manual subset has no member
-
-no_entries : (desc : Described) (c : Content) → (db_in desc c).entries ≡ []
-unfolding db_in
-no_entries desc c = refl
-
-and_none : (a b : Bool) → b ≡ false → (a && b) ≡ false
-and_none true b h = h
-and_none false b h = refl
 
 module _ (s : Shape) (owner : ℕ) (manual : (s.kind == 5) ≡ true) where
   none_belong : (es : List (Place × Record)) → spots_of s [] owner es ≡ []
   none_belong [] = refl
   none_belong (e ∷ es) =
-      let off = and_none (over s == e.0.0) (cond (s.kind == 5) (list_any (names s.number owner e.0.1) []) ((owner == e.1.owner) && kinds.takes s e.1.values))
+      let off = and_right (over s == e.0.0) (cond (s.kind == 5) (list_any (names s.number owner e.0.1) []) ((owner == e.1.owner) && kinds.takes s e.1.values))
       (ap (λ b. cond b (list_any (names s.number owner e.0.1) []) ((owner == e.1.owner) && kinds.takes s e.1.values)) manual) in
       ap (λ b. cond b (spot_of s.parts e ∷ spots_of s [] owner es) (spots_of s [] owner es)) off ∙ none_belong es
 
   no_members : (desc : Described) (c : Content) → members s (db_in desc c) owner ≡ []
   no_members desc c =
-      ap (λ (es : List SubsetEntry). sorted (is_before s.parts) (spots_of s es owner (entries (db_in desc c).records))) (no_entries desc c)
+      ap (λ (es : List SubsetEntry). sorted (is_before s.parts) (spots_of s es owner (entries (db_in desc c).records))) (no_manual desc c)
       ∙ ap (sorted (is_before s.parts)) (none_belong (entries (db_in desc c).records))
 
 module _ {desc : Described} (path : ℕ) {s : Shape} (served : IsServed desc) (at : structure_of desc path ≡ Some s) where
@@ -91,14 +81,14 @@ module _ {desc : Described} (path : ℕ) {s : Shape} (served : IsServed desc) (a
   pub set_here : kinds.is_data_set s ≡ true → is_data_set (structure_of desc path) ≡ true
   set_here h =
       let low = (served_at desc path s served at).low in
-      ap is_data_set at ∙ both_true (nat_lt 0 s.kind) (nat_lt s.kind 3) (grind (arith, nat_tests, low)) h
+      ap is_data_set at ∙ and_from (nat_lt 0 s.kind) (nat_lt s.kind 3) (grind (arith, nat_tests, low)) h
 
   pub kept_here : kinds.is_data_set s ≡ false → kinds.is_manual s ≡ false → is_set_or_automatic s ≡ true
   kept_here off apart =
       let most = (served_at desc path s served at).most in
       let more : 2 < s.kind = grind (arith, nat_tests, off) in
       let less : s.kind < 5 = grind (arith, nat_tests, apart, most) in
-      both_true (nat_lt 2 s.kind) (nat_lt s.kind 5) (grind (arith, nat_tests, more)) (grind (arith, nat_tests, less))
+      and_from (nat_lt 2 s.kind) (nat_lt s.kind 5) (grind (arith, nat_tests, more)) (grind (arith, nat_tests, less))
 
   module _ {B : Type 0} {g : Ghosts B} (o : Overlay B g) where
     pub set_reads : kinds.is_data_set s ≡ true → population_of (structure_of desc path) ≡ most_reads desc path o

@@ -1,11 +1,12 @@
 -- Looks at the list of a set: the bytes of bounds, and what is found.
 use Rattle.std.proofs.Common.{◌≡◌, ◌∙◌, ◌+◌, ◌-◌, ◌≤◌, ℕ, List, [], ◌∷◌, ◌++◌, Bool, true, false, cond, IfSome, Some, None, refl, sym, ap, length, length-append, replicate, arith}
-use Rattle.std.specs.Prelude.{◌||◌}
 use Rattle.std.specs.declared.option.Option.{Option}
 use Rattle.std.specs.Int.{w32, to_be_bytes}
 use Rattle.std.specs.Cmp.Lexicographic.{nat_list_cmp_total}
 use Rattle.std.proofs.lemmas.Cmp.{eq_by_cmp_equiv}
 use Rattle.std.proofs.lemmas.List.{length-replicate}
+use Rattle.std.proofs.lemmas.Option.{same_Some}
+use Rattle.std.proofs.lemmas.Bool.{or_left, or_right}
 use Rattle.dms_base.specs.declared.kind.ItemKind.{ItemKind}
 use Rattle.dms_base.specs.declared.value.Value.{Value}
 use Rattle.dms_desc.specs.declared.bound.Bound.{Bound}
@@ -18,11 +19,9 @@ use Rattle.dms_ordlist.specs.Lists.{first, first_from, has_entry, is_same, last,
 use Rattle.dms_sets.specs.Entries.{IsSetKey, entry_bytes, whole_width}
 use Rattle.dms_sets.specs.Padded.{entry_width, from_bytes, to_bytes}
 use Rattle.dms_store.specs.Listed.{MayLook}
+use Rattle.dms_store.specs.SpelledLaws.{nothing_listed}
 
 -- ---- the bytes of a bound
-
-some_bytes : (x y : List ℕ) → ◌≡◌ {A = Option (List ℕ)} (Some x) (Some y) → x ≡ y
-some_bytes x y h = cc
 
 padded_long : (w : ℕ) (p : List ℕ) → length p ≤ w → length (padded w p) ≡ w
 padded_long w p le =
@@ -49,22 +48,18 @@ module _ (kinds : List ItemKind) (ps : List KeyPart) (owner : ℕ) where
 
   -- they have the width of entries
   pub from_long : (bound : Bound) (q : List ℕ) → MayLook kinds ps bound → from_bytes kinds ps owner bound ≡ Some q → length q ≡ entry_width kinds ps
-  from_long Start q may is = ap length (sym (some_bytes _ q is)) ∙ owner_long owner
+  from_long Start q may is = ap length (sym (same_Some _ q is)) ∙ owner_long owner
   from_long End q may is = absurd (cc)
-  from_long (At key n) q may is = ap length (sym (some_bytes _ q is)) ∙ whole_long key (n + 1) may.0.0
-  from_long (From key) q may is = ap length (sym (some_bytes _ q is)) ∙ key_long key may.0
+  from_long (At key n) q may is = ap length (sym (same_Some _ q is)) ∙ whole_long key (n + 1) may.0.0
+  from_long (From key) q may is = ap length (sym (same_Some _ q is)) ∙ key_long key may.0
 
   pub to_long : (bound : Bound) (q : List ℕ) → MayLook kinds ps bound → to_bytes kinds ps owner bound ≡ Some q → length q ≡ entry_width kinds ps
   to_long Start q may is = absurd (cc)
-  to_long End q may is = ap length (sym (some_bytes _ q is)) ∙ owner_long (owner + 1)
-  to_long (At key n) q may is = ap length (sym (some_bytes _ q is)) ∙ whole_long key n may.0.0
-  to_long (From key) q may is = ap length (sym (some_bytes _ q is)) ∙ key_long key may.0
+  to_long End q may is = ap length (sym (same_Some _ q is)) ∙ owner_long (owner + 1)
+  to_long (At key n) q may is = ap length (sym (same_Some _ q is)) ∙ whole_long key n may.0.0
+  to_long (From key) q may is = ap length (sym (same_Some _ q is)) ∙ key_long key may.0
 
 -- ---- what is found
-
-nothing_listed : (w : ℕ) → list_in w [] ≡ Some []
-unfolding list_in
-nothing_listed w = refl
 
 some_list : (xs ys : List (List ℕ)) → ◌≡◌ {A = Option (List (List ℕ))} (Some xs) (Some ys) → ys ≡ xs
 some_list xs ys h = cc
@@ -74,20 +69,12 @@ pub none_listed : (w : ℕ) (bs xs : List (List ℕ)) → length bs ≡ 0 → li
 none_listed w [] xs none is = some_list [] xs (sym (nothing_listed w) ∙ is)
 none_listed w (b ∷ bs) xs none is = absurd (omega (arith, none))
 
-or_first : (a b : Bool) → a ≡ true → (a || b) ≡ true
-or_first true b h = refl
-or_first false b h = absurd (cc)
-
-or_second : (a b : Bool) → b ≡ true → (a || b) ≡ true
-or_second true b h = refl
-or_second false b h = h
-
 here : (x q : List ℕ) (xs : List (List ℕ)) → ◌≡◌ {A = Option (List ℕ)} (Some x) (Some q) → has_entry q (x ∷ xs) ≡ true
-here x q xs h = or_first (is_same q x) (has_entry q xs) (ap (is_same q) (some_bytes x q h) ∙ (eq_by_cmp_equiv nat_list_cmp_total).refl q)
+here x q xs h = or_left (is_same q x) (has_entry q xs) (ap (is_same q) (same_Some x q h) ∙ (eq_by_cmp_equiv nat_list_cmp_total).refl q)
 
 first_turn : (b : Bool) (o : Option (List ℕ)) (x q : List ℕ) (xs : List (List ℕ)) → cond b (Some x) o ≡ Some q → (o ≡ Some q → has_entry q xs ≡ true) → has_entry q (x ∷ xs) ≡ true
 first_turn true o x q xs h rest = here x q xs h
-first_turn false o x q xs h rest = or_second (is_same q x) (has_entry q xs) (rest h)
+first_turn false o x q xs h rest = or_right (is_same q x) (has_entry q xs) (rest h)
 
 first_has : (p : List ℕ → Bool) (xs : List (List ℕ)) (q : List ℕ) → first p xs ≡ Some q → has_entry q xs ≡ true
 first_has p [] q h = absurd (cc)
@@ -96,7 +83,7 @@ first_has p (x ∷ xs) q h = first_turn (p x) (first p xs) x q xs h (first_has p
 last_turn : (o : Option (List ℕ)) (b : Bool) (x q : List ℕ) (xs : List (List ℕ)) → or_else o (cond b (Some x) None) ≡ Some q → (o ≡ Some q → has_entry q xs ≡ true) → has_entry q (x ∷ xs) ≡ true
 last_turn None true x q xs h rest = here x q xs h
 last_turn None false x q xs h rest = absurd (cc)
-last_turn (Some y) b x q xs h rest = or_second (is_same q x) (has_entry q xs) (rest h)
+last_turn (Some y) b x q xs h rest = or_right (is_same q x) (has_entry q xs) (rest h)
 
 last_has : (p : List ℕ → Bool) (xs : List (List ℕ)) (q : List ℕ) → last p xs ≡ Some q → has_entry q xs ≡ true
 last_has p [] q h = absurd (cc)

@@ -6,6 +6,7 @@ use Rattle.std.specs.declared.result.Result.{Result}
 use Rattle.std.specs.declared.result.Result.TheVariants.{Ok, Err}
 use Rattle.std.specs.FinMap.{entries}
 use Rattle.std.proofs.lemmas.Bool.Decides.{nat_tests}
+use Rattle.std.proofs.lemmas.Bool.{and_parts}
 use Rattle.dms_block.specs.declared.block_fault.BlockFault.{BlockFault}
 use Rattle.dms_block.specs.declared.blocks.Blocks.{Ghosts}
 use Rattle.dms_block.specs.declared.overlay.Overlay.{Overlay}
@@ -32,7 +33,6 @@ use Rattle.dms_sets.specs.Padded.{entry_width, from_bytes, to_bytes}
 use Rattle.dms_sets.specs.Puts.{all_small}
 use Rattle.dms_sets.specs.Sets.{IsSmall, entries_of, kinds_over}
 use Rattle.dms_sets.specs.Spots.{all_fit}
-use Rattle.dms_sets.specs.Tests.{both_of}
 use Rattle.dms_slots.specs.SlotBlocks.{file_of}
 use Rattle.dms_store.specs.Files.{list_at}
 use Rattle.dms_store.specs.Finding.{BadSlot, bad_since, number_at, seen_below}
@@ -70,7 +70,7 @@ db_told false desc c d h = absurd (cc)
 
 no_data_set : (s : Shape) → is_set_or_automatic s ≡ true → is_data_set (Some s) ≡ false
 no_data_set s kept =
-    let two = both_of (nat_lt 2 s.kind) (nat_lt s.kind 5) kept in
+    let two = and_parts (nat_lt 2 s.kind) (nat_lt s.kind 5) kept in
     let off : nat_lt s.kind 3 ≡ false = grind (arith, nat_tests, two.0) in
     and_off (nat_lt 0 s.kind) (nat_lt s.kind 3) off
   where

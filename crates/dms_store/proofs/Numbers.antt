@@ -1,9 +1,11 @@
 -- No record has a number that none may have.
-use Rattle.std.proofs.Common.{◌≡◌, ◌∙◌, ◌≤◌, ℕ, Bool, true, false, Some, None, refl, sym, ap, arith}
+use Rattle.std.proofs.Common.{◌≡◌, ◌∙◌, ◌≤◌, ℕ, true, false, Some, None, refl, sym, ap, arith}
 use Rattle.std.specs.Prelude.{◌&&◌, nat_le}
 use Rattle.std.specs.declared.option.Option.{Option}
 use Rattle.std.specs.FinMap.{get}
 use Rattle.std.proofs.lemmas.Bool.Decides.{nat_tests}
+use Rattle.std.proofs.lemmas.Option.{same_Some}
+use Rattle.std.proofs.lemmas.Bool.{and_from}
 use Rattle.dms_block.specs.Content.{Content}
 use Rattle.dms_desc.specs.declared.record.Record.{Record}
 use Rattle.dms_desc.specs.Lookups.{structure_of}
@@ -14,15 +16,8 @@ use Rattle.dms_store.specs.SetPaths.{formed}
 use Rattle.dms_store.specs.Spelled.{db_in, is_spelled, some_if}
 use Rattle.dms_store.specs.SpelledLaws.{RecordStands, spelled_stands}
 
-some_shape : (x y : Shape) → ◌≡◌ {A = Option Shape} (Some x) (Some y) → x ≡ y
-some_shape x y h = cc
-
-both_true : (a b : Bool) → a ≡ true → b ≡ true → (a && b) ≡ true
-both_true true b h k = k
-both_true false b h k = absurd (cc)
-
 in_range : (n p : ℕ) → 1 ≤ n → n ≤ p → (nat_le 1 n && nat_le n p) ≡ true
-in_range n p low most = both_true (nat_le 1 n) (nat_le n p) (grind (arith, nat_tests, low)) (grind (arith, nat_tests, most))
+in_range n p low most = and_from (nat_le 1 n) (nat_le n p) (grind (arith, nat_tests, low)) (grind (arith, nat_tests, most))
 
 pub no_record : (desc : Described) (c : Content) (set number : ℕ) (s : Shape) → IsServed desc → is_spelled desc c ≡ true → structure_of desc set ≡ Some s → is_number (Some s) number ≡ false
     → None ≡ get (db_in desc c).records (set, number)
@@ -35,6 +30,6 @@ no_record desc c set number s served spelt at off = by (get (db_in desc c).recor
     by None is = refl
     by (Some rec) is =
         let r = stands rec is in
-        let same : r.shape ≡ s = some_shape r.shape s (sym r.is ∙ at) in
+        let same : r.shape ≡ s = same_Some r.shape s (sym r.is ∙ at) in
         let on : is_number (Some s) number ≡ true = ap (λ (x : Shape). is_number (Some x) number) (sym same) ∙ in_range number r.shape.population r.low r.most in
         absurd (cc (on, off))

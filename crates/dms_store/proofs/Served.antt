@@ -3,6 +3,7 @@ use Rattle.std.proofs.Common.{◌≡◌, ◌∙◌, ◌+◌, ◌-◌, ◌<◌, �
 use Rattle.std.specs.List.{AllByRecursion, list_all}
 use Rattle.std.specs.declared.option.Option.{Option}
 use Rattle.std.proofs.lemmas.Bool.Decides.{nat_tests}
+use Rattle.std.proofs.lemmas.Bool.{and_parts, not-true, or_parts}
 use Rattle.dms_base.specs.declared.kind.ItemKind.{ItemKind}
 use Rattle.dms_base.specs.declared.kind.ItemKind.TheVariants.{Alpha, Number as Decimal, Bool as OneBit, Field, Link}
 use Rattle.dms_base.specs.declared.value.Value.{Value}
@@ -28,7 +29,6 @@ use Rattle.dms_sets.specs.Padded.{entry_width}
 use Rattle.dms_sets.specs.Sets.{items_over}
 use Rattle.dms_sets.specs.Spots.{NameItems}
 use Rattle.dms_sets.specs.Stored.{NamesNoLink, NamesNoLinks, TestsNoLink, is_link_at}
-use Rattle.dms_sets.specs.Tests.{both_of, not_true}
 use Rattle.dms_store.specs.Rows.{AreNumbered}
 use Rattle.dms_store.specs.Serving.{IsServed, IsServedSet, IsServedShape}
 use Rattle.dms_store.specs.SetPaths.{kind_there}
@@ -37,7 +37,7 @@ use Rattle.dms_desc.specs.Kinds.{is_set_or_automatic}
 -- ---- numbers and lists
 
 within : (a b n : ℕ) → is_within a b n ≡ true → (a ≤ n) × (n ≤ b)
-within a b n h = let two = both_of (nat_le a n) (nat_le n b) h in (grind (arith, nat_tests, two.0), grind (arith, nat_tests, two.1))
+within a b n h = let two = and_parts (nat_le a n) (nat_le n b) h in (grind (arith, nat_tests, two.0), grind (arith, nat_tests, two.1))
 
 at_most : (n b : ℕ) → nat_le n b ≡ true → n ≤ b
 at_most n b h = grind (arith, nat_tests, h)
@@ -48,14 +48,14 @@ nothing_in (x ∷ xs) h = absurd (cc)
 
 numbered_in : (k : ℕ) (ss : List Shape) → numbered k ss ≡ true → AreNumbered k ss
 numbered_in k [] h = tt
-numbered_in k (s ∷ ss) h = let two = both_of (s.number == k) (numbered (k + 1) ss) h in (grind (arith, nat_tests, two.0), numbered_in (k + 1) ss two.1)
+numbered_in k (s ∷ ss) h = let two = and_parts (s.number == k) (numbered (k + 1) ss) h in (grind (arith, nat_tests, two.0), numbered_in (k + 1) ss two.1)
 
 -- ---- items
 
 kind_in : (k : ItemKind) → is_kind k ≡ true → IsKind k
 kind_in (Alpha n) h = within 1 200 n h
 kind_in (Decimal n m s) h =
-    let two = both_of (nat_le 1 n && nat_le n 18) (nat_le m n) h in
+    let two = and_parts (nat_le 1 n && nat_le n 18) (nat_le m n) h in
     let size = within 1 18 n two.0 in
     (size.0, size.1, at_most m n two.1)
 kind_in OneBit h = tt
@@ -65,14 +65,14 @@ kind_in (Link to counted) h = tt
 item_kind : (ss : List Shape) (i : Item) → is_item_sound ss i ≡ true → IsKind i.kind
 unfolding is_item_sound
 item_kind ss i h =
-    let a = both_of _ _ h in
-    let b = both_of _ _ a.0 in
-    let c = both_of _ _ b.0 in
-    kind_in i.kind (both_of _ _ c.0).1
+    let a = and_parts _ _ h in
+    let b = and_parts _ _ a.0 in
+    let c = and_parts _ _ b.0 in
+    kind_in i.kind (and_parts _ _ c.0).1
 
 kinds_in : (ss : List Shape) (items : List Item) → list_all (is_item_sound ss) items ≡ true → AreKinds items
 kinds_in ss [] h = tt
-kinds_in ss (i ∷ is) h = let two = both_of (is_item_sound ss i) (list_all (is_item_sound ss) is) h in (item_kind ss i two.0, kinds_in ss is two.1)
+kinds_in ss (i ∷ is) h = let two = and_parts (is_item_sound ss i) (list_all (is_item_sound ss) is) h in (item_kind ss i two.0, kinds_in ss is two.1)
 
 -- ---- an item by its number
 
@@ -94,7 +94,7 @@ key_item : (o : Option Item) (items : List Item) (n : ℕ) → item_at items n �
 key_item None items n at h = absurd (cc)
 key_item (Some i) items n at h =
     let there = item_from items n i at in
-    record { item = i; is = at; there = there; no_link = ap is_link_at there ∙ not_true _ h }
+    record { item = i; is = at; there = there; no_link = ap is_link_at there ∙ not-true _ h }
 
 part_named : (items : List Item) (p : KeyPart) → is_part_sound items p ≡ true → NamesItem items p.item
 part_named items p h = key_item (item_at items p.item) items p.item refl h
@@ -105,14 +105,14 @@ module _ (items : List Item) where
   parts_named : (ps : List KeyPart) → list_all (is_part_sound items) ps ≡ true → NameItems items ps
   parts_named [] h = tt
   parts_named (p ∷ ps) h =
-      let two = both_of (is_part_sound items p) (list_all (is_part_sound items) ps) h in
+      let two = and_parts (is_part_sound items p) (list_all (is_part_sound items) ps) h in
       let here = part_named items p two.0 in
       ((here.item, here.there), parts_named ps two.1)
 
   parts_unlinked : (ps : List KeyPart) → list_all (is_part_sound items) ps ≡ true → AllByRecursion (λ p. NamesNoLink items p.item) ps
   parts_unlinked [] h = tt
   parts_unlinked (p ∷ ps) h =
-      let two = both_of (is_part_sound items p) (list_all (is_part_sound items) ps) h in
+      let two = and_parts (is_part_sound items p) (list_all (is_part_sound items) ps) h in
       ((part_named items p two.0).no_link, parts_unlinked ps two.1)
 
   part_wide : (p : KeyPart) → is_part_sound items p ≡ true → bytes.part_width (bytes.kind_of (kinds_of items) p) ≡ well.part_width items p
@@ -123,18 +123,18 @@ module _ (items : List Item) where
   parts_wide : (ps : List KeyPart) → list_all (is_part_sound items) ps ≡ true → bytes.key_width (kinds_of items) ps ≡ total (well.part_width items) ps
   parts_wide [] h = refl
   parts_wide (p ∷ ps) h =
-      let two = both_of (is_part_sound items p) (list_all (is_part_sound items) ps) h in
+      let two = and_parts (is_part_sound items p) (list_all (is_part_sound items) ps) h in
       (λ i. part_wide p two.0 i + parts_wide ps two.1 i)
 
   comparable : (o : Option Item) (n : ℕ) (v : Value) → item_at items n ≡ o → is_comparable o v ≡ true → NamesNoLink items n
   comparable None n v at h = absurd (cc)
-  comparable (Some i) n v at h = (key_item (Some i) items n at (both_of _ _ (both_of _ _ h).0).0).no_link
+  comparable (Some i) n v at h = (key_item (Some i) items n at (and_parts _ _ (and_parts _ _ h).0).0).no_link
 
   tests_unlinked : (t : Tree) → compares_well items t ≡ true → TestsNoLink items t
   tests_unlinked Empty h = tt
   tests_unlinked (Test n op v) h = comparable (item_at items n) n v refl h
-  tests_unlinked (Both a b) h = let two = both_of (compares_well items a) (compares_well items b) h in (tests_unlinked a two.0, tests_unlinked b two.1)
-  tests_unlinked (Either a b) h = let two = both_of (compares_well items a) (compares_well items b) h in (tests_unlinked a two.0, tests_unlinked b two.1)
+  tests_unlinked (Both a b) h = let two = and_parts (compares_well items a) (compares_well items b) h in (tests_unlinked a two.0, tests_unlinked b two.1)
+  tests_unlinked (Either a b) h = let two = and_parts (compares_well items a) (compares_well items b) h in (tests_unlinked a two.0, tests_unlinked b two.1)
   tests_unlinked (Contrary a) h = tests_unlinked a h
 
   nothing_unlinked : (t : Tree) → is_nothing t ≡ true → TestsNoLink items t
@@ -146,7 +146,7 @@ module _ (items : List Item) where
 
   condition_unlinked : (t : Tree) → is_condition items t ≡ true → TestsNoLink items t
   unfolding is_condition
-  condition_unlinked t h = tests_unlinked t (both_of _ _ h).1
+  condition_unlinked t h = tests_unlinked t (and_parts _ _ h).1
 
   where_unlinked : (b : Bool) (t : Tree) → cond b (is_condition items t) (is_nothing t) ≡ true → TestsNoLink items t
   where_unlinked true t h = condition_unlinked t h
@@ -161,20 +161,16 @@ record IsPartsKey (items : List Item) (ps : List KeyPart) : Type 0 where
 key_sound : (items : List Item) (ps : List KeyPart) → is_key_sound items ps ≡ true → IsPartsKey items ps
 unfolding is_key_sound
 key_sound items ps h =
-    let a = both_of _ _ h in
-    let b = both_of _ _ a.0 in
-    let c = both_of _ _ b.0 in
+    let a = and_parts _ _ h in
+    let b = and_parts _ _ a.0 in
+    let c = and_parts _ _ b.0 in
     record { few = at_most (length ps) 16 c.0; parts = c.1; wide = at_most (total (well.part_width items) ps) 96 a.1 }
 
 -- ---- kinds
 
-neither : (a b : Bool) → (a || b) ≡ false → (a ≡ false) × (b ≡ false)
-neither true b h = absurd (cc)
-neither false b h = (refl, h)
-
 -- the kind of a data set isn't that of a set
 set_apart : (k : ℕ) → is_set_kind k ≡ true → (nat_lt 2 k && nat_lt k 5) ≡ true → ⊥
-set_apart k h kept = by (k == 1) refl h (both_of (nat_lt 2 k) (nat_lt k 5) kept).0
+set_apart k h kept = by (k == 1) refl h (and_parts (nat_lt 2 k) (nat_lt k 5) kept).0
   where
     apart : false ≡ true → ⊥
     apart e = absurd (cc)
@@ -185,7 +181,7 @@ set_apart k h kept = by (k == 1) refl h (both_of (nat_lt 2 k) (nat_lt k 5) kept)
 
 -- and that of another structure is none of a data set
 no_set : (k : ℕ) → is_set_kind k ≡ false → 1 ≤ k → 2 < k
-no_set k h low = let n = neither (k == 1) (k == 2) h in grind (arith, nat_tests, n.0, n.1, low)
+no_set k h low = let n = or_parts (k == 1) (k == 2) h in grind (arith, nat_tests, n.0, n.1, low)
 
 few_of : (b : Bool) (n : ℕ) → cond b (is_within 1 1000000 n) (n == 0) ≡ true → n ≤ 1000000
 few_of true n h = (within 1 1000000 n h).1
@@ -220,13 +216,13 @@ module _ (desc : Described) (s : Shape) (low : 1 ≤ s.kind) (most : s.kind ≤ 
   data_set_served : is_set_kind s.kind ≡ true → is_data_set_sound desc.structures s ≡ true → IsFit
   unfolding is_data_set_sound has_sound_items lacks_set_fields
   data_set_served is h =
-      let a = both_of _ _ h in
-      let b = both_of _ _ a.0 in
-      let c = both_of _ _ b.0 in
-      let d = both_of _ _ c.0 in
-      let e = both_of _ _ d.0 in
-      let items = both_of _ _ e.1 in
-      let few = both_of _ _ items.0 in
+      let a = and_parts _ _ h in
+      let b = and_parts _ _ a.0 in
+      let c = and_parts _ _ b.0 in
+      let d = and_parts _ _ c.0 in
+      let e = and_parts _ _ d.0 in
+      let items = and_parts _ _ e.1 in
+      let few = and_parts _ _ items.0 in
       let wide = at_most _ 480 items.1 in (
         record {
           low = low;
@@ -234,8 +230,8 @@ module _ (desc : Described) (s : Shape) (low : 1 ≤ s.kind) (most : s.kind ≤ 
           few = at_most _ 60 few.0;
           fits = omega (arith, wide);
           kinds = kinds_in desc.structures s.items few.1;
-          population = (within 1 1000000 s.population (both_of _ _ e.0).0).1;
-          keyless = λ u. nothing_in s.parts (both_of _ _ a.1).1;
+          population = (within 1 1000000 s.population (and_parts _ _ e.0).0).1;
+          keyless = λ u. nothing_in s.parts (and_parts _ _ a.1).1;
         },
         λ kept. absurd (set_apart s.kind is kept),
       )
@@ -253,13 +249,13 @@ module _ (desc : Described) (s : Shape) (low : 1 ≤ s.kind) (most : s.kind ≤ 
   set_served : is_set_kind s.kind ≡ false → is_set_sound desc.structures s ≡ true → IsFit
   unfolding is_set_sound
   set_served other h =
-      let a = both_of _ _ h in
-      let b = both_of _ _ a.0 in
-      let c = both_of _ _ b.0 in
-      let d = both_of _ _ c.0 in
-      let e = both_of _ _ d.0 in
-      let f = both_of _ _ e.0 in
-      let g = both_of _ _ f.0 in
+      let a = and_parts _ _ h in
+      let b = and_parts _ _ a.0 in
+      let c = and_parts _ _ b.0 in
+      let d = and_parts _ _ c.0 in
+      let e = and_parts _ _ d.0 in
+      let f = and_parts _ _ e.0 in
+      let g = and_parts _ _ f.0 in
       let more = no_set s.kind other low in
       let none : s.items ≡ [] = nothing_in s.items b.1 in
       let is = over_set more in
@@ -272,10 +268,10 @@ module _ (desc : Described) (s : Shape) (low : 1 ≤ s.kind) (most : s.kind ≤ 
           few = subst (λ (xs : List Item). length xs ≤ 60) (sym none) (omega arith);
           fits = subst (λ (xs : List Item). slot_width xs ≤ 1024) (sym none) (omega arith);
           kinds = subst AreKinds (sym none) tt;
-          population = few_of (s.kind == 5) s.population (both_of _ _ g.0).1;
-          keyless = λ h. let two = both_of (nat_lt 0 s.kind) (nat_lt s.kind 3) h in let low : s.kind < 3 = grind (arith, nat_tests, two.1) in absurd (omega (arith, low, more));
+          population = few_of (s.kind == 5) s.population (and_parts _ _ g.0).1;
+          keyless = λ h. let two = and_parts (nat_lt 0 s.kind) (nat_lt s.kind 3) h in let low : s.kind < 3 = grind (arith, nat_tests, two.1) in absurd (omega (arith, low, more));
         },
-        λ kept. set_over desc s (data_set_of (structure_at desc.structures s.set) (over_kind (both_of _ _ (both_of _ _ g.0).0).0)) (subst (λ (xs : List Item). KeyServes xs s) (sym is) (record {
+        λ kept. set_over desc s (data_set_of (structure_at desc.structures s.set) (over_kind (and_parts _ _ (and_parts _ _ g.0).0).0)) (subst (λ (xs : List Item). KeyServes xs s) (sym is) (record {
           names = parts_named items s.parts key.parts;
           links = record { parts = parts_unlinked items s.parts key.parts; cond = where_unlinked items (s.kind == 4) s.cond c.1 };
           width = omega (arith, wide, key.wide);
@@ -290,11 +286,11 @@ module _ (desc : Described) (s : Shape) (low : 1 ≤ s.kind) (most : s.kind ≤ 
 shape_served : (desc : Described) (s : Shape) → is_sound desc.structures s ≡ true → IsServedShape s × (is_set_or_automatic s ≡ true → IsServedSet desc s)
 unfolding is_sound
 shape_served desc s h =
-    let a = both_of _ _ h in
-    let b = both_of _ _ a.0 in
-    let c = both_of _ _ b.0 in
-    let d = both_of _ _ c.0 in
-    let e = both_of _ _ d.0 in
+    let a = and_parts _ _ h in
+    let b = and_parts _ _ a.0 in
+    let c = and_parts _ _ b.0 in
+    let d = and_parts _ _ c.0 in
+    let e = and_parts _ _ d.0 in
     let kind = within 1 5 s.kind e.0 in
     by_kind desc s kind.0 kind.1 (is_set_kind s.kind) refl a.1
 
@@ -302,24 +298,24 @@ module _ (desc : Described) where
   each_served : (ss : List Shape) → list_all (is_sound desc.structures) ss ≡ true → AllByRecursion IsServedShape ss
   each_served [] h = tt
   each_served (s ∷ ss) h =
-      let two = both_of (is_sound desc.structures s) (list_all (is_sound desc.structures) ss) h in
+      let two = and_parts (is_sound desc.structures s) (list_all (is_sound desc.structures) ss) h in
       ((shape_served desc s two.0).0, each_served ss two.1)
 
   sets_served : (ss : List Shape) → list_all (is_sound desc.structures) ss ≡ true → AllByRecursion (λ s. is_set_or_automatic s ≡ true → IsServedSet desc s) ss
   sets_served [] h = tt
   sets_served (s ∷ ss) h =
-      let two = both_of (is_sound desc.structures s) (list_all (is_sound desc.structures) ss) h in
+      let two = and_parts (is_sound desc.structures s) (list_all (is_sound desc.structures) ss) h in
       ((shape_served desc s two.0).1, sets_served ss two.1)
 
   pub served : IsWellFormed desc → IsServed desc
   unfolding are_sound
   served formed =
-      let a = both_of _ _ formed.structures in
-      let b = both_of _ _ a.0 in
-      let c = both_of _ _ b.0 in
-      let d = both_of _ _ c.0 in
-      let e = both_of _ _ d.0 in
-      let f = both_of _ _ e.0 in
+      let a = and_parts _ _ formed.structures in
+      let b = and_parts _ _ a.0 in
+      let c = and_parts _ _ b.0 in
+      let d = and_parts _ _ c.0 in
+      let e = and_parts _ _ d.0 in
+      let f = and_parts _ _ e.0 in
       record {
         count = at_most (length desc.structures) 200 f.0;
         numbered = numbered_in 1 desc.structures f.1;

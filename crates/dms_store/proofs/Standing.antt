@@ -9,6 +9,8 @@ use Rattle.std.specs.Str.{bytes_eq}
 use Rattle.std.specs.Int.{w32, to_be_bytes}
 use Rattle.std.proofs.lemmas.Bool.Decides.{nat_tests}
 use Rattle.std.proofs.lemmas.Slice.Eq.{bytes_eq-Decides}
+use Rattle.std.proofs.lemmas.Bool.{and_parts}
+use Rattle.std.proofs.lemmas.Option.{same_Some}
 use Rattle.dms_base.specs.declared.kind.ItemKind.{ItemKind}
 use Rattle.dms_desc.specs.declared.record.Record.{Record}
 use Rattle.dms_desc.specs.Keys.{key_of}
@@ -29,18 +31,15 @@ use Rattle.dms_sets.specs.Listing.{AllPlaces, listed, member_opt, test_of}
 use Rattle.dms_sets.specs.Owners.{is_of, is_of_entry}
 use Rattle.dms_sets.specs.Sets.{IsSmall, entries_of, entry_number, entry_of, kinds_over, listed_in, number_in, own_entry, place_in_entry}
 use Rattle.dms_sets.specs.Spots.{and_then, spot_at}
-use Rattle.dms_sets.specs.Tests.{both_of, tied}
 use Rattle.dms_store.specs.Listed.{IsEntryOfRecord, is_entry}
 use Rattle.dms_store.specs.Finding.{served_at}
 use Rattle.dms_store.specs.Serving.{IsServed}
-
-some_bytes : (x y : List ℕ) → ◌≡◌ {A = Option (List ℕ)} (Some x) (Some y) → x ≡ y
-some_bytes x y h = cc
+use Rattle.dms_model.specs.MemberLaws.{equal_of}
 
 -- the records of a set are those of another structure
 pub over_set : (s : Shape) → is_set_or_automatic s ≡ true → over s ≡ s.set
 over_set s kept =
-    let two = both_of (nat_lt 2 s.kind) (nat_lt s.kind 5) kept in
+    let two = and_parts (nat_lt 2 s.kind) (nat_lt s.kind 5) kept in
     let off : nat_lt s.kind 3 ≡ false = grind (arith, nat_tests, two.0) in
     ap (λ b. cond b s.number s.set) off
 
@@ -58,7 +57,7 @@ module _ (desc : Described) (s : Shape) (db : Db) (q : List ℕ) where
   stands_at None r at is h = absurd (cc)
   stands_at (Some x) r at is h =
       let same : eq_by_cmp bytes_cmp q x ≡ true = sym (some_yes (eq_by_cmp bytes_cmp q x)) ∙ h in
-      (r, at, is ∙ ap (λ (y : List ℕ). Some y) (sym (bytes_same q x (tied (bytes_cmp q x) same))))
+      (r, at, is ∙ ap (λ (y : List ℕ). Some y) (sym (bytes_same q x (equal_of (bytes_cmp q x) same))))
 
   stands_opt : (o : Option Record) → get db.records (place_in_entry s q) ≡ o → is_some (test_of q (member_opt (entry_of (kinds_over desc s) s) (place_in_entry s q) o)) ≡ true → IsEntryOfRecord desc s db q
   stands_opt None at h = absurd (cc)
@@ -78,7 +77,7 @@ entry_by true t x q h = h
 entry_by false t x q h = absurd (cc)
 
 bytes_by : (t : Bool) (x q : List ℕ) → cond t (Some x) None ≡ Some q → x ≡ q
-bytes_by true x q h = some_bytes x q h
+bytes_by true x q h = same_Some x q h
 bytes_by false x q h = absurd (cc)
 
 module _ (kinds : List ItemKind) (s : Shape) (n : ℕ) (r : Record) (q : List ℕ) where
@@ -108,7 +107,7 @@ module _ (kinds : List ItemKind) (s : Shape) (n : ℕ) (r : Record) (q : List �
     where
       by : (o : Option (List ℕ)) → is_entry o q ≡ false → o ≡ Some q → ⊥
       by None h is = absurd (cc)
-      by (Some x) h is = let e : bytes_eq x q ≡ true = (bytes_eq-Decides x q).1 (some_bytes x q is) in absurd (cc (e, h))
+      by (Some x) h is = let e : bytes_eq x q ≡ true = (bytes_eq-Decides x q).1 (same_Some x q is) in absurd (cc (e, h))
 
 -- ---- the member of an entry
 
@@ -175,12 +174,12 @@ small_number desc set n served h = by (structure_of desc set) refl h
   where
     by : (o : Option Shape) → structure_of desc set ≡ o → is_number o n ≡ true → n < 2 ^ 32
     by None at h =
-        let two = both_of (nat_le 1 n) (nat_le n 0) h in
+        let two = and_parts (nat_le 1 n) (nat_le n 0) h in
         let low : 1 ≤ n = grind (arith, nat_tests, two.0) in
         let most : n ≤ 0 = grind (arith, nat_tests, two.1) in
         absurd (omega (arith, low, most))
     by (Some t) at h =
-        let most : n ≤ t.population = grind (arith, nat_tests, (both_of (nat_le 1 n) (nat_le n t.population) h).1) in
+        let most : n ≤ t.population = grind (arith, nat_tests, (and_parts (nat_le 1 n) (nat_le n t.population) h).1) in
         let few = (served_at desc set t served at).population in
         omega (arith, most, few)
 

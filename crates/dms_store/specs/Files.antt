@@ -1,10 +1,11 @@
 -- The files of a content that spells a database.
-use Rattle.std.proofs.Common.{◌≡◌, ◌∙◌, ◌+◌, ◌-◌, ◌<◌, ◌≤◌, ℕ, zero, suc, List, [], ◌∷◌, Bool, true, false, cond, Some, None, refl, sym, ap, subst, length, slice_get, get_or, arith}
+use Rattle.std.proofs.Common.{◌≡◌, ◌∙◌, ◌+◌, ◌-◌, ◌<◌, ℕ, zero, suc, List, [], ◌∷◌, Bool, true, false, cond, Some, None, refl, sym, ap, subst, length, slice_get, get_or, arith}
 use Rattle.std.specs.Prelude.{◌&&◌, ◌||◌, is_some, nat_le}
 use Rattle.std.specs.List.{list_all}
 use Rattle.std.specs.declared.option.Option.{Option}
 use Rattle.std.proofs.lemmas.Bool.Decides.{nat_tests}
 use Rattle.std.proofs.lemmas.Slice.Eq.{bytes_eq-Decides}
+use Rattle.std.proofs.lemmas.Bool.{and_parts}
 use Rattle.dms_block.specs.Content.{Content, block_in}
 use Rattle.dms_desc.specs.Lookups.{structure_of}
 use Rattle.dms_desc.specs.Shape.{Shape, Described}
@@ -13,7 +14,6 @@ use Rattle.dms_model.specs.Valid.{is_data_set}
 use Rattle.dms_ordlist.specs.ListIn.{list_in}
 use Rattle.dms_sets.specs.Padded.{entry_width}
 use Rattle.dms_sets.specs.Sets.{entries_of, kinds_over}
-use Rattle.dms_sets.specs.Tests.{both_of}
 use Rattle.dms_slots.specs.SlotBlocks.{file_of, is_block, slots_of}
 use Rattle.dms_store.specs.Finding.{structure_there}
 use Rattle.dms_store.specs.Lifted.{IsStructureFile}
@@ -25,15 +25,15 @@ use Rattle.dms_desc.specs.Kinds.{is_set_or_automatic}
 file_spelled : (desc : Described) (db : Db) (c : Content) (ss : List Shape) (i : ℕ) (s : Shape) → files_spell desc db c ss ≡ true → slice_get ss i ≡ Some s → file_spells desc db s (file_in c s) ≡ true
 file_spelled desc db c [] i s all at = absurd (cc)
 file_spelled desc db c (t ∷ ss) zero s all at =
-    subst (λ (x : Shape). file_spells desc db x (file_in c x) ≡ true) (some_shape t s at) (both_of (file_spells desc db t (file_in c t)) (files_spell desc db c ss) all).0
+    subst (λ (x : Shape). file_spells desc db x (file_in c x) ≡ true) (some_shape t s at) (and_parts (file_spells desc db t (file_in c t)) (files_spell desc db c ss) all).0
   where
     some_shape : (x y : Shape) → ◌≡◌ {A = Option Shape} (Some x) (Some y) → x ≡ y
     some_shape x y h = cc
-file_spelled desc db c (t ∷ ss) (suc i) s all at = file_spelled desc db c ss i s (both_of (file_spells desc db t (file_in c t)) (files_spell desc db c ss) all).1 at
+file_spelled desc db c (t ∷ ss) (suc i) s all at = file_spelled desc db c ss i s (and_parts (file_spells desc db t (file_in c t)) (files_spell desc db c ss) all).1 at
 
-both_files : (desc : Described) (c : Content) → is_spelled desc c ≡ true → (files_spell desc (db_in desc c) c desc.structures ≡ true) × (files_fit desc c 200 1 ≡ true)
+pub both_files : (desc : Described) (c : Content) → is_spelled desc c ≡ true → (files_spell desc (db_in desc c) c desc.structures ≡ true) × (files_fit desc c 200 1 ≡ true)
 unfolding is_spelled
-both_files desc c h = both_of (files_spell desc (db_in desc c) c desc.structures) (files_fit desc c 200 1) h
+both_files desc c h = and_parts (files_spell desc (db_in desc c) c desc.structures) (files_fit desc c 200 1) h
 
 -- the file of a structure is as the database asks
 pub file_at : (desc : Described) (c : Content) (n : ℕ) (s : Shape) → is_spelled desc c ≡ true → structure_of desc n ≡ Some s → file_spells desc (db_in desc c) s (file_in c s) ≡ true
@@ -45,7 +45,7 @@ pub slots_at : (desc : Described) (c : Content) (n : ℕ) (s : Shape) → is_spe
 slots_at desc c n s spelt at is_set =
     let bs = file_in c s in
     let db = db_in desc c in
-    both_of (list_all (is_block s) bs) (slots_stand desc db s 1 (slots_of s bs))
+    and_parts (list_all (is_block s) bs) (slots_stand desc db s 1 (slots_of s bs))
     (sym (ap (λ b. cond b (list_all (is_block s) bs && slots_stand desc db s 1 (slots_of s bs)) (cond (is_set_or_automatic s) (is_list_of (list_in (entry_width (kinds_over desc s) s.parts) bs) (entries_of desc db s)) (has_none bs))) is_set)
     ∙ file_at desc c n s spelt at)
 
@@ -54,7 +54,7 @@ lists_same [] [] h = refl
 lists_same [] (y ∷ ys) h = absurd (cc)
 lists_same (x ∷ xs) [] h = absurd (cc)
 lists_same (x ∷ xs) (y ∷ ys) h =
-    let both = both_of _ (lists_eq xs ys) h in
+    let both = and_parts _ (lists_eq xs ys) h in
     λ i. (bytes_eq-Decides x y).0 both.0 i ∷ lists_same xs ys both.1 i
 
 list_same : (o : Option (List (List ℕ))) (ys : List (List ℕ)) → is_list_of o ys ≡ true → o ≡ Some ys
@@ -82,14 +82,14 @@ record FileFits (desc : Described) (c : Content) (n : ℕ) : Type 0 where
 file_fits : (desc : Described) (c : Content) (n : ℕ) (rest : Bool)
     → (((nat_le (length (c (file_of n))) 1048576 && list_all is_whole (c (file_of n))) && (is_some (structure_of desc n) || has_none (c (file_of n)))) && rest) ≡ true → FileFits desc c n
 file_fits desc c n rest h =
-    let one = both_of ((nat_le (length (c (file_of n))) 1048576 && list_all is_whole (c (file_of n))) && (is_some (structure_of desc n) || has_none (c (file_of n)))) rest h in
-    let two = both_of (nat_le (length (c (file_of n))) 1048576 && list_all is_whole (c (file_of n))) (is_some (structure_of desc n) || has_none (c (file_of n))) one.0 in
-    let three = both_of (nat_le (length (c (file_of n))) 1048576) (list_all is_whole (c (file_of n))) two.0 in
+    let one = and_parts ((nat_le (length (c (file_of n))) 1048576 && list_all is_whole (c (file_of n))) && (is_some (structure_of desc n) || has_none (c (file_of n)))) rest h in
+    let two = and_parts (nat_le (length (c (file_of n))) 1048576 && list_all is_whole (c (file_of n))) (is_some (structure_of desc n) || has_none (c (file_of n))) one.0 in
+    let three = and_parts (nat_le (length (c (file_of n))) 1048576) (list_all is_whole (c (file_of n))) two.0 in
     record { few = three.0; whole = three.1 }
 
 fits_later : (desc : Described) (c : Content) (k n : ℕ) → files_fit desc c (suc k) n ≡ true → files_fit desc c k (n + 1) ≡ true
 fits_later desc c k n h =
-    (both_of ((nat_le (length (c (file_of n))) 1048576 && list_all is_whole (c (file_of n))) && (is_some (structure_of desc n) || has_none (c (file_of n)))) (files_fit desc c k (n + 1)) h).1
+    (and_parts ((nat_le (length (c (file_of n))) 1048576 && list_all is_whole (c (file_of n))) && (is_some (structure_of desc n) || has_none (c (file_of n)))) (files_fit desc c k (n + 1)) h).1
 
 fits_in : (desc : Described) (c : Content) (k n i : ℕ) → files_fit desc c k n ≡ true → i < k → FileFits desc c (n + i)
 fits_in desc c zero n i h low = absurd (omega (arith, low))
@@ -101,8 +101,8 @@ fits_at desc c file spelt is = subst (λ m. FileFits desc c m) (let e : 1 + (fil
 
 whole_in : (bs : List (List ℕ)) (b : ℕ) → list_all is_whole bs ≡ true → b < length bs → length (get_or bs b []) ≡ 1024
 whole_in [] b all low = absurd (omega (arith, low))
-whole_in (x ∷ bs) zero all low = let t : is_whole x ≡ true = (both_of (is_whole x) (list_all is_whole bs) all).0 in grind (arith, nat_tests, t)
-whole_in (x ∷ bs) (suc b) all low = whole_in bs b (both_of (is_whole x) (list_all is_whole bs) all).1 (omega (arith, low))
+whole_in (x ∷ bs) zero all low = let t : is_whole x ≡ true = (and_parts (is_whole x) (list_all is_whole bs) all).0 in grind (arith, nat_tests, t)
+whole_in (x ∷ bs) (suc b) all low = whole_in bs b (and_parts (is_whole x) (list_all is_whole bs) all).1 (omega (arith, low))
 
 -- each block of a structure's file has 1,024 bytes
 pub whole_at : (desc : Described) (c : Content) (file b : ℕ) → is_spelled desc c ≡ true → IsStructureFile file → b < length (c file) → length (block_in c file b) ≡ 1024
@@ -113,8 +113,8 @@ whole_at desc c file b spelt is low =
 
 pub all_of : (p : List ℕ → Bool) (bs : List (List ℕ)) (b : ℕ) → list_all p bs ≡ true → b < length bs → p (get_or bs b []) ≡ true
 all_of p [] b all low = absurd (omega (arith, low))
-all_of p (x ∷ bs) zero all low = (both_of (p x) (list_all p bs) all).0
-all_of p (x ∷ bs) (suc b) all low = all_of p bs b (both_of (p x) (list_all p bs) all).1 (omega (arith, low))
+all_of p (x ∷ bs) zero all low = (and_parts (p x) (list_all p bs) all).0
+all_of p (x ∷ bs) (suc b) all low = all_of p bs b (and_parts (p x) (list_all p bs) all).1 (omega (arith, low))
 
 -- each block of a data set's file is one of slots
 pub block_at : (desc : Described) (c : Content) (n : ℕ) (s : Shape) (b : ℕ) → is_spelled desc c ≡ true → structure_of desc n ≡ Some s → is_data_set (Some s) ≡ true → b < length (file_in c s) → is_block s (get_or (file_in c s) b []) ≡ true

@@ -16,6 +16,7 @@ use Rattle.dms_block.specs.HeldLaws.{causes_or_on, lasts_none, same_none, told_a
 use Rattle.dms_block.specs.Held.{HasCausesOr}
 use Rattle.dms_block.specs.declared.block_fault.BlockFault.{BlockFault}
 use Rattle.std.specs.declared.result.Result.{Result}
+use Rattle.std.proofs.lemmas.Bool.{and_parts}
 use Rattle.dms_block.specs.View.{ReadsOverlay, seen, under, written}
 use Rattle.dms_block.specs.ViewLaws.{seen_still}
 use Rattle.dms_desc.specs.declared.structure.Item.{Item}
@@ -27,12 +28,12 @@ use Rattle.dms_layout.specs.Slots.{SlotFits}
 use Rattle.dms_desc.specs.Fitting.{values_fit}
 use Rattle.dms_model.specs.Fitting.{AreFitting, IsNumber, RecordFits, population_of}
 use Rattle.dms_model.specs.Valid.{OfItems, is_data_set}
-use Rattle.dms_sets.specs.Tests.{both_of}
 use Rattle.dms_slots.specs.Seen.{BadAt, BadIn, blocks_of, count_of}
 use Rattle.dms_slots.specs.SlotBlocks.{file_of, is_block, per_block, slot_at, slot_opt, slots_of}
 use Rattle.dms_store.specs.Rows.{AreNumbered, get_in, rec_in, rec_opt}
 use Rattle.dms_store.specs.Serving.{IsServed, IsServedShape}
 use Rattle.dms_store.specs.Spelled.{db_in, file_in}
+use Rattle.dms_model.specs.FitLaws.{lengths_are}
 
 module _ {B : Type 0} {g : Ghosts B} where
   -- a block of the data set isn't one of slots
@@ -123,23 +124,17 @@ got desc c set number s o served at set_is low is =
 fit_in : (items : List Item) (values : List Value) → values_fit items values ≡ true → OfItems items values (λ item v. fits item.kind v ≡ true)
 fit_in [] values h k item at = absurd (cc)
 fit_in (i ∷ is) [] h k item at = absurd (cc)
-fit_in (i ∷ is) (v ∷ vs) h zero item at = subst (λ (x : Item). fits x.kind v ≡ true) (some_one i item at) (both_of (fits i.kind v) (values_fit is vs) h).0
+fit_in (i ∷ is) (v ∷ vs) h zero item at = subst (λ (x : Item). fits x.kind v ≡ true) (some_one i item at) (and_parts (fits i.kind v) (values_fit is vs) h).0
   where
     some_one : (x y : Item) → ◌≡◌ {A = Option Item} (Some x) (Some y) → x ≡ y
     some_one x y h = cc
-fit_in (i ∷ is) (v ∷ vs) h (suc k) item at = fit_in is vs (both_of (fits i.kind v) (values_fit is vs) h).1 k item at
-
-fit_long : (items : List Item) (values : List Value) → values_fit items values ≡ true → length values ≡ length items
-fit_long [] [] h = refl
-fit_long [] (v ∷ vs) h = absurd (cc)
-fit_long (i ∷ is) [] h = absurd (cc)
-fit_long (i ∷ is) (v ∷ vs) h = ap suc (fit_long is vs (both_of (fits i.kind v) (values_fit is vs) h).1)
+fit_in (i ∷ is) (v ∷ vs) h (suc k) item at = fit_in is vs (and_parts (fits i.kind v) (values_fit is vs) h).1 k item at
 
 -- the record of a slot that fits is one that its data set may hold
 pub slot_record : (desc : Described) (set : ℕ) (s : Shape) (slot : Slot) → structure_of desc set ≡ Some s → SlotFits s slot → RecordFits desc set slot.rec
 slot_record desc set s slot at f = record {
   owner = f.owner;
-  values = subst (λ o. AreFitting (items_of o) slot.rec.values) (sym at) (record { lengths = fit_long s.items slot.rec.values f.values; fit = fit_in s.items slot.rec.values f.values; plain = f.plain });
+  values = subst (λ o. AreFitting (items_of o) slot.rec.values) (sym at) (record { lengths = lengths_are s.items slot.rec.values f.values; fit = fit_in s.items slot.rec.values f.values; plain = f.plain });
 }
 
 pub record_fits_opt : (desc : Described) (set : ℕ) (s : Shape) (o : Option Slot) → structure_of desc set ≡ Some s → IfSome o (SlotFits s) → IfSome (rec_opt (slot_opt o)) (RecordFits desc set)
@@ -148,7 +143,7 @@ record_fits_opt desc set s (Some slot) at f = slot_record desc set s slot at f
 
 -- a number that a record may have is at least 1
 pub low_number : (desc : Described) (set number : ℕ) → IsNumber desc set number → 1 ≤ number
-low_number desc set number h = low_of number (both_of (nat_le 1 number) (nat_le number (population_of (structure_of desc set))) h).0
+low_number desc set number h = low_of number (and_parts (nat_le 1 number) (nat_le number (population_of (structure_of desc set))) h).0
   where
     low_of : (n : ℕ) → nat_le 1 n ≡ true → 1 ≤ n
     low_of n t = grind (arith, nat_tests, t)

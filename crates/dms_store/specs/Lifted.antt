@@ -48,8 +48,8 @@ module _ (desc : Described) where
   here_of h = record { number = h.next; blocks = if h.told then h.content else h.here.blocks; schema = h.here.schema }
 
   -- what a store over blocks tells, that so often answered that a block is damaged
-  abbrev pub seen_of : Type 0 → ℕ → Held → Seen
-  seen_of sound found h = record {
+  abbrev pub seen_of : Type 0 → ℕ → ℕ → Held → Seen
+  seen_of sound found last h = record {
     tells = h.tells;
     sound = sound;
     desc = desc;
@@ -62,6 +62,7 @@ module _ (desc : Described) where
     here = point_of (here_of h);
     clock = lifted h.clock;
     whole = h.whole;
+    last = last;
     faults = faults_with h.faults found;
     reads = h.uses.reads;
     effort = effort_of h.uses;
@@ -88,4 +89,4 @@ pub record IsUsable {B : Type 0} {g : Ghosts B} (desc : Described) (o : Overlay 
 
 -- what a store tells, over these blocks
 abbrev pub store_seen : {B : Type 0} {g : Ghosts B} → Described → ℕ → Overlay B g → Seen
-store_seen desc found o = seen_of desc (IsUsable desc o) found (under o)
+store_seen {g = g} desc found o = seen_of desc (IsUsable desc o) found (g.last o.below) (under o)

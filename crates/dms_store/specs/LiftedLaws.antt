@@ -87,18 +87,18 @@ module _ (desc : Described) where
 
 -- ---- one call of a store
 
-module _ (desc : Described) (sound sound' : Type 0) (found found' : ℕ) (a b : Held) where
+module _ (desc : Described) (sound sound' : Type 0) (found found' last last' : ℕ) (a b : Held) where
   abbrev old : store.Seen
-  old = seen_of desc sound found a
+  old = seen_of desc sound found last a
 
   abbrev new : store.Seen
-  new = seen_of desc sound' found' b
+  new = seen_of desc sound' found' last' b
 
   pub silent_lifted : MakesNoPoint a b → store.IsSilent old new
   silent_lifted p = record { next = p.next; said = p.said; leaves = λ tells room. leaves_lifted desc a b a.points a.next (p.leaves tells room) }
 
-  pub causes_lifted : {T : Type 0} (r : Result T BlockFault) → Lasts a b → a.uses.reads ≤ b.uses.reads → CausedBy r (faults_with a.faults found) (faults_with b.faults found') → store.HasStoreCauses r old new
-  causes_lifted r lasts reads cause = record { tells = lasts.tells; desc = refl; whole = lasts.whole; whole_on = lasts.whole_on; cause = cause; reads = reads }
+  pub causes_lifted : {T : Type 0} (r : Result T BlockFault) → Lasts a b → last' ≡ last → a.uses.reads ≤ b.uses.reads → CausedBy r (faults_with a.faults found) (faults_with b.faults found') → store.HasStoreCauses r old new
+  causes_lifted r lasts same reads cause = record { tells = lasts.tells; desc = refl; last = same; whole = lasts.whole; whole_on = lasts.whole_on; cause = cause; reads = reads }
 
   pub points_lifted : held.IfTold a ((b.points ≡ a.points) × (a.durable ≤ b.durable)) → store.StaysDurable old new
   points_lifted stays tells room = let s = stays tells room in (ap (map (point_of desc)) s.0, s.1)
@@ -122,8 +122,8 @@ module _ (desc : Described) (sound sound' : Type 0) (found found' : ℕ) (a b : 
 
 -- ---- what is told hangs together
 
-pub agrees_lifted : (desc : Described) (sound : Type 0) (found : ℕ) (a : Held) → a.here.schema ≡ spelling desc → held.BlocksAgree a → store.StoreAgrees (seen_of desc sound found a)
-agrees_lifted desc sound found a schema agrees = record {
+pub agrees_lifted : (desc : Described) (sound : Type 0) (found last : ℕ) (a : Held) → a.here.schema ≡ spelling desc → held.BlocksAgree a → store.StoreAgrees (seen_of desc sound found last a)
+agrees_lifted desc sound found last a schema agrees = record {
   may_stop = λ tells. let x = agrees.may_stop tells in (stop_of desc x.0, (x.0, x.1, refl));
   number = refl;
   here = here_db desc a.told a.content a.here.blocks a.here.schema schema;
@@ -159,11 +159,11 @@ module _ {B : Type 0} {g : Ghosts B} (desc : Described) (o o' : Overlay B g) whe
   -- reads keep the store as it was
   pub reads_keep : {T : Type 0} {n : ℕ} (found found' : ℕ) (r : Result T BlockFault) → IsUsable desc o → ReadsOverlay n r o o' → Unbroken r (store.Keeps (store_seen desc found o) (store_seen desc found' o'))
   reads_keep found found' r usable reads =
-      unbroken_two r (λ stays same. keeps_lifted desc (IsUsable desc o) (IsUsable desc o') found found' (under o) (under o')
+      unbroken_two r (λ stays same. keeps_lifted desc (IsUsable desc o) (IsUsable desc o') found found' (g.last o.below) (g.last o'.below) (under o) (under o')
       (usable_on usable reads.looks.passes.lasts stays.sound (reads.written_still ∙ usable.none)) reads.looks.passes.lasts stays same) reads.looks.stays reads.looks.same
 
   pub reads_silent : {T : Type 0} {n : ℕ} {r : Result T BlockFault} (found found' : ℕ) → ReadsOverlay n r o o' → store.IsSilent (store_seen desc found o) (store_seen desc found' o')
-  reads_silent found found' reads = silent_lifted desc (IsUsable desc o) (IsUsable desc o') found found' (under o) (under o') reads.looks.passes
+  reads_silent found found' reads = silent_lifted desc (IsUsable desc o) (IsUsable desc o') found found' (g.last o.below) (g.last o'.below) (under o) (under o') reads.looks.passes
 
   pub reads_effort : {T : Type 0} {n : ℕ} {r : Result T BlockFault} → ReadsOverlay n r o o' → effort_of (under o').uses ≡ effort_of (under o).uses
   reads_effort reads =

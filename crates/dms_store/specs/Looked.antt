@@ -2,13 +2,12 @@
 use Rattle.std.proofs.Common.{◌≡◌, ◌<◌, ◌^◌, ℕ, Some}
 use Rattle.std.specs.Prelude.{IsErrOf}
 use Rattle.std.specs.declared.result.Result.{Result}
-use Rattle.std.specs.declared.result.Result.TheVariants.{Ok, Err}
 use Rattle.dms_block.specs.declared.block_fault.BlockFault.{BlockFault}
-use Rattle.dms_block.specs.declared.block_fault.BlockFault.TheVariants.{Disk, Memory, Full, Damaged, Say}
+use Rattle.dms_block.specs.declared.block_fault.BlockFault.TheVariants.{Say}
 use Rattle.dms_block.specs.declared.blocks.Blocks.{Ghosts}
 use Rattle.dms_block.specs.declared.overlay.Overlay.{Overlay}
 use Rattle.dms_block.specs.Faults.{NotFull, Unbroken, Undamaged}
-use Rattle.dms_block.specs.Held.{BlocksAgree, HasCausesOr, Held}
+use Rattle.dms_block.specs.Held.{BlocksAgree, HasCausesOr}
 use Rattle.dms_block.specs.View.{ReadsOverlay, under}
 use Rattle.dms_desc.specs.Shape.{Described}
 use Rattle.dms_model.specs.Db.{Db}
@@ -17,6 +16,7 @@ use Rattle.dms_store.specs.Lifted.{IsUsable, db_of, store_seen}
 use Rattle.dms_store.specs.LiftedLaws.{causes_lifted, reads_effort, reads_keep, reads_silent}
 use Rattle.dms_store.specs.Noted.{causes_noted, noted_by}
 use Rattle.dms_store.specs.Undamaged.{undamaged_or}
+use Rattle.dms_store.specs.PuttingStore.{mute_or}
 
 -- nothing has changed, and a fault has its cause
 pub record Looked {T : Type 0} (result : Result T BlockFault) (old new : store.Seen) : Type 0 where
@@ -28,24 +28,16 @@ pub record Looked {T : Type 0} (result : Result T BlockFault) (old new : store.S
   pub room : NotFull result
   pub causes : store.HasStoreCauses result old new
 
-mute_or : {T : Type 0} (P : ℕ → ℕ → Type 0) (r : Result T BlockFault) (a b : Held) → HasCausesOr P r a b → IsErrOf r Say → ⊥
-mute_or P (Ok x) a b h is = absurd (cc)
-mute_or P (Err Disk) a b h is = absurd (cc)
-mute_or P (Err Memory) a b h is = absurd (cc)
-mute_or P (Err (Full f)) a b h is = absurd (cc)
-mute_or P (Err (Damaged f n)) a b h is = absurd (cc)
-mute_or P (Err Say) a b h is = h
-
 module _ {B : Type 0} {g : Ghosts B} (desc : Described) (found found' : ℕ) (o o' : Overlay B g) where
-  pub looked : {T : Type 0} {n : ℕ} (P : ℕ → ℕ → Type 0) (r : Result T BlockFault) → found < 2 ^ 64 → found' ≡ noted_by r found → IsUsable desc o → BlocksAgree (under o) → ReadsOverlay n r o o' → HasCausesOr P r (under o) (under o')
+  pub looked : {T : Type 0} {n : ℕ} (P : ℕ → ℕ → Type 0) (r : Result T BlockFault) → found < 2 ^ 64 → found' ≡ noted_by r found → IsUsable desc o → BlocksAgree (under o) → ((x y : B) → g.same_blocks x y → g.last y ≡ g.last x) → ReadsOverlay n r o o' → HasCausesOr P r (under o) (under o')
       → ((d : Db) → db_of desc (under o).told (under o).content ≡ Some d → (f b : ℕ) → P f b → ⊥) → Looked r (store_seen desc found o) (store_seen desc found' o')
-  looked P r small noted usable agrees reads cause none = record {
+  looked P r small noted usable agrees law reads cause none = record {
     keeps = reads_keep desc o o' found found' r usable reads;
     silent = reads_silent desc o o' found found' reads;
     effort = reads_effort desc o o' reads;
     undamaged = λ d told. undamaged_or desc (under o) usable.serves agrees d told P r (under o') (none d told) cause;
     mute_fault = mute_or P r (under o) (under o') cause;
     room = reads.looks.not_full;
-    causes = causes_lifted desc (IsUsable desc o) (IsUsable desc o') found found' (under o) (under o') r reads.looks.passes.lasts reads.looks.uses.not_fewer
+    causes = causes_lifted desc (IsUsable desc o) (IsUsable desc o') found found' (g.last o.below) (g.last o'.below) (under o) (under o') r reads.looks.passes.lasts (law o.below o'.below reads.same) reads.looks.uses.not_fewer
         (causes_noted (under o) (under o') found found' small P r noted cause);
   }

@@ -3,9 +3,10 @@ use Rattle.std.proofs.Common.{◌≡◌, ◌≢◌, ◌∙◌, ◌+◌, ◌^◌,
 use Rattle.std.specs.Prelude.{◌&&◌, ◌==◌, nat_le}
 use Rattle.std.specs.List.{list_all}
 use Rattle.std.specs.declared.option.Option.{Option}
-use Rattle.std.proofs.lemmas.Bool.{cases_eq}
+use Rattle.std.proofs.lemmas.Bool.{cases_eq, and_parts}
 use Rattle.std.proofs.lemmas.Bool.Decides.{nat_tests}
 use Rattle.std.specs.declared.result.Result.TheVariants.{Ok}
+use Rattle.std.proofs.lemmas.Option.{same_Some}
 use Rattle.dms_block.specs.declared.blocks.Blocks.{Ghosts}
 use Rattle.dms_block.specs.declared.overlay.Overlay.{Overlay}
 use Rattle.dms_block.specs.Content.{Content}
@@ -21,7 +22,6 @@ use Rattle.dms_model.specs.Db.{Db}
 use Rattle.dms_model.specs.Fitting.{is_number}
 use Rattle.dms_model.specs.Valid.{is_data_set}
 use Rattle.dms_slots.specs.SlotBlocks.{block_of, file_of, is_block, slot_at, slot_put}
-use Rattle.dms_sets.specs.Tests.{both_of}
 use Rattle.dms_slots.specs.Seen.{BadAt, count_of, with_slot}
 use Rattle.dms_store.specs.Files.{all_of}
 use Rattle.dms_store.specs.Finding.{number_at, served_at}
@@ -31,6 +31,7 @@ use Rattle.dms_store.specs.PuttingOwners.{MayCount, OwnerSlot, owner_slot, raise
 use Rattle.dms_store.specs.PuttingSlots.{StandsFiles}
 use Rattle.dms_store.specs.PuttingSteps.{SlotChanged}
 use Rattle.dms_store.specs.Serving.{IsServed}
+use Rattle.dms_layout.specs.ReadLaws.{used_one}
 
 -- ---- definitions
 
@@ -70,14 +71,11 @@ IfOwned set P = set ≢ 0 → P
 
 -- ---- files of slots
 
-some_shape : (x y : Shape) → ◌≡◌ {A = Option Shape} (Some x) (Some y) → x ≡ y
-some_shape x y h = cc
-
 -- they stay so where a slot changes
 pub slots_changed : (desc : Described) (s : Shape) (number : ℕ) (slot : Slot) (c d : Content) → IsServed desc → structure_of desc s.number ≡ Some s → SlotChanged s number slot c d → AreSlots desc c → AreSlots desc d
 slots_changed desc s number slot c d served at change slots = record {
   each = λ n t there is_set. elim (cases_eq n s.number) [
-    | inl same ↦ subst (λ (x : Shape). list_all (is_block x) (d (file_of x.number)) ≡ true) (some_shape s t (sym at ∙ ap (structure_of desc) (sym same) ∙ there)) change.blocks
+    | inl same ↦ subst (λ (x : Shape). list_all (is_block x) (d (file_of x.number)) ≡ true) (same_Some s t (sym at ∙ ap (structure_of desc) (sym same) ∙ there)) change.blocks
     | inr apart ↦ ap (list_all (is_block t)) (change.files (file_of t.number) (λ e. apart (omega (arith, e, number_at desc n t served there)))) ∙ slots.each n t there is_set
   ];
 }
@@ -96,7 +94,7 @@ module _ (desc : Described) (served : IsServed desc) (db : Db) (own : ℕ → �
       apart h = absurd (cc)
 
   same_shape : (s : Shape) → structure_of desc set ≡ Some s → there.shape ≡ s
-  same_shape s at = some_shape there.shape s (sym there.at ∙ at)
+  same_shape s at = same_Some there.shape s (sym there.at ∙ at)
 
   pub is_one : (s : Shape) → structure_of desc set ≡ Some s → is_owner s owner ≡ true
   is_one s at = subst (λ (x : Shape). is_owner x owner ≡ true) (same_shape s at) (in_range there.shape owner there.is_set there.low there.most)
@@ -144,9 +142,6 @@ none_bad_slot desc a n s k at is_set told slots f i bad =
     let here = bad.0.0.1 told in
     absurd (cc (all_of (is_block s) (seen a (file_of s.number)) i (slots.each n s at is_set) here.0, here.1))
 
-some_used : (x y : Slot) → Used x ≡ Used y → x ≡ y
-some_used x y h = cc
-
 module _ {B : Type 0} {g : Ghosts B} (s : Shape) (number : ℕ) (a b : Overlay B g) (told : IsTrue (under a).told) where
   -- no record stands in the slot that was read
   pub stuck_none : {T : Type 0} {n : ℕ} {x : T} → ReadsOverlay n (Ok x) a b → slot_at s (seen a (file_of s.number)) number ≡ Free → IsStuck s number (seen a) (seen b)
@@ -157,7 +152,7 @@ module _ {B : Type 0} {g : Ghosts B} (s : Shape) (number : ℕ) (a b : Overlay B
 
   -- or its count has no room
   pub stuck_full : {T : Type 0} {n : ℕ} {x : T} (slot : Slot) → ReadsOverlay n (Ok x) a b → slot_at s (seen a (file_of s.number)) number ≡ Used slot → (slot.owned + 1 < 2 ^ 32 → ⊥) → IsStuck s number (seen a) (seen b)
-  stuck_full slot reads was full = record { none = λ y there room. full (subst (λ (z : Slot). z.owned + 1 < 2 ^ 32) (sym (some_used slot y (sym was ∙ there))) room); same = seen_still reads told }
+  stuck_full slot reads was full = record { none = λ y there room. full (subst (λ (z : Slot). z.owned + 1 < 2 ^ 32) (sym (used_one slot y (sym was ∙ there))) room); same = seen_still reads told }
 
   -- or it is written with one more
   pub raised_is : {T : Type 0} {n : ℕ} {x : T} (slot : Slot) (owned : ℕ) (d : Content) → ReadsOverlay n (Ok x) a b → BlocksAgree (under a) → slot_at s (seen a (file_of s.number)) number ≡ Used slot → SlotFits s slot → block_of s.items number < count_of s a
@@ -174,16 +169,16 @@ module _ {B : Type 0} {g : Ghosts B} (s : Shape) (number : ℕ) (a b : Overlay B
 -- ---- what a number that a record may have says
 
 pub owner_set : (s : Shape) (number : ℕ) → is_owner s number ≡ true → is_data_set (Some s) ≡ true
-owner_set s number h = (both_of (is_data_set (Some s)) (is_number (Some s) number) h).0
+owner_set s number h = (and_parts (is_data_set (Some s)) (is_number (Some s) number) h).0
 
 pub owner_low : (s : Shape) (number : ℕ) → is_owner s number ≡ true → 1 ≤ number
 owner_low s number h =
-    let test = (both_of (nat_le 1 number) (nat_le number s.population) (both_of (is_data_set (Some s)) (is_number (Some s) number) h).1).0 in
+    let test = (and_parts (nat_le 1 number) (nat_le number s.population) (and_parts (is_data_set (Some s)) (is_number (Some s) number) h).1).0 in
     grind (arith, nat_tests, test)
 
 pub owner_most : (desc : Described) (n : ℕ) (s : Shape) (number : ℕ) → IsServed desc → structure_of desc n ≡ Some s → is_owner s number ≡ true → number ≤ 1000000
 owner_most desc n s number served at h =
-    let test = (both_of (nat_le 1 number) (nat_le number s.population) (both_of (is_data_set (Some s)) (is_number (Some s) number) h).1).1 in
+    let test = (and_parts (nat_le 1 number) (nat_le number s.population) (and_parts (is_data_set (Some s)) (is_number (Some s) number) h).1).1 in
     let most : number ≤ s.population = grind (arith, nat_tests, test) in
     omega (arith, most, (served_at desc n s served at).population)
 

@@ -1,14 +1,18 @@
 -- What a store on blocks answers where a record is to be stored.
 use Rattle.std.specs.Prelude.{◌≡◌, ℕ, true, IfSome, Some, None, ⊤, is_some}
 use Rattle.std.specs.declared.option.Option.{Option}
+use Rattle.std.specs.declared.result.Result.{Result}
 use Rattle.std.specs.FinMap.{get}
+use Rattle.dms_block.specs.declared.block_fault.BlockFault.{BlockFault}
 use Rattle.dms_block.specs.Content.{Content}
+use Rattle.dms_block.specs.Faults.{IfFull}
 use Rattle.dms_desc.specs.Lookups.{structure_of}
 use Rattle.dms_desc.specs.Shape.{Described}
 use Rattle.dms_desc.specs.declared.record.Record.{Record}
 use Rattle.dms_model.specs.declared.put.Put.{Put}
 use Rattle.dms_model.specs.declared.put.Put.TheVariants.{Stored, Duplicate, Full}
 use Rattle.dms_model.specs.Db.{Db}
+use Rattle.dms_model.specs.Fitting.{IsStored}
 use Rattle.dms_model.specs.Stores.{put_after, put_answer}
 use Rattle.dms_model.specs.Valid.{owner_stands}
 use Rattle.dms_store.specs.Spelled.{spelled}
@@ -35,3 +39,7 @@ AnswersOver desc c d set number rec answer = (db : Db) → spelled desc c ≡ So
 abbrev pub Answers : Described → Content → Content → ℕ → Option ℕ → Record → Put → Type 0
 Answers desc c d set number rec answer = (db : Db) → spelled desc c ≡ Some db → MayStore desc db set number rec
     → (answer ≡ put_answer desc db set number rec) × (spelled desc d ≡ Some (put_after answer desc db set rec))
+
+-- Where the audit had no room, the record was to be stored in the database that the content spells.
+abbrev pub FullStored : Described → Content → ℕ → Option ℕ → Record → Result Put BlockFault → Type 0
+FullStored desc c set number rec result = (db : Db) → spelled desc c ≡ Some db → MayStore desc db set number rec → IfFull result (λ f. IsStored (put_answer desc db set number rec))

@@ -5,6 +5,7 @@ use Rattle.std.specs.declared.option.Option.{Option}
 use Rattle.std.specs.FinMap.{entries, entries_sorted, get, get-entries, get-insert, insert}
 use Rattle.std.specs.Ordering.{eq_by_cmp}
 use Rattle.std.proofs.lemmas.Bool.Decides.{nat_tests}
+use Rattle.std.proofs.lemmas.Bool.{and_parts}
 use Rattle.dms_base.specs.declared.kind.ItemKind.{ItemKind}
 use Rattle.dms_base.specs.declared.kind.ItemKind.TheVariants.{Alpha, Number as Decimal, Bool as OneBit, Field, Link}
 use Rattle.dms_base.specs.declared.value.Value.{Value}
@@ -17,7 +18,6 @@ use Rattle.dms_layout.specs.declared.slot.Slot.{Slot}
 use Rattle.dms_model.specs.Db.{Db, Place, Records, SubsetEntry, place_cmp}
 use Rattle.dms_model.specs.Stores.{linked, linked_from, values_of}
 use Rattle.dms_model.specs.Valid.{link_stands, owner_stands, refers}
-use Rattle.dms_sets.specs.Tests.{both_of}
 use Rattle.dms_slots.specs.SlotBlocks.{slot_opt}
 use Rattle.dms_store.specs.PuttingCounts.{insert_sum, links_linked, links_none, of_opt, sum_none}
 use Rattle.dms_store.specs.PuttingMoved.{owed}
@@ -152,7 +152,7 @@ off_links : (m : Records) (t n : ℕ) (is : List Item) (vs : List Value) → get
 off_links m t n [] vs none h = refl
 off_links m t n (i ∷ is) [] none h = refl
 off_links m t n (i ∷ is) (v ∷ vs) none h =
-    let both = both_of (link_stands m i.kind v) (links_stand m is vs) h in
+    let both = and_parts (link_stands m i.kind v) (links_stand m is vs) h in
     let here = off_counted m t n i.kind v none both.0 in
     let rest = off_links m t n is vs none both.1 in
     λ j. cond (here j) 1 0 + rest j

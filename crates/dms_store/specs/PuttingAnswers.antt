@@ -4,6 +4,7 @@ use Rattle.std.specs.Prelude.{◌&&◌, ◌==◌, not}
 use Rattle.std.specs.List.{AllByRecursion}
 use Rattle.std.specs.declared.option.Option.{Option}
 use Rattle.std.specs.FinMap.{get}
+use Rattle.std.proofs.lemmas.Bool.{and_parts}
 use Rattle.dms_base.specs.Fits.{fits}
 use Rattle.dms_base.specs.declared.value.Value.{Value}
 use Rattle.dms_block.specs.Content.{Content}
@@ -25,7 +26,6 @@ use Rattle.dms_sets.specs.Puts.{MayCome}
 use Rattle.dms_sets.specs.Sets.{entries_of, items_over, kinds_over}
 use Rattle.dms_sets.specs.Spots.{NameItems, RecordsHaveSpots, ValuesFit, key_fits}
 use Rattle.dms_sets.specs.Spots as spots
-use Rattle.dms_sets.specs.Tests.{both_of}
 use Rattle.dms_sets.specs.Told.{ChangeStands, HaveOwnNumbers, OfStructures, answer_of}
 use Rattle.dms_sets.specs.declared.answer.SetAnswer.TheVariants.{Done, Duplicate}
 use Rattle.dms_ordlist.specs.Lists.{without_in}
@@ -90,9 +90,9 @@ change_stands desc c db set number s old made served spelt at small was fits = r
 
 closed_kept : (s : Shape) (set : ℕ) (values : List Value) → is_closed s set values ≡ true → is_set_or_automatic s ≡ true
 closed_kept s set values h =
-    let four = both_of (is_set_or_automatic s && (s.set == set) && not s.duplicates) (takes s values) h in
-    let three = both_of (is_set_or_automatic s && (s.set == set)) (not s.duplicates) four.0 in
-    (both_of (is_set_or_automatic s) (s.set == set) three.0).0
+    let four = and_parts (is_set_or_automatic s && (s.set == set) && not s.duplicates) (takes s values) h in
+    let three = and_parts (is_set_or_automatic s && (s.set == set)) (not s.duplicates) four.0 in
+    (and_parts (is_set_or_automatic s) (s.set == set) three.0).0
 
 one_judged : (desc : Described) (db : Db) (set : ℕ) (made : Record) (s : Shape) → IsServedSet desc s → RecordsHaveSpots desc db → MayCome desc set made → is_closed s set made.values ≡ true → AreJudged desc db made s
 one_judged desc db set made s served fits may closed =

@@ -1,8 +1,8 @@
 -- How many counted links refer to a record, and how many records it owns, after one record is stored.
-use Rattle.std.proofs.Common.{◌≡◌, ◌∙◌, ◌+◌, ℕ, suc, List, [], ◌∷◌, Bool, true, false, cond, Some, None, refl, ap, slice_get, length, arith}
+use Rattle.std.proofs.Common.{◌≡◌, ◌∙◌, ◌+◌, ℕ, suc, List, [], ◌∷◌, true, false, cond, Some, None, refl, ap, slice_get, length, arith}
 use Rattle.std.specs.Prelude.{T, ◌&&◌, ◌==◌, sum_by}
 use Rattle.std.specs.List.{AllByRecursion}
-use Rattle.std.specs.Ordering.{is_eq, is_lt}
+use Rattle.std.specs.Ordering.{is_eq}
 use Rattle.std.specs.declared.cmp.Ordering.{Ordering}
 use Rattle.std.specs.declared.cmp.Ordering.TheVariants.{Less, Equal, Greater}
 use Rattle.std.specs.declared.option.Option.{Option}
@@ -21,9 +21,11 @@ use Rattle.dms_model.specs.Db.{Place, Records, place_cmp}
 use Rattle.dms_model.specs.Stores.{kept_value, linked_from}
 use Rattle.dms_model.specs.Valid.{link_stands}
 use Rattle.dms_sets.specs.Spots.{StandsAmong, all_found}
-use Rattle.dms_sets.specs.Tests.{first_true, second_true}
 use Rattle.dms_store.specs.Spelled.{is_counted_to, links_stand, links_to}
 use Rattle.dms_model.specs.Places.{places_same, places_total}
+use Rattle.dms_model.specs.Fresh.{second_true, first_true}
+use Rattle.dms_slots.specs.SlotBlockLaws.{both_false}
+use Rattle.dms_ordlist.specs.Lists.{less_of}
 
 -- ---- a sum over all records, after one of them is put
 
@@ -32,15 +34,10 @@ abbrev pub of_opt : (Record → ℕ) → Option Record → ℕ
 of_opt f None = 0
 of_opt f (Some r) = f r
 
-less_is : (o : Ordering) → T (is_lt o) → o ≡ Less
-less_is Less h = refl
-less_is Equal h = absurd h
-less_is Greater h = absurd h
-
 none_behind : (k x : Place) (es : List (Place × Record)) → place_cmp k x ≡ Less → T (below_all place_cmp x es) → find place_cmp k es ≡ None
 none_behind k x [] p h = refl
 none_behind k x (e ∷ es) p h =
-    let q : place_cmp k e.0 ≡ Less = places_total.trans k x e.0 p (less_is _ (first_true _ _ h)) in
+    let q : place_cmp k e.0 ≡ Less = places_total.trans k x e.0 p (less_of _ (first_true _ _ h)) in
     ap (λ r. cond (is_eq r) (Some e.1) (find place_cmp k es)) q ∙ none_behind k x es p (second_true _ _ h)
 
 module _ (f : Place × Record → ℕ) (k : Place) (v : Record) where
@@ -86,16 +83,12 @@ kept_counted t m OneBit o v = refl
 kept_counted t m (Field n) o v = refl
 kept_counted t m (Link to counted) o v = refl
 
-and_false : (b : Bool) → (b && false) ≡ false
-and_false true = refl
-and_false false = refl
-
 null_counted : (t m : ℕ) (k : ItemKind) → is_counted_to t m k Null ≡ false
 null_counted t m (Alpha n) = refl
 null_counted t m (Decimal n d s) = refl
 null_counted t m OneBit = refl
 null_counted t m (Field n) = refl
-null_counted t m (Link to counted) = and_false (counted && (to == t))
+null_counted t m (Link to counted) = both_false (counted && (to == t))
 
 kept_stands : (m : Records) (k : ItemKind) (o v : Value) → link_stands m k (cond (is_link k) o v) ≡ link_stands m k o
 kept_stands m (Alpha n) o v = refl

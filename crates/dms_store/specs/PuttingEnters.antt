@@ -5,6 +5,7 @@ use Rattle.std.specs.List.{list_all}
 use Rattle.std.specs.declared.option.Option.{Option}
 use Rattle.std.specs.FinMap.{get}
 use Rattle.std.proofs.lemmas.Bool.Decides.{nat_tests}
+use Rattle.std.proofs.lemmas.Option.{same_Some}
 use Rattle.dms_base.specs.declared.kind.ItemKind.{ItemKind}
 use Rattle.dms_base.specs.declared.value.Value.{Value}
 use Rattle.dms_block.specs.declared.blocks.Blocks.{Ghosts}
@@ -165,12 +166,9 @@ counts_small : (s : Shape) (o : Option Slot) (rec : Record) → IfSome o (SlotFi
 counts_small s None rec f = (omega arith, omega arith)
 counts_small s (Some old) rec f = (f.counted, f.owned)
 
-some_shape : (x y : Shape) → ◌≡◌ {A = Option Shape} (Some x) (Some y) → x ≡ y
-some_shape x y h = cc
-
 -- a data set is no set over one
 pub set_off : (desc : Described) (set n : ℕ) (s : Shape) → IsServed desc → structure_of desc n ≡ Some s → is_data_set (Some s) ≡ true → has_number desc.structures set s.number ≡ false
-set_off desc set n s served at is_set = not_over desc set s.number served (λ t there. ap is_set_or_automatic (some_shape t s (sym there ∙ ap (structure_of desc) (number_at desc n s served at) ∙ at)) ∙ no_kept s is_set)
+set_off desc set n s served at is_set = not_over desc set s.number served (λ t there. ap is_set_or_automatic (same_Some t s (sym there ∙ ap (structure_of desc) (number_at desc n s served at) ∙ at)) ∙ no_kept s is_set)
 
 module _ {B : Type 0} {g : Ghosts B} (desc : Described) (served : IsServed desc) (s : Shape) (set number : ℕ) (o : Option Slot) (rec : Record) (db : Db) (a : Overlay B g) (told : IsTrue (under a).told) (agrees : BlocksAgree (under a)) (none : written a ≡ [])
     (spelt : spelled desc (under a).content ≡ Some db) (may : MayStand desc set number s rec) (was : slot_at s (seen a (file_of s.number)) number ≡ slot_opt o) (fits : RecordFits desc set (linked s.items (rec_opt (slot_opt o)) rec)) where

@@ -5,7 +5,7 @@ use Rattle.std.specs.List.{AllByRecursion}
 use Rattle.std.specs.declared.option.Option.{Option}
 use Rattle.std.specs.FinMap.{entries, entries_sorted, find, get, get-entries}
 use Rattle.std.specs.Ordering.{eq_by_cmp}
-use Rattle.std.proofs.lemmas.Bool.{cases_lt}
+use Rattle.std.proofs.lemmas.Bool.{cases_lt, true≢false}
 use Rattle.std.proofs.lemmas.Bool.Decides.{nat_tests}
 use Rattle.dms_desc.specs.Shape.{Shape}
 use Rattle.dms_desc.specs.declared.record.Record.{Record}
@@ -37,13 +37,10 @@ none_turn : (t f : Bool) (set k : ℕ) (e : Place × Record) (es : List (Place �
     → (find place_cmp (set, k) es ≡ None → NoneIs k (rows_of set es)) → NoneIs k (cond t ((e.0.1, e.1) ∷ rows_of set es) (rows_of set es))
 none_turn t true set k e es h same none rest = absurd (cc)
 none_turn true false set k e es h same none rest = (
-  (λ is. apart (sym (at e.0 (grind (arith, nat_tests, h)) is) ∙ same)),
+  (λ is. true≢false (sym (at e.0 (grind (arith, nat_tests, h)) is) ∙ same)),
   rest none,
 )
   where
-    apart : true ≡ false → ⊥
-    apart x = absurd (cc)
-
     at : (p : Place) → set ≡ p.0 → k ≡ p.1 → eq_by_cmp place_cmp (set, k) p ≡ true
     at p a b = grind (arith, nat_tests, a, b)
 none_turn false false set k e es h same none rest = rest none

@@ -5,9 +5,10 @@ use Rattle.std.specs.List.{list_all}
 use Rattle.std.specs.declared.option.Option.{Option}
 use Rattle.std.specs.FinMap.{get}
 use Rattle.std.specs.Ordering.{eq_by_cmp}
-use Rattle.std.proofs.lemmas.Bool.{cases_eq}
+use Rattle.std.proofs.lemmas.Bool.{cases_eq, and_parts}
 use Rattle.std.proofs.lemmas.Bool.Decides.{nat_tests}
 use Rattle.std.proofs.Math.Nat as nat
+use Rattle.std.proofs.lemmas.Option.{same_Some}
 use Rattle.dms_block.specs.Content.{Content}
 use Rattle.dms_desc.specs.Lookups.{items_of, structure_of}
 use Rattle.dms_desc.specs.Shape.{Shape, Described}
@@ -21,7 +22,6 @@ use Rattle.dms_ordlist.specs.ListIn.{list_in}
 use Rattle.dms_sets.specs.Changes.{has_number, is_over}
 use Rattle.dms_sets.specs.Padded.{entry_width}
 use Rattle.dms_sets.specs.Sets.{entries_of, kinds_over}
-use Rattle.dms_sets.specs.Tests.{both_of}
 use Rattle.dms_slots.specs.SlotBlocks.{block_of, file_of, per_block, slot_at, slot_opt}
 use Rattle.dms_store.specs.Finding.{number_at, served_at}
 use Rattle.dms_store.specs.PuttingAfter.{after_get, counted_none, counted_still, more, owned_none, owned_still, owner_more, slot_after, slot_links, with_record}
@@ -49,8 +49,8 @@ IsKeptList ss k m = (i : ℕ) × (t : Shape) × (slice_get ss i ≡ Some t) × (
 
 there_turn : (b : Bool) (s : Shape) (ss : List Shape) (k set m : ℕ) → s.number ≡ k → (is_over s set && (m == s.number)) ≡ b → (b || has_number ss set m) ≡ true → (has_number ss set m ≡ true → IsKeptList ss (k + 1) m) → IsKeptList (s ∷ ss) k m
 there_turn true s ss k set m number is h rest =
-    let both = both_of (is_over s set) (m == s.number) is in
-    let kept = both_of (is_set_or_automatic s) (s.set == set) both.0 in
+    let both = and_parts (is_over s set) (m == s.number) is in
+    let kept = and_parts (is_set_or_automatic s) (s.set == set) both.0 in
     let same : m ≡ s.number = grind (arith, nat_tests, both.1) in
     (0, s, refl, kept.0, omega (arith, same, number))
 there_turn false s ss k set m number is h rest = let r = rest h in (suc r.0, r.1, r.2, r.3, omega (arith, r.4))
@@ -72,13 +72,13 @@ not_over desc set n served off = by (has_number desc.structures set n) refl
 
 pub no_kept : (s : Shape) → is_data_set (Some s) ≡ true → is_set_or_automatic s ≡ false
 no_kept s h =
-    let low : nat_lt s.kind 3 ≡ true = (both_of (nat_lt 0 s.kind) (nat_lt s.kind 3) h).1 in
+    let low : nat_lt s.kind 3 ≡ true = (and_parts (nat_lt 0 s.kind) (nat_lt s.kind 3) h).1 in
     let off : nat_lt 2 s.kind ≡ false = grind (arith, nat_tests, low) in
     ap (λ b. b && nat_lt s.kind 5) off
 
 pub no_set : (s : Shape) → is_set_or_automatic s ≡ true → is_data_set (Some s) ≡ false
 no_set s h =
-    let high : nat_lt 2 s.kind ≡ true = (both_of (nat_lt 2 s.kind) (nat_lt s.kind 5) h).0 in
+    let high : nat_lt 2 s.kind ≡ true = (and_parts (nat_lt 2 s.kind) (nat_lt s.kind 5) h).0 in
     let off : nat_lt s.kind 3 ≡ false = grind (arith, nat_tests, high) in
     ap (λ b. nat_lt 0 s.kind && b) off ∙ and_off (nat_lt 0 s.kind)
   where
@@ -86,14 +86,11 @@ no_set s h =
     and_off true = refl
     and_off false = refl
 
-some_shape : (x y : Shape) → ◌≡◌ {A = Option Shape} (Some x) (Some y) → x ≡ y
-some_shape x y h = cc
-
 -- a structure that is no set has the file that it had
 pub file_still : (desc : Described) (db : Db) (set : ℕ) (c d : Content) (n : ℕ) (s : Shape) → IsServed desc → ListsPut desc db set c d → structure_of desc n ≡ Some s → is_set_or_automatic s ≡ false → file_in d s ≡ file_in c s
 file_still desc db set c d n s served lists at off =
     let number = number_at desc n s served at in
-    lists.still s.number (not_over desc set s.number served (λ t there. ap is_set_or_automatic (some_shape t s (sym there ∙ ap (structure_of desc) number ∙ at)) ∙ off))
+    lists.still s.number (not_over desc set s.number served (λ t there. ap is_set_or_automatic (same_Some t s (sym there ∙ ap (structure_of desc) number ∙ at)) ∙ off))
 
 -- ---- the slots after the lists
 
@@ -226,7 +223,7 @@ module _ (desc : Described) (served : IsServed desc) (db : Db) (c e d : Content)
         (stand_still desc served db (owned_in desc db) c e (λ n t at is_set. file_still desc after set c e n t served lists at (no_kept t is_set)) files.slots)
 
     file_off : (n : ℕ) (t : Shape) → structure_of desc n ≡ Some t → is_data_set (Some t) ≡ false → file_in d t ≡ file_in e t
-    file_off n t at off = change.files (file_of t.number) (λ same. apart (sym (ap (λ (x : Shape). is_data_set (Some x)) (some_shape t s (sym at ∙ ap (structure_of desc) (number_same same) ∙ may.at)) ∙ may.is_set) ∙ off))
+    file_off n t at off = change.files (file_of t.number) (λ same. apart (sym (ap (λ (x : Shape). is_data_set (Some x)) (same_Some t s (sym at ∙ ap (structure_of desc) (number_same same) ∙ may.at)) ∙ may.is_set) ∙ off))
       where
         number_same : file_of t.number ≡ file_of s.number → n ≡ set
         number_same same = omega (arith, same, number_at desc n t served at, number_is)

@@ -14,7 +14,6 @@ use Rattle.dms_desc.specs.Shape.{Described}
 use Rattle.dms_desc.specs.declared.record.Record.{Record}
 use Rattle.dms_model.specs.Db.{Db, Place, SubsetEntry, place_cmp}
 use Rattle.dms_sets.specs.Spots.{StandsAmong, all_found}
-use Rattle.dms_sets.specs.Tests.{first_true, second_true}
 use Rattle.dms_store.specs.Finding.{served_at, structure_there}
 use Rattle.dms_store.specs.PuttingSlots.{spelled_files}
 use Rattle.dms_store.specs.Serving.{IsServed}
@@ -22,6 +21,7 @@ use Rattle.dms_store.specs.SetPaths.{formed}
 use Rattle.dms_store.specs.Spelled.{owned_in, spelled}
 use Rattle.dms_store.specs.SpelledLaws.{spelled_stands}
 use Rattle.dms_desc_bytes.specs.Finding.{owner_in as owner_of}
+use Rattle.dms_model.specs.Fresh.{second_true, first_true}
 
 -- ---- places that rise
 

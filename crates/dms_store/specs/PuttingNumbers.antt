@@ -3,6 +3,7 @@ use Rattle.std.proofs.Common.{◌≡◌, ◌≢◌, ◌∙◌, ◌+◌, ◌-◌,
 use Rattle.std.specs.Prelude.{nat_le, not}
 use Rattle.std.specs.declared.option.Option.{Option}
 use Rattle.std.specs.FinMap.{get}
+use Rattle.std.proofs.lemmas.Option.{same_Some}
 use Rattle.dms_block.specs.Content.{Content}
 use Rattle.dms_desc.specs.Lookups.{structure_of}
 use Rattle.dms_desc.specs.Shape.{Shape, Described}
@@ -30,9 +31,6 @@ none_within : (b : Bool) (most k : ℕ) → nat_le k most ≡ b → ◌≡◌ {A
 none_within true most k is h = absurd (cc)
 none_within false most k is h = is
 
-some_shape : (x y : Shape) → ◌≡◌ {A = Option Shape} (Some x) (Some y) → x ≡ y
-some_shape x y h = cc
-
 module _ (desc : Described) (served : IsServed desc) (db : Db) (c : Content) (set : ℕ) (s : Shape) (spelt : spelled desc c ≡ Some db) (at : structure_of desc set ≡ Some s) (is_set : is_data_set (Some s) ≡ true) where
   files : SpellsFiles desc db c
   files = spelled_files desc c db served spelt
@@ -47,7 +45,7 @@ module _ (desc : Described) (served : IsServed desc) (db : Db) (c : Content) (se
   most_number : (p : Place) (r : Record) → get db.records p ≡ Some r → p.0 ≡ set → p.1 ≤ s.population
   most_number p r there own =
       let x = spelled_stands desc c db (formed desc served) spelt p r there in
-      let same : x.shape ≡ s = some_shape x.shape s (sym x.is ∙ ap (structure_of desc) own ∙ at) in
+      let same : x.shape ≡ s = same_Some x.shape s (sym x.is ∙ ap (structure_of desc) own ∙ at) in
       omega (arith, x.most, ap (λ (t : Shape). t.population) same)
 
   abbrev least : ℕ

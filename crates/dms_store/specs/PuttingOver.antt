@@ -1,23 +1,23 @@
 -- What is seen over the blocks while one record is stored.
-use Rattle.std.proofs.Common.{◌≡◌, ◌∙◌, ◌-◌, ◌<◌, ◌≤◌, ℕ, zero, suc, List, [], ◌∷◌, true, IsTrue, Some, inl, inr, sym, ap, length, slice_get, arith}
+use Rattle.std.proofs.Common.{◌≡◌, ◌∙◌, ◌-◌, ◌≤◌, ℕ, zero, suc, List, [], ◌∷◌, true, IsTrue, inl, inr, sym, ap, length, arith}
 use Rattle.std.specs.Prelude.{◌&&◌}
 use Rattle.std.specs.List.{list_all}
-use Rattle.std.proofs.lemmas.Bool.{cases_eq}
+use Rattle.std.proofs.lemmas.Bool.{cases_eq, and_parts}
 use Rattle.std.proofs.lemmas.Bool.Decides.{nat_tests}
+use Rattle.std.proofs.lemmas.Option.{slice_get_within}
 use Rattle.dms_block.specs.declared.blocks.Blocks.{Ghosts}
 use Rattle.dms_block.specs.declared.change.Change.{Change}
 use Rattle.dms_block.specs.declared.overlay.Overlay.{Overlay}
 use Rattle.dms_block.specs.Content.{Content, changed, laid, with_block}
 use Rattle.dms_block.specs.ContentLaws.{in_file, in_others}
 use Rattle.dms_block.specs.View.{seen, under}
-use Rattle.dms_desc.specs.Shape.{Shape, Described}
+use Rattle.dms_desc.specs.Shape.{Described}
 use Rattle.dms_model.specs.Db.{Db}
 use Rattle.dms_sets.specs.Changes.{has_number}
 use Rattle.dms_sets.specs.Keeping.{Calm, listed}
 use Rattle.dms_sets.specs.KeepingLaws.{told_is, told_list}
 use Rattle.dms_sets.specs.Padded.{entry_width}
 use Rattle.dms_sets.specs.Sets.{entries_of, kinds_over}
-use Rattle.dms_sets.specs.Tests.{both_of}
 use Rattle.dms_sets.specs.Told.{AreListed}
 use Rattle.dms_slots.specs.SlotBlocks.{file_of}
 use Rattle.dms_store.specs.Finding.{number_at, structure_there}
@@ -36,9 +36,9 @@ AreWhole (x ∷ xs) = (length x.block.0 ≡ 1024) × AreWhole xs
 laid_whole : (b : ℕ) (x : List ℕ) (bs : List (List ℕ)) → list_all is_whole bs ≡ true → is_whole x ≡ true → list_all is_whole (laid b x bs) ≡ true
 laid_whole zero x [] all good = λ i. good i && true
 laid_whole (suc b) x [] all good = λ i. good i && true
-laid_whole zero x (z ∷ bs) all good = let both = both_of (is_whole z) (list_all is_whole bs) all in λ i. good i && both.1 i
+laid_whole zero x (z ∷ bs) all good = let both = and_parts (is_whole z) (list_all is_whole bs) all in λ i. good i && both.1 i
 laid_whole (suc b) x (z ∷ bs) all good =
-    let both = both_of (is_whole z) (list_all is_whole bs) all in
+    let both = and_parts (is_whole z) (list_all is_whole bs) all in
     let rest = laid_whole b x bs both.1 good in
     λ i. both.0 i && rest i
 
@@ -58,18 +58,13 @@ changed_whole (x ∷ xs) c f whole all =
 
 -- ---- the lists of the sets
 
-low_at : (ss : List Shape) (k : ℕ) (s : Shape) → slice_get ss k ≡ Some s → k < length ss
-low_at [] k s at = absurd (cc)
-low_at (t ∷ ss) zero s at = omega arith
-low_at (t ∷ ss) (suc k) s at = omega (arith, low_at ss k s at)
-
 module _ {B : Type 0} {g : Ghosts B} (desc : Described) (served : IsServed desc) where
   -- they are those of the database that is spelled
   pub are_listed : (db : Db) (o : Overlay B g) → IsTrue (under o).told → SpellsFiles desc db (seen o) → AreListed desc db (listed o)
   are_listed db o told files k s at kept =
       let there = structure_here desc.structures k s at in
       let number = number_at desc (suc k) s served there in
-      let low : suc k ≤ 200 = omega (arith, low_at desc.structures k s at, served.count) in
+      let low : suc k ≤ 200 = omega (arith, slice_get_within desc.structures k s at, served.count) in
       let few = (files.fit s.number (omega (arith, number)) (omega (arith, number, low))).few in
       told_list (under o).told (entry_width (kinds_over desc s) s.parts) (seen o (file_of s.number)) (entries_of desc db s) told few (files.lists.kept (suc k) s there (no_set s kept) kept)
 

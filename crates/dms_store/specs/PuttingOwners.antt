@@ -5,9 +5,10 @@ use Rattle.std.specs.List.{list_all}
 use Rattle.std.specs.declared.option.Option.{Option}
 use Rattle.std.specs.FinMap.{get}
 use Rattle.std.specs.Ordering.{eq_by_cmp}
-use Rattle.std.proofs.lemmas.Bool.{cases_eq}
+use Rattle.std.proofs.lemmas.Bool.{cases_eq, and_parts}
 use Rattle.std.proofs.lemmas.Bool.Decides.{nat_tests}
 use Rattle.std.proofs.Math.Nat as nat
+use Rattle.std.proofs.lemmas.Option.{same_Some}
 use Rattle.dms_block.specs.Content.{Content}
 use Rattle.dms_desc.specs.Lookups.{structure_of}
 use Rattle.dms_desc.specs.Shape.{Shape, Described}
@@ -22,7 +23,6 @@ use Rattle.dms_model.specs.Valid.{is_data_set, owner_stands}
 use Rattle.dms_ordlist.specs.ListIn.{list_in}
 use Rattle.dms_sets.specs.Padded.{entry_width}
 use Rattle.dms_sets.specs.Sets.{kinds_over}
-use Rattle.dms_sets.specs.Tests.{both_of, tied}
 use Rattle.dms_slots.specs.SlotBlocks.{are_slots, block_of, file_of, is_block, per_block, slot_at, slot_opt, slot_put}
 use Rattle.dms_store.specs.Finding.{number_at, served_at}
 use Rattle.dms_store.specs.PuttingAfter.{owned_moved, owner_more, with_record}
@@ -37,6 +37,7 @@ use Rattle.dms_store.specs.Serving.{IsServed}
 use Rattle.dms_store.specs.Spelled.{file_in, has_none, is_whole, owned_in, spelled}
 use Rattle.dms_model.specs.Places.{places_same}
 use Rattle.dms_desc_bytes.specs.Finding.{owner_in as owner_of}
+use Rattle.dms_model.specs.MemberLaws.{equal_of}
 
 -- ---- definitions
 
@@ -65,18 +66,15 @@ pub record OwnerSlot (desc : Described) (own : ℕ → ℕ → ℕ) (c : Content
 
 block_whole : (s : Shape) (b : List ℕ) → is_block s b ≡ true → is_whole b ≡ true
 unfolding is_block
-block_whole s b h = (both_of (length b == 1024) (are_slots s (per_block s.items) b) h).0
+block_whole s b h = (and_parts (length b == 1024) (are_slots s (per_block s.items) b) h).0
 
 blocks_whole : (s : Shape) (bs : List (List ℕ)) → list_all (is_block s) bs ≡ true → list_all is_whole bs ≡ true
 blocks_whole s [] h = refl
 blocks_whole s (b ∷ bs) h =
-    let both = both_of (is_block s b) (list_all (is_block s) bs) h in
+    let both = and_parts (is_block s b) (list_all (is_block s) bs) h in
     let here = block_whole s b both.0 in
     let rest = blocks_whole s bs both.1 in
     λ i. here i && rest i
-
-some_shape : (x y : Shape) → ◌≡◌ {A = Option Shape} (Some x) (Some y) → x ≡ y
-some_shape x y h = cc
 
 -- ---- one count
 
@@ -96,7 +94,7 @@ module _ (desc : Described) (db : Db) (own : ℕ → ℕ → ℕ) (c d : Content
   same_get p = by (eq_by_cmp place_cmp p (u.number, m)) refl
     where
       by : (b : Bool) → eq_by_cmp place_cmp p (u.number, m) ≡ b → get db.records p ≡ cond b (Some x.rec) (get db.records p)
-      by true e = ap (get db.records) (places_same p (u.number, m) (tied (place_cmp p (u.number, m)) e)) ∙ record_there
+      by true e = ap (get db.records) (places_same p (u.number, m) (equal_of (place_cmp p (u.number, m)) e)) ∙ record_there
       by false e = refl
 
   others_stand : (t : Shape) (n : ℕ) (y : Slot) → 1 ≤ t.number → (t.number ≡ u.number → n ≡ m → ⊥) → SlotStands desc db own t n y → SlotStands desc db moved t n y
@@ -109,7 +107,7 @@ module _ (desc : Described) (db : Db) (own : ℕ → ℕ → ℕ) (c d : Content
   slots_after = step desc served db db own moved c d u.number m u (record x { owned = k }) at is_set low change same_get others_stand new_stands files.slots
 
   file_off : (n : ℕ) (t : Shape) → structure_of desc n ≡ Some t → is_data_set (Some t) ≡ false → file_in d t ≡ file_in c t
-  file_off n t there off = change.files (file_of t.number) (λ same. apart (sym (ap (λ (y : Shape). is_data_set (Some y)) (some_shape t u (sym there ∙ ap (structure_of desc) (number_same same) ∙ at)) ∙ is_set) ∙ off))
+  file_off n t there off = change.files (file_of t.number) (λ same. apart (sym (ap (λ (y : Shape). is_data_set (Some y)) (same_Some t u (sym there ∙ ap (structure_of desc) (number_same same) ∙ at)) ∙ is_set) ∙ off))
     where
       number_same : file_of t.number ≡ file_of u.number → n ≡ u.number
       number_same same = omega (arith, same, number_at desc n t served there)

@@ -6,6 +6,7 @@ use Rattle.std.specs.Prelude.{◌&&◌, nat_le}
 use Rattle.std.specs.declared.result.Result.TheVariants.{Ok}
 use Rattle.std.proofs.lemmas.Bool.Decides.{nat_tests}
 use Rattle.std.specs.declared.option.Option.{Option}
+use Rattle.std.proofs.lemmas.Bool.{and_parts}
 use Rattle.dms_block.specs.declared.blocks.Blocks.{Ghosts}
 use Rattle.dms_block.specs.declared.overlay.Overlay.{Overlay}
 use Rattle.dms_block.specs.Content.{Content}
@@ -28,7 +29,6 @@ use Rattle.dms_model.specs.Valid.{is_data_set}
 use Rattle.dms_sets.specs.Answers.{clash_seen}
 use Rattle.dms_sets.specs.Changes.{has_number}
 use Rattle.dms_sets.specs.Keeping.{Calm, listed}
-use Rattle.dms_sets.specs.Tests.{both_of}
 use Rattle.dms_sets.specs.Told.{AreListed, ChangeStands, KeepsSets}
 use Rattle.dms_sets.specs.declared.answer.SetAnswer.TheVariants.{Done, Duplicate}
 use Rattle.dms_slots.specs.SlotBlocks.{block_of, file_of, is_block, slot_at, slot_opt, slot_put}
@@ -241,4 +241,4 @@ numbers_of desc set s None at h = tt
 numbers_of desc set s (Some n) at h = in_range n s.population (sym (ap (λ o. is_number o n) at) ∙ h)
   where
     in_range : (n p : ℕ) → (nat_le 1 n && nat_le n p) ≡ true → (1 ≤ n) × (n ≤ p)
-    in_range n p h = let both = both_of (nat_le 1 n) (nat_le n p) h in (grind (arith, nat_tests, both.0), grind (arith, nat_tests, both.1))
+    in_range n p h = let both = and_parts (nat_le 1 n) (nat_le n p) h in (grind (arith, nat_tests, both.0), grind (arith, nat_tests, both.1))

@@ -7,6 +7,7 @@ use Rattle.std.specs.FinMap.{find, get, get-from_entries, same_map}
 use Rattle.std.specs.Ordering.{eq_by_cmp}
 use Rattle.std.proofs.lemmas.Bool.Decides.{nat_tests}
 use Rattle.std.proofs.lemmas.Slice.Eq.{bytes_eq-Decides}
+use Rattle.std.proofs.lemmas.Bool.{and_parts}
 use Rattle.dms_block.specs.Content.{Content}
 use Rattle.dms_desc.specs.Lookups.{structure_of}
 use Rattle.dms_desc.specs.Shape.{Shape, Described}
@@ -20,15 +21,14 @@ use Rattle.dms_model.specs.Valid.{is_data_set, owner_stands}
 use Rattle.dms_ordlist.specs.ListIn.{list_in}
 use Rattle.dms_sets.specs.Padded.{entry_width}
 use Rattle.dms_sets.specs.Sets.{entries_of, kinds_over}
-use Rattle.dms_sets.specs.Tests.{both_of}
 use Rattle.dms_slots.specs.FileWritten.{all_good, some_slot}
 use Rattle.dms_slots.specs.SlotBlocks.{file_of, is_block, or_free, per_block, slot_at, slots_of}
-use Rattle.dms_store.specs.Files.{file_at, list_at, slots_at}
+use Rattle.dms_store.specs.Files.{file_at, list_at, slots_at, both_files}
 use Rattle.dms_store.specs.Finding.{number_at, served_at}
 use Rattle.dms_store.specs.Rows.{get_in, rec_in}
 use Rattle.dms_store.specs.Serving.{IsServed}
 use Rattle.dms_store.specs.Spelled.{counted_in, db_in, file_in, file_spells, files_fit, files_spell, has_none, is_list_of, is_spelled, is_whole, links_stand, lists_eq, owned_in, rows_from, rows_in, slot_stands, slots_stand, some_if, spelled}
-use Rattle.dms_store.specs.SpelledLaws.{spells}
+use Rattle.dms_store.specs.SpelledLaws.{spells, no_manual}
 use Rattle.dms_desc.specs.Kinds.{is_set_or_automatic}
 use Rattle.dms_model.specs.Places.{places_same, places_total}
 
@@ -94,10 +94,10 @@ module _ (desc : Described) (db : Db) (s : Shape) where
   one_stands : (n : ℕ) (slot : Slot) → slot_stands desc db s n (Used slot) ≡ true → SlotStands desc db (owned_in desc db) s n slot
   one_stands n slot h =
       let stands = owner_stands db.records s.owner slot.rec.owner && links_stand db.records s.items slot.rec.values in
-      let two = both_of (nat_le n s.population && stands) ((slot.counted == counted_in desc db s.number n) && (slot.owned == owned_in desc db s.number n)) h in
-      let place = both_of (nat_le n s.population) stands two.0 in
-      let refers = both_of (owner_stands db.records s.owner slot.rec.owner) (links_stand db.records s.items slot.rec.values) place.1 in
-      let counts = both_of (slot.counted == counted_in desc db s.number n) (slot.owned == owned_in desc db s.number n) two.1 in
+      let two = and_parts (nat_le n s.population && stands) ((slot.counted == counted_in desc db s.number n) && (slot.owned == owned_in desc db s.number n)) h in
+      let place = and_parts (nat_le n s.population) stands two.0 in
+      let refers = and_parts (owner_stands db.records s.owner slot.rec.owner) (links_stand db.records s.items slot.rec.values) place.1 in
+      let counts = and_parts (slot.counted == counted_in desc db s.number n) (slot.owned == owned_in desc db s.number n) two.1 in
       record { most = grind (arith, nat_tests, place.0); owner = refers.0; links = refers.1; counted = grind (arith, nat_tests, counts.0); owned = grind (arith, nat_tests, counts.1) }
 
   stands_one : (own : ℕ → ℕ → ℕ) (n : ℕ) (slot : Slot) → SlotStands desc db own s n slot → own s.number n ≡ owned_in desc db s.number n → slot_stands desc db s n (Used slot) ≡ true
@@ -115,10 +115,10 @@ module _ (desc : Described) (db : Db) (s : Shape) where
 
   at_stands : (n i : ℕ) (rs : List SlotRead) → slots_stand desc db s n rs ≡ true → slot_stands desc db s (n + i) (or_free (slice_get rs i)) ≡ true
   at_stands n i [] h = refl
-  at_stands n zero (r ∷ rs) h = ap (λ k. slot_stands desc db s k r) (let e : n + 0 ≡ n = omega arith in e) ∙ (both_of (slot_stands desc db s n r) (slots_stand desc db s (n + 1) rs) h).0
+  at_stands n zero (r ∷ rs) h = ap (λ k. slot_stands desc db s k r) (let e : n + 0 ≡ n = omega arith in e) ∙ (and_parts (slot_stands desc db s n r) (slots_stand desc db s (n + 1) rs) h).0
   at_stands n (suc i) (r ∷ rs) h =
       ap (λ k. slot_stands desc db s k (or_free (slice_get rs i))) (let e : n + suc i ≡ (n + 1) + i = omega arith in e)
-      ∙ at_stands (n + 1) i rs (both_of (slot_stands desc db s n r) (slots_stand desc db s (n + 1) rs) h).1
+      ∙ at_stands (n + 1) i rs (and_parts (slot_stands desc db s n r) (slots_stand desc db s (n + 1) rs) h).1
 
   all_at : (n : ℕ) (rs : List SlotRead) → ((i : ℕ) → slot_stands desc db s (n + i) (or_free (slice_get rs i)) ≡ true) → slots_stand desc db s n rs ≡ true
   all_at n [] h = refl
@@ -182,29 +182,21 @@ lists_spell desc c spelt = record {
 one_fits : (desc : Described) (c : Content) (n : ℕ) → ((nat_le (length (c (file_of n))) 1048576 && list_all is_whole (c (file_of n))) && (is_some (structure_of desc n) || has_none (c (file_of n)))) ≡ true → OneFits desc c n
 one_fits desc c n h =
     let bs = c (file_of n) in
-    let two = both_of (nat_le (length bs) 1048576 && list_all is_whole bs) (is_some (structure_of desc n) || has_none bs) h in
-    let three = both_of (nat_le (length bs) 1048576) (list_all is_whole bs) two.0 in
+    let two = and_parts (nat_le (length bs) 1048576 && list_all is_whole bs) (is_some (structure_of desc n) || has_none bs) h in
+    let three = and_parts (nat_le (length bs) 1048576) (list_all is_whole bs) two.0 in
     record { few = grind (arith, nat_tests, three.0); whole = three.1; none = λ gone. sym (ap (λ o. is_some o || has_none bs) gone) ∙ two.1 }
 
 fits_in : (desc : Described) (c : Content) (k n i : ℕ) → files_fit desc c k n ≡ true → i < k → OneFits desc c (n + i)
 fits_in desc c zero n i h low = absurd (omega (arith, low))
 fits_in desc c (suc k) n zero h low =
-    let both = both_of ((nat_le (length (c (file_of n))) 1048576 && list_all is_whole (c (file_of n))) && (is_some (structure_of desc n) || has_none (c (file_of n)))) (files_fit desc c k (n + 1)) h in
+    let both = and_parts ((nat_le (length (c (file_of n))) 1048576 && list_all is_whole (c (file_of n))) && (is_some (structure_of desc n) || has_none (c (file_of n)))) (files_fit desc c k (n + 1)) h in
     subst (OneFits desc c) (let e : n ≡ n + 0 = omega arith in e) (one_fits desc c n both.0)
 fits_in desc c (suc k) n (suc i) h low =
-    let both = both_of ((nat_le (length (c (file_of n))) 1048576 && list_all is_whole (c (file_of n))) && (is_some (structure_of desc n) || has_none (c (file_of n)))) (files_fit desc c k (n + 1)) h in
+    let both = and_parts ((nat_le (length (c (file_of n))) 1048576 && list_all is_whole (c (file_of n))) && (is_some (structure_of desc n) || has_none (c (file_of n)))) (files_fit desc c k (n + 1)) h in
     subst (OneFits desc c) (let e : (n + 1) + i ≡ n + suc i = omega arith in e) (fits_in desc c k (n + 1) i both.1 (omega (arith, low)))
-
-both_files : (desc : Described) (c : Content) → is_spelled desc c ≡ true → (files_spell desc (db_in desc c) c desc.structures ≡ true) × (files_fit desc c 200 1 ≡ true)
-unfolding is_spelled
-both_files desc c h = both_of (files_spell desc (db_in desc c) c desc.structures) (files_fit desc c 200 1) h
 
 all_fit : (desc : Described) (c : Content) → is_spelled desc c ≡ true → SlotsFit desc c
 all_fit desc c spelt n low most = subst (OneFits desc c) (let e : 1 + (n - 1) ≡ n = omega (arith, low) in e) (fits_in desc c 200 1 (n - 1) (both_files desc c spelt).1 (omega (arith, low, most)))
-
-no_manual : (desc : Described) (c : Content) → (db_in desc c).entries ≡ []
-unfolding db_in
-no_manual desc c = refl
 
 -- what the files of a content that spells a database are
 pub record SpellsFiles (desc : Described) (db : Db) (c : Content) : Type 0 where

@@ -5,6 +5,7 @@ use Rattle.std.specs.declared.option.Option.{Option}
 use Rattle.std.specs.FinMap.{get}
 use Rattle.std.specs.Ordering.{eq_by_cmp}
 use Rattle.std.proofs.lemmas.Bool.{cases_eq}
+use Rattle.std.proofs.lemmas.Option.{same_Some}
 use Rattle.dms_block.specs.Content.{Content, with_block}
 use Rattle.dms_block.specs.ContentLaws.{in_file, in_others, laid_length}
 use Rattle.dms_desc.specs.Lookups.{structure_of}
@@ -21,6 +22,7 @@ use Rattle.dms_store.specs.PuttingSlots.{FileStands, RecordsStand, SlotStands, o
 use Rattle.dms_store.specs.Rows.{rec_in, rec_opt}
 use Rattle.dms_store.specs.Serving.{IsServed}
 use Rattle.dms_store.specs.Spelled.{file_in}
+use Rattle.dms_layout.specs.ReadLaws.{used_one}
 
 -- One slot of a data set's file is now this one, and all others are as they were. So are all other files.
 pub record SlotChanged (s : Shape) (number : ℕ) (slot : Slot) (c d : Content) : Type 0 where
@@ -49,12 +51,6 @@ slot_written desc set number s slot c served at fits low next all =
       few = few_laid c (file_of s.number) (block_of s.items number) _ next;
     }
 
-some_used : (a b : Slot) → Used a ≡ Used b → a ≡ b
-some_used a b h = cc
-
-some_shape : (a b : Shape) → ◌≡◌ {A = Option Shape} (Some a) (Some b) → a ≡ b
-some_shape a b h = cc
-
 module _ (desc : Described) (served : IsServed desc) (db after : Db) (own moved : ℕ → ℕ → ℕ) (c d : Content) (set number : ℕ) (s : Shape) (slot : Slot) (at : structure_of desc set ≡ Some s) (is_set : is_data_set (Some s) ≡ true) (low : 1 ≤ number)
     (change : SlotChanged s number slot c d) (new : (p : Place) → get after.records p ≡ cond (eq_by_cmp place_cmp p (set, number)) (Some slot.rec) (get db.records p))
     (others : (t : Shape) (n : ℕ) (x : Slot) → 1 ≤ t.number → (t.number ≡ set → n ≡ number → ⊥) → SlotStands desc db own t n x → SlotStands desc after moved t n x)
@@ -68,7 +64,7 @@ module _ (desc : Described) (served : IsServed desc) (db after : Db) (own moved 
     slots = λ n x one is. elim (cases_eq n number) [
       | inl same ↦
           let now : Used slot ≡ Used x = sym (ap (λ m. slot_at s (file_in d s) m) same ∙ change.here) ∙ is in
-          subst (λ (y : Slot). SlotStands desc after moved s n y) (some_used slot x now) (subst (λ m. SlotStands desc after moved s m slot) (sym same) here)
+          subst (λ (y : Slot). SlotStands desc after moved s n y) (used_one slot x now) (subst (λ m. SlotStands desc after moved s m slot) (sym same) here)
       | inr apart ↦ others s n x (omega (arith, its_number, low_set set at)) (λ e f. apart f) (file.slots n x one (sym (change.others n one apart) ∙ is))
     ];
   }
@@ -117,7 +113,7 @@ module _ (desc : Described) (served : IsServed desc) (db after : Db) (own moved 
   ]
 
   same_shape : (n : ℕ) (t : Shape) → structure_of desc n ≡ Some t → n ≡ set → s ≡ t
-  same_shape n t there e = some_shape s t (sym at ∙ ap (structure_of desc) (sym e) ∙ there)
+  same_shape n t there e = same_Some s t (sym at ∙ ap (structure_of desc) (sym e) ∙ there)
 
   -- The files have the records with that one.
   pub step : RecordsStand desc db own c → RecordsStand desc after moved d

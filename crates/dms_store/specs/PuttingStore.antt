@@ -11,7 +11,7 @@ use Rattle.dms_block.specs.declared.block_fault.BlockFault.TheVariants.{Disk, Me
 use Rattle.dms_block.specs.declared.blocks.Blocks.{Ghosts}
 use Rattle.dms_block.specs.declared.overlay.Overlay.{Overlay}
 use Rattle.dms_block.specs.Content.{Content}
-use Rattle.dms_block.specs.Faults.{Unbroken, Undamaged}
+use Rattle.dms_block.specs.Faults.{IfFull, Unbroken, Undamaged}
 use Rattle.dms_block.specs.Held.{BlocksAgree, HasCausesOr, Held}
 use Rattle.dms_block.specs.HeldLaws.{unbroken_map}
 use Rattle.dms_block.specs.View.{under, written}
@@ -20,13 +20,13 @@ use Rattle.dms_desc.specs.declared.structure.Structure.{Structure}
 use Rattle.dms_desc.specs.declared.record.Record.{Record}
 use Rattle.dms_model.specs.declared.put.Put.{Put}
 use Rattle.dms_model.specs.Db.{Db}
-use Rattle.dms_model.specs.Fitting.{IsDataSet}
+use Rattle.dms_model.specs.Fitting.{IsDataSet, IsStored}
 use Rattle.dms_model.specs.Seen as store
 use Rattle.dms_model.specs.Stores.{put_after, put_answer}
 use Rattle.dms_store.specs.Lifted.{IsUsable, db_of, store_seen}
 use Rattle.dms_store.specs.LiftedLaws.{causes_lifted, db_same, keeps_points_lifted, silent_lifted, usable_on}
 use Rattle.dms_store.specs.Noted.{causes_noted, noted_by}
-use Rattle.dms_store.specs.Putting.{Answers, MayStore}
+use Rattle.dms_store.specs.Putting.{Answers, FullStored, MayStore}
 use Rattle.dms_store.specs.PuttingCalls.{HandsDown}
 use Rattle.dms_store.specs.Spelled.{spelled}
 use Rattle.dms_store.specs.Undamaged.{not_set, undamaged_or}
@@ -46,7 +46,11 @@ abbrev pub Stores : Described → Option Db → Option Db → ℕ → Option ℕ
 Stores desc old new set number rec answer = (db : Db) → old ≡ Some db → MayStore desc db set number rec
     → (answer ≡ put_answer desc db set number rec) × (new ≡ Some (put_after (put_answer desc db set number rec) desc db set rec))
 
-mute_or : {T : Type 0} (P : ℕ → ℕ → Type 0) (r : Result T BlockFault) (a b : Held) → HasCausesOr P r a b → IsErrOf r Say → ⊥
+-- where the audit had no room for a record that may be stored, it was to be stored
+abbrev pub FullWhere : Described → Option Db → ℕ → Option ℕ → Record → Result Put BlockFault → Type 0
+FullWhere desc old set number rec result = (db : Db) → old ≡ Some db → MayStore desc db set number rec → IfFull result (λ f. IsStored (put_answer desc db set number rec))
+
+pub mute_or : {T : Type 0} (P : ℕ → ℕ → Type 0) (r : Result T BlockFault) (a b : Held) → HasCausesOr P r a b → IsErrOf r Say → ⊥
 mute_or P (Ok x) a b h is = absurd (cc)
 mute_or P (Err Disk) a b h is = absurd (cc)
 mute_or P (Err Memory) a b h is = absurd (cc)
@@ -75,19 +79,19 @@ pub few_structures : (desc : Described) (ss : List Structure) (set : ℕ) → de
 few_structures desc ss set are is = omega (arith, some_structure desc set is, ap (λ (l : List Shape). length l) are, length-map ss shape_of)
 
 module _ {B : Type 0} {g : Ghosts B} (desc : Described) (found found' : ℕ) (o o' : Overlay B g) where
-  pub changed : {T : Type 0} (m k : ℕ) (r : Result T BlockFault) → m ≤ k → found < 2 ^ 64 → found' ≡ noted_by r found → IsUsable desc o → BlocksAgree (under o) → written o' ≡ [] → HandsDown m r o o'
+  pub changed : {T : Type 0} (m k : ℕ) (r : Result T BlockFault) → m ≤ k → found < 2 ^ 64 → found' ≡ noted_by r found → IsUsable desc o → BlocksAgree (under o) → ((x y : B) → g.same_blocks x y → g.last y ≡ g.last x) → written o' ≡ [] → HandsDown m r o o'
       → ((db : Db) → IsTrue (under o).told → spelled desc (under o).content ≡ Some db → HasCausesOr (λ f b. ⊥) r (under o) (under o')) → ChangesAtMost k r (store_seen desc found o) (store_seen desc found' o')
-  changed m k r le small noted usable agrees none hands below =
+  changed m k r le small noted usable agrees law none hands below =
       let lasts = hands.alters.passes.lasts in
       let uses = hands.alters.uses in
       record {
         memory = λ is. db_same desc (under o).told (under o').told (under o).content (under o').content lasts.told (hands.alters.memory is).content;
-        keeps = unbroken_map r (λ stays. keeps_points_lifted desc (IsUsable desc o) (IsUsable desc o') found found' (under o) (under o') (usable_on desc o o' usable lasts stays.sound none) lasts stays) hands.alters.stays;
-        silent = silent_lifted desc (IsUsable desc o) (IsUsable desc o') found found' (under o) (under o') hands.alters.passes;
+        keeps = unbroken_map r (λ stays. keeps_points_lifted desc (IsUsable desc o) (IsUsable desc o') found found' (g.last o.below) (g.last o'.below) (under o) (under o') (usable_on desc o o' usable lasts stays.sound none) lasts stays) hands.alters.stays;
+        silent = silent_lifted desc (IsUsable desc o) (IsUsable desc o') found found' (g.last o.below) (g.last o'.below) (under o) (under o') hands.alters.passes;
         effort = record { least = uses.not_less; spent = omega (arith, uses.spent, le); syncs = uses.syncs; outs = uses.outs };
         undamaged = λ d told. let t = told_db desc (under o).told (under o).content d told in undamaged_or desc (under o) usable.serves agrees d told (λ f b. ⊥) r (under o') (λ f b h. h) (below d t.0 t.1);
         mute_fault = mute_or (λ f b. ⊤) r (under o) (under o') hands.causes;
-        causes = causes_lifted desc (IsUsable desc o) (IsUsable desc o') found found' (under o) (under o') r lasts uses.not_fewer (causes_noted (under o) (under o') found found' small (λ f b. ⊤) r noted hands.causes);
+        causes = causes_lifted desc (IsUsable desc o) (IsUsable desc o') found found' (g.last o.below) (g.last o'.below) (under o) (under o') r lasts (law o.below o'.below hands.same) uses.not_fewer (causes_noted (under o) (under o') found found' small (λ f b. ⊤) r noted hands.causes);
       }
 
   -- the database after it
@@ -99,3 +103,6 @@ module _ {B : Type 0} {g : Ghosts B} (desc : Described) (found found' : ℕ) (o 
       let answer = h t.0 db t.1 may in
       let told : (under o').told ≡ true = hands.alters.passes.lasts.told ∙ t.0 in
       (answer.0, ap (λ b. db_of desc b (under o').content) told ∙ answer.1 ∙ ap (λ a. Some (put_after a desc db set rec)) answer.0)) answers
+
+  pub full_where : (set : ℕ) (number : Option ℕ) (rec : Record) (r : Result Put BlockFault) → (IsTrue (under o).told → FullStored desc (under o).content set number rec r) → FullWhere desc (store_seen desc found o).db set number rec r
+  full_where set number rec r stored db is may = let t = told_db desc (under o).told (under o).content db is in stored t.0 db t.1 may

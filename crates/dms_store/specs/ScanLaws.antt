@@ -6,6 +6,7 @@ use Rattle.std.specs.FinMap.{entries}
 use Rattle.std.specs.Ordering.{nat_cmp, ordering_then, is_lt, is_gt}
 use Rattle.std.specs.declared.cmp.Ordering.TheVariants.{Greater}
 use Rattle.std.proofs.lemmas.Bool.Decides.{nat_tests}
+use Rattle.std.proofs.lemmas.Option.{same_Some}
 use Rattle.dms_base.specs.declared.value.Value.{Value}
 use Rattle.dms_block.specs.Content.{Content}
 use Rattle.dms_desc.specs.declared.bound.Bound.{Bound}
@@ -271,15 +272,12 @@ one_test a le = grind (arith, nat_tests)
 none_test : (a : ℕ) → false ≡ nat_lt a 0
 none_test a = grind (arith, nat_tests)
 
-same_some : (a b : ℕ) → Some a ≡ Some b → a ≡ b
-same_some a b h = cc h
-
 module _ (owner : ℕ) where
   behind : (from : Bound) (m : ℕ) (rs : List SlotRead) → start_of from ≡ Some m → first (is_after_bound [] from) (spots_from owner 1 rs) ≡ first_used owner (1 + m) (drop m rs)
-  behind Start m rs is = first_same owner _ _ 1 rs (omega arith) (λ x le. one_test x.number le) ∙ skipped owner 0 1 (1 + 0) rs (omega arith) ∙ ap (λ j. first_used owner (1 + j) (drop j rs)) (same_some 0 m is)
+  behind Start m rs is = first_same owner _ _ 1 rs (omega arith) (λ x le. one_test x.number le) ∙ skipped owner 0 1 (1 + 0) rs (omega arith) ∙ ap (λ j. first_used owner (1 + j) (drop j rs)) (same_Some 0 m is)
   behind End m rs is = absurd (cc is)
-  behind (At key n) m rs is = first_same owner _ _ 1 rs (omega arith) (λ x le. at_test x.number n) ∙ skipped owner n 1 (1 + n) rs refl ∙ ap (λ j. first_used owner (1 + j) (drop j rs)) (same_some n m is)
-  behind (From key) m rs is = first_same owner _ _ 1 rs (omega arith) (λ x le. from_all key x ∙ one_test x.number le) ∙ skipped owner 0 1 (1 + 0) rs (omega arith) ∙ ap (λ j. first_used owner (1 + j) (drop j rs)) (same_some 0 m is)
+  behind (At key n) m rs is = first_same owner _ _ 1 rs (omega arith) (λ x le. at_test x.number n) ∙ skipped owner n 1 (1 + n) rs refl ∙ ap (λ j. first_used owner (1 + j) (drop j rs)) (same_Some n m is)
+  behind (From key) m rs is = first_same owner _ _ 1 rs (omega arith) (λ x le. from_all key x ∙ one_test x.number le) ∙ skipped owner 0 1 (1 + 0) rs (omega arith) ∙ ap (λ j. first_used owner (1 + j) (drop j rs)) (same_Some 0 m is)
 
   behind_none : (from : Bound) (xs : List Spot) → start_of from ≡ None → first (is_after_bound [] from) xs ≡ None
   behind_none Start xs is = absurd (cc is)

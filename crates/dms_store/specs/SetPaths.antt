@@ -4,6 +4,7 @@ use Rattle.std.specs.Prelude.{◌==◌, nat_lt}
 use Rattle.std.specs.List.{AllByRecursion}
 use Rattle.std.specs.declared.option.Option.{Option}
 use Rattle.std.proofs.lemmas.Bool.Decides.{nat_tests}
+use Rattle.std.proofs.lemmas.Bool.{and_parts}
 use Rattle.dms_base.specs.declared.kind.ItemKind.{ItemKind}
 use Rattle.dms_base.specs.declared.value.Value.{Value}
 use Rattle.dms_base.specs.Fits.{IsKind}
@@ -27,7 +28,6 @@ use Rattle.dms_sets.specs.Entries.{kinds_of}
 use Rattle.dms_sets.specs.Finds.{first_member_by, last_member_by, spot_by}
 use Rattle.dms_sets.specs.Padded.{BoundSmall, from_bytes, to_bytes}
 use Rattle.dms_sets.specs.Sets.{entries_of, items_over, kinds_over}
-use Rattle.dms_sets.specs.Tests.{both_of}
 use Rattle.dms_store.specs.Finding.{served_at, structure_there}
 use Rattle.dms_store.specs.Rows.{AreNumbered}
 use Rattle.dms_store.specs.Serving.{IsServed, IsServedSet, IsServedShape}
@@ -107,7 +107,7 @@ keys_fit : (items : List Item) (ps : List KeyPart) (key : List Value) → AreKin
 keys_fit items ps [] kinds fit plain = tt
 keys_fit items [] (v ∷ vs) kinds fit plain = absurd (cc)
 keys_fit items (p ∷ ps) (v ∷ vs) kinds fit plain =
-    let both = both_of (fits_item (slice_get items (p.item - 1)) v) (key_fits ps items vs) fit in
+    let both = and_parts (fits_item (slice_get items (p.item - 1)) v) (key_fits ps items vs) fit in
     (part_fits items p v (slice_get items (p.item - 1)) refl kinds both.0 plain.0, keys_fit items ps vs kinds both.1 plain.1)
 
 bound_fits : (items : List Item) (ps : List KeyPart) (bound : Bound) → AreKinds items → fitting.BoundFits ps items bound → bounds.BoundKeyFits (kinds_of items) ps bound × BoundSmall (kinds_of items) ps bound
@@ -124,7 +124,7 @@ kinds_at desc None n served at = tt
 kinds_at desc (Some s) n served at = (served_at desc n s served at).kinds
 
 kept_apart : (s : Shape) → is_set_or_automatic s ≡ true → (s.kind == 5) ≡ false
-kept_apart s h = let both = both_of (nat_lt 2 s.kind) (nat_lt s.kind 5) h in grind (arith, nat_tests, both.1)
+kept_apart s h = let both = and_parts (nat_lt 2 s.kind) (nat_lt s.kind 5) h in grind (arith, nat_tests, both.1)
 
 -- what may be looked for in a path may be looked for in its list
 pub may_look : (desc : Described) (path : ℕ) (s : Shape) → IsServed desc → structure_of desc path ≡ Some s → (owner : ℕ) (bound : Bound) → MayStart desc path owner bound

@@ -6,6 +6,8 @@ use Rattle.std.specs.declared.option.Option.{Option}
 use Rattle.std.specs.FinMap.{get, entries, keys, empty, from_entries, get-from_entries, find, len-empty, len-entries}
 use Rattle.std.specs.Ordering.{eq_by_cmp}
 use Rattle.std.proofs.lemmas.Bool.Decides.{nat_tests}
+use Rattle.std.proofs.lemmas.Option.{same_Some}
+use Rattle.std.proofs.lemmas.Bool.{and_parts}
 use Rattle.dms_base.specs.declared.value.Value.{Value}
 use Rattle.dms_base.specs.declared.value.Value.TheVariants.{Null, Text, Number, Bool as Truth, Bits, Link as Reference}
 use Rattle.dms_base.specs.declared.kind.ItemKind.{ItemKind}
@@ -32,12 +34,12 @@ use Rattle.dms_ordlist.specs.Lists.{empty_keys}
 use Rattle.dms_sets.specs.Listing.{listing}
 use Rattle.dms_sets.specs.Padded.{entry_width}
 use Rattle.dms_sets.specs.Sets.{entries_of, kinds_over, entry_of}
-use Rattle.dms_sets.specs.Spots.{some_item, ValuesFit, RecordHasSpot, RecordsHaveSpots}
+use Rattle.dms_sets.specs.Spots.{ValuesFit, RecordHasSpot, RecordsHaveSpots}
 use Rattle.dms_slots.specs.SlotBlocks.{file_of, slots_of, slots_in, slots_by, cut, is_block, per_block}
 use Rattle.dms_store.specs.Spelled.{rows_from, file_in, rows_in, db_in, counted_in, owned_in, links_stand, slot_stands, slots_stand, is_list_of, has_none, file_spells, files_spell, is_whole, files_fit, is_spelled, some_if, spelled}
-use Rattle.dms_sets.specs.Tests.{both_of, tied}
 use Rattle.dms_desc.specs.Kinds.{is_set_or_automatic}
 use Rattle.dms_model.specs.Places.{places_same, places_total}
+use Rattle.dms_model.specs.MemberLaws.{equal_of}
 
 -- ---- a content without blocks
 
@@ -67,7 +69,11 @@ no_entries desc s = ap (λ es. keys_in (kinds_over desc s) s es) no_rows ∙ emp
     keys_in : List ItemKind → Shape → List (Place × Record) → List (List ℕ)
     keys_in kinds s es = keys (listing (entry_of kinds s) es)
 
-nothing_listed : (w : ℕ) → list_in w [] ≡ Some []
+pub no_manual : (desc : Described) (c : Content) → (db_in desc c).entries ≡ []
+unfolding db_in
+no_manual desc c = refl
+
+pub nothing_listed : (w : ℕ) → list_in w [] ≡ Some []
 unfolding list_in
 nothing_listed w = refl
 
@@ -129,7 +135,7 @@ pub links_still : (old new : Records) (is : List Item) (vs : List Value) → ((p
 links_still old new [] vs more h = refl
 links_still old new (i ∷ is) [] more h = refl
 links_still old new (i ∷ is) (v ∷ vs) more h =
-    let both = both_of (link_stands old i.kind v) (links_stand old is vs) h in
+    let both = and_parts (link_stands old i.kind v) (links_stand old is vs) h in
     (λ j. still_stands old new i.kind v more both.0 j && links_still old new is vs more both.1 j)
 
 -- ---- the records
@@ -191,10 +197,10 @@ file_fits s (b ∷ bs) = all_append (UsedFits s) (slots_in s b) (slots_of s bs) 
 module _ (desc : Described) (db : Db) (s : Shape) (is : structure_of desc s.number ≡ Some s) (data_set : is_data_set (Some s) ≡ true) (kinds : AreKinds s.items) (small : s.population < 2 ^ 32) where
   slot_record : (n : ℕ) (slot : Slot) → 1 ≤ n → SlotFits s slot → slot_stands desc db s n (Used slot) ≡ true → RecordStands desc db (s.number, n) slot.rec
   slot_record n slot low fits h =
-      let two = both_of (nat_le n s.population && (owner_stands db.records s.owner slot.rec.owner && links_stand db.records s.items slot.rec.values)) ((slot.counted == counted_in desc db s.number n) && (slot.owned == owned_in desc db s.number n)) h in
-      let place = both_of (nat_le n s.population) (owner_stands db.records s.owner slot.rec.owner && links_stand db.records s.items slot.rec.values) two.0 in
-      let refers = both_of (owner_stands db.records s.owner slot.rec.owner) (links_stand db.records s.items slot.rec.values) place.1 in
-      let counts = both_of (slot.counted == counted_in desc db s.number n) (slot.owned == owned_in desc db s.number n) two.1 in
+      let two = and_parts (nat_le n s.population && (owner_stands db.records s.owner slot.rec.owner && links_stand db.records s.items slot.rec.values)) ((slot.counted == counted_in desc db s.number n) && (slot.owned == owned_in desc db s.number n)) h in
+      let place = and_parts (nat_le n s.population) (owner_stands db.records s.owner slot.rec.owner && links_stand db.records s.items slot.rec.values) two.0 in
+      let refers = and_parts (owner_stands db.records s.owner slot.rec.owner) (links_stand db.records s.items slot.rec.values) place.1 in
+      let counts = and_parts (slot.counted == counted_in desc db s.number n) (slot.owned == owned_in desc db s.number n) two.1 in
       record {
         shape = s;
         slot = slot;
@@ -216,7 +222,7 @@ module _ (desc : Described) (db : Db) (s : Shape) (is : structure_of desc s.numb
   rows_stand n [] low all h = tt
   rows_stand n (Free ∷ rs) low all h = rows_stand (n + 1) rs (omega (arith, low)) all.1 h
   rows_stand n (Used slot ∷ rs) low all h =
-      let both = both_of (slot_stands desc db s n (Used slot)) (slots_stand desc db s (n + 1) rs) h in
+      let both = and_parts (slot_stands desc db s n (Used slot)) (slots_stand desc db s (n + 1) rs) h in
       (slot_record n slot low (all.0 slot refl) both.0, rows_stand (n + 1) rs (omega (arith, low)) all.1 both.1)
   rows_stand n (Bad ∷ rs) low all h = absurd (cc)
 
@@ -228,20 +234,20 @@ turn_stands true desc db c s rest data_set is kinds small h all =
     let file : (list_all (is_block s) bs && slots_stand desc db s 1 (slots_of s bs)) ≡ true =
     sym (ap (λ b. cond b (list_all (is_block s) bs && slots_stand desc db s 1 (slots_of s bs)) (cond (is_set_or_automatic s) (is_list_of (list_in (entry_width (kinds_over desc s) s.parts) bs) (entries_of desc db s)) (has_none bs))) data_set) ∙ h in
     all_append (StandsAt desc db) (rows_from s.number 1 (slots_of s bs)) rest
-    (rows_stand desc db s is data_set kinds small 1 (slots_of s bs) (omega arith) (file_fits s bs) (both_of (list_all (is_block s) bs) (slots_stand desc db s 1 (slots_of s bs)) file).1) all
+    (rows_stand desc db s is data_set kinds small 1 (slots_of s bs) (omega arith) (file_fits s bs) (and_parts (list_all (is_block s) bs) (slots_stand desc db s 1 (slots_of s bs)) file).1) all
 turn_stands false desc db c s rest data_set is kinds small h all = all
 
 all_stand : (desc : Described) (db : Db) (c : Content) (ss : List Shape) → AllByRecursion (λ s. structure_of desc s.number ≡ Some s) ss → AllByRecursion (λ s. AreKinds s.items) ss → AllByRecursion (λ s. s.population < 2 ^ 32) ss
     → files_spell desc db c ss ≡ true → AllByRecursion (StandsAt desc db) (rows_in c ss)
 all_stand desc db c [] numbers kinds small h = tt
 all_stand desc db c (s ∷ ss) numbers kinds small h =
-    let both = both_of (file_spells desc db s (file_in c s)) (files_spell desc db c ss) h in
+    let both = and_parts (file_spells desc db s (file_in c s)) (files_spell desc db c ss) h in
     turn_stands (is_data_set (Some s)) desc db c s (rows_in c ss) refl numbers.0 kinds.0 small.0 both.0 (all_stand desc db c ss numbers.1 kinds.1 small.1 both.1)
 
 -- what holds of all rows holds of one that is found
 found_at : (P : Place × Record → Type 0) (b : Bool) (p : Place) (rec : Record) (e : Place × Record) (o : Option Record) → eq_by_cmp place_cmp p e.0 ≡ b → P e → (o ≡ Some rec → P (p, rec)) → cond b (Some e.1) o ≡ Some rec → P (p, rec)
 found_at P true p rec e o same here rest h =
-    let place : e.0 ≡ p = sym (places_same p e.0 (tied (place_cmp p e.0) same)) in
+    let place : e.0 ≡ p = sym (places_same p e.0 (equal_of (place_cmp p e.0) same)) in
     let value : e.1 ≡ rec = some_record e.1 rec h in
     subst P (λ i. (place i, value i)) here
   where
@@ -270,7 +276,7 @@ spells desc c db h = spells_if (is_spelled desc c) desc c db refl h
 
 files_of : (desc : Described) (c : Content) → is_spelled desc c ≡ true → files_spell desc (db_in desc c) c desc.structures ≡ true
 unfolding is_spelled
-files_of desc c h = (both_of (files_spell desc (db_in desc c) c desc.structures) (files_fit desc c 200 1) h).0
+files_of desc c h = (and_parts (files_spell desc (db_in desc c) c desc.structures) (files_fit desc c 200 1) h).0
 
 stands_in : (desc : Described) (c : Content) → IsFormed desc → is_spelled desc c ≡ true → (place : Place) (rec : Record) → get (from_entries {R = place_cmp} (rows_in c desc.structures)) place ≡ Some rec → RecordStands desc (db_in desc c) place rec
 stands_in desc c formed h place rec at =
@@ -293,10 +299,10 @@ pub value_fits : (items : List Item) (values : List Value) (k : ℕ) (item : Ite
 value_fits [] values k item kinds fit plain at = absurd (cc)
 value_fits (i ∷ is) [] k item kinds fit plain at = absurd (cc)
 value_fits (i ∷ is) (v ∷ vs) zero item kinds fit plain at =
-    let both = both_of (fits i.kind v) (values_fit is vs) fit in
-    let same : i ≡ item = some_item i item at in
+    let both = and_parts (fits i.kind v) (values_fit is vs) fit in
+    let same : i ≡ item = same_Some i item at in
     subst (λ (j : Item). FitsKind j.kind v) same (record { kind = kinds.0; fits = both.0; plain = plain.0 })
-value_fits (i ∷ is) (v ∷ vs) (suc k) item kinds fit plain at = value_fits is vs k item kinds.1 (both_of (fits i.kind v) (values_fit is vs) fit).1 plain.1 at
+value_fits (i ∷ is) (v ∷ vs) (suc k) item kinds fit plain at = value_fits is vs k item kinds.1 (and_parts (fits i.kind v) (values_fit is vs) fit).1 plain.1 at
 
 record_fits : (desc : Described) (db : Db) (place : Place) (rec : Record) → RecordStands desc db place rec → RecordHasSpot desc place rec
 record_fits desc db place rec r =
@@ -315,13 +321,6 @@ spelled_fits desc c db formed h place rec at = record_fits desc db place rec (sp
 abbrev pub AreDisjoint : Described → Type 0
 AreDisjoint desc = (n : ℕ) (shape : Shape) → structure_of desc n ≡ Some shape → is_data_set (Some shape) ≡ true → shape.owner ≡ 0
 
-some_shape : (x y : Shape) → ◌≡◌ {A = Option Shape} (Some x) (Some y) → x ≡ y
-some_shape x y h = cc
-
-no_manual : (desc : Described) (c : Content) → (db_in desc c).entries ≡ []
-unfolding db_in
-no_manual desc c = refl
-
 -- where all data sets are disjoint, a database that is spelled has no embedded record, and no entry of a manual subset
 pub spelled_flat : (desc : Described) (c : Content) (db : Db) → IsFormed desc → AreDisjoint desc → spelled desc c ≡ Some db → IsFlat desc db
 spelled_flat desc c db formed disjoint h =
@@ -329,5 +328,5 @@ spelled_flat desc c db formed disjoint h =
       entries = subst (λ (d : Db). d.entries ≡ []) (spells desc c db h).is (no_manual desc c);
       disjoint = λ place rec shape at is.
           let r = spelled_stands desc c db formed h place rec at in
-          disjoint place.0 shape is (subst (λ (o : Shape). is_data_set (Some o) ≡ true) (some_shape r.shape shape (sym r.is ∙ is)) r.data_set);
+          disjoint place.0 shape is (subst (λ (o : Shape). is_data_set (Some o) ≡ true) (same_Some r.shape shape (sym r.is ∙ is)) r.data_set);
     }

@@ -17,4 +17,4 @@ module _ {B : Type 0} {g : Ghosts B} where
   -- what a usable store tells hangs together where what its blocks tell does
   pub store_agrees : ((b : B) → (g.held b).sound → BlocksAgree (g.held b)) → (s : BlockStore B g) → (seen_by s).sound → StoreAgrees (seen_by s)
   store_agrees agrees s sound =
-      agrees_lifted (described s.desc) (IsUsable (described s.desc) s.over) s.found (under s.over) sound.serves.schema (agrees s.over.below sound.sound)
+      agrees_lifted (described s.desc) (IsUsable (described s.desc) s.over) s.found (g.last s.over.below) (under s.over) sound.serves.schema (agrees s.over.below sound.sound)

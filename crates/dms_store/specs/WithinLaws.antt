@@ -3,6 +3,7 @@ use Rattle.std.proofs.Common.{◌≡◌, ◌∙◌, ◌+◌, ◌≤◌, ◌<◌,
 use Rattle.std.specs.Prelude.{◌&&◌, ◌==◌, nat_le, nat_lt}
 use Rattle.std.specs.declared.option.Option.{Option}
 use Rattle.std.proofs.lemmas.Bool.Decides.{nat_tests}
+use Rattle.std.proofs.lemmas.Bool.{and_parts}
 use Rattle.dms_desc.specs.Lookups.{over_of, parts_of, set_of, structure_of}
 use Rattle.dms_desc.specs.Kinds.{over}
 use Rattle.dms_desc.specs.Keys.{key_of}
@@ -18,7 +19,6 @@ use Rattle.dms_model.specs.declared.spot.Spot.{Spot}
 use Rattle.dms_model.specs.Db.{Db}
 use Rattle.dms_model.specs.Fitting.{RecordFits, SpotFits, is_number}
 use Rattle.dms_model.specs.Valid.{is_data_set, owner_stands}
-use Rattle.dms_sets.specs.Tests.{both_of}
 use Rattle.dms_slots.specs.SlotBlocks.{slot_opt}
 use Rattle.dms_store.specs.Finding.{slot_record}
 use Rattle.dms_store.specs.Scans.{IsRecordSpot, first_used, last_used, owned_spot, spot}
@@ -28,12 +28,12 @@ module _ (desc : Described) (db : Db) (s : Shape) where
   low_number : (n : ℕ) (slot : Slot) → slot_stands desc db s n (Used slot) ≡ true → n ≤ s.population
   low_number n slot h =
       let stands = owner_stands db.records s.owner slot.rec.owner && links_stand db.records s.items slot.rec.values in
-      let two = both_of (nat_le n s.population && stands) ((slot.counted == counted_in desc db s.number n) && (slot.owned == owned_in desc db s.number n)) h in
-      let one = both_of (nat_le n s.population) stands two.0 in
+      let two = and_parts (nat_le n s.population && stands) ((slot.counted == counted_in desc db s.number n) && (slot.owned == owned_in desc db s.number n)) h in
+      let one = and_parts (nat_le n s.population) stands two.0 in
       grind (arith, nat_tests, one.0)
 
   rest_stands : (n : ℕ) (r : SlotRead) (rs : List SlotRead) → slots_stand desc db s n (r ∷ rs) ≡ true → slots_stand desc db s (n + 1) rs ≡ true
-  rest_stands n r rs h = (both_of (slot_stands desc db s n r) (slots_stand desc db s (n + 1) rs) h).1
+  rest_stands n r rs h = (and_parts (slot_stands desc db s n r) (slots_stand desc db s (n + 1) rs) h).1
 
   drop_stands : (n m : ℕ) (rs : List SlotRead) → slots_stand desc db s n rs ≡ true → slots_stand desc db s (n + m) (drop m rs) ≡ true
   drop_stands n zero rs h = ap (λ k. slots_stand desc db s k rs) (let e : n + 0 ≡ n = omega arith in e) ∙ h
@@ -44,13 +44,13 @@ module _ (desc : Described) (db : Db) (s : Shape) where
     none_above : (n : ℕ) (rs : List SlotRead) → s.population < n → slots_stand desc db s n rs ≡ true → first_used owner n rs ≡ None
     none_above n [] high h = refl
     none_above n (Free ∷ rs) high h = none_above (n + 1) rs (omega (arith, high)) (rest_stands n Free rs h)
-    none_above n (Used slot ∷ rs) high h = absurd (omega (arith, high, low_number n slot (both_of (slot_stands desc db s n (Used slot)) (slots_stand desc db s (n + 1) rs) h).0))
+    none_above n (Used slot ∷ rs) high h = absurd (omega (arith, high, low_number n slot (and_parts (slot_stands desc db s n (Used slot)) (slots_stand desc db s (n + 1) rs) h).0))
     none_above n (Bad ∷ rs) high h = absurd (cc)
 
     none_last : (n : ℕ) (rs : List SlotRead) → s.population < n → slots_stand desc db s n rs ≡ true → last_used owner n rs ≡ None
     none_last n [] high h = refl
     none_last n (Free ∷ rs) high h = ap (λ o. or_else o None) (none_last (n + 1) rs (omega (arith, high)) (rest_stands n Free rs h))
-    none_last n (Used slot ∷ rs) high h = absurd (omega (arith, high, low_number n slot (both_of (slot_stands desc db s n (Used slot)) (slots_stand desc db s (n + 1) rs) h).0))
+    none_last n (Used slot ∷ rs) high h = absurd (omega (arith, high, low_number n slot (and_parts (slot_stands desc db s n (Used slot)) (slots_stand desc db s (n + 1) rs) h).0))
     none_last n (Bad ∷ rs) high h = absurd (cc)
 
     first_within : (n k : ℕ) (rs : List SlotRead) → s.population < n + k → slots_stand desc db s n rs ≡ true → first_used owner n (take k rs) ≡ first_used owner n rs

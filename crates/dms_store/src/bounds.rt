@@ -1,4 +1,4 @@
-ghost use Rattle.std.specs.Prelude.{◌≡◌, ◌++◌, ◌+◌, ◌≤◌, ◌<◌, ◌^◌, [], IfOk, OnOk, length, replicate};
+ghost use Rattle.std.specs.Prelude.{◌≡◌, ◌++◌, ◌+◌, ◌≤◌, ◌<◌, ◌^◌, IfOk, OnOk, length, replicate};
 ghost use Rattle.std.specs.Int.{w32, to_be_bytes};
 ghost use Rattle.dms_key.specs.KeyBytes.{key_bytes};
 ghost use Rattle.dms_ordlist.specs.Lists.{padded};

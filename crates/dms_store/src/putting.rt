@@ -3,6 +3,7 @@ ghost use Rattle.std.specs.List.{list_all};
 ghost use Rattle.std.specs.Option.{option_copied};
 ghost use Rattle.std.specs.declared.option.Option.{Option};
 ghost use Rattle.dms_block.specs.Content.{Content};
+ghost use Rattle.dms_block.specs.Faults.{IfFull};
 ghost use Rattle.dms_block.specs.Held.{HasCausesOr};
 ghost use Rattle.dms_block.specs.View.{seen, under, written};
 ghost use Rattle.dms_desc.specs.Lookups.{structure_of};
@@ -15,7 +16,7 @@ ghost use Rattle.dms_model.specs.Valid.{is_data_set};
 ghost use Rattle.dms_slots.specs.Seen.{count_of};
 ghost use Rattle.dms_slots.specs.SlotBlocks.{block_of, file_of, slot_at, slot_opt};
 ghost use Rattle.dms_store.specs.Lifted.{IsUsable};
-ghost use Rattle.dms_store.specs.Putting.{Answers, AnswersOver};
+ghost use Rattle.dms_store.specs.Putting.{Answers, AnswersOver, FullStored};
 ghost use Rattle.dms_store.specs.PuttingAfter.{slot_after, with_record};
 ghost use Rattle.dms_store.specs.PuttingCalls.{WritesAtMost, HandsDown};
 ghost use Rattle.dms_store.specs.Owning.{AreSlots, IfOwned};
@@ -328,6 +329,8 @@ pub fn put<B: Blocks>(
     ensures hands_down { HandsDown (9 * length desc.now.structures + 2) result over.old over.new }
     ensures below { (db : Db) → IsTrue (under over.old).told → spelled (described desc.now) (under over.old).content ≡ Some db
         → HasCausesOr (λ f b. ⊥) result (under over.old) (under over.new) }
+    ensures full { IfFull result (λ f. f ≡ B.last over.old.below) }
+    ensures stored { IsTrue (under over.old).told → FullStored (described desc.now) (under over.old).content set number rec.now result }
     ensures answers { IfOk result (λ p. IsTrue (under over.old).told
         → Answers (described desc.now) (under over.old).content (under over.new).content set number rec.now p) }
 {

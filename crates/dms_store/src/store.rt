@@ -1,7 +1,6 @@
 ghost use Rattle.std.specs.Prelude.{◌≡◌, ◌<◌, ◌+◌, ◌^◌, ◌++◌, [], ◌∷◌, Some, IfOk, IfSome, IfErr, OnOk, IsErrOf, IsOkUnless, ◌*◌, length};
-ghost use Rattle.dms_block.specs.Faults.{Undamaged};
+ghost use Rattle.dms_block.specs.Faults.{IfFull, Undamaged};
 ghost use Rattle.dms_block.specs.Texts.{Prints};
-ghost use Rattle.dms_block.specs.View.{written};
 ghost use Rattle.dms_desc.specs.Shape.{described};
 ghost use Rattle.dms_model.specs.Db.{Db};
 ghost use Rattle.dms_model.specs.Fitting.{IsDataSet, IsNumber, IsStructure, MayStart, PutFits, RecordFits, SpotFits};
@@ -11,7 +10,7 @@ ghost use Rattle.dms_model.specs.Seen.{GoesBack, HasStoreCauses, IfPointsTold, I
 ghost use Rattle.dms_store.specs.Lifted.{IsUsable, Serves};
 ghost use Rattle.dms_model.specs.Stores.{Tells};
 ghost use Rattle.dms_store.specs.Looked.{Looked};
-ghost use Rattle.dms_store.specs.PuttingStore.{ChangesAtMost, Stores};
+ghost use Rattle.dms_store.specs.PuttingStore.{ChangesAtMost, FullWhere, Stores};
 ghost use Rattle.dms_store.specs.Storing.{seen_by};
 ghost use Rattle.std.specs.FinMap.{get};
 
@@ -136,6 +135,7 @@ impl<B: Blocks> BlockStore<B> {
         ensures effort { (seen_by self.new).effort ≡ (seen_by self.old).effort }
         ensures undamaged { (d : Db) → (seen_by self.old).db ≡ Some d → Undamaged result }
         ensures mute_fault { IsErrOf result BlockFault.Say → ⊥ }
+        ensures full { IfFull result (λ f. f ≡ (seen_by self.old).last) }
         ensures causes { HasStoreCauses result (seen_by self.old) (seen_by self.new) }
     {
         note(&mut self.found, self.over.below.quiet())
@@ -152,6 +152,7 @@ impl<B: Blocks> BlockStore<B> {
         ensures effort { Syncs result (seen_by self.old).effort (seen_by self.new).effort }
         ensures undamaged { (d : Db) → (seen_by self.old).db ≡ Some d → Undamaged result }
         ensures mute_fault { IsErrOf result BlockFault.Say → ⊥ }
+        ensures full { IfFull result (λ f. f ≡ (seen_by self.old).last) }
         ensures causes { HasStoreCauses result (seen_by self.old) (seen_by self.new) }
     {
         note(&mut self.found, self.over.below.sync())
@@ -169,6 +170,7 @@ impl<B: Blocks> BlockStore<B> {
         ensures effort { GoesBack result (seen_by self.old).effort (seen_by self.new).effort }
         ensures undamaged { (d : Db) → (seen_by self.old).db ≡ Some d → Undamaged result }
         ensures mute_fault { IsErrOf result BlockFault.Say → ⊥ }
+        ensures full { IfFull result (λ f. f ≡ 9999) }
         ensures causes { HasStoreCauses result (seen_by self.old) (seen_by self.new) }
     {
         note(&mut self.found, self.over.below.back_out(alloc))
@@ -206,6 +208,8 @@ impl<B: Blocks> BlockStore<B> {
         ensures desc { self.new.desc ≡ self.old.desc }
         ensures fits { IfOk result (PutFits (described self.old.desc) set) }
         ensures put { IfOk result (Stores (described self.old.desc) (seen_by self.old).db (seen_by self.new).db set number rec.now) }
+        ensures full { IfFull result (λ f. f ≡ (seen_by self.old).last) }
+        ensures stored { FullWhere (described self.old.desc) (seen_by self.old).db set number rec.now result }
         ensures changed { ChangesAtMost (64 * length (described self.old.desc).structures) result (seen_by self.old) (seen_by self.new) }
         ensures same { B.same_blocks self.old.over.below self.new.over.below }
     {

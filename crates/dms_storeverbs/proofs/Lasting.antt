@@ -13,6 +13,7 @@ pub causes_on : {T U : Type 0} {x : U} (r : Result T BlockFault) (a b c : Seen) 
 causes_on r a b c p q = record {
   tells = λ t. q.tells (p.tells t);
   desc = q.desc ∙ p.desc;
+  last = q.last ∙ p.last;
   whole = λ files w. p.whole files (q.whole files w);
   whole_on = λ files w. q.whole_on files (p.whole_on files w);
   cause = caused_since r a.faults b.faults c.faults p.cause q.cause;
@@ -22,7 +23,7 @@ causes_on r a b c p q = record {
 module _ {St : Type 0} {g : Ghosts St} where
   -- an engine to which nothing has happened
   pub lasts_none : ((s : St) → g.same_store s s) → (e : Engine St g) → (seen e).sound → Lasted e e
-  lasts_none same e sound = record { sound = sound; description = refl; same = same e.store; causes = record { tells = λ t. t; desc = refl; whole = λ files w. w; whole_on = λ files w. w; cause = refl; reads = omega arith } }
+  lasts_none same e sound = record { sound = sound; description = refl; same = same e.store; causes = record { tells = λ t. t; desc = refl; last = refl; whole = λ files w. w; whole_on = λ files w. w; cause = refl; reads = omega arith } }
 
   -- one that answered
   pub lasts_on : {T : Type 0} {x : T} {a b c : Engine St g} → ((x y z : St) → g.same_store x y → g.same_store y z → g.same_store x z)
@@ -31,5 +32,5 @@ module _ {St : Type 0} {g : Ghosts St} where
     sound = q.sound;
     description = q.description ∙ p.description;
     same = then_ a.store b.store c.store p.same q.same;
-    causes = let r : Result (Unit {0}) BlockFault = Ok tt in causes_on r (seen a) (seen b) (seen c) p.causes (record { tells = q.causes.tells; desc = q.causes.desc; whole = q.causes.whole; whole_on = q.causes.whole_on; cause = q.causes.cause; reads = q.causes.reads });
+    causes = let r : Result (Unit {0}) BlockFault = Ok tt in causes_on r (seen a) (seen b) (seen c) p.causes (record { tells = q.causes.tells; desc = q.causes.desc; last = q.causes.last; whole = q.causes.whole; whole_on = q.causes.whole_on; cause = q.causes.cause; reads = q.causes.reads });
   }

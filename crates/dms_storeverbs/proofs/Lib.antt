@@ -11,6 +11,7 @@ pub mod Lasting
 pub mod Places
 pub mod Quiet
 pub mod Resting
+pub mod Rooms
 pub mod Stored
 pub mod Unfolds
 pub mod Works

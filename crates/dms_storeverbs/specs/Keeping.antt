@@ -1,6 +1,9 @@
 -- What storing a program's area leaves of an engine.
-use Rattle.std.specs.Prelude.{◌≡◌, ℕ, List, [], Bool, Some, None, if◌then◌else◌, slice_get, slice_set}
+use Rattle.std.specs.Prelude.{◌≡◌, ℕ, List, [], Bool, Some, None, ⊤, if◌then◌else◌, slice_get, slice_set}
 use Rattle.std.specs.declared.option.Option.{Option}
+use Rattle.std.specs.declared.result.Result.{Result}
+use Rattle.dms_block.specs.declared.block_fault.BlockFault.{BlockFault}
+use Rattle.dms_block.specs.Faults.{IfFull}
 use Rattle.dms_desc.specs.Shape.{Described}
 use Rattle.dms_laws.specs.Exclusive.{IsExclusive}
 use Rattle.dms_model.specs.Programs.{Program}
@@ -32,3 +35,12 @@ Awaits (Some names) who = (names ≡ who) × (who ≡ [] → ⊥)
 -- Program i of a session that nobody else waits in was stored by this rule, as its database and the program then give.
 abbrev pub WasKept : ℕ → (Program → Db → StoreResult) → List Program → View → Option Refusal → View → Type 0
 WasKept i rule programs old answer new = (p : Program) → slice_get programs i ≡ Some p → (s : Session) → StandsFor old s → IsExclusive s → KeptIs (rule p s.db) i s answer new
+
+-- the program's area is stored
+abbrev pub IsKept : StoreResult → Type 0
+IsKept (Refused reply) = ⊥
+IsKept (Keeps p db) = ⊤
+
+-- Where the audit had no room, what this rule gives of program i is stored: it refuses nothing.
+abbrev pub FullWhereKept : ℕ → (Program → Db → StoreResult) → List Program → View → {T : Type 0} → Result T BlockFault → Type 0
+FullWhereKept i rule programs old result = (p : Program) → slice_get programs i ≡ Some p → (s : Session) → StandsFor old s → IsExclusive s → IfFull result (λ f. IsKept (rule p s.db))

@@ -5,7 +5,7 @@ ghost use Rattle.dms_model.specs.Areas.{ProgramsFit};
 ghost use Rattle.dms_model.specs.Db.{Db};
 ghost use Rattle.dms_model.specs.DescribedCode.{described_set};
 ghost use Rattle.dms_model.specs.Props.{IsWellFormed-prop, ProgramsFit-prop};
-ghost use Rattle.dms_block.specs.Faults.{NotFull, Undamaged};
+ghost use Rattle.dms_block.specs.Faults.{IfFull, NotFull, Undamaged};
 ghost use Rattle.dms_block.specs.Texts.{Prints};
 ghost use Rattle.dms_model.specs.Seen.{GoesBack, IsSilent, Keeps, SaysPart, StaysDurable};
 ghost use Rattle.dms_model.specs.Session.{Session, fresh_session, ended, someone_works};
@@ -64,8 +64,8 @@ impl<St: Store> Engine<St> {
     }
 
     /// Goes back to the last quiet point where a program is in transaction state.
-    /// Answers the store's fault, which is never Say, not Damaged where the store holds a database, and not Full where no program is in
-    /// transaction state.
+    /// Answers the store's fault, which is never Say, not Damaged where the store holds a database, and Full only of file 9,999, where a
+    /// program is in transaction state.
     pub fn end(&mut self, alloc: Global) -> Result<(), BlockFault>
         requires sound { (seen self.old).sound }
         ensures ended { OnOk result ((s : Session) → StandsFor (view self.old) s → StandsFor (view self.new) (ended s)) }
@@ -74,6 +74,7 @@ impl<St: Store> Engine<St> {
         ensures goes_back { someone_works self.old.programs.items ≡ true → GoesBack result (seen self.old).effort (seen self.new).effort }
         ensures stays { someone_works self.old.programs.items ≡ false → (seen self.new).effort ≡ (seen self.old).effort }
         ensures room { someone_works self.old.programs.items ≡ false → NotFull result }
+        ensures file { IfFull result (λ f. f ≡ 9999) }
         ensures silent { IsSilent (seen self.old) (seen self.new) }
         ensures mute_fault { IsErrOf result BlockFault.Say → ⊥ }
         ensures lasts { EngineLasts result self.old self.new }

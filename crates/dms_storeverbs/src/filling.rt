@@ -1,4 +1,4 @@
-ghost use Rattle.std.specs.Prelude.{◌≡◌, ◌-◌, ◌++◌, IfOk, OnOk, List, map, slice_get};
+ghost use Rattle.std.specs.Prelude.{◌≡◌, ◌-◌, ◌++◌, IfOk, OnOk, map, slice_get};
 ghost use Rattle.dms_base.specs.declared.value.Value.{Value};
 ghost use Rattle.dms_base.specs.Spelling.{text_for};
 ghost use Rattle.dms_desc.specs.declared.structure.Item.{Item};

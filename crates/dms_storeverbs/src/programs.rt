@@ -1,4 +1,4 @@
-ghost use Rattle.std.specs.Prelude.{◌≡◌, false, ◌≤◌, ◌<◌, length, map, replicate, List, ℕ, IfOk, [], if◌then◌else◌, ◌||◌, nat_le};
+ghost use Rattle.std.specs.Prelude.{◌≡◌, false, ◌≤◌, length, map, replicate, IfOk, [], if◌then◌else◌, ◌||◌, nat_le};
 ghost use Rattle.dms_desc.specs.Shape.{described};
 ghost use Rattle.dms_model.specs.Session.{place_of, someone_works, workers, idle, backed_out, no_work, new_program};
 ghost use Rattle.dms_storeverbs.specs.Keeping.{Awaits};

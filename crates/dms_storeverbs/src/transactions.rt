@@ -1,14 +1,16 @@
-ghost use Rattle.std.specs.Prelude.{◌≡◌, ◌≤◌, ◌<◌, ◌+◌, ◌^◌, ℕ, List, Bool, true, false, Some, None, IfOk, OnOk, IsErrOf, IsTrue, slice_get, length, if◌then◌else◌, []};
+ghost use Rattle.std.specs.Prelude.{◌≡◌, ◌≤◌, ◌<◌, true, false, Some, None, IfOk, OnOk, IsErrOf, slice_get, length, if◌then◌else◌};
 ghost use Rattle.dms_desc.specs.Lookups.{structure_of};
 ghost use Rattle.dms_desc.specs.Shape.{described};
 ghost use Rattle.dms_model.specs.Programs.{Program};
 ghost use Rattle.dms_model.specs.Seen.{IsMute, IsSilent, Spends, StaysDurable};
 ghost use Rattle.dms_model.specs.Session.{Session, keep, restart_of, settle, store_step, begin_step, end_step, abort_step, is_waits};
 ghost use Rattle.dms_model.specs.Spoken.{IsOuter};
-ghost use Rattle.dms_block.specs.Faults.{Undamaged};
+ghost use Rattle.dms_model.specs.declared.verb.Verb.{Verb};
+ghost use Rattle.dms_block.specs.Faults.{IfFull, NotFull, Undamaged};
 ghost use Rattle.dms_model.specs.Db.{Db};
 ghost use Rattle.dms_storeverbs.specs.Costs.{Costs, limit_if};
-ghost use Rattle.dms_storeverbs.specs.Keeping.{WasKept, kept_if};
+ghost use Rattle.dms_storeverbs.specs.Keeping.{FullWhereKept, WasKept, kept_if};
+ghost use Rattle.dms_storeverbs.specs.Rooms.{FullFor, FullForQuiet};
 ghost use Rattle.dms_storeverbs.specs.View.{Does, DoesWhere, EngineLasts, Room, seen, view};
 
 use crate::refusal::{Refusal, done, refused};
@@ -34,6 +36,8 @@ impl<St: Store> Engine<St> {
         ensures undamaged { (d : Db) → (seen self.old).db ≡ Some d → Undamaged result }
         ensures spends { Spends (limit_if true (seen self.old).desc) (seen self.old).effort (seen self.new).effort }
         ensures mute_fault { IsErrOf result BlockFault.Say → ⊥ }
+        ensures file { IfFull result (λ f. f ≡ (seen self.old).last) }
+        ensures full { FullWhereKept i (λ p db. keep (described self.old.desc) p db set) self.old.programs.items (view self.old) result }
         ensures lasts { EngineLasts result self.old self.new }
     {
         let (number, rec) = match judge_record(alloc, &self.desc, &self.programs[i], set)? {
@@ -75,6 +79,9 @@ impl<St: Store> Engine<St> {
         ensures spends { Spends (limit_if audit (seen self.old).desc) (seen self.old).effort (seen self.new).effort }
         ensures no_memory { audit ≡ false → IsErrOf result BlockFault.Memory → ⊥ }
         ensures mute_fault { IsErrOf result BlockFault.Say → ⊥ }
+        ensures file { IfFull result (λ f. f ≡ (seen self.old).last) }
+        ensures full { FullWhereKept i (kept_if audit (described self.old.desc)) self.old.programs.items (view self.old) result }
+        ensures none { audit ≡ false → NotFull result }
         ensures lasts { EngineLasts result self.old self.new }
     {
         if !audit {
@@ -95,6 +102,8 @@ impl<St: Store> Engine<St> {
         ensures no_memory { IsErrOf result BlockFault.Memory → ⊥ }
         ensures no_wait { IfOk result (λ a. is_waits a.reply ≡ false) }
         ensures mute_fault { IsErrOf result BlockFault.Say → ⊥ }
+        ensures file { IfFull result (λ f. f ≡ (seen self.old).last) }
+        ensures full { FullForQuiet self.old result }
         ensures lasts { EngineLasts result self.old self.new }
     {
         if programs::someone_works(self.programs.as_slice()) {
@@ -125,6 +134,8 @@ impl<St: Store> Engine<St> {
         ensures costs { Costs (limit_if true (seen self.old).desc) false result (seen self.old).effort (seen self.new).effort }
         ensures idle { IfOk result (λ a. is_waits a.reply ≡ true → (seen self.new).effort.spent ≤ (seen self.old).effort.spent) }
         ensures mute_fault { IsErrOf result BlockFault.Say → ⊥ }
+        ensures file { IfFull result (λ f. f ≡ (seen self.old).last) }
+        ensures full { (p : Program) → slice_get self.old.programs.items i ≡ Some p → FullFor self.old result (Verb.Store set) (λ s. store_step (described self.old.desc) i p s set) }
         ensures lasts { EngineLasts result self.old self.new }
     {
         if !programs::works(&self.programs[i]) {
@@ -156,6 +167,8 @@ impl<St: Store> Engine<St> {
         ensures costs { Costs (limit_if audit (seen self.old).desc) false result (seen self.old).effort (seen self.new).effort }
         ensures idle { IfOk result (λ a. is_waits a.reply ≡ true → (seen self.new).effort.spent ≤ (seen self.old).effort.spent) }
         ensures mute_fault { IsErrOf result BlockFault.Say → ⊥ }
+        ensures file { IfFull result (λ f. f ≡ (seen self.old).last) }
+        ensures full { (p : Program) → slice_get self.old.programs.items i ≡ Some p → FullFor self.old result (Verb.Begin audit) (λ s. begin_step (described self.old.desc) i p s audit) }
         ensures lasts { EngineLasts result self.old self.new }
     {
         if programs::works(&self.programs[i]) {
@@ -200,6 +213,8 @@ impl<St: Store> Engine<St> {
         ensures no_memory { audit ≡ false → IsErrOf result BlockFault.Memory → ⊥ }
         ensures no_wait { IfOk result (λ a. is_waits a.reply ≡ false) }
         ensures mute_fault { IsErrOf result BlockFault.Say → ⊥ }
+        ensures file { IfFull result (λ f. f ≡ (seen self.old).last) }
+        ensures full { (p : Program) → slice_get self.old.programs.items i ≡ Some p → FullFor self.old result (Verb.End audit sync) (λ s. end_step (described self.old.desc) i p s audit sync) }
         ensures lasts { EngineLasts result self.old self.new }
     {
         if !programs::works(&self.programs[i]) {
@@ -226,6 +241,8 @@ impl<St: Store> Engine<St> {
         ensures mute { IsMute (seen self.old) (seen self.new) }
         ensures costs { Costs (limit_if false (seen self.old).desc) true result (seen self.old).effort (seen self.new).effort }
         ensures mute_fault { IsErrOf result BlockFault.Say → ⊥ }
+        ensures file { IfFull result (λ f. f ≡ 9999) }
+        ensures full { (p : Program) → slice_get self.old.programs.items i ≡ Some p → FullFor self.old result Verb.Abort (λ s. abort_step i p s) }
         ensures lasts { EngineLasts result self.old self.new }
     {
         let name = programs::program_name(&self.programs[i]);

@@ -1,4 +1,4 @@
-ghost use Rattle.std.specs.Prelude.{◌≡◌, ◌≤◌, ◌<◌, ◌+◌, ◌^◌, ℕ, List, Bool, true, false, Some, None, IfOk, IfSome, OnOk, IsErrOf, IsTrue, slice_get, length, if◌then◌else◌, []};
+ghost use Rattle.std.specs.Prelude.{◌≡◌, ◌≤◌, ◌<◌, ◌+◌, ◌^◌, true, false, Some, None, IfOk, IfSome, OnOk, IsErrOf, slice_get, length, if◌then◌else◌};
 ghost use Rattle.dms_desc.specs.Shape.{described};
 ghost use Rattle.dms_model.specs.Programs.{Program};
 ghost use Rattle.dms_model.specs.Db.{Db};
@@ -9,9 +9,10 @@ ghost use Rattle.dms_desc.specs.Lookups.{parts_of, set_of, items_of};
 ghost use Rattle.dms_model.specs.declared.verb.Path.TheVariants.{At};
 ghost use Rattle.dms_model.specs.Session.{Session, find_step, found_by, path_of, verb_step, carried_out, step, is_waits};
 ghost use Rattle.dms_model.specs.Verbs.{IsPathOf, IsVerbOf};
-ghost use Rattle.dms_block.specs.Faults.{NotFull, Undamaged};
-ghost use Rattle.dms_storeverbs.specs.Costs.{Costs, block_limit, changes, takes_none};
-ghost use Rattle.dms_storeverbs.specs.View.{Does, EngineLasts, SameSession, StandsFor, seen, view};
+ghost use Rattle.dms_block.specs.Faults.{IfFull, NotFull, Undamaged};
+ghost use Rattle.dms_storeverbs.specs.Costs.{Costs, block_limit, changes, full_file, takes_none};
+ghost use Rattle.dms_storeverbs.specs.Rooms.{FullFor};
+ghost use Rattle.dms_storeverbs.specs.View.{Does, EngineLasts, SameSession, seen};
 
 use crate::keys::{agreeing, key_values};
 use crate::refusal::{done, refused};
@@ -125,6 +126,8 @@ impl<St: Store> Engine<St> {
         ensures idle { IfOk result (λ a. is_waits a.reply ≡ true → (seen self.new).effort.spent ≤ (seen self.old).effort.spent) }
         ensures mute_fault { IsErrOf result BlockFault.Say → ⊥ }
         ensures room { changes verb.now ≡ false → NotFull result }
+        ensures file { IfFull result (λ f. f ≡ full_file verb.now (seen self.old).last) }
+        ensures full { (p : Program) → slice_get self.old.programs.items i ≡ Some p → FullFor self.old result verb.now (λ s. verb_step (described self.old.desc) i p s verb.now) }
         ensures lasts { EngineLasts result self.old self.new }
     {
         match verb {
@@ -178,6 +181,8 @@ impl<St: Store> Engine<St> {
         ensures idle { IfOk result (λ a. is_waits a.reply ≡ true → (seen self.new).effort.spent ≤ (seen self.old).effort.spent) }
         ensures mute_fault { IsErrOf result BlockFault.Say → ⊥ }
         ensures room { changes verb.now ≡ false → NotFull result }
+        ensures file { IfFull result (λ f. f ≡ full_file verb.now (seen self.old).last) }
+        ensures full { FullFor self.old result verb.now (λ s. carried_out (described self.old.desc) s program.now verb.now) }
         ensures lasts { EngineLasts result self.old self.new }
     {
         let i = programs::place_of(self.programs.as_slice(), program);
@@ -191,7 +196,8 @@ impl<St: Store> Engine<St> {
     }
 
     /// One step of a program: its verb, one that a line can spell, is carried out, and its answer ends its wait or begins one.
-    /// Answers the store's fault, which is never Say, and Full for STORE, BEGIN, END and ABORT alone; and Memory where memory is refused.
+    /// Answers the store's fault, which is never Say; and Memory where memory is refused. It answers Full only where the verb would be done and
+    /// store a record or make a quiet point, of the store's last file, or for an ABORT that would be done, of file 9,999.
     #[tactic(auto, using(std::proofs::lemmas::Option::gets), unfolding(dms_model::specs::Session::step))]
     pub fn call(&mut self, alloc: Global, program: &Name, verb: &Verb) -> Result<Answer, BlockFault>
         requires verb { IsVerbOf (described self.old.desc) verb.now }
@@ -203,6 +209,8 @@ impl<St: Store> Engine<St> {
         ensures idle { IfOk result (λ a. is_waits a.reply ≡ true → (seen self.new).effort.spent ≤ (seen self.old).effort.spent) }
         ensures mute_fault { IsErrOf result BlockFault.Say → ⊥ }
         ensures room { changes verb.now ≡ false → NotFull result }
+        ensures file { IfFull result (λ f. f ≡ full_file verb.now (seen self.old).last) }
+        ensures full { FullFor self.old result verb.now (λ s. step (described self.old.desc) s program.now verb.now) }
         ensures lasts { EngineLasts result self.old self.new }
     {
         let answer = self.carry_out(alloc, program, verb)?;

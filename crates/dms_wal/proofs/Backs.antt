@@ -1,5 +1,7 @@
 -- A block that was written, and the frames.
 use Rattle.std.proofs.Common.{ℕ, ◌*◌, ◌+◌, ◌<◌, ◌≤◌, ◌≡◌, true, false, List, length, Some, None, sym, ◌∙◌, ap, subst}
+use Rattle.std.proofs.lemmas.Bool.{true≢false}
+use Rattle.std.proofs.lemmas.Option.{none-some}
 use Rattle.dms_site.specs.Files.{Files, with_file, overlaid, InFile, Torn, stored_of}
 use Rattle.dms_site.specs.Laws.{torn_overlaid, in_file_with}
 use Rattle.dms_site.specs.StoredLaws.{stored_whole, stored_apart, stored_written}
@@ -17,12 +19,6 @@ use Rattle.dms_restore.proofs.Logs as lemmas
 use Rattle.dms_restore.proofs.Logs.{ReadsNow}
 use Rattle.dms_wal.specs.Writing.{WritesBack}
 use Rattle.dms_wal.proofs.Stills.{changed_same}
-
-true_not_false : true ≡ false → ⊥
-true_not_false e = absurd cc
-
-none_not_some : {A : Type 0} (x : A) → None ≡ Some x → ⊥
-none_not_some x e = absurd cc
 
 -- what waited was sealed, and then the block was written
 pub writes_back : (a m b : LogView) (f k : ℕ) (bytes : List ℕ) → 30000 < f → length bytes ≡ 1024 → LogsNothing a m → LogsWrite m b → b.files ≡ with_file m.files f (overlaid (1024 * k) bytes (m.files f)) → WritesBack a b f k bytes
@@ -68,9 +64,9 @@ module _ (a b : LogView) (same : telling b ≡ telling a) (frames : Frames) (h :
   -- its frame is given up
   pub holds_back : FramesHold (telling b) (state b) (with_frame frames f k None)
   holds_back = subst (λ (u : Telling). FramesHold u (state b) (with_frame frames f k None)) (sym same) (holds_with t (state b) frames f k None (record {
-    held = λ y at. absurd (none_not_some y at);
+    held = λ y at. absurd (none-some y at);
     stands = λ low clean. w.here ∙ ((h f k).held (record { block = bytes; dirty = true }) is).1 ∙ ap (λ (l : AllBlocks). block_in l f k) (sym contents);
-    changed = λ y at dirty. absurd (none_not_some y at);
+    changed = λ y at dirty. absurd (none-some y at);
   }) others)
 
   -- its frame isn't to be written any more
@@ -82,5 +78,5 @@ module _ (a b : LogView) (same : telling b ≡ telling a) (frames : Frames) (h :
       subst (λ (u : Telling). FramesHold u (state b) (with_frame frames f k (Some z))) (sym same) (holds_with t (state b) frames f k (Some z) (record {
         held = λ y own. let one : z ≡ y = some_is z y own in (subst (λ (l : AllBlocks). k < length (l f)) (sym contents) was.0, ap (λ (w : Frame). w.block) (sym one) ∙ at);
         stands = λ low clean. w.here ∙ at;
-        changed = λ y own dirty. let one : z ≡ y = some_is z y own in absurd (true_not_false (sym dirty ∙ ap (λ (w : Frame). w.dirty) (sym one)));
+        changed = λ y own dirty. let one : z ≡ y = some_is z y own in absurd (true≢false (sym dirty ∙ ap (λ (w : Frame). w.dirty) (sym one)));
       }) others)

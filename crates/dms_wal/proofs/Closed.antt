@@ -1,5 +1,6 @@
 -- A database is closed as at its last point.
 use Rattle.std.proofs.Common.{ℕ, cond, IsTrue, Some, None, ◌≤◌, ◌<◌, ◌≡◌, ◌⊎◌, inl, inr, Bool, true, false, List, ◌++◌, append_assoc, length, refl, sym, ◌∙◌, ap, subst, arith}
+use Rattle.std.proofs.lemmas.Bool.{true≢false}
 use Rattle.dms_moments.specs.Moments.{Clock}
 use Rattle.dms_site.specs.Files.{Files, Left}
 use Rattle.dms_block.specs.declared.block_fault.BlockFault.{BlockFault}
@@ -23,7 +24,6 @@ use Rattle.dms_wal.specs.BackOuts.{entries_back}
 use Rattle.dms_wal.specs.Closing.{entries_control, FilesStand, IsClosed, IsFullTrail, LeavesUntil}
 use Rattle.dms_wal.specs.Lifting.{lifted}
 use Rattle.dms_wal.specs.Marks.{IsAtMark, mark_of}
-use Rattle.dms_wal.proofs.Marked.{true_not_false}
 use Rattle.dms_wal.proofs.Reaching.{closes_counted}
 
 -- the end of the trail stands behind file 9,999
@@ -79,7 +79,7 @@ backs_only n changed e on only = elim only [ inl disk ↦ inl disk | inr (inl me
 -- the text, where it is told
 pub said_told : (b : Bool) (x y : List ℕ) → cond b (Some x) None ≡ cond b (Some y) None → IsTrue b → x ≡ y
 said_told true x y same is = some_is x y same
-said_told false x y same is = absurd (true_not_false (sym is))
+said_told false x y same is = absurd (true≢false (sym is))
 
 -- what a stop left, first within a back-out and then within a control point: the clocks of both are those of one trail
 pub clock_as : (t u : Telling) (a : Held) (clock : Clock Left) → u ≡ t → LeavesUntil a (lifted u clock) → LeavesUntil a (lifted t clock)

@@ -1,6 +1,7 @@
 -- A control point is sealed.
 use Rattle.std.proofs.Common.{ℕ, ◌<◌, ◌≡◌, true, false, IsTrue, List, [], ◌∷◌, ◌++◌, length, map, Some, refl, sym, ◌∙◌, ap, subst, arith}
 use Rattle.std.proofs.lemmas.List.{length-map}
+use Rattle.std.proofs.lemmas.Bool.{true≢false}
 use Rattle.dms_site.specs.declared.site.Site.{Ghosts}
 use Rattle.dms_site.specs.Files.{stored_of}
 use Rattle.dms_block.specs.declared.block.BlockId.{BlockId}
@@ -40,9 +41,6 @@ use Rattle.dms_wal.proofs.Pointing.{last_is}
 use Rattle.dms_wal.proofs.Marked.{mark_on}
 use Rattle.dms_wal.proofs.Under.{under_control}
 
-true_not_false : true ≡ false → ⊥
-true_not_false e = absurd cc
-
 -- a table of counts may be that of a Control
 pub count_table : (counts : List ℕ) → AreCounts counts → IsCountTable counts
 count_table counts t = record { few = t.few; small = t.small }
@@ -66,7 +64,7 @@ holds_clean a b pool same contents blocks clean h = subst (λ (t : Telling). Fra
     let is : content_now (telling a) (state b) ≡ content a = ap (λ (t : Telling). content_now t (state b)) (sym same) ∙ contents in record {
       held = λ x at. let r = (h f k).held x at in (subst (λ (c : AllBlocks). k < length (c f)) (sym is) r.0, r.1 ∙ ap (λ (c : AllBlocks). block_in c f k) (sym is));
       stands = λ low off. ap (λ (s : Stored). s f k) blocks ∙ (h f k).stands (subst (λ (c : AllBlocks). k < length (c f)) is low) off ∙ ap (λ (c : AllBlocks). block_in c f k) (sym is);
-      changed = λ x at dirty. absurd (true_not_false (sym dirty ∙ clean f k x at));
+      changed = λ x at dirty. absurd (true≢false (sym dirty ∙ clean f k x at));
     })
 
 -- each block stands as before

@@ -5,6 +5,7 @@ use Rattle.std.specs.declared.result.Result.{Result}
 use Rattle.std.specs.declared.result.Result.TheVariants.{Ok, Err}
 use Rattle.std.proofs.lemmas.Bool.{cases_lt}
 use Rattle.std.proofs.lemmas.Bool.Decides.{nat_tests}
+use Rattle.std.proofs.lemmas.Option.{none-some}
 use Rattle.dms_base.specs.declared.Memory.{Memory}
 use Rattle.dms_moments.specs.Moments.{Now, Steps}
 use Rattle.dms_moments.specs.MomentLaws.{steps_weaken}
@@ -40,9 +41,6 @@ use Rattle.dms_wal.proofs.Tabled.{count_at}
 use Rattle.dms_wal.proofs.Roomed.{usable_same}
 use Rattle.dms_wal.proofs.Marked.{mark_still}
 use Rattle.dms_wal.proofs.Under.{under_still}
-
-none_not_some : {A : Type 0} (x : A) → None ≡ Some x → ⊥
-none_not_some x e = absurd cc
 
 past : (l : List ℕ) (i : ℕ) → length l ≤ i → get_or l i 0 ≡ 0
 past [] i le = refl
@@ -104,7 +102,7 @@ module _ {S : Type 0} (g : Ghosts S) (r : Running S) (u : IsRunningUsable g r) w
 
     -- its file has it as the content has it
     pub stands : stored_of (g.files r.log.site) id.file id.block ≡ block_in c id.file id.block
-    stands = ((u.goes t).holds id.file id.block).stands low_content (λ y is. absurd (none_not_some y (sym (ap (λ (o : Option pools.BufferFrame). option_map frame_seen o) absent) ∙ is)))
+    stands = ((u.goes t).holds id.file id.block).stands low_content (λ y is. absurd (none-some y (sym (ap (λ (o : Option pools.BufferFrame). option_map frame_seen o) absent) ∙ is)))
 
     pub in_file : range (1024 * id.block) 1024 (g.files r.log.site id.file) ≡ block_in c id.file id.block
     in_file = sym (stored_at (g.files r.log.site) id.file id.block (in_table r.counts.items id.file id.block there)) ∙ stands

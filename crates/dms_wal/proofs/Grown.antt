@@ -3,6 +3,7 @@ use Rattle.std.proofs.Common.{ℕ, zero, suc, ◌+◌, ◌-◌, ◌/◌, ◌^◌
 use Rattle.std.specs.Prelude.{if◌then◌else◌, IfErr, IsErrOf, OnOk}
 use Rattle.std.specs.declared.result.Result.{Result}
 use Rattle.std.specs.declared.result.Result.TheVariants.{Ok, Err}
+use Rattle.std.proofs.lemmas.Bool.{true≢false}
 use Rattle.dms_site.specs.declared.site.Site.{Ghosts}
 use Rattle.dms_moments.specs.Moments.{Clock, Steps}
 use Rattle.dms_site.specs.Files.{Files, Left}
@@ -29,8 +30,8 @@ use Rattle.dms_wal.specs.Faults.{IsSeenAs, IsSeenInBack}
 use Rattle.dms_wal.specs.Growing.{accounts, close_limit, controls_among, GivesGrown, GrowsBy, IsCounted, LogsAtMost, over_site, TrailGrows}
 use Rattle.dms_wal.specs.PaceLaws.{pace_kind}
 use Rattle.dms_wal.proofs.Logged.{logs_many}
-use Rattle.dms_wal.proofs.Marked.{true_not_false}
 use Rattle.dms_wal.proofs.Reaching.{EndsAlike, entries_alike}
+use Rattle.dms_restore.proofs.Results.{same_error}
 
 -- ---- entries that were logged
 
@@ -92,14 +93,10 @@ ok_never is = cc
 -- on which no call failed didn't answer a fault
 pub never_failed : {T : Type 0} (r : Result T BlockFault) (broken : Bool) → IfErr r (λ e. broken ≡ true) → broken ≡ false → (e : BlockFault) → IsErrOf r e → ⊥
 never_failed (Ok x) broken failed whole e is = ok_never is
-never_failed (Err f) broken failed whole e is = true_not_false (sym failed ∙ whole)
-
--- a back-out that wasn't refused by the disk
-which_error : {T E : Type 0} (fault e : E) → IsErrOf {T = T} (Err fault) e → fault ≡ e
-which_error fault e is = cc
+never_failed (Err f) broken failed whole e is = true≢false (sym failed ∙ whole)
 
 pub back_disk : {T U : Type 0} (f : AudFault) (e : BlockFault) (old new : ℕ) → IsSeenInBack f e old new → IsErrOf {T = T} (Err f) audit.Disk → IsErrOf {T = U} (Err e) Disk
-back_disk f e old new seen is = λ i. Err ((subst (λ (x : AudFault). IsSeenInBack x e old new) (which_error f audit.Disk is) seen).0 i)
+back_disk f e old new seen is = λ i. Err ((subst (λ (x : AudFault). IsSeenInBack x e old new) (same_error f audit.Disk is) seen).0 i)
 
 -- ---- syncs
 
@@ -140,7 +137,7 @@ module _ {S : Type 0} (g : Ghosts S) (a b : Running S) (unbroken : a.broken ≡ 
     syncs = syncs;
     outs = outs;
     next = next;
-    last = λ broken. absurd (true_not_false (sym broken ∙ unbroken));
+    last = λ broken. absurd (true≢false (sym broken ∙ unbroken));
     stays = λ tells. (grown tells).stays;
     grows = λ tells whole counted. omega (arith, few tells whole, paid counted);
     sealed = λ tells counted.

@@ -39,6 +39,7 @@ use Rattle.dms_wal.proofs.Pooled.{holds_like, frames_looked}
 use Rattle.dms_wal.proofs.Backs.{all_sized, holds_back}
 use Rattle.std.proofs.Common.{◌⊎◌}
 use Rattle.std.specs.declared.result.Result.TheVariants.{Ok, Err}
+use Rattle.std.proofs.lemmas.Bool.{true≢false}
 use Rattle.dms_moments.specs.Moments.{Now, Steps}
 use Rattle.dms_site.specs.Files.{Left}
 use Rattle.dms_block.specs.declared.block_fault.BlockFault.{BlockFault}
@@ -54,7 +55,6 @@ use Rattle.dms_wal.proofs.Causes.{no_memory}
 use Rattle.dms_wal.proofs.Lifts.{passes_by, stays_by, surer}
 use Rattle.dms_wal.proofs.Roomed.{then_leave}
 use Rattle.dms_wal.proofs.Stepped.{passes_step, surer_step}
-use Rattle.dms_wal.proofs.Marked.{true_not_false}
 use Rattle.dms_wal.specs.AgreeLaws.{text}
 use Rattle.dms_wal.proofs.Tabled.{raised_table, raised_more}
 use Rattle.dms_wal.proofs.Under.{under_on, under_image}
@@ -123,7 +123,7 @@ module _ {S : Type 0} (g : Ghosts S) (r : Running S) (u : IsRunningUsable g r) (
     described = u.described;
     marked = record { table = u.marked.table; as_many = u.marked.as_many ∙ sym many };
     pointed = λ t. subst (λ (ps : List DescribedPoint). IsMarkOf ps r.point r.marks.items) (sym ((kept t).points_same ∙ (logged t).points_same)) (u.pointed t);
-    unchanged = λ no t. absurd (true_not_false no);
+    unchanged = λ no t. absurd (true≢false no);
     table = raised_table r.counts.items cs.items id.file id.block u.table low raises many;
     counted = counted;
     goes = λ t. let k = u.goes t in record {

@@ -26,3 +26,4 @@ pub mod BackFaults
 pub mod BackedOut
 pub mod Grown
 pub mod Passes
+pub mod Fulls

@@ -3,6 +3,7 @@ use Rattle.std.proofs.Common.{ℕ, ◌<◌, ◌≡◌, Bool, true, false, cond, 
 use Rattle.std.specs.Prelude.{option_map, is_some, IsSome}
 use Rattle.std.specs.Option.{option_map_or}
 use Rattle.std.proofs.lemmas.Bool.{false≢true}
+use Rattle.std.proofs.lemmas.Option.{none-some}
 use Rattle.dms_block.specs.declared.block.Block.{Block}
 use Rattle.dms_block.specs.declared.block.BlockId.{BlockId}
 use Rattle.dms_pool.specs.declared.frame.BufferFrame as pools
@@ -16,9 +17,6 @@ use Rattle.dms_running.specs.Running.{State}
 use Rattle.dms_running.specs.Frames.{Frame, Frames, FramesHold, HoldsOne, with_frame}
 use Rattle.dms_restore.specs.Counts.{count_of}
 use Rattle.dms_wal.specs.Database.{frame_seen, frames_of, HoldsCounted}
-
-none_not_some : {A : Type 0} (x : A) → None ≡ Some x → ⊥
-none_not_some x e = absurd cc
 
 map_if : (t : Bool) (o p : Option pools.BufferFrame) → option_map frame_seen (cond t o p) ≡ cond t (option_map frame_seen o) (option_map frame_seen p)
 map_if true o p = refl
@@ -47,7 +45,7 @@ module _ (id : BlockId) (x : pools.BufferFrame) (old new : Pool) where
 
   pub counted_up : (counts : List ℕ) → GivesUp id x old new → HoldsCounted old counts → HoldsCounted new counts
   counted_up counts p h other y is = elim (place_cases id.file id.block other.file other.block) [
-    | inl place ↦ absurd (none_not_some y (sym (ap (λ k. cond k None (frame_of other old)) place.2) ∙ sym (p.holds other) ∙ is))
+    | inl place ↦ absurd (none-some y (sym (ap (λ k. cond k None (frame_of other old)) place.2) ∙ sym (p.holds other) ∙ is))
     | inr apart ↦ h other y (sym (ap (λ k. cond k None (frame_of other old)) apart.1) ∙ sym (p.holds other) ∙ is)
   ]
 
@@ -62,7 +60,7 @@ pub frames_empty : (n : ℕ) (pool : Pool) → IsEmpty n pool → (g c : ℕ) �
 frames_empty n pool empty g c = ap (λ (o : Option pools.BufferFrame). option_map frame_seen o) (empty.holds (record { file = g; block = c }))
 
 pub counted_empty : (n : ℕ) (pool : Pool) (counts : List ℕ) → IsEmpty n pool → HoldsCounted pool counts
-counted_empty n pool counts empty id x is = absurd (none_not_some x (sym (empty.holds id) ∙ is))
+counted_empty n pool counts empty id x is = absurd (none-some x (sym (empty.holds id) ∙ is))
 
 -- a block that wasn't got isn't held
 pub not_got : (o : Option pools.BufferFrame) (got : Option Block) (b : Bool) → got ≡ option_map (λ f. f.block) o → b ≡ is_some got → b ≡ false → o ≡ None
@@ -87,8 +85,8 @@ dirty_held None is dirty = false≢true dirty
 dirty_held (Some x) is dirty = absurd cc
 
 some_under : (t : Bool) (o : Option pools.BufferFrame) (y : pools.BufferFrame) → cond t (option_map washed o) o ≡ Some y → (x : pools.BufferFrame) × (o ≡ Some x)
-some_under true None y is = absurd (none_not_some y is)
-some_under false None y is = absurd (none_not_some y is)
+some_under true None y is = absurd (none-some y is)
+some_under false None y is = absurd (none-some y is)
 some_under t (Some x) y is = (x, refl)
 
 module _ (id : BlockId) (old new : Pool) (c : Cleans id old new) where
@@ -116,5 +114,5 @@ pub clean_frames : (pool : Pool) → ((id : BlockId) → is_dirty id pool ≡ fa
 clean_frames pool clean f k x is = seen (frame_of (record { file = f; block = k }) pool) x is (clean (record { file = f; block = k }))
   where
     seen : (o : Option pools.BufferFrame) (x : Frame) → option_map frame_seen o ≡ Some x → option_map_or (λ f. f.dirty) o false ≡ false → x.dirty ≡ false
-    seen None x is off = absurd (none_not_some x is)
+    seen None x is off = absurd (none-some x is)
     seen (Some y) x is off = ap (λ (z : Frame). z.dirty) (sym (some_is (frame_seen y) x is)) ∙ off

@@ -28,9 +28,10 @@ use Rattle.dms_wal.specs.Controls.{IsSettled}
 use Rattle.dms_wal.specs.Marks.{IsMarkOf}
 use Rattle.dms_wal.specs.Database.{held, frame_seen, frames_of, uses_of, IsRunningUsable}
 use Rattle.dms_wal.specs.Writing.{WritesBack}
+use Rattle.dms_wal.proofs.Synced.{usable_sealed}
 use Rattle.dms_wal.proofs.Pooled.{holds_like, frames_cleaned, counted_cleaned, clean_frames}
 use Rattle.dms_wal.proofs.Backs.{all_sized, holds_washed}
-use Rattle.dms_wal.proofs.Stills.{runs_still, goes_sealed}
+use Rattle.dms_wal.proofs.Stills.{runs_still}
 use Rattle.dms_wal.proofs.Stepped.{passes_step, stays_step}
 use Rattle.dms_wal.proofs.Marked.{mark_on}
 use Rattle.dms_wal.proofs.Under.{under_on}
@@ -105,17 +106,7 @@ module _ {S : Type 0} (g : Ghosts S) (stay : (s : S) → IsTrue g.tells → (x :
 
   module _ (nothing : IsTrue g.tells → LogsNothing (view_of g r.log) (view_of g l)) (runs : IsTrue g.tells → LogRuns (view_of g l)) where
     pub usable_stable : IsRunningUsable g (record r { log = l })
-    usable_stable = record {
-      unbroken = u.unbroken;
-      under = λ t. under_on (view_of g r.log) (view_of g l) r.schema.items (nothing t).entries_same (u.under t);
-      described = u.described;
-      table = u.table;
-      marked = u.marked;
-      pointed = λ t. subst (λ (ps : List DescribedPoint). IsMarkOf ps r.point r.marks.items) (sym (nothing t).points_same) (u.pointed t);
-      unchanged = λ no t. mark_on (view_of g r.log) (view_of g l) r.counts.items r.marks.items (nothing t).content_same (nothing t).points_same (u.unchanged no t);
-      counted = u.counted;
-      goes = λ t. goes_sealed r.pool r.next r.counts.items (view_of g r.log) (view_of g l) kind (runs t) (nothing t) (u.goes t);
-    }
+    usable_stable = usable_sealed g stay now_said counts_now r u l kind r.syncs runs nothing
 
     pub looks_stable : {T : Type 0} (x : T) → Looks 0 (Ok x) (held g r) (held g (record r { log = l }))
     looks_stable x = record {

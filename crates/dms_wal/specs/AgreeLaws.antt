@@ -1,6 +1,7 @@
 -- Law: what a usable database tells hangs together.
 use Rattle.std.proofs.Common.{ℕ, zero, suc, ◌≡◌, Bool, true, false, cond, IsTrue, List, [], ◌∷◌, length, take, map, Option, Some, None, refl, sym, ◌∙◌, ap, subst, arith}
 use Rattle.std.proofs.lemmas.List.{length-map}
+use Rattle.std.proofs.lemmas.Option.{none-some}
 use Rattle.dms_moments.specs.Moments.{Clock, Now}
 use Rattle.dms_moments.specs.SeenLaws.{now_seen_as}
 use Rattle.dms_site.specs.declared.site.Site.{Ghosts}
@@ -59,12 +60,9 @@ agrees_by tells sound v schema next counts said faults uses runs read numbered c
   durable = λ t room. omega (arith, points_enough (telling v) (lemmas.tells v (runs t) (read t)) (state v) (runs t).runs (read t), length-map (points v) block_point);
 }
 
-none_not_some : {A : Type 0} (x : A) → None ≡ Some x → ⊥
-none_not_some x e = absurd cc
-
 text_at : (b : Bool) (said : List ℕ) (y : Left) → (IsTrue b → y.said ≡ said) → (s : List ℕ) → cond b (Some said) None ≡ Some s → y.said ≡ s
 text_at true said y is s same = is refl ∙ some_is said s same
-text_at false said y is s same = absurd (none_not_some s same)
+text_at false said y is s same = absurd (none-some s same)
 
 module _ {S : Type 0} (g : Ghosts S) (now_said : (s : S) (x : Left) → IsTrue g.tells_said → Now (g.clock s) x → x.said ≡ g.said s) where
   pub text : (log : Log S) → TellsText (said_of g log) (g.clock log.site)

@@ -16,11 +16,15 @@ impl<S: Site> Blocks for Running<S> {
 
     ghost same_blocks = { λ a b. S.same_site a.log.site b.log.site × KeepsPace a b × GrowsBy S.Site a b };
 
+    ghost last = { λ r. r.log.end.limit };
+
     ghost agrees = { λ r sound. agrees S.Site.may_stay S.Site.now_said r sound };
 
     ghost same_again = { λ r. (S.Site.same_again r.log.site, pace_none r, grows_none r) };
 
     ghost same_then = { λ a b c one two. (S.Site.same_then a.log.site b.log.site c.log.site one.0 two.0, pace_on one.1 two.1, grows_on one.1 one.2 two.2) };
+
+    ghost same_last = { λ a b same. same.1.limit };
 
     fn count(&self, file: u32) -> u32 {
         Running::count(self, file)

@@ -1,6 +1,6 @@
 //! Quiet points, syncs and printing.
 
-ghost use Rattle.std.specs.Prelude.{◌≡◌, ◌⊎◌, ◌≤◌, ◌<◌, ◌+◌, ◌^◌, ◌++◌, [], ◌∷◌, IfErr, IfOk, IsErrOf, IsOkUnless, IsTrue, OnOk, false, length, true};
+ghost use Rattle.std.specs.Prelude.{◌≡◌, ◌⊎◌, ◌≤◌, ◌+◌, ◌++◌, [], ◌∷◌, IfErr, IfOk, IsErrOf, IsOkUnless, IsTrue, OnOk, false, length, true};
 ghost use Rattle.dms_block.specs.Held.{HasCauses, HasNextNumber, IfTold, Lasts, Leaves, LeavesText, MadeDurable, MadeQuiet, MakesNoPoint, SameBlocks, Stays, Synced};
 ghost use Rattle.dms_block.specs.Texts.{Prints, PrintsPrefix};
 ghost use Rattle.dms_restore.specs.Logging.{LogsNothing, SealsWaiting};

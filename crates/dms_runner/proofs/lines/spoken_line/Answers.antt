@@ -39,7 +39,7 @@ returns-then-len-ge-WAITING_LINES-clause-lined g c = λ now stands same line may
     (goes_full now now.session (first_line now.line c.args.name c.args.verb false) [] [] _ _ _ _ (omega (arith, ap length same, c.if-len-ge-WAITING_LINES.true, c.len.ensures, c.args.waiting.now.ok.0)) stands (sym same) (ran_none _))
 
 pub returns-then-len-ge-WAITING_LINES-clause-part : goal.returns-then-len-ge-WAITING_LINES-clause-part
-returns-then-len-ge-WAITING_LINES-clause-part g c = λ now stands same line may. part_none (λ full. full tt) _ _
+returns-then-len-ge-WAITING_LINES-clause-part g c = λ now stands same line may. part_none (λ n none. none) _ _
 
 pub returns-in_err-push-clause-part : goal.returns-in_err-push-clause-part
 returns-in_err-push-clause-part g c = λ now stands same line may. part_none (had_room c.from_residual.result Memory c.from_residual.ensures.1 tt) _ _
@@ -52,4 +52,4 @@ returns-clause-lined g c = λ now stands same line may.
     (c.in_ok-push.ensures.items ∙ ap (λ (n : ℕ). c.args.waiting.now.items ++ first_line n c.args.name c.args.verb false ∷ []) (sym line) ∙ ap (λ (l : List LineWaiting). l ++ first_line now.line c.args.name c.args.verb false ∷ []) (sym same)) (ran_none _))
 
 pub returns-clause-part : goal.returns-clause-part
-returns-clause-part g c = λ now stands same line may. part_none (λ full. full tt) _ _
+returns-clause-part g c = λ now stands same line may. part_none (λ n none. none) _ _

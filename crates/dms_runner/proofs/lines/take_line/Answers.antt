@@ -20,7 +20,7 @@ returns-in-Empty-clause-lined g c = λ now whole raw stands same line may.
     subst (λ (l : LineEffect). MatchesLine l true (view c.args.engine.now) c.args.waiting.now.items (seen c.args.engine.now) (seen c.args.engine.now)) (sym e) (goes_empty (one_line_more now) _ _ _ stands (sym same))
 
 pub returns-in-Empty-clause-part : goal.returns-in-Empty-clause-part
-returns-in-Empty-clause-part g c = λ now whole raw stands same line may. part_none (λ full. full tt) _ _
+returns-in-Empty-clause-part g c = λ now whole raw stands same line may. part_none (λ n none. none) _ _
 
 pub returns-in-Bad-clause-lined : goal.returns-in-Bad-clause-lined
 returns-in-Bad-clause-lined g c = then_ok c.bad_line.result

@@ -74,4 +74,4 @@ returns-clause-passes g c = λ s stands may.
 pub returns-clause-part : goal.returns-clause-part
 returns-clause-part g c = λ s stands may.
     let p = passing_end _ s _ _ _ _ _ _ (omega (arith, c.loop-i-test.false, c.loop-i.invariant.long)) (c.loop-i.invariant.passing s stands may) in
-    part_all (λ full. full tt) _ _ _ p.ran
+    part_all (λ n none. none) _ _ _ p.ran

@@ -69,4 +69,4 @@ returns-clause-retries g c = λ s stands room held. retrying_out _ s _ _ _ _ _ _
 pub returns-clause-part : goal.returns-clause-part
 returns-clause-part g c = λ s stands room held.
     let w = retrying_out _ s _ _ _ _ _ _ (c.loop-turn.invariant.retrying s stands room held) (omega (arith, c.loop-turn-test.false, c.len-turn-end.ensures, c.args.waiting.now.ok.0)) in
-    part_all (λ full. full tt) _ _ _ w.ran
+    part_all (λ n none. none) _ _ _ w.ran

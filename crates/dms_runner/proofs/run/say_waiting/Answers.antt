@@ -45,7 +45,7 @@ loop-line-preserved g c = record {
       let text : c.as_slice.result.now ≡ line_text c.line-item.result = c.as_slice.ensures ∙ c.in_ok-text.ensures in
       let room' : (seen c.loop-line.engine).next + 1 < 2 ^ 64 = omega (arith, c.loop-line.invariant.next, room) in
       ran_as _ _ _ _ (sym (unanswered_more c.args.waiting.now c.loop-line.line-index c.line-item.result c.loop-line-test.true (sym c.line-item.is)))
-      (ran_on _ _ _ _ _ (c.loop-line.invariant.ran room) (ran_says _ _ _ _ text c.say.ensures.lasts.causes.tells c.say.ensures.lasts.causes.whole c.say.ensures.lasts.causes.desc c.say.ensures.effort (undamaged_by _ (seen c.say.new.self) c.say.result c.say.ensures.undamaged c.say.ensures.lasts.causes.cause) c.in_ok-say.ensures.text c.say.ensures.part c.in_ok-say.ensures.keeps room'));
+      (ran_on _ _ _ _ _ (c.loop-line.invariant.ran room) (ran_says _ _ _ _ text c.say.ensures.lasts.causes.tells c.say.ensures.lasts.causes.whole c.say.ensures.lasts.causes.desc c.say.ensures.lasts.causes.last c.say.ensures.effort (undamaged_by _ (seen c.say.new.self) c.say.result c.say.ensures.undamaged c.say.ensures.lasts.causes.cause) c.in_ok-say.ensures.text c.say.ensures.part c.in_ok-say.ensures.keeps room'));
 }
 
 pub returns-clause-ran : goal.returns-clause-ran
@@ -53,7 +53,7 @@ returns-clause-ran g c = λ room. ran_as _ _ _ _ (unanswered_all c.args.waiting.
 
 pub returns-clause-part : goal.returns-clause-part
 returns-clause-part g c = λ room.
-    part_as _ _ _ _ (sym (unanswered_split c.args.waiting.now c.loop-line.line-index)) (part_of_first _ _ _ _ (part_all (λ full. full tt) _ _ _ (c.loop-line.invariant.ran room)))
+    part_as _ _ _ _ (sym (unanswered_split c.args.waiting.now c.loop-line.line-index)) (part_of_first _ _ _ _ (part_all (λ n none. none) _ _ _ (c.loop-line.invariant.ran room)))
 
 pub returns-in_err-text-clause-front : goal.returns-in_err-text-clause-front
 returns-in_err-text-clause-front g c =

@@ -8,7 +8,7 @@ pub returns-then-is_silent-clause-ran : goal.returns-then-is_silent-clause-ran
 returns-then-is_silent-clause-ran g c = λ room. ran_silent _ _ (silent_is c.args.waiting.now c.args.answer.now.reply c.args.answer.now.sync (sym c.is_silent.ensures ∙ c.if-is_silent.true))
 
 pub returns-then-is_silent-clause-part : goal.returns-then-is_silent-clause-part
-returns-then-is_silent-clause-part g c = λ room. part_all (λ full. full tt) _ _ _ (ran_silent _ _ (silent_is c.args.waiting.now c.args.answer.now.reply c.args.answer.now.sync (sym c.is_silent.ensures ∙ c.if-is_silent.true)))
+returns-then-is_silent-clause-part g c = λ room. part_all (λ n none. none) _ _ _ (ran_silent _ _ (silent_is c.args.waiting.now c.args.answer.now.reply c.args.answer.now.sync (sym c.is_silent.ensures ∙ c.if-is_silent.true)))
 
 pub returns-clause-ran : goal.returns-clause-ran
 returns-clause-ran g c = then_on c.say_answer.result _ _ (λ ran room. ran_as _ _ _ _ (told_is c.args.waiting.now c.args.answer.now.reply c.args.answer.now.sync (sym c.is_silent.ensures ∙ c.if-is_silent.false)) (ran room)) c.say_answer.ensures.ran

@@ -1,6 +1,7 @@
-use Rattle.std.proofs.Common.{◌≡◌, ◌∙◌, List, ℕ, Option, Some, None, Ok, subst, sym}
+use Rattle.std.proofs.Common.{◌≡◌, ◌≤◌, ◌+◌, ◌∙◌, arith, List, ℕ, Option, Some, None, Ok, subst, sym}
 use Rattle.dms_base.specs.declared.bytes.Bytes.{Bytes}
-use Rattle.dms_block.specs.View.{under}
+use Rattle.dms_block.specs.View.{seen_counts, under}
+use Rattle.dms_block.specs.ViewLaws.{reads_more, reads_on}
 use Rattle.dms_desc.specs.Shape.{described, shape_of}
 use Rattle.dms_model.specs.declared.spot.Spot.{Spot}
 use Rattle.dms_model.specs.Stores.{Tells}
@@ -59,3 +60,9 @@ returns-clause-causes g c =
     let look = c.in-Ok-Some.ensures in
     fault_path (described c.args.desc.now) (shape_of c.args.s.now) c.requires.usable.serves.served c.requires.there c.requires.kept c.args.over.now c.requires.usable c.as_slice.result.now kinds _ _ c.as_slice-in-Ok-Some-2.result.now
     c.first_entry.new.over c.member_at.new.over c.member_at.result c.in-Ok-Some.field-0-is c.as_slice-in-Ok-Some-2.ensures look.there look.listed look.reads look.causes c.member_at.ensures.causes
+
+pub returns-clause-reads : goal.returns-clause-reads
+returns-clause-reads g c =
+    let k = seen_counts c.args.over.now (file_of c.args.s.now.number) in
+    let le : (1 + k) + 1 ≤ 2 + k = omega arith in
+    reads_more (2 + k) le (reads_on c.member_at.result g.met.B.Blocks.same_then c.in-Ok-Some.ensures.reads c.member_at.ensures.reads)

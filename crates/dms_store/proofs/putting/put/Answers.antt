@@ -1,6 +1,11 @@
-use Rattle.std.proofs.Common.{◌+◌, ◌*◌, length, refl}
+use Rattle.std.proofs.Common.{◌≡◌, ◌+◌, ◌*◌, ℕ, length, refl, sym, subst}
 use Rattle.std.specs.declared.result.Result.TheVariants.{Ok, Err}
+use Rattle.dms_block.specs.Faults.{IfFull}
+use Rattle.dms_block.specs.HeldLaws.{full_err, full_none, full_weaker}
 use Rattle.dms_block.specs.View.{written}
+use Rattle.dms_model.specs.Fitting.{IsStored}
+use Rattle.dms_model.specs.declared.put.Put.{Put}
+use Rattle.dms_model.specs.declared.put.Put.TheVariants.{Stored}
 use Rattle.dms_store.specs.PuttingCalls.{hands_as, hands_down, hands_err}
 use Rattle.dms_store.proofs.putting.put.Goals as goal
 
@@ -19,3 +24,22 @@ returns-in-Ok-clause-hands_down g c =
     hands_as m _ c.args.over.now c.finish.new.self
     (hands_down m (length (written b)) (Ok tt) c.args.over.now b c.finish.new.self g.met.B.Blocks.same_then c.in-Ok-Stored.ensures.enters c.requires.usable.none refl
     c.in-Ok.ensures.alters c.in-Ok.ensures.causes c.in-Ok.ensures.silent c.in-Ok.ensures.same)
+
+is_stored : {n : ℕ} (a : Put) → a ≡ Stored n → IsStored a
+is_stored a is = subst IsStored (sym is) tt
+
+pub returns-in-Err-clause-full : goal.returns-in-Err-clause-full
+returns-in-Err-clause-full g c = full_none {T = Put} (Err c.in-Err.e) _ c.in-Err.ensures.enters.writes.looks.not_full
+
+pub returns-in-Err-clause-stored : goal.returns-in-Err-clause-stored
+returns-in-Err-clause-stored g c told db is may = full_none {T = Put} (Err c.in-Err.e) _ c.in-Err.ensures.enters.writes.looks.not_full
+
+pub returns-in-Err-finish-clause-full : goal.returns-in-Err-finish-clause-full
+returns-in-Err-finish-clause-full g c =
+    let same = g.met.B.Blocks.same_last c.args.over.now.below c.put_over.new.over.below c.in-Ok-Stored.ensures.enters.writes.same in
+    full_err (Unit {0}) Put c.in-Err-finish.e _ (subst (λ (n : ℕ). IfFull {T = Unit {0}} (Err c.in-Err-finish.e) (λ f. f ≡ n)) same c.in-Err-finish.ensures.full)
+
+pub returns-in-Err-finish-clause-stored : goal.returns-in-Err-finish-clause-stored
+returns-in-Err-finish-clause-stored g c told db is may =
+    let answer = c.in-Ok-Stored.ensures.answers told db is may in
+    full_err (Unit {0}) Put c.in-Err-finish.e _ (full_weaker {T = Unit {0}} (Err c.in-Err-finish.e) _ _ (λ f at. subst IsStored answer.0 (is_stored _ c.in-Ok-Stored.field-0-is)) c.in-Err-finish.ensures.full)

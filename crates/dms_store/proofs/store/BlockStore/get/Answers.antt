@@ -12,4 +12,4 @@ returns-clause-looked g c =
     let o = c.args.self.now.over in
     subst (λ r. Looked r (store_seen desc c.args.self.now.found o) (store_seen desc c.note.new.found c.get-found.new.over)) (sym c.note.ensures.same)
     (looked desc c.args.self.now.found c.note.new.found o c.get-found.new.over (BadSlot desc c.args.set o) c.get-found.result c.note.ensures.small c.note.ensures.noted c.requires.sound
-    (g.met.B.Blocks.agrees o.below c.requires.sound.sound) c.get-found.ensures.reads c.get-found.ensures.causes (λ d told f b. no_bad_slot desc o c.requires.sound d told c.args.set f b c.requires.set))
+    (g.met.B.Blocks.agrees o.below c.requires.sound.sound) g.met.B.Blocks.same_last c.get-found.ensures.reads c.get-found.ensures.causes (λ d told f b. no_bad_slot desc o c.requires.sound d told c.args.set f b c.requires.set))

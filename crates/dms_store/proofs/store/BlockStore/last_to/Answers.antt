@@ -11,4 +11,4 @@ returns-clause-looked g c =
     let o = c.args.self.now.over in
     subst (λ r. Looked r (store_seen desc c.args.self.now.found o) (store_seen desc c.note.new.found c.last_to-found.new.over)) (sym c.note.ensures.same)
     (looked desc c.args.self.now.found c.note.new.found o c.last_to-found.new.over (BadPath desc c.args.path o) c.last_to-found.result c.note.ensures.small c.note.ensures.noted c.requires.sound
-    (g.met.B.Blocks.agrees o.below c.requires.sound.sound) c.last_to-found.ensures.reads c.last_to-found.ensures.causes (λ d told f b bad. bad.untold d told))
+    (g.met.B.Blocks.agrees o.below c.requires.sound.sound) g.met.B.Blocks.same_last c.last_to-found.ensures.reads c.last_to-found.ensures.causes (λ d told f b bad. bad.untold d told))

@@ -9,7 +9,7 @@ use Rattle.dms_store.proofs.store.BlockStore.quiet.Goals as goal
 pub returns-clause-leaves : goal.returns-clause-leaves
 returns-clause-leaves g c =
     let usable = IsUsable (described c.args.self.now.desc) c.args.self.now.over in
-    quiet_leaves (described c.args.self.now.desc) usable usable c.args.self.now.found c.note.new.found (g.B.Blocks.held c.args.self.now.over.below) (g.B.Blocks.held c.quiet.new.self)
+    quiet_leaves (described c.args.self.now.desc) usable usable c.args.self.now.found c.note.new.found (g.B.Blocks.last c.args.self.now.over.below) (g.B.Blocks.last c.quiet.new.self) (g.B.Blocks.held c.args.self.now.over.below) (g.B.Blocks.held c.quiet.new.self)
     (g.met.B.Blocks.agrees c.args.self.now.over.below c.requires.sound) c.quiet.ensures.leaves
 
 pub returns-clause-undamaged : goal.returns-clause-undamaged

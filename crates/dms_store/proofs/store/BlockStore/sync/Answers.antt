@@ -7,7 +7,7 @@ use Rattle.dms_store.proofs.store.BlockStore.sync.Goals as goal
 
 pub returns-clause-silent : goal.returns-clause-silent
 returns-clause-silent g c =
-    silent_lifted (described c.args.self.now.desc) _ _ c.args.self.now.found c.note.new.found (g.B.Blocks.held c.args.self.now.over.below) (g.B.Blocks.held c.sync.new.self) c.sync.ensures.passes
+    silent_lifted (described c.args.self.now.desc) _ _ c.args.self.now.found c.note.new.found (g.B.Blocks.last c.args.self.now.over.below) (g.B.Blocks.last c.sync.new.self) (g.B.Blocks.held c.args.self.now.over.below) (g.B.Blocks.held c.sync.new.self) c.sync.ensures.passes
 
 pub returns-clause-undamaged : goal.returns-clause-undamaged
 returns-clause-undamaged g c d told =

@@ -1,4 +1,4 @@
-use Rattle.std.proofs.Common.{◌≡◌, List, arith, true, false, refl, ap, ◌∙◌, length, map, rules}
+use Rattle.std.proofs.Common.{◌≡◌, List, arith, true, false, refl, ap, ◌∙◌, length, map, rules, inr}
 use Rattle.std.proofs.lemmas.List.{with_items_is, length-map}
 use Rattle.std.proofs.lemmas.Grind.{common_steps}
 use Rattle.std.proofs.lemmas.Option.{gets}
@@ -9,6 +9,11 @@ use Rattle.dms_block.specs.Faults.{Undamaged}
 use Rattle.dms_storeverbs.proofs.Costing.{answered_costs, backed_costs, spends_none, unbacked_costs}
 use Rattle.dms_desc.specs.Shape.{described}
 use Rattle.dms_storeverbs.proofs.AtHand.{backed_fit}
+use Rattle.dms_block.specs.Faults.{IfFull}
+use Rattle.dms_block.specs.HeldLaws.{full_weaker}
+use Rattle.dms_model.specs.declared.verb.Verb.TheVariants.{Abort}
+use Rattle.dms_storeverbs.specs.Costs.{IsFullFor}
+use Rattle.dms_storeverbs.proofs.Rooms.{abort_backs}
 use Rattle.dms_storeverbs.proofs.engine.Engine.abort.Goals as goal
 use Rattle.dms_laws.specs.Exclusive.{is_done}
 
@@ -56,3 +61,10 @@ returns-in_err-back_out-clause-costs g c = unbacked_costs c.from_residual.ensure
 
 pub returns-clause-costs : goal.returns-clause-costs
 returns-clause-costs g c = backed_costs c.in_ok-back_out.ensures.effort c.done.ensures.sync (ap is_done c.done.ensures.reply)
+
+pub returns-in_err-back_out-clause-full : goal.returns-in_err-back_out-clause-full
+returns-in_err-back_out-clause-full g c = λ p at s stands may.
+    let last = (g.St.Store.seen c.args.self.now.store).last in
+    let works : p.in_transaction ≡ true = grind (arith, common_steps, gets) in
+    let u : IfFull c.back_out.result (IsFullFor last Abort (abort_step c.args.i p s)) = full_weaker c.back_out.result _ _ (λ f is. inr (abort_backs c.args.i p s works, is)) c.back_out.ensures.full in
+    search rules

@@ -1,4 +1,4 @@
-use Rattle.std.proofs.Common.{◌≡◌, ◌∙◌, ◌<◌, ℕ, List, [], true, false, not, ◌&&◌, refl, sym, ap, subst, arith, length, rules}
+use Rattle.std.proofs.Common.{◌≡◌, ◌∙◌, ◌<◌, ℕ, List, [], true, false, not, ◌&&◌, refl, sym, ap, subst, arith, length, rules, inl, inr}
 use Rattle.std.specs.Prelude.{is_some}
 use Rattle.std.proofs.lemmas.Grind.{common_steps}
 use Rattle.std.proofs.lemmas.Option.{gets}
@@ -10,6 +10,7 @@ use Rattle.dms_model.specs.declared.reply.Reply.TheVariants.{Exception, Waits}
 use Rattle.dms_desc.specs.Lookups.{name_of, structure_of}
 use Rattle.dms_model.specs.Session.{awaited, begin_step, restart_of, workers, area_of}
 use Rattle.std.proofs.Common.{cond}
+use Rattle.std.proofs.lemmas.Bool.{cases_Bool}
 use Rattle.dms_storeverbs.specs.Keeping.{kept_if}
 use Rattle.dms_storeverbs.proofs.Ends.{begin_refused, begin_done, begin_quiets}
 use Rattle.dms_storeverbs.proofs.Unfolds.{begin_lacks, begin_waits, begin_goes}
@@ -17,6 +18,12 @@ use Rattle.dms_block.specs.Faults.{Undamaged}
 use Rattle.dms_storeverbs.proofs.Costing.{failed_costs, plain_costs, spends_none}
 use Rattle.dms_model.specs.Areas.{WorksFit}
 use Rattle.dms_storeverbs.proofs.AtHand.{one_changed}
+use Rattle.dms_block.specs.Faults.{IfFull}
+use Rattle.dms_block.specs.HeldLaws.{full_none}
+use Rattle.dms_model.specs.declared.verb.Verb.TheVariants.{Begin}
+use Rattle.dms_model.specs.Session.{after_begin}
+use Rattle.dms_storeverbs.specs.Costs.{IsFullFor}
+use Rattle.dms_storeverbs.proofs.Rooms.{begin_appends, full_from, full_two}
 use Rattle.dms_storeverbs.proofs.engine.Engine.begin.Goals as goal
 
 pub invariant_of-self-clause-fit : goal.invariant_of-self-clause-fit
@@ -102,3 +109,18 @@ returns-in-Some-2-clause-costs g c = plain_costs c.refused-in-Some-2.ensures.syn
 
 pub returns-clause-costs : goal.returns-clause-costs
 returns-clause-costs g c = plain_costs c.done.ensures.sync c.keep_restart.ensures.spends
+
+pub returns-in_err-refusal-clause-full : goal.returns-in_err-refusal-clause-full
+returns-in_err-refusal-clause-full g c = λ p at s stands may.
+    let d = described c.args.self.now.desc in
+    let last = (g.St.Store.seen c.args.self.now.store).last in
+    let idle : p.in_transaction ≡ false = grind (arith, common_steps, gets) in
+    let who_is : cond c.args.self.now.pending (workers c.as_slice.result.now) [] ≡ awaited s = (λ j. cond (stands.pending j) (workers ((c.as_slice.ensures.value ∙ stands.programs) j)) []) in
+    let nobody = sym who_is ∙ (rw c.in_default.is at c.in_ok-awaited.ensures) in
+    let k = kept_if c.args.audit d p s.db in
+    let due : IfFull c.keep_restart.result (IsFullFor last (Begin c.args.audit) (after_begin k c.args.i s)) = elim (cases_Bool c.args.audit) [
+      | inl audit ↦ full_two c.keep_restart.result _ _ _ (λ f kept is. inl (begin_appends k c.args.i s c.args.audit audit kept, is)) (c.keep_restart.ensures.full p at s stands may.exclusive) c.keep_restart.ensures.file
+      | inr not ↦ full_none c.keep_restart.result _ (c.keep_restart.ensures.none not)
+    ] in
+    let u = full_from c.keep_restart.result last (Begin c.args.audit) _ _ (begin_goes d c.args.i p s c.args.audit idle nobody) due in
+    search rules

@@ -9,3 +9,9 @@ unfolding step
 returns-in_err-answer-clause-step g c = λ s stands may.
     let did = c.carry_out.ensures.step s stands may in
     unanswered_did c.args.program.now c.from_residual.ensures.0 (let u : Undamaged c.carry_out.result = did.undamaged in search rules) did
+
+pub returns-in_err-answer-clause-full : goal.returns-in_err-answer-clause-full
+unfolding step
+returns-in_err-answer-clause-full g c = λ s stands may.
+    let u = c.carry_out.ensures.full s stands may in
+    search rules

@@ -1,6 +1,7 @@
-use Rattle.std.proofs.Common.{◌≡◌, ◌∙◌, ◌<◌, List, true, false, ◌||◌, nat_le, refl, sym, subst, arith, length, rules}
+use Rattle.std.proofs.Common.{◌≡◌, ◌∙◌, ◌<◌, List, true, false, ◌||◌, nat_le, refl, sym, subst, arith, length, rules, inl, inr}
 use Rattle.std.proofs.lemmas.Grind.{common_steps}
 use Rattle.std.proofs.lemmas.Option.{gets}
+use Rattle.std.proofs.lemmas.Bool.{cases_Bool}
 use Rattle.dms_desc.specs.Shape.{described}
 use Rattle.dms_model.specs.Programs.{Program}
 use Rattle.dms_storeverbs.proofs.Calls.{did_from, failed, silently, unchanged, then_did}
@@ -13,6 +14,12 @@ use Rattle.dms_block.specs.Faults.{Undamaged}
 use Rattle.dms_storeverbs.proofs.Costing.{failed_costs, plain_costs, spends_none, then_costs}
 use Rattle.dms_model.specs.Areas.{WorksFit}
 use Rattle.dms_storeverbs.proofs.AtHand.{one_changed}
+use Rattle.dms_block.specs.Faults.{IfFull}
+use Rattle.dms_block.specs.HeldLaws.{full_none, full_weaker}
+use Rattle.dms_model.specs.declared.verb.Verb.TheVariants.{End}
+use Rattle.dms_model.specs.Session.{after_end}
+use Rattle.dms_storeverbs.specs.Costs.{IsFullFor}
+use Rattle.dms_storeverbs.proofs.Rooms.{end_appends, full_from, full_two, quiet_appends}
 use Rattle.dms_storeverbs.proofs.engine.Engine.end_transaction.Goals as goal
 
 pub invariant_of-self-clause-fit : goal.invariant_of-self-clause-fit
@@ -61,3 +68,34 @@ returns-in-Some-clause-costs g c = plain_costs c.refused-in-Some.ensures.sync c.
 
 pub returns-clause-costs : goal.returns-clause-costs
 returns-clause-costs g c = then_costs c.keep_restart.ensures.spends c.settle.ensures.costs
+
+pub returns-in_err-refusal-clause-full : goal.returns-in_err-refusal-clause-full
+returns-in_err-refusal-clause-full g c = λ p at s stands may.
+    let d = described c.args.self.now.desc in
+    let last = (g.St.Store.seen c.args.self.now.store).last in
+    let verb = End c.args.audit c.args.sync in
+    let works : p.in_transaction ≡ true = grind (arith, common_steps, gets) in
+    let k = kept_if c.args.audit d p s.db in
+    let due : IfFull c.keep_restart.result (IsFullFor last verb (after_end k d c.args.i s c.args.sync)) = elim (cases_Bool c.args.audit) [
+      | inl audit ↦ full_two c.keep_restart.result _ _ _ (λ f kept is. inl (end_appends k d c.args.i s c.args.audit c.args.sync audit kept, is)) (c.keep_restart.ensures.full p at s stands may.exclusive) c.keep_restart.ensures.file
+      | inr not ↦ full_none c.keep_restart.result _ (c.keep_restart.ensures.none not)
+    ] in
+    let u = full_from c.keep_restart.result last verb _ _ (end_step_goes d c.args.i p s c.args.audit c.args.sync works) due in
+    search rules
+
+pub returns-clause-full : goal.returns-clause-full
+returns-clause-full g c = λ p at s stands may.
+    let d = described c.args.self.now.desc in
+    let last = (g.St.Store.seen c.args.self.now.store).last in
+    let verb = End c.args.audit c.args.sync in
+    let works : p.in_transaction ≡ true = grind (arith, common_steps, gets) in
+    let low : c.args.i < length s.programs = subst (λ (ps : List Program). c.args.i < length ps) stands.programs c.requires.place in
+    let kept = rw c.in_default.is at (c.in_ok-refusal.ensures.kept p at s stands may.exclusive) in
+    let descr = c.keep_restart.ensures.lasts.description in
+    let due = c.is_due-self.ensures ∙ (λ j. c.keep_restart.new.self.pending || c.args.sync || nat_le (descr j).syncpoint (c.one_more-self.ensures j)) in
+    full_from c.settle.result last verb _ _ (end_step_goes d c.args.i p s c.args.audit c.args.sync works)
+    (end_goes (λ (o : Outcome). IfFull c.settle.result (IsFullFor last verb o)) (kept_if c.args.audit d p s.db) d c.args.i s c.args.sync c.index_mut.result.now c.leave.new.program _ _ _ _ c.one_more-self.result _ _ c.is_due-self.result _ low kept c.index_mut.ensures.value c.leave.ensures
+    (λ t pend sinc nxt st. full_two c.settle.result _ _ _ (λ f quiet is. inl (quiet_appends t c.args.audit c.args.sync quiet, is ∙ c.keep_restart.ensures.lasts.causes.last)) (c.settle.ensures.full t (st (due ∙ sym pend) (c.one_more-self.ensures ∙ sym sinc))) c.settle.ensures.file))
+
+pub returns-clause-file : goal.returns-clause-file
+returns-clause-file g c = full_weaker c.settle.result _ _ (λ f is. is ∙ c.keep_restart.ensures.lasts.causes.last) c.settle.ensures.file

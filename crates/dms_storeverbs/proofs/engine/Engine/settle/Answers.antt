@@ -1,4 +1,4 @@
-use Rattle.std.proofs.Common.{◌≡◌, ◌+◌, ◌<◌, ◌^◌, ◌∙◌, refl, arith, false, rules}
+use Rattle.std.proofs.Common.{◌≡◌, ◌+◌, ◌<◌, ◌^◌, ◌∙◌, refl, arith, false, rules, true}
 use Rattle.std.proofs.lemmas.Grind.{common_steps}
 use Rattle.std.proofs.lemmas.Option.{gets}
 use Rattle.dms_model.specs.Session.{settle, someone_works}
@@ -11,6 +11,9 @@ use Rattle.dms_desc.specs.Shape.{described}
 use Rattle.dms_model.specs.Programs.{Program}
 use Rattle.dms_model.specs.Session.{idle}
 use Rattle.dms_storeverbs.proofs.AtHand.{idle_fit}
+use Rattle.dms_block.specs.Faults.{IfFull}
+use Rattle.dms_block.specs.HeldLaws.{full_weaker}
+use Rattle.dms_storeverbs.specs.Costs.{makes_quiet}
 use Rattle.dms_storeverbs.proofs.engine.Engine.settle.Goals as goal
 
 pub invariant_of-self-then-not-self-clause-fit : goal.invariant_of-self-then-not-self-clause-fit
@@ -100,3 +103,20 @@ returns-in_err-sync-clause-costs g c = unsynced_costs c.from_residual-in_err-syn
 
 pub returns-clause-costs : goal.returns-clause-costs
 returns-clause-costs g c = synced_costs c.quiet.ensures.effort c.in_ok-sync.ensures.effort refl
+
+pub returns-in_err-number-clause-full : goal.returns-in_err-number-clause-full
+returns-in_err-number-clause-full g c = λ s stands.
+    let nobody : someone_works s.programs ≡ false = cc in
+    let u : IfFull c.quiet.result (λ f. makes_quiet (settle s).quiets ≡ true) = full_weaker c.quiet.result _ _ (λ f is. ap makes_quiet (settled_quiets s nobody)) c.quiet.ensures.full in
+    search rules
+
+pub returns-in_err-sync-clause-full : goal.returns-in_err-sync-clause-full
+returns-in_err-sync-clause-full g c = λ s stands.
+    let nobody : someone_works s.programs ≡ false = cc in
+    let u : IfFull c.sync.result (λ f. makes_quiet (settle s).quiets ≡ true) = full_weaker c.sync.result _ _ (λ f is. ap makes_quiet (settled_quiets s nobody)) c.sync.ensures.full in
+    search rules
+
+pub returns-in_err-sync-clause-file : goal.returns-in_err-sync-clause-file
+returns-in_err-sync-clause-file g c =
+    let u : IfFull c.sync.result (λ f. f ≡ (g.St.Store.seen c.args.self.now.store).last) = full_weaker c.sync.result _ _ (λ f is. is ∙ c.quiet.ensures.causes.last) c.sync.ensures.full in
+    search rules

@@ -1,16 +1,20 @@
-use Rattle.std.proofs.Common.{◌≡◌, ◌<◌, List, true, false, refl, sym, subst, arith, length, rules}
+use Rattle.std.proofs.Common.{◌≡◌, ◌<◌, List, true, false, refl, sym, subst, arith, length, rules, inl}
 use Rattle.std.proofs.lemmas.Grind.{common_steps}
 use Rattle.std.proofs.lemmas.Option.{gets}
 use Rattle.dms_desc.specs.Shape.{described}
 use Rattle.dms_model.specs.Programs.{Program}
 use Rattle.dms_storeverbs.proofs.Calls.{did_from, failed, silently, unchanged}
-use Rattle.dms_model.specs.Session.{keep, store_step}
+use Rattle.dms_model.specs.Session.{after_store, keep, store_step}
 use Rattle.dms_storeverbs.proofs.Ends.{store_refused, store_done, store_quiets}
 use Rattle.dms_storeverbs.proofs.Unfolds.{store_goes}
 use Rattle.dms_block.specs.Faults.{Undamaged}
 use Rattle.dms_storeverbs.proofs.Costing.{failed_costs, plain_costs, spends_none}
 use Rattle.dms_model.specs.Areas.{WorksFit}
 use Rattle.dms_storeverbs.proofs.AtHand.{one_changed}
+use Rattle.dms_block.specs.Faults.{IfFull}
+use Rattle.dms_model.specs.declared.verb.Verb.TheVariants.{Store}
+use Rattle.dms_storeverbs.specs.Costs.{IsFullFor}
+use Rattle.dms_storeverbs.proofs.Rooms.{full_from, full_two, store_appends}
 use Rattle.dms_storeverbs.proofs.engine.Engine.store.Goals as goal
 
 pub invariant_of-self-clause-fit : goal.invariant_of-self-clause-fit
@@ -55,3 +59,13 @@ returns-in-Some-clause-costs g c = plain_costs c.refused-in-Some.ensures.sync c.
 
 pub returns-clause-costs : goal.returns-clause-costs
 returns-clause-costs g c = plain_costs c.done.ensures.sync c.keep.ensures.spends
+
+pub returns-in_err-refusal-clause-full : goal.returns-in_err-refusal-clause-full
+returns-in_err-refusal-clause-full g c = λ p at s stands may.
+    let d = described c.args.self.now.desc in
+    let last = (g.St.Store.seen c.args.self.now.store).last in
+    let works : p.in_transaction ≡ true = grind (arith, common_steps, gets) in
+    let k = keep d p s.db c.args.set in
+    let due : IfFull c.keep.result (IsFullFor last (Store c.args.set) (after_store k c.args.i s)) = full_two c.keep.result _ _ _ (λ f kept is. inl (store_appends k c.args.i s c.args.set kept, is)) (c.keep.ensures.full p at s stands may.exclusive) c.keep.ensures.file in
+    let u = full_from c.keep.result last (Store c.args.set) _ _ (store_goes d c.args.i p s c.args.set works) due in
+    search rules

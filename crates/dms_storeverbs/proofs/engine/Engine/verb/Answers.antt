@@ -7,6 +7,7 @@ use Rattle.dms_model.specs.Session.{verb_step, refuse}
 use Rattle.dms_storeverbs.proofs.Costing.{plain_costs, spends_none}
 use Rattle.dms_desc.specs.Shape.{described}
 use Rattle.dms_laws.proofs.Formed.{initials}
+use Rattle.dms_block.specs.HeldLaws.{full_none}
 use Rattle.dms_storeverbs.proofs.engine.Engine.verb.Goals as goal
 
 pub invariant_of-self-clause-fit : goal.invariant_of-self-clause-fit
@@ -88,3 +89,25 @@ pub returns-in-OpenUpdate-clause-costs : goal.returns-in-OpenUpdate-clause-costs
 returns-in-OpenUpdate-clause-costs g c =
     let costs = plain_costs c.refused.ensures.sync (spends_none 0 (g.St.Store.seen c.args.self.now.store).effort) in
     ⊎_elim (λ e. rw e costs) (λ e. rw e costs) c.in-OpenUpdate.is
+
+pub returns-in-Store-clause-full : goal.returns-in-Store-clause-full
+unfolding verb_step
+returns-in-Store-clause-full g c = λ p at. rw c.in-Store.is (c.store.ensures.full p at)
+
+pub returns-in-Begin-clause-full : goal.returns-in-Begin-clause-full
+unfolding verb_step
+returns-in-Begin-clause-full g c = λ p at. rw c.in-Begin.is (c.begin.ensures.full p at)
+
+pub returns-in-End-clause-full : goal.returns-in-End-clause-full
+unfolding verb_step
+returns-in-End-clause-full g c = λ p at. rw c.in-End.is (c.end_transaction.ensures.full p at)
+
+pub returns-in-Abort-clause-full : goal.returns-in-Abort-clause-full
+unfolding verb_step
+returns-in-Abort-clause-full g c = λ p at. rw c.in-Abort.is (c.abort.ensures.full p at)
+
+pub returns-in-Find-clause-full : goal.returns-in-Find-clause-full
+returns-in-Find-clause-full g c = λ p at s stands may. full_none c.find.result _ c.find.ensures.room
+
+pub returns-in-Find-clause-file : goal.returns-in-Find-clause-file
+returns-in-Find-clause-file g c = full_none c.find.result _ c.find.ensures.room

@@ -1,5 +1,6 @@
 use Rattle.std.proofs.Common.{take, length, List, refl, sym, ◌∙◌, ap, arith}
 use Rattle.std.specs.declared.result.Result.TheVariants.{Err}
+use Rattle.std.proofs.lemmas.Bool.{true≢false}
 use Rattle.dms_block.specs.declared.change.Change.{Change}
 use Rattle.dms_block.specs.Changing.{fits_take, no_change_of}
 use Rattle.dms_block.specs.Held.{Held}
@@ -9,7 +10,6 @@ use Rattle.dms_wal.specs.Database.{held}
 use Rattle.dms_wal.proofs.Imaged.{one_spent, usable_spent}
 use Rattle.dms_wal.specs.PaceLaws.{grows_none, grows_on, pace_none, pace_on}
 use Rattle.dms_wal.proofs.Grown.{change_more, grows_logged}
-use Rattle.dms_wal.proofs.Marked.{true_not_false}
 use Rattle.dms_wal.proofs.Stepped.{passes_sound}
 use Rattle.dms_wal.specs.Controls.{KeepsPace}
 use Rattle.dms_wal.proofs.Logged.{logs_first, logs_none, logs_more, logs_whole}
@@ -74,7 +74,7 @@ returns-in-Err-clause-grows g c =
     let p = c.change.ensures.pace in
     let pace : KeepsPace a b = record { every = p.every; limit = p.limit; total = p.total; first = p.first; schema = p.schema } in
     grows_on was.pace was.grows (grows_logged g.S.Site a b was.made.stays.sound.unbroken pace (omega (arith, uses.not_less, rose, was.counted)) (omega (arith, uses.syncs)) (omega (arith, uses.outs)) (omega (arith, alters.passes.next)) 1
-    (λ counted. omega (arith, rose, was.counted, uses.not_less, uses.spent, counted.spent, alters.passes.next)) c.change.ensures.grown (λ tells whole. absurd (true_not_false (sym c.in-Err.ensures.broken ∙ whole))))
+    (λ counted. omega (arith, rose, was.counted, uses.not_less, uses.spent, counted.spent, alters.passes.next)) c.change.ensures.grown (λ tells whole. absurd (true≢false (sym c.in-Err.ensures.broken ∙ whole))))
 
 pub returns-in-Err-clause-part : goal.returns-in-Err-clause-part
 returns-in-Err-clause-part g c off t =

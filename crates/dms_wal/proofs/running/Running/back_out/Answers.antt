@@ -1,12 +1,12 @@
 use Rattle.dms_wal.proofs.Lifts.{told_same}
 use Rattle.std.proofs.Common.{ℕ, ◌∙◌, true, false, List, subst, length, refl, ap, arith}
+use Rattle.std.proofs.lemmas.Bool.{true≢false}
 use Rattle.dms_restore.specs.BackOuts.{WentBackTo}
 use Rattle.dms_restore.specs.Views.{view_of}
 use Rattle.dms_wal.specs.BackOuts.{entries_back}
 use Rattle.dms_wal.proofs.BackFaults.{caused_back, back_silent, back_only, back_full, back_memory}
 use Rattle.dms_restore.proofs.Sealed.{ok_not_disk}
 use Rattle.dms_wal.proofs.Grown.{back_disk, grows_back}
-use Rattle.dms_wal.proofs.Marked.{true_not_false}
 use Rattle.dms_wal.proofs.BackedOut.{passes_back, stays_back, marked_content}
 use Rattle.dms_wal.proofs.running.Running.back_out.Goals as goal
 
@@ -67,7 +67,7 @@ returns-in-Err-clause-ends g c is = c.in-Err.ensures.ends (back_full c.in-Err.fa
 
 pub returns-in-Err-clause-grows : goal.returns-in-Err-clause-grows
 returns-in-Err-clause-grows g c =
-    grows_back g.S.Site c.args.self.now _ c.requires.unbroken (record { every = refl; limit = c.go_back.ensures.passes.limit; total = c.go_back.ensures.passes.total; first = c.go_back.ensures.passes.first; schema = refl }) (omega arith) (omega arith) (omega (arith, c.saturating_add-self.ensures)) (omega arith) (omega (arith, c.saturating_add-self.ensures)) c.go_back.ensures.passes.grown (λ tells whole. absurd (true_not_false whole))
+    grows_back g.S.Site c.args.self.now _ c.requires.unbroken (record { every = refl; limit = c.go_back.ensures.passes.limit; total = c.go_back.ensures.passes.total; first = c.go_back.ensures.passes.first; schema = refl }) (omega arith) (omega arith) (omega (arith, c.saturating_add-self.ensures)) (omega arith) (omega (arith, c.saturating_add-self.ensures)) c.go_back.ensures.passes.grown (λ tells whole. absurd (true≢false whole))
 
 pub returns-clause-grows : goal.returns-clause-grows
 returns-clause-grows g c =

@@ -2,9 +2,9 @@ use Rattle.std.proofs.Common.{◌∙◌, refl, false, arith}
 use Rattle.dms_restore.specs.Views.{view_of}
 use Rattle.dms_wal.specs.PaceLaws.{grows_none}
 use Rattle.dms_wal.proofs.Grown.{grows_logged, logged_quiet}
-use Rattle.dms_wal.proofs.Marked.{true_not_false}
 use Rattle.dms_wal.proofs.Synced.{kind_is, quiet_done, quiet_left}
 use Rattle.std.specs.declared.result.Result.TheVariants.{Err}
+use Rattle.std.proofs.lemmas.Bool.{true≢false}
 use Rattle.dms_wal.proofs.Causes.{full_left, full_seen}
 use Rattle.dms_wal.proofs.running.Running.quiet.Goals as goal
 
@@ -41,7 +41,7 @@ returns-in-Ok-clause-grows g c =
 
 pub returns-in-Err-clause-grows : goal.returns-in-Err-clause-grows
 returns-in-Err-clause-grows g c =
-    grows_logged g.S.Site c.args.self.now _ c.requires.unbroken (let k = c.quiet.ensures.kind in record { every = refl; limit = k.2; total = k.0; first = k.3; schema = refl }) (omega arith) (omega arith) (omega arith) (omega arith) 1 (λ counted. omega arith) c.quiet.ensures.grown (λ tells whole. absurd (true_not_false whole))
+    grows_logged g.S.Site c.args.self.now _ c.requires.unbroken (let k = c.quiet.ensures.kind in record { every = refl; limit = k.2; total = k.0; first = k.3; schema = refl }) (omega arith) (omega arith) (omega arith) (omega arith) 1 (λ counted. omega arith) c.quiet.ensures.grown (λ tells whole. absurd (true≢false whole))
 
 pub returns-then-number-clause-grows : goal.returns-then-number-clause-grows
 returns-then-number-clause-grows g c = grows_none c.args.self.now

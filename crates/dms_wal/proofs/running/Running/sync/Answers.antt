@@ -1,4 +1,5 @@
 use Rattle.std.proofs.Common.{◌∙◌, IsTrue, sym, arith}
+use Rattle.std.proofs.lemmas.Bool.{true≢false}
 use Rattle.dms_wal.specs.Controls.{is_due_at}
 use Rattle.dms_block.specs.declared.block_fault.BlockFault.TheVariants.{Disk}
 use Rattle.dms_block.specs.HeldLaws.{passes_on}
@@ -9,7 +10,6 @@ use Rattle.dms_restore.specs.Views.{view_of}
 use Rattle.dms_restore.proofs.Results.{one_ok}
 use Rattle.dms_wal.proofs.Keeping.{tells_sealed}
 use Rattle.dms_wal.proofs.Grown.{grows_controlled, grows_still, never_failed, some_from}
-use Rattle.dms_wal.proofs.Marked.{true_not_false}
 use Rattle.dms_wal.proofs.running.Running.sync.Goals as goal
 
 pub returns-clause-passes : goal.returns-clause-passes
@@ -21,7 +21,7 @@ pub returns-in-Err-clause-grows : goal.returns-in-Err-clause-grows
 returns-in-Err-clause-grows g c =
     let uses = c.in-Err.ensures.uses in
     grows_still g.S.Site c.args.self.now c.seal.new.self c.requires.unbroken c.seal.ensures.kept.pace (omega (arith, uses.spent)) uses.few.0 (omega (arith, uses.outs)) (omega (arith, c.seal.ensures.kept.next)) c.seal.ensures.grown
-    (λ tells whole. absurd (true_not_false (sym c.in-Err.ensures.broken ∙ whole)))
+    (λ tells whole. absurd (true≢false (sym c.in-Err.ensures.broken ∙ whole)))
 
 pub returns-then-not-follows-clause-grows : goal.returns-then-not-follows-clause-grows
 returns-then-not-follows-clause-grows g c =
