@@ -18,7 +18,7 @@ pub trait Blocks {
     /// The same object, at another time.
     ghost same_blocks: { Self → Self → Type 0 };
 
-    /// The audit file that it doesn't go behind when something is changed.
+    /// The audit file that Full names where something is changed.
     ghost last: { Self → ℕ };
 
     /// How many blocks a file has.
@@ -79,7 +79,7 @@ pub trait Blocks {
         ensures full { IfFull result (λ f. f ≡ last self.old) }
         ensures same { same_blocks self.old self.new };
 
-    /// Goes back to the last quiet point, or to the content that it began with. The audit may go on up to file 9,999 for that.
+    /// Goes back to the last quiet point, or to the content that it began with. Full names file 9,999.
     fn back_out(&mut self, alloc: Global) -> Result<(), BlockFault>
         requires { (held self.old).sound }
         ensures content { OnOk result (IsTrue (held self.old).told → (held self.new).content ≡ (held self.old).mark) }

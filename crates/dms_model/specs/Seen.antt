@@ -63,7 +63,7 @@ pub record Seen : Type 1 where
   -- what stops may leave, and what holds of the files in each of them
   pub clock : Clock Stop
   pub whole : StopFiles → Type 0
-  -- the audit file that it doesn't go behind when something is changed
+  -- the audit file that Full names where something is changed
   pub last : ℕ
   -- how often calls failed
   pub faults : Faults

@@ -142,7 +142,7 @@ pub trait Store {
         ensures full { IfFull result (λ f. f ≡ (seen self.old).last) }
         ensures causes { HasStoreCauses result (seen self.old) (seen self.new) };
 
-    /// Goes back to the last quiet point, or to the database that it began with. The audit may go on up to file 9,999 for that.
+    /// Goes back to the last quiet point, or to the database that it began with. Full names file 9,999.
     fn back_out(&mut self, alloc: Global) -> Result<(), BlockFault>
         requires { (seen self.old).sound }
         ensures db { OnOk result ((seen self.new).db ≡ (seen self.old).mark) }

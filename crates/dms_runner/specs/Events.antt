@@ -20,7 +20,8 @@ use Rattle.dms_storeverbs.specs.View.{PointsGrow, LeavesQuiets}
 use Rattle.dms_laws.specs.Exclusive.{is_done}
 
 -- an event: the quiet points that are made in it, the syncpoint that it takes, and the bytes that are said; whether a record may be stored
--- in it, whether the database goes back to the last quiet point, and whether entries of the audit may be made
+-- in it, whether the database goes back to the last quiet point, and whether entries of the audit may be made,
+-- other than those of a way back
 pub record RunEvent : Type 0 where
   pub quiets : List Quiet
   pub sync : Option ℕ
@@ -33,8 +34,8 @@ pub record RunEvent : Type 0 where
 unfoldable pub may_store : Verb → Reply → Bool
 may_store verb reply = stores verb && not (is_waits reply)
 
--- a verb is called; nothing is said yet. Only an ABORT that is done goes back, and entries may be made only where a verb that is done stores a
--- record or makes a quiet point
+-- a verb is called; nothing is said yet. Only an ABORT that is done goes back, and other entries may be made only where a verb that is done stores
+-- a record or makes a quiet point
 abbrev pub calls : Verb → Outcome → RunEvent
 calls verb o = record { quiets = o.quiets; sync = o.sync; text = []; stores = may_store verb o.reply; backs = asks_back_out verb && is_done o.reply; appends = appends verb o }
 
@@ -220,7 +221,7 @@ pub record IsDue (last f : ℕ) (before after : Option (List ℕ)) (events : Lis
   pub text : Prints before after (text_of (take k events))
 
 -- a prefix of the text of these events was said, that of whole events where no text was cut off, and a stop on the way lies
--- within them. No more was done than that prefix may take. Where the audit had no room, entries were to be made. Of what stands afterwards it says nothing else
+-- within them. No more was done than that prefix may take. Where the audit had no room, entries may have been due. Of what stands afterwards it says nothing else
 pub record PerformsPrefix (fate : Fate) (b a : Seen) (events : List RunEvent) : Type 0 where
   pub text : PrintsPrefix b.said a.said (text_of events)
   pub said_whole : (fate.cut → ⊥) → SaidWhole b.said a.said events

@@ -56,11 +56,11 @@ abbrev pub IsAtEnds : Described → Db → ℕ → List (List ℕ) → List RunE
 IsAtEnds desc db first lines events before after =
     Prints before after [] ⊎ ((events ≡ script_events desc db first lines) × Prints before after (answers_text desc db first lines))
 
--- The script passes this limit: what the whole lines before that place answer was printed, and these are their events, so nothing else was done; of a
--- line that is one too many to hold its first try, if there is one, which waits, is among them. The audit may go on up to file FILES of the description
--- for what a script changes: then the call of a verb was under way that is done, and stores a record or makes a quiet point. It goes on up to file 9,999
--- for openings, ways back and closings: then an ABORT that is done was under way, or the way back at the script's end; or nothing was printed, or all
--- that the script answers.
+-- The script passes this limit. Of lines, bytes and held lines: what the whole lines before that place answer was printed, and these are their events,
+-- so nothing else was done; of a line that is one too many to hold its first try, if there is one, which waits, is among them. The audit may go on up
+-- to file FILES of the description for what a script changes: exactly the text before the call of a verb was printed that is done, and stores a record
+-- or makes a quiet point. It goes on up to file 9,999 for openings, ways back and closings: exactly the text before an ABORT that is done was printed,
+-- or before the way back at the script's end; or nothing, or all that the script answers.
 abbrev pub PassesScript : LimitKind → Described → Db → ℕ → List (List ℕ) → ℕ → List RunEvent → Option (List ℕ) → Option (List ℕ) → Type 0
 PassesScript (AuditFile f) desc db first lines n events before after = IsDue desc.files f before after events ⊎ ((f ≡ 9999) × IsAtEnds desc db first lines events before after)
 PassesScript Lines desc db first lines n events before after = PassesLines desc db first lines before after × AreExactly desc db first lines n events 1000000

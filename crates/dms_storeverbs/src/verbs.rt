@@ -196,8 +196,8 @@ impl<St: Store> Engine<St> {
     }
 
     /// One step of a program: its verb, one that a line can spell, is carried out, and its answer ends its wait or begins one.
-    /// Answers the store's fault, which is never Say; and Memory where memory is refused. It answers Full only where the verb would be done and
-    /// store a record or make a quiet point, of the store's last file, or for an ABORT that would be done, of file 9,999.
+    /// Answers the store's fault, which is never Say, and Full for STORE, BEGIN, END and ABORT alone; and Memory where memory is refused. Where
+    /// the store holds a database, Full comes only of a verb that would be done and store a record or make a quiet point, or of such an ABORT.
     #[tactic(auto, using(std::proofs::lemmas::Option::gets), unfolding(dms_model::specs::Session::step))]
     pub fn call(&mut self, alloc: Global, program: &Name, verb: &Verb) -> Result<Answer, BlockFault>
         requires verb { IsVerbOf (described self.old.desc) verb.now }
