@@ -212,7 +212,7 @@ pub record TookPart (cut : Type 0) (b a : Seen) (events : List RunEvent) : Type 
 abbrev pub IsFullIn : ℕ → RunEvent → ℕ → Type 0
 IsFullIn last e f = ((e.appends ≡ true) × (f ≡ last)) ⊎ ((e.backs ≡ true) × (f ≡ 9999))
 
--- Exactly the text of the first k of these events was said, and behind them such a one was under way.
+-- Exactly the text of the first k of these events was said, and the next of them is such a one.
 pub record IsDue (last f : ℕ) (before after : Option (List ℕ)) (events : List RunEvent) : Type 0 where
   pub k : ℕ
   pub at : RunEvent
