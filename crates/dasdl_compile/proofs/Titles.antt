@@ -7,7 +7,7 @@ use Rattle.std.proofs.lemmas.Slice.Eq.{bytes_eq-Decides}
 use Rattle.indexmap.specs.IndexMap.{insert_entry}
 use Rattle.dasdl_compile.specs.declared.draft.Draft.{Draft}
 use Rattle.dasdl_compile.specs.Finding.{data_set_named, is_structure}
-use Rattle.dasdl_compile.specs.Tables.{title, noted, first_place, with_title, with_titles, names_of}
+use Rattle.dasdl_compile.specs.Tables.{title, note_of, first_place, with_title, with_titles, names_of}
 
 -- a test that decides whether two names are one is that of their bytes
 pub same_test : (test : List ℕ → List ℕ → Bool) → ((a b : List ℕ) → Decides (test a b) (a ≡ b)) → test ≡ bytes_eq
@@ -42,16 +42,16 @@ put_later n k m v was rest apart =
       | true ↦ λ e. ap (λ (t : Bool). cond t (Some was) (Some v)) (ap (λ (l : List ℕ). bytes_eq l m) ((bytes_eq-Decides n k).0 e) ∙ apart)
     ] refl
 
-noted-insert : (n k : List ℕ) (v : Option ℕ) (es : List (List ℕ × Option ℕ)) → noted n (insert_entry bytes_eq es k v) ≡ cond (bytes_eq n k) (Some v) (noted n es)
+noted-insert : (n k : List ℕ) (v : Option ℕ) (es : List (List ℕ × Option ℕ)) → note_of n (insert_entry bytes_eq es k v) ≡ cond (bytes_eq n k) (Some v) (note_of n es)
 noted-insert n k v [] = refl
 noted-insert n k v (e ∷ es) =
-    elim (bytes_eq k e.0) as (λ t. bytes_eq k e.0 ≡ t → noted n (cond t ((e.0, v) ∷ es) (e ∷ insert_entry bytes_eq es k v)) ≡ cond (bytes_eq n k) (Some v) (cond (bytes_eq n e.0) (Some e.1) (noted n es))) [
+    elim (bytes_eq k e.0) as (λ t. bytes_eq k e.0 ≡ t → note_of n (cond t ((e.0, v) ∷ es) (e ∷ insert_entry bytes_eq es k v)) ≡ cond (bytes_eq n k) (Some v) (cond (bytes_eq n e.0) (Some e.1) (note_of n es))) [
       | true ↦ λ h.
-          put_first n e.0 v e.1 (noted n es)
-          ∙ ap (λ (l : List ℕ). cond (bytes_eq n l) (Some v) (cond (bytes_eq n e.0) (Some e.1) (noted n es))) (sym ((bytes_eq-Decides k e.0).0 h))
+          put_first n e.0 v e.1 (note_of n es)
+          ∙ ap (λ (l : List ℕ). cond (bytes_eq n l) (Some v) (cond (bytes_eq n e.0) (Some e.1) (note_of n es))) (sym ((bytes_eq-Decides k e.0).0 h))
       | false ↦ λ h.
           ap (λ (o : Option (Option ℕ)). cond (bytes_eq n e.0) (Some e.1) o) (noted-insert n k v es)
-          ∙ put_later n k e.0 v e.1 (noted n es) h
+          ∙ put_later n k e.0 v e.1 (note_of n es) h
     ] refl
 
 -- the structure at the place that is noted, else another answer
@@ -77,18 +77,18 @@ this_name all at d answer true (Some None) here = here
 this_name all at d answer false (Some None) here = refl
 this_name all at d answer k (Some (Some p)) here = refl
 
-one_more : (n : List ℕ) (all : List Draft) (at : ℕ) (d : Draft) (answer : Option Draft) (es : List (List ℕ × Option ℕ)) → slice_get all at ≡ Some d → chosen all (noted n (with_title d.name d.kind at es)) answer ≡ chosen all (noted n es) (cond (nat_lt d.kind 3 && bytes_eq d.name n) (Some d) answer)
+one_more : (n : List ℕ) (all : List Draft) (at : ℕ) (d : Draft) (answer : Option Draft) (es : List (List ℕ × Option ℕ)) → slice_get all at ≡ Some d → chosen all (note_of n (with_title d.name d.kind at es)) answer ≡ chosen all (note_of n es) (cond (nat_lt d.kind 3 && bytes_eq d.name n) (Some d) answer)
 one_more n all at d answer es here =
-    ap (λ (o : Option (Option ℕ)). chosen all o answer) (noted-insert n d.name (first_place (noted d.name es) (nat_lt d.kind 3) at) es)
-    ∙ elim (bytes_eq n d.name) as (λ t. bytes_eq n d.name ≡ t → chosen all (cond t (Some (first_place (noted d.name es) (nat_lt d.kind 3) at)) (noted n es)) answer ≡ chosen all (noted n es) (cond (nat_lt d.kind 3 && bytes_eq d.name n) (Some d) answer)) [
+    ap (λ (o : Option (Option ℕ)). chosen all o answer) (noted-insert n d.name (first_place (note_of d.name es) (nat_lt d.kind 3) at) es)
+    ∙ elim (bytes_eq n d.name) as (λ t. bytes_eq n d.name ≡ t → chosen all (cond t (Some (first_place (note_of d.name es) (nat_lt d.kind 3) at)) (note_of n es)) answer ≡ chosen all (note_of n es) (cond (nat_lt d.kind 3 && bytes_eq d.name n) (Some d) answer)) [
       | true ↦ λ e.
-          this_name all at d answer (nat_lt d.kind 3) (noted d.name es) here
-          ∙ ap (λ (l : List ℕ). chosen all (noted l es) (cond (nat_lt d.kind 3 && true) (Some d) answer)) (sym ((bytes_eq-Decides n d.name).0 e))
-          ∙ ap (λ (b : Bool). chosen all (noted n es) (cond (nat_lt d.kind 3 && b) (Some d) answer)) (sym (turned d.name n ∙ e))
-      | false ↦ λ e. ap (λ (b : Bool). chosen all (noted n es) (cond b (Some d) answer)) (sym (and_right (nat_lt d.kind 3) (bytes_eq d.name n) (turned d.name n ∙ e)))
+          this_name all at d answer (nat_lt d.kind 3) (note_of d.name es) here
+          ∙ ap (λ (l : List ℕ). chosen all (note_of l es) (cond (nat_lt d.kind 3 && true) (Some d) answer)) (sym ((bytes_eq-Decides n d.name).0 e))
+          ∙ ap (λ (b : Bool). chosen all (note_of n es) (cond (nat_lt d.kind 3 && b) (Some d) answer)) (sym (turned d.name n ∙ e))
+      | false ↦ λ e. ap (λ (b : Bool). chosen all (note_of n es) (cond b (Some d) answer)) (sym (and_right (nat_lt d.kind 3) (bytes_eq d.name n) (turned d.name n ∙ e)))
     ] refl
 
-named_from : (n : List ℕ) (all : List Draft) (at : ℕ) (es : List (List ℕ × Option ℕ)) (ds : List Draft) → drop at all ≡ ds → chosen all (noted n (with_titles at es ds)) None ≡ chosen all (noted n es) (data_set_named n ds)
+named_from : (n : List ℕ) (all : List Draft) (at : ℕ) (es : List (List ℕ × Option ℕ)) (ds : List Draft) → drop at all ≡ ds → chosen all (note_of n (with_titles at es ds)) None ≡ chosen all (note_of n es) (data_set_named n ds)
 unfolding with_titles data_set_named
 named_from n all at es [] h = refl
 named_from n all at es (d ∷ ds) h =
@@ -97,22 +97,22 @@ named_from n all at es (d ∷ ds) h =
     ∙ one_more n all at d (data_set_named n ds) es first.0
 
 -- the structure at the place beside a name is the data set with this name
-pub names_found : (n : List ℕ) (ds : List Draft) → chosen ds (noted n (names_of ds)) None ≡ data_set_named n ds
+pub names_found : (n : List ℕ) (ds : List Draft) → chosen ds (note_of n (names_of ds)) None ≡ data_set_named n ds
 names_found n ds = named_from n ds 0 [] ds refl
 
 seen : (b c : Bool) (v : Option ℕ) (o : Option (Option ℕ)) (rest : Bool) → b ≡ c → cond (is_some (cond b (Some v) o)) true rest ≡ cond (is_some o) true (cond c true rest)
 seen true c v o rest e = elim (is_some o) as (λ t. true ≡ cond t true (cond c true rest)) [ true ↦ refl | false ↦ ap (λ (t : Bool). cond t true rest) e ]
 seen false c v o rest e = ap (λ (t : Bool). cond (is_some o) true (cond t true rest)) e
 
-seen_from : (n : List ℕ) (at : ℕ) (es : List (List ℕ × Option ℕ)) (ds : List Draft) → is_some (noted n (with_titles at es ds)) ≡ cond (is_some (noted n es)) true (is_structure n ds)
+seen_from : (n : List ℕ) (at : ℕ) (es : List (List ℕ × Option ℕ)) (ds : List Draft) → is_some (note_of n (with_titles at es ds)) ≡ cond (is_some (note_of n es)) true (is_structure n ds)
 unfolding with_titles is_structure
-seen_from n at es [] = elim (is_some (noted n es)) as (λ t. t ≡ cond t true false) [ true ↦ refl | false ↦ refl ]
+seen_from n at es [] = elim (is_some (note_of n es)) as (λ t. t ≡ cond t true false) [ true ↦ refl | false ↦ refl ]
 seen_from n at es (d ∷ ds) =
-    let place = first_place (noted d.name es) (nat_lt d.kind 3) at in
+    let place = first_place (note_of d.name es) (nat_lt d.kind 3) at in
     seen_from n (at + 1) (with_title d.name d.kind at es) ds
     ∙ ap (λ (o : Option (Option ℕ)). cond (is_some o) true (is_structure n ds)) (noted-insert n d.name place es)
-    ∙ seen (bytes_eq n d.name) (bytes_eq d.name n) place (noted n es) (is_structure n ds) (turned n d.name)
+    ∙ seen (bytes_eq n d.name) (bytes_eq d.name n) place (note_of n es) (is_structure n ds) (turned n d.name)
 
 -- a name is in the table where a structure has it
-pub names_seen : (n : List ℕ) (ds : List Draft) → is_some (noted n (names_of ds)) ≡ is_structure n ds
+pub names_seen : (n : List ℕ) (ds : List Draft) → is_some (note_of n (names_of ds)) ≡ is_structure n ds
 names_seen n ds = seen_from n 0 [] ds

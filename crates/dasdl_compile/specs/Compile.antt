@@ -2,7 +2,7 @@
 use Rattle.std.specs.Prelude.{◌≡◌, ◌-◌, List, [], ◌∷◌, ◌++◌, map, Bool, not, ◌&&◌, ◌||◌, ◌==◌, nat_lt, slice_get, set, Some, None, if◌then◌else◌}
 use Rattle.std.specs.declared.option.Option.{Option}
 use Rattle.std.specs.declared.result.Result.TheVariants.{Ok, Err}
-use Rattle.dms_desc.specs.Shape.{Shape, Described, described}
+use Rattle.dms_desc.specs.Shape.{Shape, Described, as_described}
 use Rattle.dms_desc.specs.declared.description.Description.{Description}
 use Rattle.dasdl_parse.specs.declared.schema.Parameters.{Parameters}
 use Rattle.dasdl_parse.specs.declared.declarations.Declaration.{Declaration}
@@ -13,7 +13,7 @@ use Rattle.dasdl_compile.specs.declared.draft.Draft.{Draft}
 use Rattle.dasdl_compile.specs.declared.work.Plain.TheVariants.{Noted}
 use Rattle.dasdl_compile.specs.declared.work.Compilation.{Compilation}
 use Rattle.dasdl_compile.specs.Answers.{Judged, ◌>>=◌, CompileFails, steps}
-use Rattle.dasdl_compile.specs.Finding.{drafted, next_structure, is_structure, has_restart, kind_of}
+use Rattle.dasdl_compile.specs.Finding.{new_draft, next_structure, is_structure, has_restart, kind_of}
 use Rattle.dasdl_compile.specs.Members.{member_at, open_after}
 use Rattle.dasdl_compile.specs.Outlines.{data_set_kind, outlined_one}
 use Rattle.dasdl_compile.specs.Sets.{set_at}
@@ -29,7 +29,7 @@ data_set_at s w =
     if is_structure s.name w.made then Err (Twice s.name)
     else (if is_misplaced s w then Err (Embedding s.name)
     else (if s.restart && has_restart w.made then Err (Twice s.name)
-    else Ok (record { made = w.made ++ drafted (next_structure w.made) (data_set_kind s.restart) s.name w.within ∷ []; within = next_structure w.made })))
+    else Ok (record { made = w.made ++ new_draft (next_structure w.made) (data_set_kind s.restart) s.name w.within ∷ []; within = next_structure w.made })))
 
 abbrev pub inside_in : List Draft → Declaration → Compilation → Option Draft → Judged Compilation
 inside_in outline decl w None = Ok w
@@ -59,20 +59,20 @@ abbrev pub description_of : Parameters → List Draft → Described
 description_of p ds = record { syncpoint = p.syncpoint; controlpoint = p.controlpoint; buffers = p.buffers; blocks = p.blocks; files = p.files; structures = map shape_in ds }
 
 -- the text's end: there is a restart data set, then the description has at most 65,535 bytes
-unfoldable pub finished : Parameters → List Draft → Judged Described
-finished p ds =
+unfoldable pub finish_drafts : Parameters → List Draft → Judged Described
+finish_drafts p ds =
     if not (has_restart ds) then Err NoRestart
     else (if nat_lt 65535 (description_width ds) then Err (DescriptionLong (description_width ds))
     else Ok (description_of p ds))
 
 -- the declarations in text order under the names of all of them, then the text's end
-unfoldable pub compiled : Parameters → List Declaration → Judged Described
-compiled p decls =
+unfoldable pub compile_schema : Parameters → List Declaration → Judged Described
+compile_schema p decls =
     steps outlined_one Noted nothing_yet decls >>= λ outline.
     steps declared_at outline.made nothing_yet decls >>= λ w.
-    finished p w.made
+    finish_drafts p w.made
 
 -- what was answered is what compiling gives, conditions seen as trees
 abbrev pub Describes : Judged Description → Judged Described → Type 0
-Describes (Ok d) read = read ≡ Ok (described d)
+Describes (Ok d) read = read ≡ Ok (as_described d)
 Describes (Err e) read = CompileFails e read

@@ -37,17 +37,17 @@ compared_with name op literal None = Err (Unknown name)
 compared_with name op literal (Some f) = literal_of name f.kind literal >>= λ v. Ok (Test f.number op v)
 
 -- an item of the data set is compared with a literal that fits it
-unfoldable pub compared : List Item → List ℕ → Op → Literal → Judged Tree
-compared items name op literal = compared_with name op literal (item_named name 1 items)
+unfoldable pub comparison : List Item → List ℕ → Op → Literal → Judged Tree
+comparison items name op literal = compared_with name op literal (item_named name 1 items)
 
 -- comparisons are judged in text order
 unfoldable pub condition : List Item → Written → Judged Tree
-condition items (Compared name op literal) = compared items name op literal
+condition items (Compared name op literal) = comparison items name op literal
 condition items (And' a b) = condition items a >>= λ x. condition items b >>= λ y. Ok (Both x y)
 condition items (Or' a b) = condition items a >>= λ x. condition items b >>= λ y. Ok (Either x y)
 condition items (Turned a) = condition items a >>= λ x. Ok (Contrary x)
 
 -- where no condition is said, each record meets it
-unfoldable pub verified : List Item → Option Condition → Judged Tree
-verified items None = Ok Empty
-verified items (Some c) = condition items c.tree
+unfoldable pub verify_tree : List Item → Option Condition → Judged Tree
+verify_tree items None = Ok Empty
+verify_tree items (Some c) = condition items c.tree

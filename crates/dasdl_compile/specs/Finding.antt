@@ -8,8 +8,8 @@ use Rattle.dasdl_compile.specs.declared.draft.Draft.{Draft}
 use Rattle.dms_desc.specs.Lookups.{item_named, group_named}
 
 -- a structure of which no more is known than its name and where it stands
-abbrev pub drafted : ℕ → ℕ → List ℕ → ℕ → Draft
-drafted number kind name owner = record { number = number; kind = kind; name = name; owner = owner; population = 0; items = []; groups = []; cond = Empty; set = 0; form = 0; duplicates = false; parts = [] }
+abbrev pub new_draft : ℕ → ℕ → List ℕ → ℕ → Draft
+new_draft number kind name owner = record { number = number; kind = kind; name = name; owner = owner; population = 0; items = []; groups = []; cond = Empty; set = 0; form = 0; duplicates = false; parts = [] }
 
 -- structures count from 1 in text order; the count stops at 65,535, which no schema of 200 structures reaches
 abbrev pub next_structure : List Draft → ℕ

@@ -19,7 +19,7 @@ use Rattle.dasdl_compile.specs.declared.fault.CompileFault.TheVariants.{Twice, U
 use Rattle.dasdl_compile.specs.declared.draft.Draft.{Draft}
 use Rattle.dasdl_compile.specs.Answers.{Judged, ◌>>=◌, steps}
 use Rattle.dasdl_compile.specs.Finding.{next_item, is_taken, data_set_named}
-use Rattle.dasdl_compile.specs.Conditions.{literal_of, verified}
+use Rattle.dasdl_compile.specs.Conditions.{literal_of, verify_tree}
 use Rattle.dms_desc.specs.Widths.{record_width}
 
 -- the items, links and groups of a data set may be 255 at most; a schema has no more than 60
@@ -72,7 +72,7 @@ width_of d = min (record_width d.items) 4294967295
 
 -- the end of a data set: VERIFY, then its records have at most 480 bytes
 unfoldable pub end_at : Draft → DataSetEnd → Judged Draft
-end_at d e = verified d.items e.verify >>= λ c. if nat_lt 480 (width_of d) then Err (RecordLong (width_of d)) else Ok (with_end d e.population c)
+end_at d e = verify_tree d.items e.verify >>= λ c. if nat_lt 480 (width_of d) then Err (RecordLong (width_of d)) else Ok (with_end d e.population c)
 
 -- what is declared within a data set, but for structures
 unfoldable pub member_at : List Draft → Declaration → Draft → Judged Draft

@@ -13,7 +13,7 @@ use Rattle.dasdl_compile.specs.declared.draft.Draft.{Draft}
 use Rattle.dasdl_compile.specs.declared.work.Plain.{Plain}
 use Rattle.dasdl_compile.specs.declared.work.Compilation.{Compilation}
 use Rattle.dasdl_compile.specs.Answers.{Judged, ◌>>=◌, steps}
-use Rattle.dasdl_compile.specs.Finding.{drafted, next_structure}
+use Rattle.dasdl_compile.specs.Finding.{new_draft, next_structure}
 use Rattle.dasdl_compile.specs.Members.{with_item, with_group, open_after}
 
 -- the kind of a data set
@@ -43,11 +43,11 @@ outlined_inside plain decl w = outlined_in plain decl w (slice_get w.made (w.wit
 
 -- a data set is noted, and is open
 unfoldable pub outlined_data_set : DataSetDecl → Compilation → Judged Compilation
-outlined_data_set s w = Ok (record { made = w.made ++ drafted (next_structure w.made) (data_set_kind s.restart) s.name w.within ∷ []; within = next_structure w.made })
+outlined_data_set s w = Ok (record { made = w.made ++ new_draft (next_structure w.made) (data_set_kind s.restart) s.name w.within ∷ []; within = next_structure w.made })
 
 -- a set or subset is noted as a structure, for the count
 unfoldable pub outlined_set : SetDecl → Compilation → Judged Compilation
-outlined_set s w = Ok (record { made = w.made ++ drafted (next_structure w.made) 3 s.name w.within ∷ []; within = w.within })
+outlined_set s w = Ok (record { made = w.made ++ new_draft (next_structure w.made) 3 s.name w.within ∷ []; within = w.within })
 
 -- a declaration is noted
 unfoldable pub outlined_one : Plain → Compilation → Declaration → Judged Compilation

@@ -12,12 +12,12 @@ abbrev pub title : Draft → List ℕ × ℕ
 title d = (d.name, d.kind)
 
 -- what has neither name nor kind
-abbrev pub untitled : {S : Type 0} → S → List ℕ × ℕ
-untitled s = ([], 0)
+abbrev pub no_title : {S : Type 0} → S → List ℕ × ℕ
+no_title s = ([], 0)
 
 -- what stands beside a name
-abbrev pub noted : List ℕ → List (List ℕ × Option ℕ) → Option (Option ℕ)
-noted name es = lookup (bytes_eq name) es
+abbrev pub note_of : List ℕ → List (List ℕ × Option ℕ) → Option (Option ℕ)
+note_of name es = lookup (bytes_eq name) es
 
 -- the place of the first data set with a name: the one that is noted, or else this one's
 abbrev pub first_place : Option (Option ℕ) → Bool → ℕ → Option ℕ
@@ -27,7 +27,7 @@ first_place (Some (Some first)) is_data_set at = Some first
 
 -- the table with the structure at this place, too
 abbrev pub with_title : List ℕ → ℕ → ℕ → List (List ℕ × Option ℕ) → List (List ℕ × Option ℕ)
-with_title name kind at es = insert_entry bytes_eq es name (first_place (noted name es) (nat_lt kind 3) at)
+with_title name kind at es = insert_entry bytes_eq es name (first_place (note_of name es) (nat_lt kind 3) at)
 
 -- the table with these structures, too, the first of them at this place
 unfoldable pub with_titles : ℕ → List (List ℕ × Option ℕ) → List Draft → List (List ℕ × Option ℕ)

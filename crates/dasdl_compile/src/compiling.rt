@@ -1,8 +1,8 @@
 ghost use Rattle.std.specs.Prelude.{◌≡◌, IfOk, map};
 ghost use Rattle.dms_desc.specs.Shape.{shape_of};
 ghost use Rattle.dasdl_compile.specs.Answers.{Makes};
-ghost use Rattle.dasdl_compile.specs.Compile.{is_misplaced, data_set_at, inside_at, declared_at, shape_in, finished, compiled, Describes};
-ghost use Rattle.dasdl_compile.specs.Tables.{untitled};
+ghost use Rattle.dasdl_compile.specs.Compile.{is_misplaced, data_set_at, inside_at, declared_at, shape_in, finish_drafts, compile_schema, Describes};
+ghost use Rattle.dasdl_compile.specs.Tables.{no_title};
 
 use crate::draft::Draft;
 use crate::drafts::Drafts;
@@ -78,7 +78,7 @@ fn inside_at(
 impl Stepwise<Drafts, Declaration> for Compilation {
     ghost step_at = { declared_at };
 
-    ghost fixed = { untitled };
+    ghost fixed = { no_title };
 
     #[tactic(auto, unfolding(crate::specs::Compile::declared_at))]
     fn step(
@@ -134,13 +134,13 @@ fn structures_of(alloc: Global, drafts: &[Draft]) -> Result<Structures, Memory>
 }
 
 /// The description, judged at the text's end.
-#[tactic(auto, unfolding(crate::specs::Compile::finished))]
-fn finished(
+#[tactic(auto, unfolding(crate::specs::Compile::finish_drafts))]
+fn finish_drafts(
     alloc: Global,
     parameters: &Parameters,
     drafts: &[Draft],
 ) -> Result<Description, CompileFault>
-    ensures { Describes result (finished parameters.now drafts.now) }
+    ensures { Describes result (finish_drafts parameters.now drafts.now) }
 {
     if !has_restart(drafts) {
         return Err(CompileFault::NoRestart);
@@ -161,9 +161,9 @@ fn finished(
 }
 
 /// The description of a schema, or its first fault in text order, or Memory where memory ran out.
-#[tactic(auto, unfolding(crate::specs::Compile::compiled))]
+#[tactic(auto, unfolding(crate::specs::Compile::compile_schema))]
 pub fn compile(alloc: Global, schema: &Schema) -> Result<Description, CompileFault>
-    ensures { Describes result (compiled schema.now.parameters schema.now.declarations) }
+    ensures { Describes result (compile_schema schema.now.parameters schema.now.declarations) }
 {
     let declarations = schema.declarations.as_slice();
     let mut outline = Compilation {
@@ -176,5 +176,5 @@ pub fn compile(alloc: Global, schema: &Schema) -> Result<Description, CompileFau
         within: 0,
     };
     all_steps(&mut work, alloc, &outline.made, declarations)?;
-    finished(alloc, &schema.parameters, work.made.as_slice())
+    finish_drafts(alloc, &schema.parameters, work.made.as_slice())
 }

@@ -62,7 +62,7 @@ impl ConditionTree {
     }
 
     /// Not this one, or Memory where memory ran out.
-    pub fn negated(self, alloc: Global) -> Result<ConditionTree, Memory>
+    pub fn turn_over(self, alloc: Global) -> Result<ConditionTree, Memory>
         ensures { IfOk result (λ c. c ≡ Contrary self) }
     {
         let kept = Cond::Not(Box::new(alloc, self.kept)?);

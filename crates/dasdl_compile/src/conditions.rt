@@ -1,6 +1,6 @@
 ghost use Rattle.dasdl_phrases.specs.Trees.{tree_of};
 ghost use Rattle.dasdl_compile.specs.Answers.{CompileGives};
-ghost use Rattle.dasdl_compile.specs.Conditions.{literal_of, compared, condition, verified};
+ghost use Rattle.dasdl_compile.specs.Conditions.{literal_of, comparison, condition, verify_tree};
 
 use crate::condition::ConditionTree;
 use crate::fault::CompileFault;
@@ -27,15 +27,15 @@ pub fn literal_of(
 }
 
 /// The comparison of an item with a literal.
-#[tactic(auto, unfolding(crate::specs::Conditions::compared))]
-fn compared(
+#[tactic(auto, unfolding(crate::specs::Conditions::comparison))]
+fn comparison(
     alloc: Global,
     items: &[Item],
     name: &Name,
     op: Op,
     literal: &Literal,
 ) -> Result<ConditionTree, CompileFault>
-    ensures { CompileGives result (compared items.now name.now op literal.now) }
+    ensures { CompileGives result (comparison items.now name.now op literal.now) }
 {
     match item_named(items, name) {
         None => Err(CompileFault::Unknown(*name)),
@@ -57,7 +57,7 @@ pub fn condition(
     ensures { CompileGives result (condition items.now (tree_of tree.now)) }
 {
     match tree {
-        CondTree::Compare(name, op, literal) => compared(alloc, items, name, *op, literal),
+        CondTree::Compare(name, op, literal) => comparison(alloc, items, name, *op, literal),
         CondTree::And(a, b) => {
             let left = condition(alloc, items, a)?;
             let right = condition(alloc, items, b)?;
@@ -70,19 +70,19 @@ pub fn condition(
         }
         CondTree::Not(a) => {
             let inner = condition(alloc, items, a)?;
-            Ok(inner.negated(alloc)?)
+            Ok(inner.turn_over(alloc)?)
         }
     }
 }
 
 /// The condition of VERIFY, which is Nothing where none is said; the faults are those of `condition`.
-#[tactic(auto, unfolding(crate::specs::Conditions::verified))]
-pub fn verified(
+#[tactic(auto, unfolding(crate::specs::Conditions::verify_tree))]
+pub fn verify_tree(
     alloc: Global,
     items: &[Item],
     verify: &Option<CondDecl>,
 ) -> Result<ConditionTree, CompileFault>
-    ensures { CompileGives result (verified items.now verify.now) }
+    ensures { CompileGives result (verify_tree items.now verify.now) }
 {
     match verify {
         None => Ok(ConditionTree::nothing()),

@@ -1,5 +1,5 @@
 ghost use Rattle.std.specs.Prelude.{◌≡◌};
-ghost use Rattle.dasdl_compile.specs.Finding.{drafted, is_data_set_draft, is_restart_draft, is_automatic_draft};
+ghost use Rattle.dasdl_compile.specs.Finding.{new_draft, is_data_set_draft, is_restart_draft, is_automatic_draft};
 
 use crate::condition::ConditionTree;
 use dms_base::Name;
@@ -34,7 +34,7 @@ pub struct Draft {
 impl Draft {
     /// A structure of which no more is known than its name and where it stands.
     pub fn new(alloc: Global, number: u16, kind: u8, name: Name, owner: u16) -> Draft
-        ensures { result ≡ drafted number kind name owner }
+        ensures { result ≡ new_draft number kind name owner }
     {
         Draft {
             number,

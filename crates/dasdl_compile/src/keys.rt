@@ -1,7 +1,7 @@
 ghost use Rattle.std.specs.Prelude.{◌≡◌};
 ghost use Rattle.dasdl_compile.specs.Answers.{CompileGives};
 ghost use Rattle.dasdl_compile.specs.Keys.{is_part, key_item_at, run_items, run_of, part_at, short_key, key_at};
-ghost use Rattle.dasdl_compile.specs.Tables.{untitled};
+ghost use Rattle.dasdl_compile.specs.Tables.{no_title};
 
 use crate::draft::Draft;
 use crate::fault::CompileFault;
@@ -58,7 +58,7 @@ fn run_items(run: Run, items: &[Item]) -> &[Item]
 impl Stepwise<Run, Item> for KeySoFar {
     ghost step_at = { key_item_at };
 
-    ghost fixed = { untitled };
+    ghost fixed = { no_title };
 
     #[tactic(auto, unfolding(crate::specs::Keys::key_item_at))]
     fn step(&mut self, _alloc: Global, run: &Run, item: &Item) -> Result<(), CompileFault> {
@@ -116,7 +116,7 @@ fn run_of(draft: &Draft, part: &PartDecl) -> Result<Run, CompileFault>
 impl Stepwise<Draft, PartDecl> for KeySoFar {
     ghost step_at = { part_at };
 
-    ghost fixed = { untitled };
+    ghost fixed = { no_title };
 
     #[tactic(auto, unfolding(crate::specs::Keys::part_at))]
     fn step(

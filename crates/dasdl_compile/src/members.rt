@@ -3,7 +3,7 @@ ghost use Rattle.dasdl_compile.specs.Answers.{CompileGives, Makes};
 ghost use Rattle.dasdl_compile.specs.Tables.{title};
 ghost use Rattle.dasdl_compile.specs.Members.{count_of, initial_of, item_at, group_at, link_kind, link_at, end_at, member_at, open_after};
 
-use crate::conditions::{literal_of, verified};
+use crate::conditions::{literal_of, verify_tree};
 use crate::draft::Draft;
 use crate::drafts::Drafts;
 use crate::fault::CompileFault;
@@ -129,7 +129,7 @@ fn end_at(draft: &mut Draft, alloc: Global, end: &DataSetEnd) -> Result<(), Comp
     ensures made { Makes result draft.new (end_at draft.old end.now) }
     ensures kept { title draft.new ≡ title draft.old }
 {
-    let cond = verified(alloc, draft.items.as_slice(), &end.verify)?;
+    let cond = verify_tree(alloc, draft.items.as_slice(), &end.verify)?;
     let width = record_width(draft.items.as_slice());
     if width > RECORD_BYTES {
         return Err(CompileFault::RecordLong(width));

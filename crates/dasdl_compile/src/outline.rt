@@ -1,6 +1,6 @@
 ghost use Rattle.std.specs.Prelude.{◌≡◌};
 ghost use Rattle.dasdl_compile.specs.Answers.{Makes};
-ghost use Rattle.dasdl_compile.specs.Tables.{title, untitled};
+ghost use Rattle.dasdl_compile.specs.Tables.{title, no_title};
 ghost use Rattle.dasdl_compile.specs.Outlines.{data_set_kind, outlined_item, outlined_member, outlined_inside, outlined_data_set, outlined_set, outlined_one};
 
 use crate::draft::Draft;
@@ -131,7 +131,7 @@ fn outlined_set(work: &mut Compilation, alloc: Global, set: &SetDecl) -> Result<
 impl Stepwise<Plain, Declaration> for Compilation {
     ghost step_at = { outlined_one };
 
-    ghost fixed = { untitled };
+    ghost fixed = { no_title };
 
     #[tactic(auto, unfolding(crate::specs::Outlines::outlined_one))]
     fn step(

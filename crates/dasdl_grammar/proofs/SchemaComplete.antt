@@ -29,7 +29,7 @@ use Rattle.dasdl_parse.specs.declared.grammar.Progress.{Progress}
 use Rattle.dasdl_phrases.specs.Reads.{◌>>=◌}
 use Rattle.dms_tokens.specs.Cursors.{starts, is_word, is_the_sign, is_end}
 use Rattle.dasdl_phrases.specs.Kinds.{starts_kind}
-use Rattle.dasdl_parse.specs.Grammar.{items_of, with_items, opened, closed, is_inside, is_deepest, declared, with_pairs, with_audit_pairs, parameters_turn_at, audit_turn_at, item_turn_at, group_turn_at, counted_with, link_turn_at, starts_set, starts_data_set, structure_turn_at, declared_turn_at, end_turn_at, named_turn_at, schema_turn_at, schema_done, no_progress, schema_at}
+use Rattle.dasdl_parse.specs.Grammar.{items_of, with_items, open_data_set, close_data_set, is_inside, is_deepest, add_declaration, with_pairs, with_audit_pairs, parameters_turn_at, audit_turn_at, item_turn_at, group_turn_at, counted_with, link_turn_at, starts_set, starts_data_set, structure_turn_at, declared_turn_at, end_turn_at, named_turn_at, schema_turn_at, schema_done, no_progress, schema_at}
 use Rattle.dasdl_parse.specs.Sets.{set_at, or_else}
 use Rattle.dasdl_parse.specs.Items.{item_at, group_at, link_at}
 use Rattle.dasdl_parse.specs.Grammar.{data_set_at, data_set_end_at}
@@ -120,26 +120,26 @@ no_more_items (One a) = let k : a + 0 ≡ a = omega arith in rw k refl
 no_more_items (Two a b) = let k : b + 0 ≡ b = omega arith in rw k refl
 no_more_items (Three a b c) = let k : c + 0 ≡ c = omega arith in rw k refl
 
-declared_is : (s : Progress) (w : Open) (st c n : ℕ) (d : Declaration) → w ≡ with_items s.within (items_of s.within + n) → st ≡ s.structures + structures_in (d ∷ []) → c ≡ s.counted + counted_in (d ∷ []) → declared s w st c false d ≡ added s n (d ∷ [])
+declared_is : (s : Progress) (w : Open) (st c n : ℕ) (d : Declaration) → w ≡ with_items s.within (items_of s.within + n) → st ≡ s.structures + structures_in (d ∷ []) → c ≡ s.counted + counted_in (d ∷ []) → add_declaration s w st c false d ≡ added s n (d ∷ [])
 declared_is s w st c n d e f g = rw (e, f, g) refl
 
-behind_set : (s : Progress) (place : ℕ) (name : List ℕ) (set : SetDecl) (ts rest : List Lexeme) → starts_set ts ≡ true → s.structures < 200 → is_deepest s.within ≡ false → set_at place name ts ≡ Ok (set, rest) → declared_turn_at s place name ts ≡ Ok (declared s s.within (s.structures + 1) s.counted false (SetOf set), rest)
+behind_set : (s : Progress) (place : ℕ) (name : List ℕ) (set : SetDecl) (ts rest : List Lexeme) → starts_set ts ≡ true → s.structures < 200 → is_deepest s.within ≡ false → set_at place name ts ≡ Ok (set, rest) → declared_turn_at s place name ts ≡ Ok (add_declaration s s.within (s.structures + 1) s.counted false (SetOf set), rest)
 unfolding declared_turn_at structure_turn_at
 behind_set s place name set ts rest p few deep h = rw (p, few_structures s.structures few, deep, h) refl
 
-behind_head : (s : Progress) (place : ℕ) (name : List ℕ) (head : DataSetDecl) (ts rest : List Lexeme) → starts_set ts ≡ false → starts_data_set ts ≡ true → s.structures < 200 → is_deepest s.within ≡ false → data_set_at place name ts ≡ Ok (head, rest) → declared_turn_at s place name ts ≡ Ok (declared s (opened s.within) (s.structures + 1) s.counted true (DataSet head), rest)
+behind_head : (s : Progress) (place : ℕ) (name : List ℕ) (head : DataSetDecl) (ts rest : List Lexeme) → starts_set ts ≡ false → starts_data_set ts ≡ true → s.structures < 200 → is_deepest s.within ≡ false → data_set_at place name ts ≡ Ok (head, rest) → declared_turn_at s place name ts ≡ Ok (add_declaration s (open_data_set s.within) (s.structures + 1) s.counted true (DataSet head), rest)
 unfolding declared_turn_at structure_turn_at
 behind_head s place name head ts rest p q few deep h = rw (p, q, few_structures s.structures few, deep, h) refl
 
-behind_item : (s : Progress) (place : ℕ) (name : List ℕ) (ts rest : List Lexeme) (item : ItemDecl) → starts_set ts ≡ false → starts_data_set ts ≡ false → is_inside s.within ≡ true → starts_kind ts ≡ true → items_of s.within < 60 → item_at place name ts ≡ Ok (item, rest) → declared_turn_at s place name ts ≡ Ok (declared s (with_items s.within (items_of s.within + 1)) s.structures s.counted false (Item item), rest)
+behind_item : (s : Progress) (place : ℕ) (name : List ℕ) (ts rest : List Lexeme) (item : ItemDecl) → starts_set ts ≡ false → starts_data_set ts ≡ false → is_inside s.within ≡ true → starts_kind ts ≡ true → items_of s.within < 60 → item_at place name ts ≡ Ok (item, rest) → declared_turn_at s place name ts ≡ Ok (add_declaration s (with_items s.within (items_of s.within + 1)) s.structures s.counted false (Item item), rest)
 unfolding declared_turn_at item_turn_at
 behind_item s place name ts rest item p q i k few h = rw (p, q, i, k, few_items (items_of s.within) few, h) refl
 
-behind_group : (s : Progress) (place : ℕ) (name : List ℕ) (ts rest : List Lexeme) (items : List ItemDecl) → starts_set ts ≡ false → starts_data_set ts ≡ false → is_inside s.within ≡ true → starts_kind ts ≡ false → starts (is_word (codes "GROUP")) ts ≡ true → group_at (items_of s.within) ts ≡ Ok (record { items = items; count = items_of s.within + length items }, rest) → declared_turn_at s place name ts ≡ Ok (declared s (with_items s.within (items_of s.within + length items)) s.structures s.counted false (Group (record { place = place; name = name; items = items })), rest)
+behind_group : (s : Progress) (place : ℕ) (name : List ℕ) (ts rest : List Lexeme) (items : List ItemDecl) → starts_set ts ≡ false → starts_data_set ts ≡ false → is_inside s.within ≡ true → starts_kind ts ≡ false → starts (is_word (codes "GROUP")) ts ≡ true → group_at (items_of s.within) ts ≡ Ok (record { items = items; count = items_of s.within + length items }, rest) → declared_turn_at s place name ts ≡ Ok (add_declaration s (with_items s.within (items_of s.within + length items)) s.structures s.counted false (Group (record { place = place; name = name; items = items })), rest)
 unfolding declared_turn_at group_turn_at
 behind_group s place name ts rest items p q i k g h = rw (p, q, i, k, g, h) refl
 
-behind_link : (s : Progress) (place : ℕ) (name : List ℕ) (ts rest : List Lexeme) (link : LinkDecl) → starts_set ts ≡ false → starts_data_set ts ≡ false → is_inside s.within ≡ true → starts_kind ts ≡ false → starts (is_word (codes "GROUP")) ts ≡ false → starts (is_word (codes "LINK")) ts ≡ true → items_of s.within < 60 → link_at s.counted place name ts ≡ Ok (link, rest) → declared_turn_at s place name ts ≡ Ok (declared s (with_items s.within (items_of s.within + 1)) s.structures (counted_with s.counted link.counted) false (Link link), rest)
+behind_link : (s : Progress) (place : ℕ) (name : List ℕ) (ts rest : List Lexeme) (link : LinkDecl) → starts_set ts ≡ false → starts_data_set ts ≡ false → is_inside s.within ≡ true → starts_kind ts ≡ false → starts (is_word (codes "GROUP")) ts ≡ false → starts (is_word (codes "LINK")) ts ≡ true → items_of s.within < 60 → link_at s.counted place name ts ≡ Ok (link, rest) → declared_turn_at s place name ts ≡ Ok (add_declaration s (with_items s.within (items_of s.within + 1)) s.structures (counted_with s.counted link.counted) false (Link link), rest)
 unfolding declared_turn_at link_turn_at
 behind_link s place name ts rest link p q i k g w few h = rw (p, q, i, k, g, w, few_items (items_of s.within) few, h) refl
 
@@ -207,19 +207,19 @@ with_again (One a) n m = refl
 with_again (Two a b) n m = refl
 with_again (Three a b c) n m = refl
 
-pub depth_opened : (o : Open) → depth_of o < 3 → depth_of (opened o) ≡ suc (depth_of o)
+pub depth_opened : (o : Open) → depth_of o < 3 → depth_of (open_data_set o) ≡ suc (depth_of o)
 depth_opened Outside h = refl
 depth_opened (One a) h = refl
 depth_opened (Two a b) h = refl
 depth_opened (Three a b c) h = absurd (omega arith)
 
-pub none_opened : (o : Open) → depth_of o < 3 → items_of (opened o) ≡ 0
+pub none_opened : (o : Open) → depth_of o < 3 → items_of (open_data_set o) ≡ 0
 none_opened Outside h = refl
 none_opened (One a) h = refl
 none_opened (Two a b) h = refl
 none_opened (Three a b c) h = absurd (omega arith)
 
-pub closed_again : (o : Open) (n : ℕ) → depth_of o < 3 → closed (with_items (opened o) n) ≡ o
+pub closed_again : (o : Open) (n : ℕ) → depth_of o < 3 → close_data_set (with_items (open_data_set o) n) ≡ o
 closed_again Outside n h = refl
 closed_again (One a) n h = refl
 closed_again (Two a b) n h = refl
@@ -239,14 +239,14 @@ not_done s l ts name e = rw e refl
 one_turn : (s t : Progress) (l : Lexeme) (name : List ℕ) (vs rest : List Lexeme) → l.token ≡ Word name → is_name name ≡ true → declared_turn_at s l.place name (vs ++ rest) ≡ Ok (t, rest) → SchemaRuns s (l ∷ (vs ++ rest)) t rest
 one_turn s t l name vs rest e n h = step s t t (l ∷ (vs ++ rest)) rest rest (not_done s l (vs ++ rest) name e) (named s l (vs ++ rest) name e n ∙ h) (omega (arith, length-append vs rest)) (here t rest)
 
-end_turn_is : (s : Progress) (ts rest : List Lexeme) (end : DataSetEnd) → starts (is_the_sign 41) ts ≡ true → starts (is_word (codes "PARAMETERS")) ts ≡ false → starts (is_word (codes "AUDIT")) ts ≡ false → is_inside s.within ≡ true → s.fresh ≡ false → data_set_end_at ts ≡ Ok (end, rest) → schema_turn_at s ts ≡ Ok (declared s (closed s.within) s.structures s.counted false (EndOf end), rest)
+end_turn_is : (s : Progress) (ts rest : List Lexeme) (end : DataSetEnd) → starts (is_the_sign 41) ts ≡ true → starts (is_word (codes "PARAMETERS")) ts ≡ false → starts (is_word (codes "AUDIT")) ts ≡ false → is_inside s.within ≡ true → s.fresh ≡ false → data_set_end_at ts ≡ Ok (end, rest) → schema_turn_at s ts ≡ Ok (add_declaration s (close_data_set s.within) s.structures s.counted false (EndOf end), rest)
 unfolding schema_turn_at end_turn_at
 end_turn_is s ts rest end p q r i f h = rw (q, r, p, i, f, h) refl
 
-end_run : (s : Progress) (us : List Lexeme) (end : DataSetEnd) → IsEnd end us → (rest : List Lexeme) → is_inside s.within ≡ true → s.fresh ≡ false → SchemaRuns s (us ++ rest) (declared s (closed s.within) s.structures s.counted false (EndOf end)) rest
+end_run : (s : Progress) (us : List Lexeme) (end : DataSetEnd) → IsEnd end us → (rest : List Lexeme) → is_inside s.within ≡ true → s.fresh ≡ false → SchemaRuns s (us ++ rest) (add_declaration s (close_data_set s.within) s.structures s.counted false (EndOf end)) rest
 end_run s _ _ (an_end c z said us a d e) rest i f =
     let whole = end_complete (c ∷ (us ++ (z ∷ []))) rest (record { verify = said.verify; population = or_else 1000000 said.population }) (an_end c z said us a d e) in
-    let t = declared s (closed s.within) s.structures s.counted false (EndOf (record { verify = said.verify; population = or_else 1000000 said.population })) in
+    let t = add_declaration s (close_data_set s.within) s.structures s.counted false (EndOf (record { verify = said.verify; population = or_else 1000000 said.population })) in
     step s t t (c ∷ ((us ++ (z ∷ [])) ++ rest)) rest rest (rw a refl) (end_turn_is s (c ∷ ((us ++ (z ∷ [])) ++ rest)) rest (record { verify = said.verify; population = or_else 1000000 said.population }) (rw a refl) (rw a refl) (rw a refl) i f whole) (omega (arith, length-append (us ++ (z ∷ [])) rest)) (here t rest)
 
 few_counted : (n : ℕ) (link : LinkDecl) → n + (one_if link.counted + 0) ≤ 4000 → link.counted ≡ true → n < 4000
@@ -272,7 +272,7 @@ data_set_runs depth l name head hs n ds us end es shallow e nm h inner few z s r
     let total = structures-append ds (EndOf end ∷ []) in
     let totals = counted-append ds (EndOf end ∷ []) in
     let flags = head_flags l.place name head (map token_of hs) h hs (us ++ (es ++ rest)) refl in
-    let s1 : Progress = declared s (opened s.within) (s.structures + 1) s.counted true (DataSet head) in
+    let s1 : Progress = add_declaration s (open_data_set s.within) (s.structures + 1) s.counted true (DataSet head) in
     let first = one_turn s s1 l name hs (us ++ (es ++ rest)) e nm (behind_head s l.place name head (hs ++ (us ++ (es ++ rest))) (us ++ (es ++ rest)) flags.0 flags.1 (omega (arith, room.structures, total)) (not_deepest s.within deep) (head_complete l.place name hs (us ++ (es ++ rest)) head h)) in
     let room1 : HasSchemaRoom s1 (suc depth) n ds = record {
       at = depth_opened s.within deep ∙ ap (λ (k : ℕ). suc k) room.at;
@@ -282,14 +282,14 @@ data_set_runs depth l name head hs n ds us end es shallow e nm h inner few z s r
     } in
     let second = inner s1 (es ++ rest) depth refl room1 in
     let s2 : Progress = added s1 n ds in
-    let inside : is_inside s2.within ≡ true = is_within s2.within depth (depth_with (opened s.within) (items_of (opened s.within) + n) ∙ room1.at) in
+    let inside : is_inside s2.within ≡ true = is_within s2.within depth (depth_with (open_data_set s.within) (items_of (open_data_set s.within) + n) ∙ room1.at) in
     let third = end_run s2 es end z rest inside refl in
     let a : s.structures + 1 + structures_in ds ≡ s.structures + structures_in (DataSet head ∷ (ds ++ (EndOf end ∷ []))) = omega (arith, total) in
     let b : s.counted + counted_in ds ≡ s.counted + counted_in (DataSet head ∷ (ds ++ (EndOf end ∷ []))) = omega (arith, totals) in
-    let c : closed (with_items (opened s.within) (items_of (opened s.within) + n)) ≡ with_items s.within (items_of s.within + 0) = closed_again s.within (items_of (opened s.within) + n) deep ∙ sym (no_more_items s.within) in
+    let c : close_data_set (with_items (open_data_set s.within) (items_of (open_data_set s.within) + n)) ≡ with_items s.within (items_of s.within + 0) = closed_again s.within (items_of (open_data_set s.within) + n) deep ∙ sym (no_more_items s.within) in
     let d : ((s.declarations ++ DataSet head ∷ []) ++ ds) ++ EndOf end ∷ [] ≡ s.declarations ++ (DataSet head ∷ (ds ++ (EndOf end ∷ []))) = append_assoc (s.declarations ++ DataSet head ∷ []) ds (EndOf end ∷ []) ∙ append_assoc s.declarations (DataSet head ∷ []) (ds ++ (EndOf end ∷ [])) in
-    let same : declared s2 (closed s2.within) s2.structures s2.counted false (EndOf end) ≡ added s 0 (DataSet head ∷ (ds ++ (EndOf end ∷ []))) = rw (a, b, c, d) refl in
-    let all = joins schema_done schema_turn_at s s1 (declared s2 (closed s2.within) s2.structures s2.counted false (EndOf end)) (l ∷ (hs ++ (us ++ (es ++ rest)))) (us ++ (es ++ rest)) rest first (joins schema_done schema_turn_at s1 s2 (declared s2 (closed s2.within) s2.structures s2.counted false (EndOf end)) (us ++ (es ++ rest)) (es ++ rest) rest second third) in
+    let same : add_declaration s2 (close_data_set s2.within) s2.structures s2.counted false (EndOf end) ≡ added s 0 (DataSet head ∷ (ds ++ (EndOf end ∷ []))) = rw (a, b, c, d) refl in
+    let all = joins schema_done schema_turn_at s s1 (add_declaration s2 (close_data_set s2.within) s2.structures s2.counted false (EndOf end)) (l ∷ (hs ++ (us ++ (es ++ rest)))) (us ++ (es ++ rest)) rest first (joins schema_done schema_turn_at s1 s2 (add_declaration s2 (close_data_set s2.within) s2.structures s2.counted false (EndOf end)) (us ++ (es ++ rest)) (es ++ rest) rest second third) in
     let text : l ∷ ((hs ++ (us ++ es)) ++ rest) ≡ l ∷ (hs ++ (us ++ (es ++ rest))) = ap (λ (vs : List Lexeme). l ∷ vs) (append_assoc hs (us ++ es) rest ∙ ap (λ (vs : List Lexeme). hs ++ vs) (append_assoc us es rest)) in
     rw text (subst (λ (x : Progress). SchemaRuns s (l ∷ (hs ++ (us ++ (es ++ rest)))) x rest) same all)
 

@@ -22,7 +22,7 @@ use Rattle.dasdl_phrases.specs.Reads.{◌>>=◌}
 use Rattle.dms_tokens.specs.Cursors.{place_at, starts, is_word, is_the_sign, is_end}
 use Rattle.dasdl_phrases.specs.Cursors.{name_at, turns_at}
 use Rattle.dasdl_phrases.specs.Kinds.{starts_kind}
-use Rattle.dasdl_parse.specs.Grammar.{items_of, with_items, opened, closed, is_inside, is_deepest, declared, with_pairs, with_audit_pairs, parameters_turn_at, audit_turn_at, item_turn_at, group_turn_at, counted_with, link_turn_at, starts_set, starts_data_set, structure_turn_at, declared_turn_at, end_turn_at, named_turn_at, schema_turn_at, schema_done, no_progress, schema_at}
+use Rattle.dasdl_parse.specs.Grammar.{items_of, with_items, open_data_set, close_data_set, is_inside, is_deepest, add_declaration, with_pairs, with_audit_pairs, parameters_turn_at, audit_turn_at, item_turn_at, group_turn_at, counted_with, link_turn_at, starts_set, starts_data_set, structure_turn_at, declared_turn_at, end_turn_at, named_turn_at, schema_turn_at, schema_done, no_progress, schema_at}
 use Rattle.dasdl_parse.specs.Sets.{set_at}
 use Rattle.dasdl_parse.specs.Items.{item_at, group_at, link_at}
 use Rattle.dasdl_parse.specs.Grammar.{data_set_at, data_set_end_at}
@@ -51,8 +51,8 @@ use Rattle.dasdl_grammar.proofs.SchemaComplete.{schema_complete, depth_of, struc
 -- what has been read, where so many data sets are open
 data StandsOpen (p : Parameters) (b a : Bool) : Open → Bool → List Declaration → List Lexeme → Type 0 where
   outside : (ds : List Declaration) (us : List Lexeme) → Declares p b a ds us → StandsOpen p b a Outside false ds us
-  begun : (o : Open) (f : Bool) (ds : List Declaration) (us : List Lexeme) (l : Lexeme) (name : List ℕ) (head : DataSetDecl) (hs : List Lexeme) → StandsOpen p b a o f ds us → depth_of o < 3 → l.token ≡ Word name → IsTrue (is_name name) → IsHead l.place name head (map token_of hs) → StandsOpen p b a (opened o) true (ds ++ (DataSet head ∷ [])) (us ++ (l ∷ hs))
-  inside : (o : Open) (f : Bool) (ds : List Declaration) (us : List Lexeme) (l : Lexeme) (name : List ℕ) (head : DataSetDecl) (hs : List Lexeme) (n : ℕ) (es : List Declaration) (vs : List Lexeme) → StandsOpen p b a o f ds us → depth_of o < 3 → l.token ≡ Word name → IsTrue (is_name name) → IsHead l.place name head (map token_of hs) → Members Several (suc (depth_of o)) n es vs → n ≤ 60 → StandsOpen p b a (with_items (opened o) n) false ((ds ++ (DataSet head ∷ [])) ++ es) ((us ++ (l ∷ hs)) ++ vs)
+  begun : (o : Open) (f : Bool) (ds : List Declaration) (us : List Lexeme) (l : Lexeme) (name : List ℕ) (head : DataSetDecl) (hs : List Lexeme) → StandsOpen p b a o f ds us → depth_of o < 3 → l.token ≡ Word name → IsTrue (is_name name) → IsHead l.place name head (map token_of hs) → StandsOpen p b a (open_data_set o) true (ds ++ (DataSet head ∷ [])) (us ++ (l ∷ hs))
+  inside : (o : Open) (f : Bool) (ds : List Declaration) (us : List Lexeme) (l : Lexeme) (name : List ℕ) (head : DataSetDecl) (hs : List Lexeme) (n : ℕ) (es : List Declaration) (vs : List Lexeme) → StandsOpen p b a o f ds us → depth_of o < 3 → l.token ≡ Word name → IsTrue (is_name name) → IsHead l.place name head (map token_of hs) → Members Several (suc (depth_of o)) n es vs → n ≤ 60 → StandsOpen p b a (with_items (open_data_set o) n) false ((ds ++ (DataSet head ∷ [])) ++ es) ((us ++ (l ∷ hs)) ++ vs)
 
 no_items : (depth : ℕ) (m : ℕ) (es : List Declaration) (vs : List Lexeme) (k : Many) → Members k depth m es vs → k ≡ Single → depth ≡ 0 → m ≡ 0
 no_items _ _ _ _ _ (a_set depth l name set vs shallow e n d) i j = refl
@@ -70,27 +70,27 @@ top p b a ds us es vs m d k = then_structure p b a ds us es vs d (subst (λ (x :
 adds : (p : Parameters) (b a : Bool) (w : Open) (f : Bool) (ds : List Declaration) (us : List Lexeme) → StandsOpen p b a w f ds us → (m : ℕ) (es : List Declaration) (vs : List Lexeme) → Members Single (depth_of w) m es vs → items_of w + m ≤ 60 → StandsOpen p b a (with_items w (items_of w + m)) false (ds ++ es) (us ++ vs)
 adds p b a _ _ _ _ (outside ds us d) m es vs k few = outside (ds ++ es) (us ++ vs) (top p b a ds us es vs m d k)
 adds p b a _ _ _ _ (begun o f ds us l name head hs s deep e n h) m es vs k few =
-    let first : Members Several (suc (depth_of o)) m es vs = subst (λ (x : ℕ). Members Several x m es vs) (depth_opened o deep) (a_first (depth_of (opened o)) m es vs k) in
-    let none : items_of (opened o) + m ≡ m = omega (arith, none_opened o deep) in
-    subst (λ (x : ℕ). StandsOpen p b a (with_items (opened o) x) false ((ds ++ (DataSet head ∷ [])) ++ es) ((us ++ (l ∷ hs)) ++ vs)) (sym none) (inside o f ds us l name head hs m es vs s deep e n h first (omega (arith, few, none)))
+    let first : Members Several (suc (depth_of o)) m es vs = subst (λ (x : ℕ). Members Several x m es vs) (depth_opened o deep) (a_first (depth_of (open_data_set o)) m es vs k) in
+    let none : items_of (open_data_set o) + m ≡ m = omega (arith, none_opened o deep) in
+    subst (λ (x : ℕ). StandsOpen p b a (with_items (open_data_set o) x) false ((ds ++ (DataSet head ∷ [])) ++ es) ((us ++ (l ∷ hs)) ++ vs)) (sym none) (inside o f ds us l name head hs m es vs s deep e n h first (omega (arith, few, none)))
 adds p b a _ _ _ _ (inside o f ds us l name head hs n es0 vs0 s deep e nm h members room) m es vs k few =
-    let at : depth_of (opened o) ≡ suc (depth_of o) = depth_opened o deep in
-    let depth : depth_of (with_items (opened o) n) ≡ suc (depth_of o) = depth_with (opened o) n ∙ at in
+    let at : depth_of (open_data_set o) ≡ suc (depth_of o) = depth_opened o deep in
+    let depth : depth_of (with_items (open_data_set o) n) ≡ suc (depth_of o) = depth_with (open_data_set o) n ∙ at in
     let one : Members Single (suc (depth_of o)) m es vs = subst (λ (x : ℕ). Members Single x m es vs) depth k in
     let more : Members Several (suc (depth_of o)) (n + m) (es0 ++ es) (vs0 ++ vs) = a_further (suc (depth_of o)) n m es0 es vs0 vs members one in
-    let count : items_of (with_items (opened o) n) ≡ n = items_with (opened o) n (depth_of o) at in
-    let w : with_items (with_items (opened o) n) (items_of (with_items (opened o) n) + m) ≡ with_items (opened o) (n + m) = with_again (opened o) n (items_of (with_items (opened o) n) + m) ∙ ap (λ (x : ℕ). with_items (opened o) (x + m)) count in
+    let count : items_of (with_items (open_data_set o) n) ≡ n = items_with (open_data_set o) n (depth_of o) at in
+    let w : with_items (with_items (open_data_set o) n) (items_of (with_items (open_data_set o) n) + m) ≡ with_items (open_data_set o) (n + m) = with_again (open_data_set o) n (items_of (with_items (open_data_set o) n) + m) ∙ ap (λ (x : ℕ). with_items (open_data_set o) (x + m)) count in
     let next = inside o f ds us l name head hs (n + m) (es0 ++ es) (vs0 ++ vs) s deep e nm h more (omega (arith, few, count)) in
     rw (w, append_assoc (ds ++ (DataSet head ∷ [])) es0 es, append_assoc (us ++ (l ∷ hs)) vs0 vs) next
 
 items_few : (p : Parameters) (b a : Bool) (w : Open) (f : Bool) (ds : List Declaration) (us : List Lexeme) → StandsOpen p b a w f ds us → items_of w ≤ 60
 items_few p b a _ _ _ _ (outside ds us d) = omega arith
 items_few p b a _ _ _ _ (begun o f ds us l name head hs s deep e n h) = omega (arith, none_opened o deep)
-items_few p b a _ _ _ _ (inside o f ds us l name head hs n es vs s deep e nm h members room) = omega (arith, items_with (opened o) n (depth_of o) (depth_opened o deep), room)
+items_few p b a _ _ _ _ (inside o f ds us l name head hs n es vs s deep e nm h members room) = omega (arith, items_with (open_data_set o) n (depth_of o) (depth_opened o deep), room)
 
 -- the innermost data set ends
 record ClosesDataSet (p : Parameters) (b a : Bool) (w : Open) (ds : List Declaration) (us : List Lexeme) (end : DataSetEnd) (es : List Lexeme) : Type 0 where
-  is : StandsOpen p b a (closed w) false (ds ++ (EndOf end ∷ [])) (us ++ es)
+  is : StandsOpen p b a (close_data_set w) false (ds ++ (EndOf end ∷ [])) (us ++ es)
 
 narrow : (o : Open) → items_of o ≤ 60 → items_of o + 0 ≤ 60
 narrow o h = omega arith
@@ -101,7 +101,7 @@ closes p b a _ _ _ _ (begun o f ds us l name head hs s deep e n h) end zs z i j 
 closes p b a _ _ _ _ (inside o f ds us l name head hs n es vs s deep e nm h members room) end zs z i j =
     let whole = a_data_set (depth_of o) l name head hs n es vs end zs deep e nm h members room z in
     let placed = adds p b a o f ds us s 0 (DataSet head ∷ (es ++ (EndOf end ∷ []))) (l ∷ (hs ++ (vs ++ zs))) whole (narrow o (items_few p b a o f ds us s)) in
-    let same : with_items o (items_of o + 0) ≡ closed (with_items (opened o) n) = no_more_items o ∙ sym (closed_again o n deep) in
+    let same : with_items o (items_of o + 0) ≡ close_data_set (with_items (open_data_set o) n) = no_more_items o ∙ sym (closed_again o n deep) in
     let dss : ds ++ (DataSet head ∷ (es ++ (EndOf end ∷ []))) ≡ ((ds ++ (DataSet head ∷ [])) ++ es) ++ (EndOf end ∷ []) = sym (append_assoc (ds ++ (DataSet head ∷ [])) es (EndOf end ∷ []) ∙ append_assoc ds (DataSet head ∷ []) (es ++ (EndOf end ∷ []))) in
     let uss : us ++ (l ∷ (hs ++ (vs ++ zs))) ≡ ((us ++ (l ∷ hs)) ++ vs) ++ zs = sym (append_assoc (us ++ (l ∷ hs)) vs zs ∙ append_assoc us (l ∷ hs) (vs ++ zs)) in
     record { is = subst (λ (x : Open). StandsOpen p b a x false (((ds ++ (DataSet head ∷ [])) ++ es) ++ (EndOf end ∷ [])) (((us ++ (l ∷ hs)) ++ vs) ++ zs)) same (subst (λ (x : List Declaration). StandsOpen p b a (with_items o (items_of o + 0)) false x (((us ++ (l ∷ hs)) ++ vs) ++ zs)) dss (subst (λ (x : List Lexeme). StandsOpen p b a (with_items o (items_of o + 0)) false (ds ++ (DataSet head ∷ (es ++ (EndOf end ∷ [])))) x) uss placed)) }
@@ -115,7 +115,7 @@ record HoldsProgress (s : Progress) (us : List Lexeme) : Type 0 where
   fewer : s.counted ≤ 4000
 
 -- a turn that declares one member
-member : (s : Progress) (us : List Lexeme) (m st c : ℕ) (d : Declaration) (vs : List Lexeme) → HoldsProgress s us → Members Single (depth_of s.within) m (d ∷ []) vs → items_of s.within + m ≤ 60 → st ≡ s.structures + structures_in (d ∷ []) → st ≤ 200 → c ≡ s.counted + counted_in (d ∷ []) → c ≤ 4000 → HoldsProgress (declared s (with_items s.within (items_of s.within + m)) st c false d) (us ++ vs)
+member : (s : Progress) (us : List Lexeme) (m st c : ℕ) (d : Declaration) (vs : List Lexeme) → HoldsProgress s us → Members Single (depth_of s.within) m (d ∷ []) vs → items_of s.within + m ≤ 60 → st ≡ s.structures + structures_in (d ∷ []) → st ≤ 200 → c ≡ s.counted + counted_in (d ∷ []) → c ≤ 4000 → HoldsProgress (add_declaration s (with_items s.within (items_of s.within + m)) st c false d) (us ++ vs)
 member s us m st c d vs h k room e f g i = record {
   stands = adds s.parameters s.has_parameters s.has_audit s.within s.fresh s.declarations us h.stands m (d ∷ []) vs k room;
   structures = omega (arith, e, h.structures, structures-append s.declarations (d ∷ []));
@@ -159,19 +159,19 @@ structure_went s t us l name ts rest h e n r =
     let c = bind_ok (set_at l.place name ts) _ _ f in
     let k = set_sound l.place name ts c.0.0 c.0.1 c.1 in
     let m = member s us 0 (s.structures + 1) s.counted (SetOf c.0.0) (l ∷ k.0) h (a_set (depth_of s.within) l name c.0.0 k.0 deep e n k.1) room (omega arith) (below_200 s.structures a.0) (omega arith) h.fewer in
-    let placed = subst (λ (x : Open). HoldsProgress (declared s x (s.structures + 1) s.counted false (SetOf c.0.0)) (us ++ (l ∷ k.0))) (no_more_items s.within) m in
-    subst (λ (x : Progress × List Lexeme). Went HoldsProgress x.0 us (l ∷ ts) x.1) (ok_same (declared s s.within (s.structures + 1) s.counted false (SetOf c.0.0), c.0.1) (t, rest) c.2) (record { used = l ∷ k.0; is = placed; all = ap (λ (xs : List Lexeme). l ∷ xs) k.2 }))
+    let placed = subst (λ (x : Open). HoldsProgress (add_declaration s x (s.structures + 1) s.counted false (SetOf c.0.0)) (us ++ (l ∷ k.0))) (no_more_items s.within) m in
+    subst (λ (x : Progress × List Lexeme). Went HoldsProgress x.0 us (l ∷ ts) x.1) (ok_same (add_declaration s s.within (s.structures + 1) s.counted false (SetOf c.0.0), c.0.1) (t, rest) c.2) (record { used = l ∷ k.0; is = placed; all = ap (λ (xs : List Lexeme). l ∷ xs) k.2 }))
     (λ f.
     let c = bind_ok (data_set_at l.place name ts) _ _ f in
     let k = head_sound l.place name ts c.0.0 c.0.1 c.1 in
-    let m : HoldsProgress (declared s (opened s.within) (s.structures + 1) s.counted true (DataSet c.0.0)) (us ++ (l ∷ k.used)) = record {
+    let m : HoldsProgress (add_declaration s (open_data_set s.within) (s.structures + 1) s.counted true (DataSet c.0.0)) (us ++ (l ∷ k.used)) = record {
       stands = begun s.within s.fresh s.declarations us l name c.0.0 k.used h.stands deep e n k.is;
       structures = omega (arith, h.structures, structures-append s.declarations (DataSet c.0.0 ∷ []));
       few = below_200 s.structures a.0;
       counted = omega (arith, h.counted, counted-append s.declarations (DataSet c.0.0 ∷ []));
       fewer = h.fewer;
     } in
-    subst (λ (x : Progress × List Lexeme). Went HoldsProgress x.0 us (l ∷ ts) x.1) (ok_same (declared s (opened s.within) (s.structures + 1) s.counted true (DataSet c.0.0), c.0.1) (t, rest) c.2) (record { used = l ∷ k.used; is = m; all = ap (λ (xs : List Lexeme). l ∷ xs) k.all })) b.1
+    subst (λ (x : Progress × List Lexeme). Went HoldsProgress x.0 us (l ∷ ts) x.1) (ok_same (add_declaration s (open_data_set s.within) (s.structures + 1) s.counted true (DataSet c.0.0), c.0.1) (t, rest) c.2) (record { used = l ∷ k.used; is = m; all = ap (λ (xs : List Lexeme). l ∷ xs) k.all })) b.1
 
 item_went : (s t : Progress) (us : List Lexeme) (l : Lexeme) (name : List ℕ) (ts rest : List Lexeme) → HoldsProgress s us → l.token ≡ Word name → is_name name ≡ true → is_inside s.within ≡ true → item_turn_at s l.place name ts ≡ Ok (t, rest) → Went HoldsProgress t us (l ∷ ts) rest
 unfolding item_turn_at
@@ -182,7 +182,7 @@ item_went s t us l name ts rest h e n i r =
     let d = deep_by s.within i in
     let one = subst (λ (x : ℕ). Members Single x 1 (Item c.0.0 ∷ []) (l ∷ k.used)) (sym d.1) (an_item d.0 l name c.0.0 k.used e n k.is) in
     let m = member s us 1 s.structures s.counted (Item c.0.0) (l ∷ k.used) h one (below_60 (items_of s.within) a.0) (omega arith) h.few (omega arith) h.fewer in
-    subst (λ (x : Progress × List Lexeme). Went HoldsProgress x.0 us (l ∷ ts) x.1) (ok_same (declared s (with_items s.within (items_of s.within + 1)) s.structures s.counted false (Item c.0.0), c.0.1) (t, rest) c.2) (record { used = l ∷ k.used; is = m; all = ap (λ (xs : List Lexeme). l ∷ xs) k.all })
+    subst (λ (x : Progress × List Lexeme). Went HoldsProgress x.0 us (l ∷ ts) x.1) (ok_same (add_declaration s (with_items s.within (items_of s.within + 1)) s.structures s.counted false (Item c.0.0), c.0.1) (t, rest) c.2) (record { used = l ∷ k.used; is = m; all = ap (λ (xs : List Lexeme). l ∷ xs) k.all })
 
 group_went : (s t : Progress) (us : List Lexeme) (l : Lexeme) (name : List ℕ) (ts rest : List Lexeme) → HoldsProgress s us → l.token ≡ Word name → is_name name ≡ true → is_inside s.within ≡ true → group_turn_at s l.place name ts ≡ Ok (t, rest) → Went HoldsProgress t us (l ∷ ts) rest
 unfolding group_turn_at
@@ -192,8 +192,8 @@ group_went s t us l name ts rest h e n i r =
     let d = deep_by s.within i in
     let one = subst (λ (x : ℕ). Members Single x (length c.0.0.items) (Group (record { place = l.place; name = name; items = c.0.0.items }) ∷ []) (l ∷ k.0.0)) (sym d.1) (a_group d.0 l name c.0.0.items k.0.0 e n k.0.1) in
     let m = member s us (length c.0.0.items) s.structures s.counted (Group (record { place = l.place; name = name; items = c.0.0.items })) (l ∷ k.0.0) h one (omega (arith, k.1, k.2)) (omega arith) h.few (omega arith) h.fewer in
-    let placed = subst (λ (x : ℕ). HoldsProgress (declared s (with_items s.within x) s.structures s.counted false (Group (record { place = l.place; name = name; items = c.0.0.items }))) (us ++ (l ∷ k.0.0))) (sym k.1) m in
-    subst (λ (x : Progress × List Lexeme). Went HoldsProgress x.0 us (l ∷ ts) x.1) (ok_same (declared s (with_items s.within c.0.0.count) s.structures s.counted false (Group (record { place = l.place; name = name; items = c.0.0.items })), c.0.1) (t, rest) c.2) (record { used = l ∷ k.0.0; is = placed; all = ap (λ (xs : List Lexeme). l ∷ xs) k.0.2 })
+    let placed = subst (λ (x : ℕ). HoldsProgress (add_declaration s (with_items s.within x) s.structures s.counted false (Group (record { place = l.place; name = name; items = c.0.0.items }))) (us ++ (l ∷ k.0.0))) (sym k.1) m in
+    subst (λ (x : Progress × List Lexeme). Went HoldsProgress x.0 us (l ∷ ts) x.1) (ok_same (add_declaration s (with_items s.within c.0.0.count) s.structures s.counted false (Group (record { place = l.place; name = name; items = c.0.0.items })), c.0.1) (t, rest) c.2) (record { used = l ∷ k.0.0; is = placed; all = ap (λ (xs : List Lexeme). l ∷ xs) k.0.2 })
 
 room_for : (n : ℕ) (b : Bool) → n ≤ 4000 → (b ≡ true → n < 4000) → counted_with n b ≤ 4000
 room_for n true h f = let k = f refl in omega arith
@@ -209,7 +209,7 @@ link_went s t us l name ts rest h e n i r =
     let d = deep_by s.within i in
     let one = subst (λ (x : ℕ). Members Single x 1 (Link c.0.0 ∷ []) (l ∷ k.0.used)) (sym d.1) (a_link d.0 l name c.0.0 k.0.used e n k.0.is) in
     let m = member s us 1 s.structures (counted_with s.counted c.0.0.counted) (Link c.0.0) (l ∷ k.0.used) h one (below_60 (items_of s.within) a.0) (omega arith) h.few (counted_is s.counted c.0.0.counted) (room_for s.counted c.0.0.counted h.fewer k.1) in
-    subst (λ (x : Progress × List Lexeme). Went HoldsProgress x.0 us (l ∷ ts) x.1) (ok_same (declared s (with_items s.within (items_of s.within + 1)) s.structures (counted_with s.counted c.0.0.counted) false (Link c.0.0), c.0.1) (t, rest) c.2) (record { used = l ∷ k.0.used; is = m; all = ap (λ (xs : List Lexeme). l ∷ xs) k.0.all })
+    subst (λ (x : Progress × List Lexeme). Went HoldsProgress x.0 us (l ∷ ts) x.1) (ok_same (add_declaration s (with_items s.within (items_of s.within + 1)) s.structures (counted_with s.counted c.0.0.counted) false (Link c.0.0), c.0.1) (t, rest) c.2) (record { used = l ∷ k.0.used; is = m; all = ap (λ (xs : List Lexeme). l ∷ xs) k.0.all })
 
 declared_went : (s t : Progress) (us : List Lexeme) (l : Lexeme) (name : List ℕ) (ts rest : List Lexeme) → HoldsProgress s us → l.token ≡ Word name → is_name name ≡ true → declared_turn_at s l.place name ts ≡ Ok (t, rest) → Went HoldsProgress t us (l ∷ ts) rest
 unfolding declared_turn_at
@@ -237,16 +237,16 @@ end_went s t us ts rest h i f r =
     let a = bind_ok (data_set_end_at ts) _ _ r in
     let k = end_sound ts a.0.0 a.0.1 a.1 in
     let z = closes s.parameters s.has_parameters s.has_audit s.within s.fresh s.declarations us h.stands a.0.0 k.0 k.1 f i in
-    let m : HoldsProgress (declared s (closed s.within) s.structures s.counted false (EndOf a.0.0)) (us ++ k.0) = record {
+    let m : HoldsProgress (add_declaration s (close_data_set s.within) s.structures s.counted false (EndOf a.0.0)) (us ++ k.0) = record {
       stands = z.is;
       structures = omega (arith, h.structures, structures-append s.declarations (EndOf a.0.0 ∷ []));
       few = h.few;
       counted = omega (arith, h.counted, counted-append s.declarations (EndOf a.0.0 ∷ []));
       fewer = h.fewer;
     } in
-    subst (λ (x : Progress × List Lexeme). Went HoldsProgress x.0 us ts x.1) (ok_same (declared s (closed s.within) s.structures s.counted false (EndOf a.0.0), a.0.1) (t, rest) a.2) (record { used = k.0; is = m; all = k.2 })
+    subst (λ (x : Progress × List Lexeme). Went HoldsProgress x.0 us ts x.1) (ok_same (add_declaration s (close_data_set s.within) s.structures s.counted false (EndOf a.0.0), a.0.1) (t, rest) a.2) (record { used = k.0; is = m; all = k.2 })
 
-opened_inside : (o : Open) → is_inside (opened o) ≡ true
+opened_inside : (o : Open) → is_inside (open_data_set o) ≡ true
 opened_inside Outside = refl
 opened_inside (One a) = refl
 opened_inside (Two a b) = refl
@@ -267,7 +267,7 @@ record AtTop (p : Parameters) (b a : Bool) (w : Open) (f : Bool) (ds : List Decl
 at_top : (p : Parameters) (b a : Bool) (w : Open) (f : Bool) (ds : List Declaration) (us : List Lexeme) → StandsOpen p b a w f ds us → is_inside w ≡ false → AtTop p b a w f ds us
 at_top p b a _ _ _ _ (outside ds us d) i = record { declares = d; within = refl; fresh = refl }
 at_top p b a _ _ _ _ (begun o f ds us l name head hs s deep e n h) i = let k = opened_inside o in absurd (cc)
-at_top p b a _ _ _ _ (inside o f ds us l name head hs n es vs s deep e nm h members room) i = let k = with_inside (opened o) n ∙ opened_inside o in absurd (cc)
+at_top p b a _ _ _ _ (inside o f ds us l name head hs n es vs s deep e nm h members room) i = let k = with_inside (open_data_set o) n ∙ opened_inside o in absurd (cc)
 
 stands_at : (p : Parameters) (b a : Bool) (w : Open) (f : Bool) (ds : List Declaration) (us : List Lexeme) → Outside ≡ w → false ≡ f → Declares p b a ds us → StandsOpen p b a w f ds us
 stands_at p b a w f ds us e g d = subst (λ (x : Open). StandsOpen p b a x f ds us) e (subst (λ (x : Bool). StandsOpen p b a Outside x ds us) g (outside ds us d))

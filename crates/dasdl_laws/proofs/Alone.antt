@@ -9,7 +9,7 @@ use Rattle.dms_desc_bytes.specs.Spelling.{is_data_set}
 use Rattle.dms_desc_bytes.specs.WellFormed.{has_sound_groups, lacks_set_fields}
 use Rattle.dasdl_compile.specs.declared.draft.Draft.{Draft}
 use Rattle.dasdl_compile.specs.Compile.{shape_in}
-use Rattle.dasdl_compile.specs.Finding.{drafted}
+use Rattle.dasdl_compile.specs.Finding.{new_draft}
 use Rattle.dasdl_compile.specs.Outlines.{data_set_kind}
 use Rattle.dasdl_compile.specs.Sets.{set_kind, no_parts}
 use Rattle.dasdl_laws.specs.Alone.{has_local_items, is_data_set_alone, is_set_alone, is_sound_alone}
@@ -30,7 +30,7 @@ groups_alone : (o : List Draft) (d : Draft) → EndedDraft o d → has_sound_gro
 unfolding has_sound_groups
 groups_alone o d h = and_from _ _ (and_from _ _ (le-leb _ _ h.sofar.grouped.few) (groups_sound d.items d.groups h.sofar.grouped.within h.sofar.plain)) h.sofar.grouped.follow
 
-lacks_alone : (d : Draft) (number kind : ℕ) (name : List ℕ) (owner : ℕ) → outer d ≡ drafted number kind name owner → lacks_set_fields (shape_in d) ≡ true
+lacks_alone : (d : Draft) (number kind : ℕ) (name : List ℕ) (owner : ℕ) → outer d ≡ new_draft number kind name owner → lacks_set_fields (shape_in d) ≡ true
 unfolding lacks_set_fields
 lacks_alone d number kind name owner e =
     let set : d.set ≡ 0 = ap (λ (x : Draft). x.set) e in

@@ -10,7 +10,7 @@ use Rattle.dasdl_compile.specs.declared.draft.Draft.{Draft}
 use Rattle.dasdl_compile.specs.declared.work.Plain.TheVariants.{Noted}
 use Rattle.dasdl_compile.specs.declared.work.Compilation.{Compilation}
 use Rattle.dasdl_compile.specs.Answers.{steps}
-use Rattle.dasdl_compile.specs.Compile.{compiled, declared_at, finished, description_of, nothing_yet}
+use Rattle.dasdl_compile.specs.Compile.{compile_schema, declared_at, finish_drafts, description_of, nothing_yet}
 use Rattle.dasdl_compile.specs.Finding.{has_restart}
 use Rattle.dasdl_compile.specs.Outlines.{outlined_one}
 use Rattle.dasdl_compile.specs.Widths.{description_width}
@@ -22,8 +22,8 @@ pub record Made (p : Parameters) (ds : List Draft) (d : Described) : Type 0 wher
   pub short : nat_lt 65535 (description_width ds) ≡ false
   pub is : description_of p ds ≡ d
 
-finished_made : (p : Parameters) (ds : List Draft) (d : Described) → finished p ds ≡ Ok d → Made p ds d
-unfolding finished
+finished_made : (p : Parameters) (ds : List Draft) (d : Described) → finish_drafts p ds ≡ Ok d → Made p ds d
+unfolding finish_drafts
 finished_made p ds d h =
     let a = skip_ok (not (has_restart ds)) _ _ _ h in
     let b = skip_ok (nat_lt 65535 (description_width ds)) _ _ _ a.1 in
@@ -37,8 +37,8 @@ pub record CompiledSchema (p : Parameters) (decls : List Declaration) (d : Descr
   pub declared : steps declared_at outline.made nothing_yet decls ≡ Ok work
   pub made : Made p work.made d
 
-pub compiled_by : (p : Parameters) (decls : List Declaration) (d : Described) → compiled p decls ≡ Ok d → CompiledSchema p decls d
-unfolding compiled
+pub compiled_by : (p : Parameters) (decls : List Declaration) (d : Described) → compile_schema p decls ≡ Ok d → CompiledSchema p decls d
+unfolding compile_schema
 compiled_by p decls d h =
     let a = bind_ok {A = Compilation} {B = Described} (steps outlined_one Noted nothing_yet decls) _ d h in
     let b = bind_ok {A = Compilation} {B = Described} (steps declared_at a.0.made nothing_yet decls) _ d a.2 in

@@ -26,8 +26,8 @@ use Rattle.dasdl_compile.specs.declared.draft.Draft.{Draft}
 use Rattle.dasdl_compile.specs.declared.work.Compilation.{Compilation}
 use Rattle.dasdl_compile.specs.Answers.{steps}
 use Rattle.dasdl_compile.specs.Compile.{declared_at, nothing_yet, shape_in}
-use Rattle.dasdl_compile.specs.Conditions.{verified}
-use Rattle.dasdl_compile.specs.Finding.{drafted, next_structure, is_taken, data_set_named}
+use Rattle.dasdl_compile.specs.Conditions.{verify_tree}
+use Rattle.dasdl_compile.specs.Finding.{new_draft, next_structure, is_taken, data_set_named}
 use Rattle.dasdl_compile.specs.Members.{with_item, with_group, initial_of, item_at, group_at, link_to, link_kind, link_at, end_at, member_at}
 use Rattle.dasdl_compile.specs.Outlines.{data_set_kind}
 use Rattle.dasdl_compile.specs.Sets.{set_draft}
@@ -130,7 +130,7 @@ link_counts o d t l h =
 end_counts : (d t : Draft) (e : DataSetEnd) → end_at d e ≡ Ok t → links t ≡ links d
 unfolding end_at
 end_counts d t e h =
-    let a = bind_ok (verified d.items e.verify) _ _ h in
+    let a = bind_ok (verify_tree d.items e.verify) _ _ h in
     let b = skip_ok _ _ _ _ a.2 in
     ap links (sym (ok_same _ t b.1))
 
@@ -166,7 +166,7 @@ turn_counts : (o : List Draft) (w v : Compilation) (decl : Declaration) → IsPl
 turn_counts o w v _ p (inside decl none i) = inside_counts o decl w v p i
 turn_counts o w v _ p (data_set s new placed once e) =
     let a = ap (λ (x : Compilation). total links x.made) e in
-    let b = total_push links w.made (drafted (next_structure w.made) (data_set_kind s.restart) s.name w.within) in
+    let b = total_push links w.made (new_draft (next_structure w.made) (data_set_kind s.restart) s.name w.within) in
     omega (arith, a, b)
 turn_counts o w v _ p (set_added s d q new of placed read key e) =
     let a = ap (λ (x : Compilation). total links x.made) e in

@@ -18,7 +18,7 @@ use Rattle.dasdl_phrases.specs.CondSpelling.{nodes as nodes_of}
 use Rattle.dasdl_phrases.specs.TreeCodes.{WrittenTree as Written}
 use Rattle.dasdl_phrases.specs.TreeCodes.WrittenTree.{Test as Compared, Both as And', Either as Or', Turned}
 use Rattle.dms_desc.specs.declared.lookups.NamedItem.{NamedItem}
-use Rattle.dasdl_compile.specs.Conditions.{value_in, or_fault, literal_of, compared_with, compared, condition}
+use Rattle.dasdl_compile.specs.Conditions.{value_in, or_fault, literal_of, compared_with, comparison, condition}
 use Rattle.dms_desc.specs.Lookups.{item_named, after_item}
 use Rattle.dasdl_laws.proofs.Judging.{bind_ok, ok_same}
 use Rattle.dasdl_laws.proofs.Literals.{is_plain_literal, is_value, judged_fits}
@@ -94,7 +94,7 @@ joined : (items : List Item) (a b : Written) (x y : Tree) → Judges items a x �
 joined items a b x y f g = (record { well = and_from _ _ f.well g.well; nodes = omega (arith, f.nodes, g.nodes) }, record { well = and_from _ _ f.well g.well; nodes = omega (arith, f.nodes, g.nodes) })
 
 pub judged : (items : List Item) (written : Written) (t : Tree) → length items ≤ 254 → are_plain written ≡ true → condition items written ≡ Ok t → Judges items written t
-unfolding condition compared
+unfolding condition comparison
 judged items (Compared name op l) t few plain h = test_judged items name op l t (item_named name 1 items) few plain refl h
 judged items (And' a b) t few plain h =
     let p = and_parts (are_plain a) (are_plain b) plain in

@@ -27,7 +27,7 @@ use Rattle.dasdl_compile.specs.declared.draft.Draft.{Draft}
 use Rattle.dasdl_compile.specs.declared.work.Compilation.{Compilation}
 use Rattle.dasdl_compile.specs.Answers.{steps}
 use Rattle.dasdl_compile.specs.Compile.{declared_at, nothing_yet, shape_in}
-use Rattle.dasdl_compile.specs.Finding.{drafted, next_structure}
+use Rattle.dasdl_compile.specs.Finding.{new_draft, next_structure}
 use Rattle.dasdl_compile.specs.Members.{open_after}
 use Rattle.dasdl_compile.specs.Outlines.{data_set_kind}
 use Rattle.dasdl_compile.specs.Sets.{set_draft}
@@ -151,7 +151,7 @@ data_set_nests o w v head ds end depth low room h at inner k =
     let a = bind_ok {A = Compilation} {B = Compilation} (declared_at o w (DataSet head)) _ v k in
     let e = opened_by o w a.0 (DataSet head) head refl (turn_of o w a.0 (DataSet head) a.1) in
     let b = steps_split declared_at o a.0 ds (End end ∷ []) v a.2 in
-    let d = drafted (next_structure w.made) (data_set_kind head.restart) head.name w.within in
+    let d = new_draft (next_structure w.made) (data_set_kind head.restart) head.name w.within in
     let os = map outer w.made in
     let size : length os ≡ length w.made = length-map w.made outer in
     let opened : map outer a.0.made ≡ os ++ d ∷ [] = ap (λ (x : Compilation). map outer x.made) e ∙ map-append outer w.made (d ∷ []) in

@@ -12,8 +12,8 @@ use Rattle.dms_base.specs.declared.kind.ItemKind.{ItemKind}
 use Rattle.dms_base.specs.declared.kind.ItemKind.TheVariants.{Alpha, Number as Decimal, Bool as OneBit, Field, Link as LinkTo}
 use Rattle.dms_base.specs.declared.kind.Literal.{Literal}
 use Rattle.dms_base.specs.declared.kind.Literal.TheVariants.{Null as NoValue, Text as Quoted, Number as Digits, Bool as Word}
-use Rattle.dms_base.specs.Fits.{fits, scaled, signed, ranged, bits_of, alpha_of, value_of}
-use Rattle.dms_base.specs.Text.{is_printable, trimmed}
+use Rattle.dms_base.specs.Fits.{fits, scale, with_sign, number_within, bits_of, alpha_of, value_of}
+use Rattle.dms_base.specs.Text.{is_printable, trim_spaces}
 use Rattle.dms_desc.specs.Kinds.{is_link}
 use Rattle.dms_desc_bytes.specs.Members.{is_plain}
 use Rattle.dms_base.specs.Spelling.{is_kind}
@@ -22,7 +22,7 @@ use Rattle.dms_base.proofs.Spelled.{size_of_signed}
 
 -- a literal of a text: a string has characters from the space to `~`, and no space at its end
 abbrev pub is_plain_literal : Literal → Bool
-is_plain_literal (Quoted bytes) = list_all is_printable bytes && bytes_eq (trimmed bytes) bytes
+is_plain_literal (Quoted bytes) = list_all is_printable bytes && bytes_eq (trim_spaces bytes) bytes
 is_plain_literal NoValue = true
 is_plain_literal (Digits minus digits places) = true
 is_plain_literal (Word b) = true
@@ -31,7 +31,7 @@ is_plain_literal (Word b) = true
 abbrev pub is_value : ItemKind → Value → Bool
 is_value k v = (not (is_link k) && fits k v) && is_plain v
 
-sign_of : (minus s : Bool) (n : ℕ) → s || not minus || n == 0 ≡ true → s || not (int_lt (signed minus n) (pos 0)) ≡ true
+sign_of : (minus s : Bool) (n : ℕ) → s || not minus || n == 0 ≡ true → s || not (int_lt (with_sign minus n) (pos 0)) ≡ true
 sign_of minus true n h = refl
 sign_of false false n h = let e : nat_lt n 0 ≡ false = grind (arith, nat_tests) in ap not e
 sign_of true false zero h = refl
@@ -41,12 +41,12 @@ picked : {A : Type 0} (b : Bool) (x y : A) → ◌≡◌ {A = Option A} (cond b 
 picked true x y h = (refl, cc)
 picked false x y h = absurd (cc)
 
-ranged_fits : (n m : ℕ) (s minus : Bool) (o : Option ℕ) (v : Value) → ranged n s minus o ≡ Some v → is_value (Decimal n m s) v ≡ true
+ranged_fits : (n m : ℕ) (s minus : Bool) (o : Option ℕ) (v : Value) → number_within n s minus o ≡ Some v → is_value (Decimal n m s) v ≡ true
 ranged_fits n m s minus None v h = absurd (cc)
 ranged_fits n m s minus (Some size) v h =
-    let a = picked {A = Value} _ (Number (signed minus size)) v h in
+    let a = picked {A = Value} _ (Number (with_sign minus size)) v h in
     let b = and_parts (nat_lt size (10 ^ n)) (s || not minus || size == 0) a.0 in
-    let f : fits (Decimal n m s) (Number (signed minus size)) ≡ true = and_from _ _ (rw (size_of_signed minus size) b.0) (sign_of minus s size b.1) in
+    let f : fits (Decimal n m s) (Number (with_sign minus size)) ≡ true = and_from _ _ (rw (size_of_signed minus size) b.0) (sign_of minus s size b.1) in
     subst (λ (x : Value). is_value (Decimal n m s) x ≡ true) a.1 (and_from _ _ f refl)
 
 bits_fit : (n : ℕ) (minus : Bool) (o : Option ℕ) (v : Value) → bits_of n minus o ≡ Some v → is_value (Field n) v ≡ true
@@ -71,8 +71,8 @@ value_fits (Decimal n m s) NoValue v plain h = null_fits (Decimal n m s) v refl 
 value_fits OneBit NoValue v plain h = null_fits OneBit v refl h
 value_fits (Field n) NoValue v plain h = null_fits (Field n) v refl h
 value_fits (Alpha n) (Quoted bytes) v plain h = text_fits n bytes v plain h
-value_fits (Decimal n m s) (Digits minus digits places) v plain h = ranged_fits n m s minus (scaled m digits places) v h
-value_fits (Field n) (Digits minus digits places) v plain h = bits_fit n minus (scaled 0 digits places) v h
+value_fits (Decimal n m s) (Digits minus digits places) v plain h = ranged_fits n m s minus (scale m digits places) v h
+value_fits (Field n) (Digits minus digits places) v plain h = bits_fit n minus (scale 0 digits places) v h
 value_fits OneBit (Word b) v plain h = let s : Truth b ≡ v = cc in subst (λ (x : Value). is_value OneBit x ≡ true) s refl
 value_fits (Alpha n) (Digits minus digits places) v plain h = absurd (cc)
 value_fits (Alpha n) (Word b) v plain h = absurd (cc)

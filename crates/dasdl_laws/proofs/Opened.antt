@@ -16,7 +16,7 @@ use Rattle.dasdl_grammar.specs.SchemaSpelling.{structures_of}
 use Rattle.dasdl_compile.specs.declared.draft.Draft.{Draft}
 use Rattle.dasdl_compile.specs.declared.work.Compilation.{Compilation}
 use Rattle.dasdl_compile.specs.Compile.{shape_in}
-use Rattle.dasdl_compile.specs.Finding.{drafted, next_structure}
+use Rattle.dasdl_compile.specs.Finding.{new_draft, next_structure}
 use Rattle.dasdl_compile.specs.Members.{open_after}
 use Rattle.dasdl_compile.specs.Outlines.{data_set_kind}
 use Rattle.dasdl_compile.specs.Sets.{set_draft}
@@ -105,7 +105,7 @@ one_more w v d m few h number owner made within which =
 pub turn_opens : (o : List Draft) (w v : Compilation) (decl : Declaration) → length w.made + structures_of decl ≤ 200 → DraftTurn o w v decl → Standing (map outer w.made) w.within → Numbers 1 (map outer w.made) → Opening w → Opening v
 turn_opens o w v _ few (inside decl none i) s numbers h = inside_opens o decl w v i s numbers h
 turn_opens o w v _ few (data_set t new placed once e) s numbers h =
-    let d = drafted (next_structure w.made) (data_set_kind t.restart) t.name w.within in
+    let d = new_draft (next_structure w.made) (data_set_kind t.restart) t.name w.within in
     let n : next_structure w.made ≡ length w.made + 1 = omega (arith, few) in
     one_more w v d (next_structure w.made) (omega (arith, few)) h n refl (ap (λ (x : Compilation). map outer x.made) e ∙ map-append outer w.made (d ∷ [])) (ap (λ (x : Compilation). x.within) e) (inl n)
 turn_opens o w v _ few (a_set t d p new of placed read key e) s numbers h =

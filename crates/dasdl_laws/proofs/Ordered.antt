@@ -8,7 +8,7 @@ use Rattle.std.specs.Str.{bytes_eq}
 use Rattle.dms_desc.specs.Shape.{Shape}
 use Rattle.dms_desc_bytes.specs.Lists.{apart, is_within}
 use Rattle.dms_desc.specs.Kinds.{is_restart}
-use Rattle.dms_desc_bytes.specs.WellFormed.{numbered, names_differ, not_both_restart}
+use Rattle.dms_desc_bytes.specs.WellFormed.{stand_in_order, names_differ, not_both_restart}
 use Rattle.dasdl_parse.specs.declared.declarations.Declaration.{Declaration}
 use Rattle.dasdl_parse.specs.declared.declarations.SetDecl.{SetDecl}
 use Rattle.dasdl_grammar.specs.SchemaSpelling.{structures_of, structures_in}
@@ -20,7 +20,7 @@ use Rattle.dasdl_compile.specs.Finding.{next_structure, is_structure, has_restar
 use Rattle.dasdl_compile.specs.Sets.{set_kind}
 use Rattle.dasdl_compile.specs.Sets.{set_draft}
 use Rattle.dasdl_compile.specs.Outlines.{data_set_kind}
-use Rattle.dasdl_compile.specs.Finding.{drafted}
+use Rattle.dasdl_compile.specs.Finding.{new_draft}
 use Rattle.std.specs.declared.result.Result.TheVariants.{Ok}
 use Rattle.std.specs.Prelude.{is_some}
 use Rattle.std.proofs.Common.{inl, inr, ◌⊎◌}
@@ -102,7 +102,7 @@ numbers_push n (x ∷ xs) d h e = (h.0, numbers_push (n + 1) xs d h.1 (e ∙ ap 
 is_itself : (a b : ℕ) → a ≡ b → (a == b) ≡ true
 is_itself a b e = grind (arith, nat_tests)
 
-numbers_are : (n : ℕ) (ds : List Draft) → Numbers n ds → n + length ds ≤ 65536 → numbered n (map shape_in ds) ≡ true
+numbers_are : (n : ℕ) (ds : List Draft) → Numbers n ds → n + length ds ≤ 65536 → stand_in_order n (map shape_in ds) ≡ true
 numbers_are n [] h low = refl
 numbers_are n (d ∷ ds) h low =
     let e : d.number ≡ n = omega (arith, h.0) in
@@ -155,7 +155,7 @@ pub turned : (o : List Draft) (w v : Compilation) (decl : Declaration) → Draft
 turned o w v _ (inside decl none i) h = subst Ordered (sym (inside_kept o decl w v i)) h
 turned o w v _ (data_set s new placed once e) h =
     subst (λ (x : Compilation). Ordered (map outer x.made)) (sym e)
-    (added_to w.made (drafted (next_structure w.made) (data_set_kind s.restart) s.name w.within) h new (data_set_once s.restart (has_restart w.made) once) refl)
+    (added_to w.made (new_draft (next_structure w.made) (data_set_kind s.restart) s.name w.within) h new (data_set_once s.restart (has_restart w.made) once) refl)
 turned o w v _ (a_set s d p new of placed read key e) h =
     subst (λ (x : Compilation). Ordered (map outer x.made)) (sym e)
     (added_to w.made (set_draft w s d p) h new (inl (set_is_none s)) refl)
@@ -171,7 +171,7 @@ grown o w v _ (inside decl none i) =
     let e = ap length (inside_kept o decl w v i) in
     omega (arith, e, none, length-map v.made outer, length-map w.made outer)
 grown o w v _ (data_set s new placed once e) =
-    ap (λ (x : Compilation). length x.made) e ∙ length-append w.made (drafted (next_structure w.made) (data_set_kind s.restart) s.name w.within ∷ [])
+    ap (λ (x : Compilation). length x.made) e ∙ length-append w.made (new_draft (next_structure w.made) (data_set_kind s.restart) s.name w.within ∷ [])
 grown o w v _ (a_set s d p new of placed read key e) =
     ap (λ (x : Compilation). length x.made) e ∙ length-append w.made (set_draft w s d p ∷ [])
 
@@ -212,7 +212,7 @@ some_restart (d ∷ ds) = same_or (d.kind == 2) _ _ (some_restart ds)
 -- the structures of a description, by what is seen of them from outside
 pub record WellOrdered (ss : List Shape) : Type 0 where
   pub few : length ss ≤ 200
-  pub numbers : numbered 1 ss ≡ true
+  pub numbers : stand_in_order 1 ss ≡ true
   pub names : apart names_differ ss ≡ true
   pub restart : list_any is_restart ss ≡ true
   pub restarts : apart not_both_restart ss ≡ true
@@ -250,7 +250,7 @@ set_has_kind false b = refl
 kinds_turned : (o : List Draft) (w v : Compilation) (decl : Declaration) → DraftTurn o w v decl → AllByRecursion HasKind (map outer w.made) → AllByRecursion HasKind (map outer v.made)
 kinds_turned o w v _ (inside decl none i) h = subst (AllByRecursion HasKind) (sym (inside_kept o decl w v i)) h
 kinds_turned o w v _ (data_set s new placed once e) h =
-    let d = drafted (next_structure w.made) (data_set_kind s.restart) s.name w.within in
+    let d = new_draft (next_structure w.made) (data_set_kind s.restart) s.name w.within in
     subst (λ (x : Compilation). AllByRecursion HasKind (map outer x.made)) (sym e)
     (subst (AllByRecursion HasKind) (sym (map-append outer w.made (d ∷ []))) (kinds_push (map outer w.made) (outer d) h (data_set_has_kind s.restart)))
 kinds_turned o w v _ (a_set s d p new of placed read key e) h =

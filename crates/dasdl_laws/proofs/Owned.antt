@@ -23,7 +23,7 @@ use Rattle.dasdl_compile.specs.declared.sets.WhereAndKey.{WhereAndKey}
 use Rattle.dasdl_compile.specs.declared.work.Compilation.{Compilation}
 use Rattle.dasdl_compile.specs.Answers.{steps}
 use Rattle.dasdl_compile.specs.Compile.{is_misplaced as is_data_set_misplaced, declared_at, nothing_yet, shape_in}
-use Rattle.dasdl_compile.specs.Finding.{drafted, next_structure, data_set_named, kind_of as kind_made}
+use Rattle.dasdl_compile.specs.Finding.{new_draft, next_structure, data_set_named, kind_of as kind_made}
 use Rattle.dasdl_compile.specs.Outlines.{data_set_kind}
 use Rattle.dasdl_compile.specs.Sets.{set_kind, is_misplaced, set_draft}
 use Rattle.dasdl_laws.proofs.Judging.{bind_ok, ok_same}
@@ -146,7 +146,7 @@ set_in o w s d p h few found placed = set_by (d.owner == w.within) o w s d p h f
 places_turned : (o : List Draft) (w v : Compilation) (decl : Declaration) → length w.made + structures_of decl ≤ 200 → DraftTurn o w v decl → Owning o w → AllByRecursion (DraftPlace o (map outer v.made)) (map outer v.made)
 places_turned o w v _ few (inside decl none i) h = subst (λ (os : List Draft). AllByRecursion (DraftPlace o os) os) (sym (inside_kept o decl w v i)) h.places
 places_turned o w v _ few (data_set s new placed once e) h =
-    let d = drafted (next_structure w.made) (data_set_kind s.restart) s.name w.within in
+    let d = new_draft (next_structure w.made) (data_set_kind s.restart) s.name w.within in
     let made : map outer v.made ≡ map outer w.made ++ d ∷ [] = ap (λ (x : Compilation). map outer x.made) e ∙ map-append outer w.made (d ∷ []) in
     subst (λ (os : List Draft). AllByRecursion (DraftPlace o os) os) (sym made) (place_push o (map outer w.made) d h.places (inl (data_set_in o s w h (omega (arith, few)) placed)))
 places_turned o w v _ few (a_set s d p new of placed read key e) h =

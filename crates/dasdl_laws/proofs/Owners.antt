@@ -19,7 +19,7 @@ use Rattle.dasdl_compile.specs.declared.draft.Draft.{Draft}
 use Rattle.dasdl_compile.specs.declared.work.Compilation.{Compilation}
 use Rattle.dasdl_compile.specs.Answers.{steps}
 use Rattle.dasdl_compile.specs.Compile.{declared_at, nothing_yet, shape_in}
-use Rattle.dasdl_compile.specs.Finding.{drafted, next_structure}
+use Rattle.dasdl_compile.specs.Finding.{new_draft, next_structure}
 use Rattle.dasdl_compile.specs.Members.{open_after}
 use Rattle.dasdl_compile.specs.Outlines.{data_set_kind}
 use Rattle.dasdl_compile.specs.Sets.{set_draft}
@@ -102,7 +102,7 @@ inside_stands o decl w v (changed d t at g e) h =
 pub turn_stands : (o : List Draft) (w v : Compilation) (decl : Declaration) → length w.made + structures_of decl ≤ 200 → DraftTurn o w v decl → Standing (map outer w.made) w.within → Standing (map outer v.made) v.within
 turn_stands o w v _ few (inside decl none i) h = inside_stands o decl w v i h
 turn_stands o w v _ few (data_set s new placed once e) h =
-    let d = drafted (next_structure w.made) (data_set_kind s.restart) s.name w.within in
+    let d = new_draft (next_structure w.made) (data_set_kind s.restart) s.name w.within in
     let os = map outer w.made in
     let size : length os ≡ length w.made = length-map w.made outer in
     let n : next_structure w.made ≡ length os + 1 = omega (arith, few, size) in

@@ -27,7 +27,7 @@ use Rattle.dasdl_grammar.specs.ParameterSpelling.IsTrail.{trail}
 use Rattle.dasdl_grammar.specs.SchemaSpelling.{Declares}
 use Rattle.dasdl_grammar.specs.SchemaSpelling.Declares.{no_declaration, then_parameters, then_audit, then_structure}
 use Rattle.dasdl_grammar.proofs.SchemaSound.{text_sound}
-use Rattle.dasdl_compile.specs.Compile.{compiled, description_of}
+use Rattle.dasdl_compile.specs.Compile.{compile_schema, description_of}
 use Rattle.dasdl_compile.specs.declared.draft.Draft.{Draft}
 use Rattle.dasdl_laws.proofs.Compiling.{compiled_by}
 
@@ -102,7 +102,7 @@ unfolding has_parameters
 ranges_hold p ds h =
     and_from _ _ (and_from _ _ (and_from _ _ (and_from _ _ (within 1 10000 p.syncpoint h.sync) (within 1 10000 p.controlpoint h.control)) (within 8 4096 p.buffers h.buffers)) (within 8 512 p.blocks h.blocks)) (within 2 9999 p.files h.files)
 
-pub in_range : (text : List ℕ) (s : Schema) (d : Described) → schema_of text ≡ Ok s → compiled s.parameters s.declarations ≡ Ok d → IsTrue (has_parameters d)
+pub in_range : (text : List ℕ) (s : Schema) (d : Described) → schema_of text ≡ Ok s → compile_schema s.parameters s.declarations ≡ Ok d → IsTrue (has_parameters d)
 in_range text s d read made =
     let g = (text_sound text s read).0 in
     let c = compiled_by s.parameters s.declarations d made in

@@ -22,7 +22,7 @@ use Rattle.dasdl_parse.specs.declared.declarations.DataSetEnd.{DataSetEnd}
 use Rattle.dasdl_compile.specs.declared.draft.Draft.{Draft}
 use Rattle.dasdl_compile.specs.Answers.{steps}
 use Rattle.dasdl_compile.specs.Compile.{shape_in}
-use Rattle.dasdl_compile.specs.Conditions.{verified}
+use Rattle.dasdl_compile.specs.Conditions.{verify_tree}
 use Rattle.dasdl_compile.specs.Finding.{is_taken, next_item}
 use Rattle.dasdl_compile.specs.Members.{count_of, width_of, with_item, with_group, item_at, group_at, end_at}
 use Rattle.dms_desc.specs.Widths.{record_width}
@@ -172,8 +172,8 @@ group_adds o d t g named w some room h e =
 width_whole : (n : ℕ) → min n 4294967295 ≤ 480 → n ≤ 480
 width_whole n h = omega (arith, h)
 
-verify_sound : (items : List Member) (c : Option Condition) (t : Tree) → length items ≤ 254 → IsPlainCondition c → verified items c ≡ Ok t → (is_nothing t || is_condition items t) ≡ true
-unfolding verified
+verify_sound : (items : List Member) (c : Option Condition) (t : Tree) → length items ≤ 254 → IsPlainCondition c → verify_tree items c ≡ Ok t → (is_nothing t || is_condition items t) ≡ true
+unfolding verify_tree
 verify_sound items None t few w h = subst (λ (x : Tree). (is_nothing x || is_condition items x) ≡ true) (ok_same Empty t h) refl
 verify_sound items (Some c) t few w h = or_right (is_nothing t) _ (condition_sound items c.tree t few w.0 w.1 h)
 
@@ -188,7 +188,7 @@ pub record EndedDraft (o : List Draft) (d : Draft) : Type 0 where
 pub ended : (o : List Draft) (d t : Draft) (e : DataSetEnd) → Sofar o d → length d.items ≤ 60 → IsPlainCondition e.verify → is_within 1 1000000 e.population ≡ true → end_at d e ≡ Ok t → EndedDraft o t
 unfolding end_at
 ended o d t e h few w p k =
-    let a = bind_ok {A = Tree} {B = Draft} (verified d.items e.verify) _ t k in
+    let a = bind_ok {A = Tree} {B = Draft} (verify_tree d.items e.verify) _ t k in
     let b = skip_ok (nat_lt 480 (width_of d)) _ _ _ a.2 in
     let low : width_of d ≤ 480 = ltb-false 480 (width_of d) b.0 in
     let width = width_whole (record_width d.items) low in
@@ -198,6 +198,6 @@ ended o d t e h few w p k =
 pub end_items : (d t : Draft) (e : DataSetEnd) → end_at d e ≡ Ok t → t.items ≡ d.items
 unfolding end_at
 end_items d t e k =
-    let a = bind_ok {A = Tree} {B = Draft} (verified d.items e.verify) _ t k in
+    let a = bind_ok {A = Tree} {B = Draft} (verify_tree d.items e.verify) _ t k in
     let b = skip_ok (nat_lt 480 (width_of d)) _ _ _ a.2 in
     ap (λ (x : Draft). x.items) (sym (ok_same _ t b.1))

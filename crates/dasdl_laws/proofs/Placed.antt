@@ -12,7 +12,7 @@ use Rattle.dasdl_compile.specs.declared.draft.Draft.{Draft}
 use Rattle.dasdl_compile.specs.declared.work.Compilation.{Compilation}
 use Rattle.dasdl_compile.specs.Answers.{steps}
 use Rattle.dasdl_compile.specs.Compile.{is_misplaced, declared_at, nothing_yet, shape_in}
-use Rattle.dasdl_compile.specs.Finding.{drafted, next_structure, kind_of}
+use Rattle.dasdl_compile.specs.Finding.{new_draft, next_structure, kind_of}
 use Rattle.dasdl_compile.specs.Outlines.{data_set_kind}
 use Rattle.dasdl_compile.specs.Sets.{set_draft}
 use Rattle.dasdl_laws.proofs.Judging.{steps_keep}
@@ -31,7 +31,7 @@ head_placed true true e h = refl
 head_placed true false e h = absurd (cc)
 head_placed false c e h = refl
 
-data_set_placed : (s : DataSetDecl) (w : Compilation) → is_misplaced s w ≡ false → IsPlacedDraft (drafted (next_structure w.made) (data_set_kind s.restart) s.name w.within)
+data_set_placed : (s : DataSetDecl) (w : Compilation) → is_misplaced s w ≡ false → IsPlacedDraft (new_draft (next_structure w.made) (data_set_kind s.restart) s.name w.within)
 unfolding is_misplaced
 data_set_placed s w h = head_placed s.restart (w.within == 0) (kind_of w.within w.made == 2) h
 
@@ -43,7 +43,7 @@ set_placed false b c = refl
 turned : (o : List Draft) (w v : Compilation) (decl : Declaration) → DraftTurn o w v decl → AllByRecursion IsPlacedDraft (map outer w.made) → AllByRecursion IsPlacedDraft (map outer v.made)
 turned o w v _ (inside decl none i) h = subst (AllByRecursion IsPlacedDraft) (sym (inside_kept o decl w v i)) h
 turned o w v _ (data_set s new placed once e) h =
-    let d = drafted (next_structure w.made) (data_set_kind s.restart) s.name w.within in
+    let d = new_draft (next_structure w.made) (data_set_kind s.restart) s.name w.within in
     subst (λ (x : Compilation). AllByRecursion IsPlacedDraft (map outer x.made)) (sym e)
     (subst (AllByRecursion IsPlacedDraft) (sym (map-append outer w.made (d ∷ []))) (placed_push (map outer w.made) (outer d) h (data_set_placed s w placed)))
 turned o w v _ (a_set s d p new of placed read key e) h =

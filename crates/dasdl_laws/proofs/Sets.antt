@@ -13,7 +13,7 @@ use Rattle.dms_desc.specs.Shape.Tree.{Empty}
 use Rattle.dms_desc_bytes.specs.Conditions.{is_condition, is_nothing}
 use Rattle.dms_desc_bytes.specs.Finding.{kind_of, owner_of, items_at}
 use Rattle.dms_desc_bytes.specs.Spelling.{is_data_set}
-use Rattle.dms_desc_bytes.specs.WellFormed.{numbered, is_key_sound, is_set_placed}
+use Rattle.dms_desc_bytes.specs.WellFormed.{stand_in_order, is_key_sound, is_set_placed}
 use Rattle.dasdl_phrases.specs.Trees.{Condition}
 use Rattle.dasdl_parse.specs.declared.declarations.SetDecl.{SetDecl}
 use Rattle.dasdl_phrases.specs.declared.key_parts.KeyDecl.{KeyDecl}
@@ -38,7 +38,7 @@ use Rattle.dasdl_laws.proofs.Judging.{bind_ok, ok_same}
 use Rattle.dasdl_laws.proofs.Judged.{condition_sound}
 use Rattle.dasdl_laws.proofs.Keys.{key_sound}
 use Rattle.dasdl_laws.proofs.Ordered.{has_kind}
-use Rattle.dasdl_laws.proofs.Outline.{seen, seen_item}
+use Rattle.dasdl_laws.proofs.Outline.{outline_of, seen_item}
 use Rattle.dasdl_laws.proofs.Together.{FoundAs, found_as, items_sound, same_keys, same_conditions}
 use Rattle.dasdl_laws.proofs.Trees.{DataSetMade, SetMade, Final, no_data_set}
 use Rattle.dasdl_laws.proofs.Trees.Final.{a_data_set_made, a_set_made}
@@ -150,8 +150,8 @@ set_shape made w s of p f few groups placed read lacks plain some =
 
 -- what was declared, and what it was declared under
 pub record Whole (noted made : List Draft) : Type 0 where
-  pub same : map seen noted ≡ map seen made
-  pub numbers : numbered 1 (map shape_in made) ≡ true
+  pub same : map outline_of noted ≡ map outline_of made
+  pub numbers : stand_in_order 1 (map shape_in made) ≡ true
   pub kinds : list_all has_kind (map shape_in made) ≡ true
   pub final : AllByRecursion (Final noted) made
 

@@ -14,7 +14,7 @@ use Rattle.dms_desc.specs.Widths.{record_width}
 use Rattle.dms_desc_bytes.specs.WellFormed.{IsWellFormed, is_sound, is_data_set_sound, is_set_sound, has_sound_items, has_sound_groups, has_sound_verify, lacks_set_fields, has_member, is_owned_well, is_shallow, is_placed, is_set_placed, is_populated, is_key_sound, is_where_sound, are_sound}
 use Rattle.dasdl_parse.specs.Grammar.{schema_of}
 use Rattle.dasdl_parse.specs.declared.schema.Schema.{Schema}
-use Rattle.dasdl_compile.specs.Compile.{compiled}
+use Rattle.dasdl_compile.specs.Compile.{compile_schema}
 use Rattle.dasdl_laws.specs.Alone.{is_local, has_local_items, is_data_set_alone, is_set_alone, is_sound_alone}
 use Rattle.dasdl_laws.specs.Together.{is_set_together, is_sound_together}
 use Rattle.dasdl_laws.proofs.Ordered.{has_kind}
@@ -87,7 +87,7 @@ structures_sound d h =
     and_from _ _ (and_from _ _ (and_from _ _ (and_from _ _ (and_from _ _ (and_from _ _ (few_structures d h) h.order.numbers) h.order.names) h.order.restart) h.order.restarts) (few_counted_links d h))
     (all_sound d.structures d.structures h.kinds h.alone h.together h.members h.placed h.owned h.shallow)
 
-pub well_formed : (text : List ℕ) (s : Schema) (d : Described) → schema_of text ≡ Ok s → compiled s.parameters s.declarations ≡ Ok d → IsWellFormed d
+pub well_formed : (text : List ℕ) (s : Schema) (d : Described) → schema_of text ≡ Ok s → compile_schema s.parameters s.declarations ≡ Ok d → IsWellFormed d
 well_formed text s d read made =
     let h = structured text s d read made in
     record { parameters = in_range text s d read made; structures = structures_sound d h; short = h.short }

@@ -9,7 +9,7 @@ use Rattle.dms_desc_bytes.specs.Spelling.{spelling}
 use Rattle.dasdl_parse.specs.Grammar.{schema_of}
 use Rattle.dasdl_parse.specs.declared.schema.Schema.{Schema}
 use Rattle.dasdl_grammar.proofs.SchemaSound.{text_sound}
-use Rattle.dasdl_compile.specs.Compile.{compiled}
+use Rattle.dasdl_compile.specs.Compile.{compile_schema}
 use Rattle.dasdl_laws.specs.Alone.{is_sound_alone}
 use Rattle.dasdl_laws.proofs.Alone.{all_alone}
 use Rattle.dasdl_laws.proofs.Trees.{all_final}
@@ -49,7 +49,7 @@ pub record Structured (d : Described) : Type 0 where
   pub shallow : list_all (is_shallow d.structures) d.structures ≡ true
   pub short : nat_le (length (spelling d)) 65535 ≡ true
 
-pub structured : (text : List ℕ) (s : Schema) (d : Described) → schema_of text ≡ Ok s → compiled s.parameters s.declarations ≡ Ok d → Structured d
+pub structured : (text : List ℕ) (s : Schema) (d : Described) → schema_of text ≡ Ok s → compile_schema s.parameters s.declarations ≡ Ok d → Structured d
 structured text s d read made =
     let g = (text_sound text s read).0 in
     let c = compiled_by s.parameters s.declarations d made in

@@ -24,7 +24,7 @@ use Rattle.dms_desc_bytes.specs.Lists.{is_within, apart, total}
 use Rattle.dms_desc.specs.Widths.{item_width}
 use Rattle.dms_desc_bytes.specs.Members.{is_plain, is_link_sound, points_well, is_item_sound}
 use Rattle.dms_desc_bytes.specs.Spelling.{is_data_set}
-use Rattle.dms_desc_bytes.specs.WellFormed.{numbered, is_key_item, width_in, is_part_sound, part_width, parts_differ, is_key_sound}
+use Rattle.dms_desc_bytes.specs.WellFormed.{stand_in_order, is_key_item, width_in, is_part_sound, part_width, parts_differ, is_key_sound}
 use Rattle.dms_desc_bytes.proofs.Places.{all_at}
 use Rattle.dasdl_compile.specs.declared.draft.Draft.{Draft}
 use Rattle.dasdl_compile.specs.Compile.{shape_in}
@@ -32,7 +32,7 @@ use Rattle.dasdl_compile.specs.Finding.{data_set_named}
 use Rattle.dasdl_laws.specs.Alone.{is_local}
 use Rattle.dasdl_laws.proofs.Members.{PointsTo, Points}
 use Rattle.dasdl_laws.proofs.Ordered.{has_kind}
-use Rattle.dasdl_laws.proofs.Outline.{seen, seen_item, seen_type, seen_kind}
+use Rattle.dasdl_laws.proofs.Outline.{outline_of, seen_item, seen_type, seen_kind}
 use Rattle.dasdl_laws.proofs.Parts.{PointsWell}
 
 -- ---- a data set by its name
@@ -53,15 +53,15 @@ pub mapped : {A B : Type 0} (f : A → B) (r : Option A) (y : B) → option_map 
 mapped f None y h = absurd (cc)
 mapped f (Some x) y h = (x, refl, cc)
 
-numbered_at : (n : ℕ) (ss : List Shape) (k : ℕ) (s : Shape) → numbered n ss ≡ true → slice_get ss k ≡ Some s → s.number ≡ n + k
+numbered_at : (n : ℕ) (ss : List Shape) (k : ℕ) (s : Shape) → stand_in_order n ss ≡ true → slice_get ss k ≡ Some s → s.number ≡ n + k
 numbered_at n [] k s h e = absurd (cc)
 numbered_at n (x ∷ xs) zero s h e =
-    let a = and_parts (x.number == n) (numbered (n + 1) xs) h in
+    let a = and_parts (x.number == n) (stand_in_order (n + 1) xs) h in
     let one : x ≡ s = cc in
     let is = eqb-true x.number n a.0 in
     subst (λ (y : Shape). y.number ≡ n + 0) one (omega (arith, is))
 numbered_at n (x ∷ xs) (suc k) s h e =
-    let a = and_parts (x.number == n) (numbered (n + 1) xs) h in
+    let a = and_parts (x.number == n) (stand_in_order (n + 1) xs) h in
     let is = numbered_at (n + 1) xs k s a.1 e in
     omega (arith, is)
 
@@ -71,7 +71,7 @@ pub record FoundAs (made : List Draft) (t : Draft) : Type 0 where
   pub place : ℕ
   pub at : slice_get made place ≡ Some is
   pub structure : structure_at (map shape_in made) t.number ≡ Some (shape_in is)
-  pub alike : seen t ≡ seen is
+  pub alike : outline_of t ≡ outline_of is
   pub kind : is_data_set is.kind ≡ true
 
 low_case : (c : Bool) (a b : ℕ) → nat_lt a 3 ≡ true → nat_lt b 3 ≡ c → a ≡ cond c b 3 → nat_le 1 b ≡ true → is_data_set b ≡ true
@@ -86,11 +86,11 @@ kept_low a b low e h =
 pub ne_zero : (n k : ℕ) → n ≡ 1 + k → (n == 0) ≡ false
 ne_zero n k e = grind (arith, nat_tests)
 
-pub found_as : (name : List ℕ) (noted made : List Draft) (t : Draft) → map seen noted ≡ map seen made → numbered 1 (map shape_in made) ≡ true → list_all has_kind (map shape_in made) ≡ true → data_set_named name noted ≡ Some t → FoundAs made t
+pub found_as : (name : List ℕ) (noted made : List Draft) (t : Draft) → map outline_of noted ≡ map outline_of made → stand_in_order 1 (map shape_in made) ≡ true → list_all has_kind (map shape_in made) ≡ true → data_set_named name noted ≡ Some t → FoundAs made t
 found_as name noted made t same numbers kinds h =
     let a = named_at name noted t h in
-    let there : slice_get (map seen made) a.0 ≡ Some (seen t) = sym (ap (λ (l : List Draft). slice_get l a.0) same) ∙ slice_get-map seen noted a.0 ∙ ap (option_map seen) a.1 in
-    let f = mapped seen (slice_get made a.0) (seen t) (sym (slice_get-map seen made a.0) ∙ there) in
+    let there : slice_get (map outline_of made) a.0 ≡ Some (outline_of t) = sym (ap (λ (l : List Draft). slice_get l a.0) same) ∙ slice_get-map outline_of noted a.0 ∙ ap (option_map outline_of) a.1 in
+    let f = mapped outline_of (slice_get made a.0) (outline_of t) (sym (slice_get-map outline_of made a.0) ∙ there) in
     let shape : slice_get (map shape_in made) a.0 ≡ Some (shape_in f.0) = slice_get-map shape_in made a.0 ∙ ap (option_map shape_in) f.1 in
     let number : f.0.number ≡ 1 + a.0 = numbered_at 1 (map shape_in made) a.0 (shape_in f.0) numbers shape in
     let one : t.number ≡ f.0.number = ap (λ (x : Draft). x.number) (sym f.2) in
@@ -114,7 +114,7 @@ link_sound made t target i o p f n alone =
     let owner : (f.is.owner == 0) ≡ true = ap (λ (x : Draft). x.owner == 0) (sym f.alike) ∙ alone in
     and_from _ _ (and_from _ _ (and_from _ _ (ap (λ (x : Option Shape). is_data_set (kind_in x)) at ∙ f.kind) (ap (λ (x : Option Shape). owner_in x == 0) at ∙ owner)) (ap not p.required)) p.initial
 
-points_case : (noted made : List Draft) (k : ItemKind) (i : Member) → map seen noted ≡ map seen made → numbered 1 (map shape_in made) ≡ true → list_all has_kind (map shape_in made) ≡ true → Points noted k i → points_well (map shape_in made) k i ≡ true
+points_case : (noted made : List Draft) (k : ItemKind) (i : Member) → map outline_of noted ≡ map outline_of made → stand_in_order 1 (map shape_in made) ≡ true → list_all has_kind (map shape_in made) ≡ true → Points noted k i → points_well (map shape_in made) k i ≡ true
 points_case noted made (LinkTo target counted) i same numbers kinds p =
     link_sound made p.to target i noted p (found_as p.name noted made p.to same numbers kinds p.found) p.number p.alone
 points_case noted made (Alpha n) i same numbers kinds p = refl
@@ -122,7 +122,7 @@ points_case noted made (Decimal n m s) i same numbers kinds p = refl
 points_case noted made OneBit i same numbers kinds p = refl
 points_case noted made (Field n) i same numbers kinds p = refl
 
-pub items_sound : (noted made : List Draft) (is : List Member) → map seen noted ≡ map seen made → numbered 1 (map shape_in made) ≡ true → list_all has_kind (map shape_in made) ≡ true → list_all is_local is ≡ true → AllByRecursion (PointsWell noted) is → list_all (is_item_sound (map shape_in made)) is ≡ true
+pub items_sound : (noted made : List Draft) (is : List Member) → map outline_of noted ≡ map outline_of made → stand_in_order 1 (map shape_in made) ≡ true → list_all has_kind (map shape_in made) ≡ true → list_all is_local is ≡ true → AllByRecursion (PointsWell noted) is → list_all (is_item_sound (map shape_in made)) is ≡ true
 unfolding is_item_sound
 items_sound noted made [] same numbers kinds local points = refl
 items_sound noted made (i ∷ is) same numbers kinds local points =

@@ -27,7 +27,7 @@ use Rattle.dasdl_compile.specs.declared.sets.WhereAndKey.{WhereAndKey}
 use Rattle.dasdl_compile.specs.declared.work.Compilation.{Compilation}
 use Rattle.dasdl_compile.specs.Answers.{steps}
 use Rattle.dasdl_compile.specs.Compile.{declared_at, nothing_yet}
-use Rattle.dasdl_compile.specs.Finding.{drafted, next_structure, data_set_named}
+use Rattle.dasdl_compile.specs.Finding.{new_draft, next_structure, data_set_named}
 use Rattle.dasdl_compile.specs.Members.{member_at, open_after}
 use Rattle.dasdl_compile.specs.Outlines.{data_set_kind}
 use Rattle.dasdl_compile.specs.Sets.{is_misplaced, options_at, lacks_key, set_draft}
@@ -54,7 +54,7 @@ pub record DataSetMade (o : List Draft) (d : Draft) : Type 0 where
   pub owner : ℕ
   pub called : List ℕ
   pub name : is_name d.name ≡ true
-  pub outside : outer d ≡ drafted number (data_set_kind restart) called owner
+  pub outside : outer d ≡ new_draft number (data_set_kind restart) called owner
   pub ended : EndedDraft o d
 
 pub record SetMade (o : List Draft) (d : Draft) : Type 0 where
@@ -181,18 +181,18 @@ set_adding o w v s z k = set_adding_by o w v (SetOf s) s z refl (turn_of o w v (
 
 -- ---- data sets
 
-pub opened_by : (o : List Draft) (w v : Compilation) (decl : Declaration) (s : DataSetDecl) → decl ≡ DataSet s → DraftTurn o w v decl → v ≡ record { made = w.made ++ drafted (next_structure w.made) (data_set_kind s.restart) s.name w.within ∷ []; within = next_structure w.made }
+pub opened_by : (o : List Draft) (w v : Compilation) (decl : Declaration) (s : DataSetDecl) → decl ≡ DataSet s → DraftTurn o w v decl → v ≡ record { made = w.made ++ new_draft (next_structure w.made) (data_set_kind s.restart) s.name w.within ∷ []; within = next_structure w.made }
 opened_by o w v _ s same (inside decl none i) = let one : structures_of (DataSet s) ≡ 0 = subst (λ (x : Declaration). structures_of x ≡ 0) same none in absurd (omega (arith, one))
 opened_by o w v _ s same (data_set h new placed once e) =
     let one : h ≡ s = cc in
-    subst (λ (x : DataSetDecl). v ≡ record { made = w.made ++ drafted (next_structure w.made) (data_set_kind x.restart) x.name w.within ∷ []; within = next_structure w.made }) one e
+    subst (λ (x : DataSetDecl). v ≡ record { made = w.made ++ new_draft (next_structure w.made) (data_set_kind x.restart) x.name w.within ∷ []; within = next_structure w.made }) one e
 opened_by o w v _ s same (set_added t d p new of placed read key e) = absurd (cc)
 
 -- what the members of a data set do, wherever it stands
 abbrev Grow : List Draft → List Declaration → ℕ → Type 0
 Grow o ds n = (pre : List Draft) (d : Draft) (post : List Draft) (w v : Compilation) → w.made ≡ pre ++ d ∷ post → w.within ≡ length pre + 1 → Sofar o d → length d.items + n ≤ 60 → length w.made + structures_in ds ≤ 200 → steps declared_at o w ds ≡ Ok v → GrowsDrafts o pre d post w v n
 
-no_members : (o : List Draft) (number kind : ℕ) (name : List ℕ) (owner : ℕ) → Sofar o (drafted number kind name owner)
+no_members : (o : List Draft) (number kind : ℕ) (name : List ℕ) (owner : ℕ) → Sofar o (new_draft number kind name owner)
 unfolding members_differ
 no_members o number kind name owner = record { base = record { local = refl; points = tt; differ = refl }; grouped = record { within = tt; follow = refl; few = omega arith }; plain = tt }
 
@@ -201,7 +201,7 @@ first_in d new within n e same (inl h) = inl (omega (arith, e, h))
 first_in d new within n e same (inr h) = inr (any_right (owned d.number) (d ∷ []) new (subst (λ (k : ℕ). list_any (owned k) new ≡ true) same h))
 
 ends : (o : List Draft) (head : DataSetDecl) (end : DataSetEnd) (n : ℕ) (w u v x : Compilation) → is_name head.name ≡ true → n ≤ 60 → IsPlainCondition end.verify × (is_within 1 1000000 end.population ≡ true) → x.within ≡ length w.made + 1 → x.within ≡ next_structure w.made
-    → GrowsDrafts o w.made (drafted (next_structure w.made) (data_set_kind head.restart) head.name w.within) [] x u n → declared_at o u (End end) ≡ Ok v → Adding o w v
+    → GrowsDrafts o w.made (new_draft (next_structure w.made) (data_set_kind head.restart) head.name w.within) [] x u n → declared_at o u (End end) ≡ Ok v → Adding o w v
 unfolding member_at
 ends o head end n w u v x named few z at number g k =
     let m = makes o (End end) w.made g.now ([] ++ g.new) u v g.made (g.within ∙ at) (inside_of o u v (End end) (turn_of o u v (End end) k) refl) in
@@ -225,7 +225,7 @@ data_set_adding o w v head ds end n named few z room inner k =
     let a = bind_ok {A = Compilation} {B = Compilation} (declared_at o w (DataSet head)) _ v k in
     let e = opened_by o w a.0 (DataSet head) head refl (turn_of o w a.0 (DataSet head) a.1) in
     let b = steps_split declared_at o a.0 ds (End end ∷ []) v a.2 in
-    let d = drafted (next_structure w.made) (data_set_kind head.restart) head.name w.within in
+    let d = new_draft (next_structure w.made) (data_set_kind head.restart) head.name w.within in
     let made : a.0.made ≡ w.made ++ d ∷ [] = ap (λ (x : Compilation). x.made) e in
     let within : a.0.within ≡ length w.made + 1 = ap (λ (x : Compilation). x.within) e ∙ omega (arith, room) in
     let size : length a.0.made ≡ length w.made + 1 = ap length made ∙ length-append w.made (d ∷ []) in

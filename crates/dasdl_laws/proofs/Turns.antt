@@ -17,8 +17,8 @@ use Rattle.dasdl_compile.specs.declared.draft.Draft.{Draft}
 use Rattle.dasdl_compile.specs.declared.sets.WhereAndKey.{WhereAndKey}
 use Rattle.dasdl_compile.specs.declared.work.Compilation.{Compilation}
 use Rattle.dasdl_compile.specs.Compile.{is_misplaced as is_data_set_misplaced, data_set_at, inside_in, inside_at, declared_at}
-use Rattle.dasdl_compile.specs.Conditions.{verified}
-use Rattle.dasdl_compile.specs.Finding.{drafted, next_structure, is_structure, has_restart, data_set_named, is_taken}
+use Rattle.dasdl_compile.specs.Conditions.{verify_tree}
+use Rattle.dasdl_compile.specs.Finding.{new_draft, next_structure, is_structure, has_restart, data_set_named, is_taken}
 use Rattle.dasdl_compile.specs.Members.{with_group, initial_of, item_at, group_at, link_kind, link_at, end_at, member_at, open_after}
 use Rattle.dasdl_compile.specs.Outlines.{data_set_kind}
 use Rattle.dasdl_compile.specs.Sets.{is_misplaced, options_at, lacks_key, set_draft, set_over, set_in, set_at}
@@ -51,7 +51,7 @@ link_kept o d t l h =
 end_kept : (d t : Draft) (e : DataSetEnd) → end_at d e ≡ Ok t → outer t ≡ outer d
 unfolding end_at
 end_kept d t e h =
-    let a = bind_ok (verified d.items e.verify) _ _ h in
+    let a = bind_ok (verify_tree d.items e.verify) _ _ h in
     let b = skip_ok _ _ _ _ a.2 in
     ap outer (sym (ok_same _ t b.1))
 
@@ -78,7 +78,7 @@ inside_by o decl w v (Some d) e h =
 -- a declaration adds a structure, or says something of the data set that is open
 pub data DraftTurn (o : List Draft) (w v : Compilation) : Declaration → Type 0 where
   inside : (decl : Declaration) → structures_of decl ≡ 0 → Inside o decl w v → DraftTurn o w v decl
-  data_set : (s : DataSetDecl) → is_structure s.name w.made ≡ false → is_data_set_misplaced s w ≡ false → s.restart && has_restart w.made ≡ false → v ≡ record { made = w.made ++ drafted (next_structure w.made) (data_set_kind s.restart) s.name w.within ∷ []; within = next_structure w.made } → DraftTurn o w v (DataSet s)
+  data_set : (s : DataSetDecl) → is_structure s.name w.made ≡ false → is_data_set_misplaced s w ≡ false → s.restart && has_restart w.made ≡ false → v ≡ record { made = w.made ++ new_draft (next_structure w.made) (data_set_kind s.restart) s.name w.within ∷ []; within = next_structure w.made } → DraftTurn o w v (DataSet s)
   a_set : (s : SetDecl) (d : Draft) (p : WhereAndKey) → is_structure s.name w.made ≡ false → data_set_named s.of o ≡ Some d → is_misplaced w s d ≡ false → options_at d s ≡ Ok p → lacks_key s ≡ false → v ≡ record { made = w.made ++ set_draft w s d p ∷ []; within = w.within } → DraftTurn o w v (SetOf s)
 
 inside_turn : (o : List Draft) (decl : Declaration) (w v : Compilation) → structures_of decl ≡ 0 → inside_at o decl w ≡ Ok v → DraftTurn o w v decl

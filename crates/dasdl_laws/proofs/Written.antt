@@ -7,7 +7,7 @@ use Rattle.std.specs.List.{list_all}
 use Rattle.std.specs.declared.option.Option.{Option}
 use Rattle.dms_base.specs.Name.{is_name}
 use Rattle.dms_base.specs.Spelling.{is_kind}
-use Rattle.dms_base.specs.Text.{is_printable, before_trimmed, trimmed, text_of}
+use Rattle.dms_base.specs.Text.{is_printable, before_trimmed, trim_spaces, text_of}
 use Rattle.dms_base.specs.declared.kind.ItemKind.{ItemKind}
 use Rattle.dms_base.specs.declared.kind.Literal.{Literal}
 use Rattle.dms_base.specs.declared.kind.Literal.TheVariants.{Text}
@@ -80,21 +80,21 @@ printable_before : (b : ℕ) (xs : List ℕ) → is_printable b ≡ true → lis
 printable_before b [] p h = printable_case (b == 32) b p
 printable_before b (x ∷ xs) p h = and_from _ _ p h
 
-printable_trimmed : (bs : List ℕ) → list_all is_printable bs ≡ true → list_all is_printable (trimmed bs) ≡ true
+printable_trimmed : (bs : List ℕ) → list_all is_printable bs ≡ true → list_all is_printable (trim_spaces bs) ≡ true
 printable_trimmed [] h = refl
-printable_trimmed (b ∷ bs) h = let a = and_parts (is_printable b) (list_all is_printable bs) h in printable_before b (trimmed bs) a.0 (printable_trimmed bs a.1)
+printable_trimmed (b ∷ bs) h = let a = and_parts (is_printable b) (list_all is_printable bs) h in printable_before b (trim_spaces bs) a.0 (printable_trimmed bs a.1)
 
-again_case : (t : Bool) (b : ℕ) → (b == 32) ≡ t → trimmed (cond t [] (b ∷ [])) ≡ cond t [] (b ∷ [])
+again_case : (t : Bool) (b : ℕ) → (b == 32) ≡ t → trim_spaces (cond t [] (b ∷ [])) ≡ cond t [] (b ∷ [])
 again_case true b e = refl
 again_case false b e = rw e refl
 
-again_before : (b : ℕ) (xs : List ℕ) → trimmed xs ≡ xs → trimmed (before_trimmed b xs) ≡ before_trimmed b xs
+again_before : (b : ℕ) (xs : List ℕ) → trim_spaces xs ≡ xs → trim_spaces (before_trimmed b xs) ≡ before_trimmed b xs
 again_before b [] h = again_case (b == 32) b refl
 again_before b (x ∷ xs) h = ap (before_trimmed b) h
 
-trimmed_again : (bs : List ℕ) → trimmed (trimmed bs) ≡ trimmed bs
+trimmed_again : (bs : List ℕ) → trim_spaces (trim_spaces bs) ≡ trim_spaces bs
 trimmed_again [] = refl
-trimmed_again (b ∷ bs) = again_before b (trimmed bs) (trimmed_again bs)
+trimmed_again (b ∷ bs) = again_before b (trim_spaces bs) (trimmed_again bs)
 
 picked_text : (b : Bool) (x y : List ℕ) → ◌≡◌ {A = Option (List ℕ)} (cond b (Some x) None) (Some y) → (b ≡ true) × (x ≡ y)
 picked_text true x y h = (refl, cc)
@@ -103,10 +103,10 @@ picked_text false x y h = absurd (cc)
 plain_text : (bytes text : List ℕ) → text_of bytes ≡ Some text → is_plain_literal (Text text) ≡ true
 unfolding text_of
 plain_text bytes text h =
-    let a = picked_text (list_all is_printable bytes && nat_le (length (trimmed bytes)) 200) (trimmed bytes) text h in
-    let b = and_parts (list_all is_printable bytes) (nat_le (length (trimmed bytes)) 200) a.0 in
+    let a = picked_text (list_all is_printable bytes && nat_le (length (trim_spaces bytes)) 200) (trim_spaces bytes) text h in
+    let b = and_parts (list_all is_printable bytes) (nat_le (length (trim_spaces bytes)) 200) a.0 in
     subst (λ (t : List ℕ). is_plain_literal (Text t) ≡ true) a.1
-    (and_from _ _ (printable_trimmed bytes b.0) (rw (trimmed_again bytes) ((bytes_eq-Decides (trimmed bytes) (trimmed bytes)).1 refl)))
+    (and_from _ _ (printable_trimmed bytes b.0) (rw (trimmed_again bytes) ((bytes_eq-Decides (trim_spaces bytes) (trim_spaces bytes)).1 refl)))
 
 -- ---- literals
 

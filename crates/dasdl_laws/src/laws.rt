@@ -4,7 +4,7 @@ ghost use Rattle.dms_desc.specs.Shape.{Shape};
 ghost use Rattle.dms_desc_bytes.specs.Lists.{apart, is_within, total};
 ghost use Rattle.dms_desc_bytes.specs.Spelling.{spelling, is_data_set};
 ghost use Rattle.dms_desc.specs.Kinds.{is_restart};
-ghost use Rattle.dms_desc_bytes.specs.WellFormed.{has_parameters, numbered, names_differ, is_placed, has_member, not_both_restart, counted_in, is_owned_well, is_shallow, IsWellFormed};
+ghost use Rattle.dms_desc_bytes.specs.WellFormed.{has_parameters, stand_in_order, names_differ, is_placed, has_member, not_both_restart, counted_in, is_owned_well, is_shallow, IsWellFormed};
 ghost use Rattle.dasdl_laws.specs.Alone.{is_sound_alone};
 ghost use Rattle.dasdl_laws.specs.Given.{OfEachText};
 ghost use Rattle.dasdl_laws.specs.Together.{is_sound_together, is_within_earlier};
@@ -21,7 +21,7 @@ pub fn parameters_law()
 /// counted. The description has at most 65,535 bytes.
 pub fn structures_law()
     ensures few { OfEachText (λ d. IsTrue (nat_le (length d.structures) 200)) }
-    ensures numbers { OfEachText (λ d. IsTrue (numbered 1 d.structures)) }
+    ensures numbers { OfEachText (λ d. IsTrue (stand_in_order 1 d.structures)) }
     ensures names { OfEachText (λ d. IsTrue (apart names_differ d.structures)) }
     ensures restart { OfEachText (λ d. IsTrue (list_any is_restart d.structures)) }
     ensures one_restart { OfEachText (λ d. IsTrue (apart not_both_restart d.structures)) }

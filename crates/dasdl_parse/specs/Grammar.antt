@@ -42,18 +42,18 @@ with_items (Two a m) n = Two a n
 with_items (Three a b m) n = Three a b n
 
 -- one more data set is open
-abbrev pub opened : Open → Open
-opened Outside = One 0
-opened (One a) = Two a 0
-opened (Two a b) = Three a b 0
-opened (Three a b c) = Three a b c
+abbrev pub open_data_set : Open → Open
+open_data_set Outside = One 0
+open_data_set (One a) = Two a 0
+open_data_set (Two a b) = Three a b 0
+open_data_set (Three a b c) = Three a b c
 
 -- the innermost data set that is open ends
-abbrev pub closed : Open → Open
-closed Outside = Outside
-closed (One a) = Outside
-closed (Two a b) = One a
-closed (Three a b c) = Two a b
+abbrev pub close_data_set : Open → Open
+close_data_set Outside = Outside
+close_data_set (One a) = Outside
+close_data_set (Two a b) = One a
+close_data_set (Three a b c) = Two a b
 
 abbrev pub is_inside : Open → Bool
 is_inside Outside = false
@@ -69,8 +69,8 @@ is_deepest (Two a b) = false
 is_deepest (Three a b c) = true
 
 -- one more declaration stands within what is open
-abbrev pub declared : Progress → Open → ℕ → ℕ → Bool → Declaration → Progress
-declared s within structures counted fresh d = record {
+abbrev pub add_declaration : Progress → Open → ℕ → ℕ → Bool → Declaration → Progress
+add_declaration s within structures counted fresh d = record {
   parameters = s.parameters;
   has_parameters = s.has_parameters;
   has_audit = s.has_audit;
@@ -109,12 +109,12 @@ item_turn_at s place name ts =
     if nat_le 60 (items_of s.within) then Err (TooMany 60)
     else (do
       item ← item_at place name ts
-      Ok (declared s (with_items s.within (items_of s.within + 1)) s.structures s.counted false (Item item.0), item.1))
+      Ok (add_declaration s (with_items s.within (items_of s.within + 1)) s.structures s.counted false (Item item.0), item.1))
 
 unfoldable pub group_turn_at : Progress → ℕ → List ℕ → List Lexeme → Read Progress
 group_turn_at s place name ts = do
   group ← group_at (items_of s.within) ts
-  Ok (declared s (with_items s.within group.0.count) s.structures s.counted false (Group (record { place = place; name = name; items = group.0.items })), group.1)
+  Ok (add_declaration s (with_items s.within group.0.count) s.structures s.counted false (Group (record { place = place; name = name; items = group.0.items })), group.1)
 
 -- one more, where a link is counted
 abbrev pub counted_with : ℕ → Bool → ℕ
@@ -128,7 +128,7 @@ link_turn_at s place name ts =
     else (if nat_le 60 (items_of s.within) then Err (TooMany 60)
     else (do
       link ← link_at s.counted place name ts
-      Ok (declared s (with_items s.within (items_of s.within + 1)) s.structures (counted_with s.counted link.0.counted) false (Link link.0), link.1)))
+      Ok (add_declaration s (with_items s.within (items_of s.within + 1)) s.structures (counted_with s.counted link.0.counted) false (Link link.0), link.1)))
 
 -- [ RESTART ]
 unfoldable pub restart_at : List Lexeme → Read Bool
@@ -160,10 +160,10 @@ structure_turn_at s place name ts =
     else (if is_deepest s.within then Err (TooMany 3)
     else (if starts_set ts then (do
       set ← set_at place name ts
-      Ok (declared s s.within (s.structures + 1) s.counted false (SetOf set.0), set.1))
+      Ok (add_declaration s s.within (s.structures + 1) s.counted false (SetOf set.0), set.1))
     else (do
       head ← data_set_at place name ts
-      Ok (declared s (opened s.within) (s.structures + 1) s.counted true (DataSet head.0), head.1))))
+      Ok (add_declaration s (open_data_set s.within) (s.structures + 1) s.counted true (DataSet head.0), head.1))))
 
 -- what stands behind a name that is declared
 unfoldable pub declared_turn_at : Progress → ℕ → List ℕ → List Lexeme → Read Progress
@@ -205,7 +205,7 @@ data_set_end_at ts = do
 unfoldable pub end_turn_at : Progress → List Lexeme → Read Progress
 end_turn_at s ts = do
   end ← data_set_end_at ts
-  Ok (declared s (closed s.within) s.structures s.counted false (EndOf end.0), end.1)
+  Ok (add_declaration s (close_data_set s.within) s.structures s.counted false (EndOf end.0), end.1)
 
 unfoldable pub named_turn_at : Progress → List Lexeme → Read Progress
 named_turn_at s ts = do

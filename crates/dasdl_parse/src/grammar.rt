@@ -1,6 +1,6 @@
 ghost use Rattle.std.specs.Prelude.{◌≡◌, ◌<◌, IfOk, true};
 ghost use Rattle.dasdl_phrases.specs.Reads.{Takes, Gives};
-ghost use Rattle.dasdl_parse.specs.Grammar.{with_items, opened, closed, is_inside, is_deepest, declared, with_pairs, with_audit_pairs, parameters_turn_at, audit_turn_at, item_turn_at, group_turn_at, counted_with, link_turn_at, starts_set, starts_data_set, structure_turn_at, declared_turn_at, end_turn_at, named_turn_at, schema_turn_at, schema_done, schema_at, schema_of};
+ghost use Rattle.dasdl_parse.specs.Grammar.{with_items, open_data_set, close_data_set, is_inside, is_deepest, add_declaration, with_pairs, with_audit_pairs, parameters_turn_at, audit_turn_at, item_turn_at, group_turn_at, counted_with, link_turn_at, starts_set, starts_data_set, structure_turn_at, declared_turn_at, end_turn_at, named_turn_at, schema_turn_at, schema_done, schema_at, schema_of};
 
 use crate::data_sets::{data_set, data_set_end};
 use crate::declarations::{Declaration, GroupDecl};
@@ -38,7 +38,7 @@ pub struct Progress {
 }
 
 /// One more declaration stands within what is open.
-fn declared(
+fn add_declaration(
     mut state: Progress,
     within: Open,
     structures: u8,
@@ -46,7 +46,7 @@ fn declared(
     fresh: bool,
     declaration: Declaration,
 ) -> Result<Progress, Memory>
-    ensures { IfOk result (λ s. s ≡ declared state within structures counted fresh declaration) }
+    ensures { IfOk result (λ s. s ≡ add_declaration state within structures counted fresh declaration) }
 {
     state.declarations.push(declaration)?;
     state.within = within;
@@ -123,7 +123,7 @@ fn item_turn(
     let within = state.within.with_items(items + 1);
     let structures = state.structures;
     let counted = state.counted;
-    let next = declared(
+    let next = add_declaration(
         state,
         within,
         structures,
@@ -152,7 +152,7 @@ fn group_turn(
         name,
         items: all.items,
     };
-    let next = declared(
+    let next = add_declaration(
         state,
         within,
         structures,
@@ -190,7 +190,7 @@ fn link_turn(
     let within = state.within.with_items(items + 1);
     let structures = state.structures;
     let counted = counted_with(state.counted, link.counted);
-    let next = declared(
+    let next = add_declaration(
         state,
         within,
         structures,
@@ -234,7 +234,7 @@ fn structure_turn(
     let counted = state.counted;
     if starts_set(cursor) {
         let set = set(cursor, place, name)?;
-        let next = declared(
+        let next = add_declaration(
             state,
             within,
             structures,
@@ -245,8 +245,8 @@ fn structure_turn(
         return Ok(next);
     }
     let head = data_set(cursor, place, name)?;
-    let inner = within.opened();
-    let next = declared(
+    let inner = within.open_data_set();
+    let next = add_declaration(
         state,
         inner,
         structures,
@@ -287,10 +287,10 @@ fn end_turn(state: Progress, cursor: &mut Cursor<'_>) -> Result<Progress, ParseF
     ensures { Takes result cursor.new (end_turn_at state cursor.old) }
 {
     let end = data_set_end(cursor)?;
-    let within = state.within.closed();
+    let within = state.within.close_data_set();
     let structures = state.structures;
     let counted = state.counted;
-    let next = declared(
+    let next = add_declaration(
         state,
         within,
         structures,

@@ -157,7 +157,7 @@ pub fn group(cursor: &mut Cursor<'_>, count: u8) -> Result<GroupItems, ParseFaul
 }
 
 #[tactic(auto, unfolding(crate::specs::Items::counted_at))]
-fn counted(cursor: &mut Cursor<'_>, counted_links: u16) -> Result<bool, ParseFault>
+fn is_counted(cursor: &mut Cursor<'_>, counted_links: u16) -> Result<bool, ParseFault>
     ensures gives { Takes result cursor.new (counted_at counted_links cursor.old) }
     ensures within { IfOk result (λ c. c ≡ true → counted_links < 4000) }
 {
@@ -185,7 +185,7 @@ pub fn link(
     expect_word(cursor, b"LINK")?;
     expect_word(cursor, b"TO")?;
     let target = read_name(cursor)?;
-    let counted = counted(cursor, counted_links)?;
+    let counted = is_counted(cursor, counted_links)?;
     expect_sign(cursor, b';')?;
     Ok(LinkDecl {
         place,

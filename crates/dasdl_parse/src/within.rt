@@ -1,5 +1,5 @@
 ghost use Rattle.std.specs.Prelude.{◌≡◌};
-ghost use Rattle.dasdl_parse.specs.Grammar.{items_of, with_items, opened, closed, is_inside, is_deepest};
+ghost use Rattle.dasdl_parse.specs.Grammar.{items_of, with_items, open_data_set, close_data_set, is_inside, is_deepest};
 
 /// The data sets that are open, the innermost last, with the items that each has so far.
 #[derive(Clone, Copy)]
@@ -36,8 +36,8 @@ impl Open {
     }
 
     /// One more is open, with no item; the fourth is none, since at most three are open.
-    pub fn opened(self) -> Open
-        ensures { result ≡ opened self }
+    pub fn open_data_set(self) -> Open
+        ensures { result ≡ open_data_set self }
     {
         match self {
             Open::Outside => Open::One(0),
@@ -48,8 +48,8 @@ impl Open {
     }
 
     /// The innermost one has ended.
-    pub fn closed(self) -> Open
-        ensures { result ≡ closed self }
+    pub fn close_data_set(self) -> Open
+        ensures { result ≡ close_data_set self }
     {
         match self {
             Open::Outside => Open::Outside,

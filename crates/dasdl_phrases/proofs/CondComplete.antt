@@ -18,12 +18,12 @@ use Rattle.dasdl_phrases.specs.declared.levels.Level.{Level}
 use Rattle.dasdl_phrases.specs.declared.cond.CondRead.{CondRead}
 use Rattle.dasdl_phrases.specs.TreeCodes.{WrittenTree}
 use Rattle.dasdl_phrases.specs.TreeCodes.WrittenTree.{Test, Both, Either, Turned}
-use Rattle.dasdl_phrases.specs.Branches.{negated, with_or}
+use Rattle.dasdl_phrases.specs.Branches.{under_nots, with_or}
 use Rattle.dasdl_phrases.specs.Reads.{Read}
 use Rattle.dms_tokens.specs.Cursors.{starts, is_word, is_the_sign}
 use Rattle.dasdl_phrases.specs.Cursors.{turns, turns_at, is_free, word_at, sign_at, name_at}
 use Rattle.dasdl_phrases.specs.Kinds.{literal_at, literal_of}
-use Rattle.dasdl_phrases.specs.Conditions.{completed, no_level, no_cond, op_at, compare_at, compare_turn_at, not_turn_at, open_turn_at, factor_turn_at, and_turn_at, or_turn_at, close_turn_at, join_turn_at, cond_turn_at, cond_done, cond_at}
+use Rattle.dasdl_phrases.specs.Conditions.{close_factor, no_level, no_cond, op_at, compare_at, compare_turn_at, not_turn_at, open_turn_at, factor_turn_at, and_turn_at, or_turn_at, close_turn_at, join_turn_at, cond_turn_at, cond_done, cond_at}
 use Rattle.dasdl_phrases.specs.CondSpelling.{token_of, SpellsLiteral, CondPart, IsCond, nodes}
 use Rattle.dasdl_phrases.specs.CondSpelling.SpellsLiteral.{a_text, a_number, a_decimal, a_true, a_false, a_null}
 use Rattle.dasdl_phrases.specs.CondSpelling.CondPart.{Whole, Term, Factor}
@@ -119,7 +119,7 @@ or_step : (outer : List Level) (either : Option WrittenTree) (t : WrittenTree) (
 unfolding cond_turn_at join_turn_at or_turn_at word_at
 or_step outer either t n l ls e h = rw (e, few n h) refl
 
-close_step : (outer : List Level) (level : Level) (either : Option WrittenTree) (t : WrittenTree) (n : ℕ) (l : Lexeme) (ls : List Lexeme) → l.token ≡ Sign 41 → cond_turn_at (holding (level ∷ outer) either t n) (l ∷ ls) ≡ Ok (completed outer level n (with_or either t), ls)
+close_step : (outer : List Level) (level : Level) (either : Option WrittenTree) (t : WrittenTree) (n : ℕ) (l : Lexeme) (ls : List Lexeme) → l.token ≡ Sign 41 → cond_turn_at (holding (level ∷ outer) either t n) (l ∷ ls) ≡ Ok (close_factor outer level n (with_or either t), ls)
 unfolding cond_turn_at join_turn_at close_turn_at sign_at
 close_step outer level either t n l ls e = rw e refl
 
@@ -177,33 +177,33 @@ compare_reads : (k l m : Lexeme) (ls : List Lexeme) (n : List ℕ) (o : Op) (x :
 unfolding compare_at
 compare_reads k l m ls n o x t e h f g i = rw (name_reads k (l ∷ m ∷ ls) n e h, op_reads l (m ∷ ls) o f, literal_reads m ls x t g i) refl
 
-compare_step : (outer : List Level) (level : Level) (c : ℕ) (k l m : Lexeme) (ls : List Lexeme) (n : List ℕ) (o : Op) (x : Literal) (t : Token) → c < 100 → k.token ≡ Word n → is_name n ≡ true → l.token ≡ Compare o → m.token ≡ t → SpellsLiteral x t → compare_turn_at (wanting outer level c) (k ∷ l ∷ m ∷ ls) ≡ Ok (completed outer level (c + 1) (Test n o x), ls)
+compare_step : (outer : List Level) (level : Level) (c : ℕ) (k l m : Lexeme) (ls : List Lexeme) (n : List ℕ) (o : Op) (x : Literal) (t : Token) → c < 100 → k.token ≡ Word n → is_name n ≡ true → l.token ≡ Compare o → m.token ≡ t → SpellsLiteral x t → compare_turn_at (wanting outer level c) (k ∷ l ∷ m ∷ ls) ≡ Ok (close_factor outer level (c + 1) (Test n o x), ls)
 unfolding compare_turn_at
 compare_step outer level c k l m ls n o x t b e h f g i =
     let free : starts is_free (k ∷ l ∷ m ∷ ls) ≡ true = rw (e, is_unreserved n h) refl in
     rw (free, few c b, compare_reads k l m ls n o x t e h f g i) refl
 
-test_step : (outer : List Level) (level : Level) (c : ℕ) (k l m : Lexeme) (ls : List Lexeme) (n : List ℕ) (o : Op) (x : Literal) (t : Token) → c < 100 → k.token ≡ Word n → is_name n ≡ true → l.token ≡ Compare o → m.token ≡ t → SpellsLiteral x t → cond_turn_at (wanting outer level c) (k ∷ l ∷ m ∷ ls) ≡ Ok (completed outer level (c + 1) (Test n o x), ls)
+test_step : (outer : List Level) (level : Level) (c : ℕ) (k l m : Lexeme) (ls : List Lexeme) (n : List ℕ) (o : Op) (x : Literal) (t : Token) → c < 100 → k.token ≡ Word n → is_name n ≡ true → l.token ≡ Compare o → m.token ≡ t → SpellsLiteral x t → cond_turn_at (wanting outer level c) (k ∷ l ∷ m ∷ ls) ≡ Ok (close_factor outer level (c + 1) (Test n o x), ls)
 unfolding cond_turn_at factor_turn_at
 test_step outer level c k l m ls n o x t b e h f g i =
     let no_not : starts (is_word (codes "NOT")) (k ∷ l ∷ m ∷ ls) ≡ false = rw e (is_no_keyword (codes "NOT") n not_is_reserved h) in
     let no_open : starts (is_the_sign 40) (k ∷ l ∷ m ∷ ls) ≡ false = rw e refl in
     rw (no_not, no_open) (compare_step outer level c k l m ls n o x t b e h f g i)
 
-negated_in : (n : ℕ) (t : WrittenTree) → negated (n + 1) t ≡ negated n (Turned t)
+negated_in : (n : ℕ) (t : WrittenTree) → under_nots (n + 1) t ≡ under_nots n (Turned t)
 negated_in zero t = refl
 negated_in (suc n) t = let k : suc n + 1 ≡ suc (n + 1) = omega arith in rw k (ap (λ (u : WrittenTree). Turned u) (negated_in n t))
 
-completed_not : (outer : List Level) (level : Level) (n m : ℕ) (t : WrittenTree) → n ≡ m → completed outer (record { either = level.either; both = level.both; nots = level.nots + 1 }) n t ≡ completed outer level m (Turned t)
-unfolding completed
+completed_not : (outer : List Level) (level : Level) (n m : ℕ) (t : WrittenTree) → n ≡ m → close_factor outer (record { either = level.either; both = level.both; nots = level.nots + 1 }) n t ≡ close_factor outer level m (Turned t)
+unfolding close_factor
 completed_not outer level n m t e = rw (e, negated_in level.nots t) refl
 
-completed_alone : (outer : List Level) (either : Option WrittenTree) (n : ℕ) (t : WrittenTree) → completed outer (record { either = either; both = None; nots = 0 }) n t ≡ holding outer either t n
-unfolding completed
+completed_alone : (outer : List Level) (either : Option WrittenTree) (n : ℕ) (t : WrittenTree) → close_factor outer (record { either = either; both = None; nots = 0 }) n t ≡ holding outer either t n
+unfolding close_factor
 completed_alone outer either n t = refl
 
-completed_both : (outer : List Level) (either : Option WrittenTree) (a t : WrittenTree) (n m : ℕ) → n ≡ m → completed outer (record { either = either; both = Some a; nots = 0 }) n t ≡ holding outer either (Both a t) m
-unfolding completed
+completed_both : (outer : List Level) (either : Option WrittenTree) (a t : WrittenTree) (n m : ℕ) → n ≡ m → close_factor outer (record { either = either; both = Some a; nots = 0 }) n t ≡ holding outer either (Both a t) m
+unfolding close_factor
 completed_both outer either a t n m e = rw e refl
 
 -- what a whole condition leads to
@@ -216,7 +216,7 @@ record WholeRuns (outer : List Level) (n : ℕ) (t : WrittenTree) (us rest : Lis
 abbrev ReadsNode : CondPart → WrittenTree → List Token → Type 0
 ReadsNode Whole t toks = (us rest : List Lexeme) (outer : List Level) (n : ℕ) → map token_of us ≡ toks → n + nodes t ≤ 100 → WholeRuns outer n t us rest
 ReadsNode Term t toks = (us rest : List Lexeme) (outer : List Level) (either : Option WrittenTree) (n : ℕ) → map token_of us ≡ toks → n + nodes t ≤ 100 → CondRuns (wanting outer (record { either = either; both = None; nots = 0 }) n) (us ++ rest) (holding outer either t (n + nodes t)) rest
-ReadsNode Factor t toks = (us rest : List Lexeme) (outer : List Level) (level : Level) (n : ℕ) → map token_of us ≡ toks → n + nodes t ≤ 100 → level.nots ≤ n → CondRuns (wanting outer level n) (us ++ rest) (completed outer level (n + nodes t) t) rest
+ReadsNode Factor t toks = (us rest : List Lexeme) (outer : List Level) (level : Level) (n : ℕ) → map token_of us ≡ toks → n + nodes t ≤ 100 → level.nots ≤ n → CondRuns (wanting outer level n) (us ++ rest) (close_factor outer level (n + nodes t) t) rest
 
 -- a joined condition, cut at what joins it
 cut : (us rest a b c : List Lexeme) (l : Lexeme) → us ≡ a ++ b → b ≡ l ∷ c → us ++ rest ≡ a ++ (l ∷ (c ++ rest))
@@ -273,13 +273,13 @@ brackets_run t ts f us rest outer level n e h b =
     let m = heads s.b (Sign 41) [] s.back in
     let inner = f s.a (m.l ∷ (m.b ++ rest)) (level ∷ outer) n s.front h in
     let closed = close_step outer level inner.either inner.last (n + nodes t) m.l (m.b ++ rest) m.token in
-    let ended : CondRuns (holding (level ∷ outer) inner.either inner.last (n + nodes t)) (m.l ∷ (m.b ++ rest)) (completed outer level (n + nodes t) (with_or inner.either inner.last)) (m.b ++ rest) =
+    let ended : CondRuns (holding (level ∷ outer) inner.either inner.last (n + nodes t)) (m.l ∷ (m.b ++ rest)) (close_factor outer level (n + nodes t) (with_or inner.either inner.last)) (m.b ++ rest) =
     step _ _ _ _ (m.b ++ rest) _ refl closed (omega arith) (here _ _) in
     let whole = joins cond_done cond_turn_at _ _ _ _ _ _ inner.run ended in
     let no_more : m.b ++ rest ≡ rest = ap (λ (vs : List Lexeme). vs ++ rest) (none_left m.b m.back) in
-    let whole_2 = subst (λ (x : WrittenTree). CondRuns (wanting (level ∷ outer) no_level n) (s.a ++ (m.l ∷ (m.b ++ rest))) (completed outer level (n + nodes t) x) (m.b ++ rest)) inner.same whole in
-    let whole_3 = subst (λ (vs : List Lexeme). CondRuns (wanting (level ∷ outer) no_level n) (s.a ++ (m.l ∷ (m.b ++ rest))) (completed outer level (n + nodes t) t) vs) no_more whole_2 in
-    let whole_4 = subst (λ (vs : List Lexeme). CondRuns (wanting (level ∷ outer) no_level n) vs (completed outer level (n + nodes t) t) rest) (sym (cut k.b rest s.a s.b m.b m.l s.all m.all)) whole_3 in
+    let whole_2 = subst (λ (x : WrittenTree). CondRuns (wanting (level ∷ outer) no_level n) (s.a ++ (m.l ∷ (m.b ++ rest))) (close_factor outer level (n + nodes t) x) (m.b ++ rest)) inner.same whole in
+    let whole_3 = subst (λ (vs : List Lexeme). CondRuns (wanting (level ∷ outer) no_level n) (s.a ++ (m.l ∷ (m.b ++ rest))) (close_factor outer level (n + nodes t) t) vs) no_more whole_2 in
+    let whole_4 = subst (λ (vs : List Lexeme). CondRuns (wanting (level ∷ outer) no_level n) vs (close_factor outer level (n + nodes t) t) rest) (sym (cut k.b rest s.a s.b m.b m.l s.all m.all)) whole_3 in
     rw k.all (step _ _ _ _ (k.b ++ rest) _ refl (open_step outer level n k.l (k.b ++ rest) k.token) (omega arith) whole_4)
 
 test_runs : (n : List ℕ) (o : Op) (x : Literal) (t : Token) → is_name n ≡ true → SpellsLiteral x t → ReadsNode Factor (Test n o x) (Word n ∷ (Compare o ∷ (t ∷ [])))

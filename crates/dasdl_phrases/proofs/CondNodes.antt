@@ -10,12 +10,12 @@ use Rattle.dasdl_phrases.specs.declared.levels.Level.{Level}
 use Rattle.dasdl_phrases.specs.declared.cond.CondRead.{CondRead}
 use Rattle.dasdl_phrases.specs.TreeCodes.{WrittenTree}
 use Rattle.dasdl_phrases.specs.TreeCodes.WrittenTree.{Test}
-use Rattle.dasdl_phrases.specs.Branches.{negated, with_and, with_or}
+use Rattle.dasdl_phrases.specs.Branches.{under_nots, with_and, with_or}
 use Rattle.dasdl_phrases.specs.Reads.{◌>>=◌, Read}
 use Rattle.dms_tokens.specs.Cursors.{starts, is_word, is_the_sign}
 use Rattle.dasdl_phrases.specs.Cursors.{turns, turns_at, fault_at, is_free, word_at, sign_at, name_at}
 use Rattle.dasdl_phrases.specs.Kinds.{literal_at}
-use Rattle.dasdl_phrases.specs.Conditions.{completed, no_level, no_cond, op_at, compare_at, compare_turn_at, not_turn_at, open_turn_at, factor_turn_at, and_turn_at, or_turn_at, close_turn_at, join_turn_at, cond_turn_by, cond_turn_at, cond_done, cond_at, finished}
+use Rattle.dasdl_phrases.specs.Conditions.{close_factor, no_level, no_cond, op_at, compare_at, compare_turn_at, not_turn_at, open_turn_at, factor_turn_at, and_turn_at, or_turn_at, close_turn_at, join_turn_at, cond_turn_by, cond_turn_at, cond_done, cond_at, end_condition}
 use Rattle.dasdl_phrases.specs.CondSpelling.{nodes}
 use Rattle.dasdl_phrases.proofs.Inverting.{bind_ok, skip_ok, ok_same}
 use Rattle.dasdl_phrases.proofs.CondSound.{pick}
@@ -63,7 +63,7 @@ record CountsNodes (outer : List Level) (level : Level) (done : Option WrittenTr
 abbrev Counted : CondRead → Type 0
 Counted s = CountsNodes s.outer s.level s.done s.nodes
 
-nodes_negated : (n : ℕ) (t : WrittenTree) → nodes (negated n t) ≡ n + nodes t
+nodes_negated : (n : ℕ) (t : WrittenTree) → nodes (under_nots n t) ≡ n + nodes t
 nodes_negated zero t = omega arith
 nodes_negated (suc n) t = omega (arith, nodes_negated n t)
 
@@ -75,10 +75,10 @@ nodes_or : (o : Option WrittenTree) (t : WrittenTree) → nodes (with_or o t) �
 nodes_or None t = omega arith
 nodes_or (Some a) t = omega arith
 
-completed_counts : (outer : List Level) (level : Level) (n : ℕ) (t : WrittenTree) → n ≡ outer_nodes outer + level_nodes level + nodes t → n ≤ 100 → Counted (completed outer level n t)
-unfolding completed
+completed_counts : (outer : List Level) (level : Level) (n : ℕ) (t : WrittenTree) → n ≡ outer_nodes outer + level_nodes level + nodes t → n ≤ 100 → Counted (close_factor outer level n t)
+unfolding close_factor
 completed_counts outer level n t e few = record {
-  all = omega (arith, e, nodes_and level.both (negated level.nots t), nodes_negated level.nots t);
+  all = omega (arith, e, nodes_and level.both (under_nots level.nots t), nodes_negated level.nots t);
   few = few;
 }
 
@@ -102,7 +102,7 @@ compare_counts s ts k t rest h =
     let a = skip_ok (not (starts is_free ts)) _ _ _ h in
     let b = skip_ok (nat_le 100 s.nodes) _ _ _ a.1 in
     let c = bind_ok (compare_at ts) _ _ b.1 in
-    subst (λ (x : CondRead × List Lexeme). Counted x.0) (ok_same (completed s.outer s.level (s.nodes + 1) c.0.0, c.0.1) (t, rest) c.2)
+    subst (λ (x : CondRead × List Lexeme). Counted x.0) (ok_same (close_factor s.outer s.level (s.nodes + 1) c.0.0, c.0.1) (t, rest) c.2)
     (completed_counts s.outer s.level (s.nodes + 1) c.0.0 (omega (arith, k.all, test_nodes ts c.0.0 c.0.1 c.1)) (below s.nodes b.0))
 
 not_counts : (s : CondRead) (ts : List Lexeme) → CountsNodes s.outer s.level None s.nodes → KeepsNodes (not_turn_at s ts)
@@ -148,7 +148,7 @@ unfolding close_turn_at
 close_counts [] level n left ts k t rest h = absurd (cc)
 close_counts (up ∷ outer) level n left ts k t rest h =
     let b = bind_ok (sign_at 41 ts) _ _ h in
-    subst (λ (x : CondRead × List Lexeme). Counted x.0) (ok_same (completed outer up n (with_or level.either left), b.0) (t, rest) b.2)
+    subst (λ (x : CondRead × List Lexeme). Counted x.0) (ok_same (close_factor outer up n (with_or level.either left), b.0) (t, rest) b.2)
     (completed_counts outer up n (with_or level.either left) (omega (arith, k.all, nodes_or level.either left)) k.few)
 
 join_counts : (outer : List Level) (level : Level) (n : ℕ) (left : WrittenTree) (ts : List Lexeme) → CountsNodes outer level (Some left) n → KeepsNodes (join_turn_at outer level n left ts)
@@ -166,7 +166,7 @@ turn_counts : (s t : CondRead) (ts rest : List Lexeme) → Counted s → cond_tu
 unfolding cond_turn_at
 turn_counts s t ts rest k h = turn_counts_by s.done s ts k t rest h
 
-finished_few : (done : Option WrittenTree) (outer : List Level) (level : Level) (n : ℕ) (t : WrittenTree) (ts rest : List Lexeme) → CountsNodes outer level done n → finished done level.either ts ≡ Ok (t, rest) → nodes t ≤ 100
+finished_few : (done : Option WrittenTree) (outer : List Level) (level : Level) (n : ℕ) (t : WrittenTree) (ts rest : List Lexeme) → CountsNodes outer level done n → end_condition done level.either ts ≡ Ok (t, rest) → nodes t ≤ 100
 finished_few None outer level n t ts rest k h = absurd (cc)
 finished_few (Some left) outer level n t ts rest k h =
     subst (λ (x : WrittenTree × List Lexeme). nodes x.0 ≤ 100) (ok_same (with_or level.either left, ts) (t, rest) h) (omega (arith, k.all, k.few, nodes_or level.either left))

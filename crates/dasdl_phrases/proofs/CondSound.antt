@@ -14,11 +14,11 @@ use Rattle.dasdl_phrases.specs.declared.levels.Level.{Level}
 use Rattle.dasdl_phrases.specs.declared.cond.CondRead.{CondRead}
 use Rattle.dasdl_phrases.specs.TreeCodes.{WrittenTree}
 use Rattle.dasdl_phrases.specs.TreeCodes.WrittenTree.{Test}
-use Rattle.dasdl_phrases.specs.Branches.{negated, with_and, with_or, is_nil}
+use Rattle.dasdl_phrases.specs.Branches.{under_nots, with_and, with_or, is_nil}
 use Rattle.dms_tokens.specs.Cursors.{starts, is_word, is_the_sign}
 use Rattle.dasdl_phrases.specs.Cursors.{is_free, word_at, sign_at, name_at, turns_at}
 use Rattle.dasdl_phrases.specs.Kinds.{literal_at}
-use Rattle.dasdl_phrases.specs.Conditions.{completed, no_level, no_cond, op_at, compare_at, compare_turn_at, not_turn_at, open_turn_at, factor_turn_at, and_turn_at, or_turn_at, close_turn_at, join_turn_at, cond_turn_by, cond_turn_at, cond_done, cond_at, finished}
+use Rattle.dasdl_phrases.specs.Conditions.{close_factor, no_level, no_cond, op_at, compare_at, compare_turn_at, not_turn_at, open_turn_at, factor_turn_at, and_turn_at, or_turn_at, close_turn_at, join_turn_at, cond_turn_by, cond_turn_at, cond_done, cond_at, end_condition}
 use Rattle.dasdl_phrases.specs.CondSpelling.{token_of, IsCond, Reads}
 use Rattle.dasdl_phrases.specs.CondSpelling.CondPart.{Whole, Term, Factor}
 use Rattle.dasdl_phrases.specs.CondSpelling.IsCond.{a_term, an_or, a_factor, an_and, a_not, brackets, a_test}
@@ -85,23 +85,23 @@ with_both : (e : Option WrittenTree) (ts zs : List Token) (t : WrittenTree) → 
 with_both None ts zs t is h = rw is (a_factor t zs h)
 with_both (Some a) ts zs t is h = rw (is.2, append_assoc) (an_and a t is.0 zs is.1 h)
 
-turned : (n : ℕ) (t : WrittenTree) (zs : List Token) → IsCond Factor t zs → IsCond Factor (negated n t) (nots_of n ++ zs)
+turned : (n : ℕ) (t : WrittenTree) (zs : List Token) → IsCond Factor t zs → IsCond Factor (under_nots n t) (nots_of n ++ zs)
 turned zero t zs h = h
-turned (suc n) t zs h = a_not (negated n t) (nots_of n ++ zs) (turned n t zs h)
+turned (suc n) t zs h = a_not (under_nots n t) (nots_of n ++ zs) (turned n t zs h)
 
 nots_more : (n : ℕ) → nots_of (n + 1) ≡ nots_of n ++ (Word (codes "NOT") ∷ [])
 nots_more zero = refl
 nots_more (suc n) = let k : suc n + 1 ≡ suc (n + 1) = omega arith in rw k (ap (λ (xs : List Token). Word (codes "NOT") ∷ xs) (nots_more n))
 
-completes : (outer : List Level) (level : Level) (nodes : ℕ) (t : WrittenTree) (front own zs : List Token) → AreOuterLevels outer front → IsLevel level own → IsCond Factor t zs → StandsRead (completed outer level nodes t) ((front ++ own) ++ zs)
-unfolding completed
+completes : (outer : List Level) (level : Level) (nodes : ℕ) (t : WrittenTree) (front own zs : List Token) → AreOuterLevels outer front → IsLevel level own → IsCond Factor t zs → StandsRead (close_factor outer level nodes t) ((front ++ own) ++ zs)
+unfolding close_factor
 completes outer level nodes t front own zs o l f = record {
   front = front;
   either = l.either;
   term = l.both ++ (nots_of level.nots ++ zs);
   outside = o;
   before_or = l.before_or;
-  is = with_both level.both l.both (nots_of level.nots ++ zs) (negated level.nots t) l.before_and (turned level.nots t zs f);
+  is = with_both level.both l.both (nots_of level.nots ++ zs) (under_nots level.nots t) l.before_and (turned level.nots t zs f);
   all = ap (λ (xs : List Token). (front ++ xs) ++ zs) l.all ∙ simp append_assoc;
 }
 
@@ -128,7 +128,7 @@ compare_goes s t toks ts rest w h =
     let b = skip_ok (nat_le 100 s.nodes) _ _ _ a.1 in
     let c = bind_ok (compare_at ts) _ _ b.1 in
     let r = compare_spelled ts c.0.0 c.0.1 c.1 in
-    let g = ok_same (completed s.outer s.level (s.nodes + 1) c.0.0, c.0.1) (t, rest) c.2 in
+    let g = ok_same (close_factor s.outer s.level (s.nodes + 1) c.0.0, c.0.1) (t, rest) c.2 in
     subst (λ (x : CondRead × List Lexeme). GoesTurn StandsRead x.0 toks ts x.1) g (record {
       used = r.used;
       is = rw w.all (completes s.outer s.level (s.nodes + 1) c.0.0 w.front w.own (map token_of r.used) w.outside w.inside r.is);
@@ -247,12 +247,12 @@ close_goes (up ∷ outer) level nodes left t toks ts rest d h =
     let m = sign_spelled 41 ts b.0 b.1 in
     let o = d.outside in
     let f = brackets (with_or level.either left) (d.either ++ d.term) (with_either level.either d.either d.term left d.before_or d.is) in
-    let g = ok_same (completed outer up nodes (with_or level.either left), b.0) (t, rest) b.2 in
+    let g = ok_same (close_factor outer up nodes (with_or level.either left), b.0) (t, rest) b.2 in
     let k = completes outer up nodes (with_or level.either left) o.0 o.1 (Sign 40 ∷ ((d.either ++ d.term) ++ (Sign 41 ∷ []))) o.2 o.3 f in
     let same : toks ++ (Sign 41 ∷ []) ≡ (o.0 ++ o.1) ++ (Sign 40 ∷ ((d.either ++ d.term) ++ (Sign 41 ∷ []))) = rw (d.all, o.4) (simp append_assoc) in
     subst (λ (x : CondRead × List Lexeme). GoesTurn StandsRead x.0 toks ts x.1) g (record {
       used = m.first ∷ [];
-      is = rw m.token (subst (λ (xs : List Token). StandsRead (completed outer up nodes (with_or level.either left)) xs) (sym same) k);
+      is = rw m.token (subst (λ (xs : List Token). StandsRead (close_factor outer up nodes (with_or level.either left)) xs) (sym same) k);
       all = m.all;
     })
 
@@ -275,7 +275,7 @@ outside_none : (outer : List Level) (front : List Token) → is_nil outer ≡ tr
 outside_none [] front h o = o
 outside_none (l ∷ ls) front h o = absurd (cc)
 
-finishes : (done : Option WrittenTree) (outer : List Level) (level : Level) (used : List Token) (t : WrittenTree) (ts rest : List Lexeme) → is_nil outer ≡ true → StandsBy done outer level used → finished done level.either ts ≡ Ok (t, rest) → IsCond Whole t used × (ts ≡ rest)
+finishes : (done : Option WrittenTree) (outer : List Level) (level : Level) (used : List Token) (t : WrittenTree) (ts rest : List Lexeme) → is_nil outer ≡ true → StandsBy done outer level used → end_condition done level.either ts ≡ Ok (t, rest) → IsCond Whole t used × (ts ≡ rest)
 finishes None outer level used t ts rest n w h = absurd (cc)
 finishes (Some left) outer level used t ts rest n d h =
     let g = ok_same (with_or level.either left, ts) (t, rest) h in

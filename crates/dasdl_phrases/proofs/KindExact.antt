@@ -17,7 +17,7 @@ use Rattle.dms_tokens.specs.declared.token.Lexeme.{Lexeme}
 use Rattle.dasdl_phrases.specs.Reads.{Read}
 use Rattle.dms_tokens.specs.Cursors.{starts, is_word, is_the_sign}
 use Rattle.dasdl_phrases.specs.Cursors.{word_at, sign_at, number_at, number_of}
-use Rattle.dasdl_phrases.specs.Kinds.{joined, joined_of, behind, signed, unsigned, is_any_word, signed_width_of, signed_width_at, width_at, size_at, places_at, alpha_at, field_at, decimal_at, truth_at, kind_at}
+use Rattle.dasdl_phrases.specs.Kinds.{joined_number, joined_of, behind, with_minus, without_minus, is_any_word, signed_width_of, signed_width_at, width_at, size_at, places_at, alpha_at, field_at, decimal_at, truth_at, kind_at}
 use Rattle.dasdl_phrases.specs.CondSpelling.{token_of, Reads}
 use Rattle.dasdl_phrases.specs.KindSpelling.{IsWidth, ArePlaces, SpellsKind}
 use Rattle.dasdl_phrases.specs.KindSpelling.IsWidth.{without_sign, with_sign, joined_sign}
@@ -119,19 +119,19 @@ truth_sound ts kind rest h =
 abbrev WidthRead : List Lexeme → Bool × ℕ → List Lexeme → Type 0
 WidthRead ts x rest = (used : List Lexeme) × IsWidth x.0 x.1 (map token_of used) × (ts ≡ used ++ rest)
 
-signed_ok : (r : Read ℕ) (x : Bool × ℕ) (rest : List Lexeme) → signed r ≡ Ok (x, rest) → (n : ℕ) × (r ≡ Ok (n, rest)) × ((true, n) ≡ x)
+signed_ok : (r : Read ℕ) (x : Bool × ℕ) (rest : List Lexeme) → with_minus r ≡ Ok (x, rest) → (n : ℕ) × (r ≡ Ok (n, rest)) × ((true, n) ≡ x)
 signed_ok (Ok n) x rest h =
     let g = ok_same ((true, n.0), n.1) (x, rest) h in
     (n.0, ap (λ (y : (Bool × ℕ) × List Lexeme). Ok (n.0, y.1)) g, ap (λ (y : (Bool × ℕ) × List Lexeme). y.0) g)
 signed_ok (Err e) x rest h = absurd (cc)
 
-unsigned_ok : (r : Read ℕ) (x : Bool × ℕ) (rest : List Lexeme) → unsigned r ≡ Ok (x, rest) → (n : ℕ) × (r ≡ Ok (n, rest)) × ((false, n) ≡ x)
+unsigned_ok : (r : Read ℕ) (x : Bool × ℕ) (rest : List Lexeme) → without_minus r ≡ Ok (x, rest) → (n : ℕ) × (r ≡ Ok (n, rest)) × ((false, n) ≡ x)
 unsigned_ok (Ok n) x rest h =
     let g = ok_same ((false, n.0), n.1) (x, rest) h in
     (n.0, ap (λ (y : (Bool × ℕ) × List Lexeme). Ok (n.0, y.1)) g, ap (λ (y : (Bool × ℕ) × List Lexeme). y.0) g)
 unsigned_ok (Err e) x rest h = absurd (cc)
 
-joined_ok : (o : Option ℕ) (b : List ℕ) (place : ℕ) (l : Lexeme) (x : Bool × ℕ) (ls rest : List Lexeme) → joined b ≡ o → l.token ≡ Word b → joined_of o place ls ≡ Ok (x, rest) → WidthRead (l ∷ ls) x rest
+joined_ok : (o : Option ℕ) (b : List ℕ) (place : ℕ) (l : Lexeme) (x : Bool × ℕ) (ls rest : List Lexeme) → joined_number b ≡ o → l.token ≡ Word b → joined_of o place ls ≡ Ok (x, rest) → WidthRead (l ∷ ls) x rest
 joined_ok None b place l x ls rest e t h = absurd (cc)
 joined_ok (Some n) b place l x ls rest e t h =
     let g = guard_ok (nat_le 1 n && nat_le n 18) ((true, n), ls) (x, rest) (NumberRange (behind place)) h in
@@ -140,14 +140,14 @@ joined_ok (Some n) b place l x ls rest e t h =
 
 sign_ok : (b : List ℕ) (place : ℕ) (l : Lexeme) (x : Bool × ℕ) (ls rest : List Lexeme) → l.token ≡ Word b → signed_width_of (Word b) place ls ≡ Ok (x, rest) → WidthRead (l ∷ ls) x rest
 sign_ok b place l x ls rest t h =
-    let P : Bool → Type 0 = λ (v : Bool). bytes_eq b (codes "S") ≡ v → cond v (signed (number_at 1 18 ls)) (joined_of (joined b) place ls) ≡ Ok (x, rest) → WidthRead (l ∷ ls) x rest in
+    let P : Bool → Type 0 = λ (v : Bool). bytes_eq b (codes "S") ≡ v → cond v (with_minus (number_at 1 18 ls)) (joined_of (joined_number b) place ls) ≡ Ok (x, rest) → WidthRead (l ∷ ls) x rest in
     let by : (v : Bool) → P v = λ v. elim v as P [
       | true ↦ (λ q e.
           let s = signed_ok (number_at 1 18 ls) x rest e in
           let m = number_spelled 1 18 ls s.0 rest s.1 in
           let named : l.token ≡ Word (codes "S") = t ∙ ap (λ (w : List ℕ). Word w) ((bytes_eq-Decides b (codes "S")).0 q) in
           subst (λ (y : Bool × ℕ). WidthRead (l ∷ ls) y rest) s.2 (l ∷ (m.is.first ∷ []), rw (named, m.is.token) (with_sign s.0 m.least m.most), ap (λ (xs : List Lexeme). l ∷ xs) m.is.all))
-      | false ↦ (λ q e. joined_ok (joined b) b place l x ls rest refl t e)
+      | false ↦ (λ q e. joined_ok (joined_number b) b place l x ls rest refl t e)
     ] in
     by (bytes_eq b (codes "S")) refl h
 
@@ -170,7 +170,7 @@ signed_width_sound (l ∷ ls) x rest h = signed_width_ok l.token l x ls rest ref
 width_sound : (ts : List Lexeme) (x : Bool × ℕ) (rest : List Lexeme) → width_at ts ≡ Ok (x, rest) → WidthRead ts x rest
 unfolding width_at
 width_sound ts x rest h =
-    pick {A = (Bool × ℕ) × List Lexeme} (starts is_any_word ts) (signed_width_at ts) (unsigned (number_at 1 18 ts)) (x, rest)
+    pick {A = (Bool × ℕ) × List Lexeme} (starts is_any_word ts) (signed_width_at ts) (without_minus (number_at 1 18 ts)) (x, rest)
     (signed_width_sound ts x rest)
     (λ e.
     let s = unsigned_ok (number_at 1 18 ts) x rest e in
@@ -225,11 +225,11 @@ places_reads _ _ _ (some_places n m b) us z rest e t =
     let some : starts (is_the_sign 44) (k.l ∷ l.l ∷ z ∷ rest) ≡ true = rw k.token refl in
     rw (same, some, sign_reads 44 k.l (l.l ∷ z ∷ rest) refl k.token, number_reads 0 n l.l (z ∷ rest) m l.token (omega arith) b) refl
 
-none_joined : (w : List ℕ) (n : ℕ) → joined w ≡ Some n → bytes_eq w (codes "S") ≡ false
-unfolding joined
+none_joined : (w : List ℕ) (n : ℕ) → joined_number w ≡ Some n → bytes_eq w (codes "S") ≡ false
+unfolding joined_number
 none_joined w n h = false_from_ne_true (bytes_eq w (codes "S")) (λ (e : bytes_eq w (codes "S") ≡ true).
-    let f : joined (codes "S") ≡ Some n = ap joined (sym ((bytes_eq-Decides w (codes "S")).0 e)) ∙ h in
-    let g : joined (codes "S") ≡ None = refl in
+    let f : joined_number (codes "S") ≡ Some n = ap joined_number (sym ((bytes_eq-Decides w (codes "S")).0 e)) ∙ h in
+    let g : joined_number (codes "S") ≡ None = refl in
     cc)
 
 any_word : (l : Lexeme) (ls : List Lexeme) (w : List ℕ) → l.token ≡ Word w → starts is_any_word (l ∷ ls) ≡ true
@@ -239,7 +239,7 @@ signed_reads : (l m : Lexeme) (rest : List Lexeme) (n : ℕ) → l.token ≡ Wor
 unfolding signed_width_at
 signed_reads l m rest n e f a b = rw (e, number_reads 1 18 m rest n f a b) refl
 
-joined_reads : (l : Lexeme) (rest : List Lexeme) (w : List ℕ) (n : ℕ) → l.token ≡ Word w → joined w ≡ Some n → 1 ≤ n → n ≤ 18 → signed_width_at (l ∷ rest) ≡ Ok ((true, n), rest)
+joined_reads : (l : Lexeme) (rest : List Lexeme) (w : List ℕ) (n : ℕ) → l.token ≡ Word w → joined_number w ≡ Some n → 1 ≤ n → n ≤ 18 → signed_width_at (l ∷ rest) ≡ Ok ((true, n), rest)
 unfolding signed_width_at
 joined_reads l rest w n e f a b = rw (e, none_joined w n f, f, within 1 18 n a b) refl
 

@@ -5,9 +5,9 @@ use Rattle.dasdl_phrases.specs.TreeCodes.{WrittenTree}
 use Rattle.dasdl_phrases.specs.TreeCodes.WrittenTree.{Both, Either, Turned}
 
 -- behind so many NOTs
-abbrev pub negated : ℕ → WrittenTree → WrittenTree
-negated zero t = t
-negated (suc n) t = Turned (negated n t)
+abbrev pub under_nots : ℕ → WrittenTree → WrittenTree
+under_nots zero t = t
+under_nots (suc n) t = Turned (under_nots n t)
 
 -- behind AND, where there is one
 abbrev pub with_and : Option WrittenTree → WrittenTree → WrittenTree

@@ -11,7 +11,7 @@ use Rattle.dasdl_phrases.specs.Reads.{Read, ◌>>=◌}
 use Rattle.dasdl_phrases.specs.TreeCodes.{WrittenTree}
 use Rattle.dasdl_phrases.specs.TreeCodes.WrittenTree.{Test}
 use Rattle.dasdl_phrases.specs.Trees.{Condition}
-use Rattle.dasdl_phrases.specs.Branches.{negated, with_and, with_or, is_nil}
+use Rattle.dasdl_phrases.specs.Branches.{under_nots, with_and, with_or, is_nil}
 use Rattle.dasdl_phrases.specs.declared.levels.Level.{Level}
 use Rattle.dasdl_phrases.specs.declared.cond.CondRead.{CondRead}
 use Rattle.dms_tokens.specs.Cursors.{place_at, starts, is_word, is_the_sign}
@@ -23,11 +23,11 @@ abbrev pub no_level : Level
 no_level = record { either = None; both = None; nots = 0 }
 
 -- a factor is read: the NOTs before it turn it, and it joins what stands before AND
-unfoldable pub completed : List Level → Level → ℕ → WrittenTree → CondRead
-completed outer level nodes t = record {
+unfoldable pub close_factor : List Level → Level → ℕ → WrittenTree → CondRead
+close_factor outer level nodes t = record {
   outer = outer;
   level = record { either = level.either; both = None; nots = 0 };
-  done = Some (with_and level.both (negated level.nots t));
+  done = Some (with_and level.both (under_nots level.nots t));
   nodes = nodes;
 }
 
@@ -54,7 +54,7 @@ compare_turn_at s ts =
     else (if nat_le 100 s.nodes then Err (TooMany 100)
     else (do
       t ← compare_at ts
-      Ok (completed s.outer s.level (s.nodes + 1) t.0, t.1)))
+      Ok (close_factor s.outer s.level (s.nodes + 1) t.0, t.1)))
 
 -- NOT is one of 100 nodes, and so there are no more before one factor
 unfoldable pub not_turn_at : CondRead → List Lexeme → Read CondRead
@@ -103,7 +103,7 @@ unfoldable pub close_turn_at : List Level → Level → ℕ → WrittenTree → 
 close_turn_at [] inner nodes t ts = Err (fault_at ts)
 close_turn_at (level ∷ outer) inner nodes t ts = do
   t1 ← sign_at 41 ts
-  Ok (completed outer level nodes (with_or inner.either t), t1)
+  Ok (close_factor outer level nodes (with_or inner.either t), t1)
 
 -- where a factor has been read
 unfoldable pub join_turn_at : List Level → Level → ℕ → WrittenTree → List Lexeme → Read CondRead
@@ -126,14 +126,14 @@ cond_done s ts = is_some s.done && is_nil s.outer && not (starts (is_word (codes
 abbrev pub no_cond : CondRead
 no_cond = record { outer = []; level = no_level; done = None; nodes = 0 }
 
-abbrev pub finished : Option WrittenTree → Option WrittenTree → List Lexeme → Read WrittenTree
-finished None either ts = Err (fault_at ts)
-finished (Some t) either ts = Ok (with_or either t, ts)
+abbrev pub end_condition : Option WrittenTree → Option WrittenTree → List Lexeme → Read WrittenTree
+end_condition None either ts = Err (fault_at ts)
+end_condition (Some t) either ts = Ok (with_or either t, ts)
 
 unfoldable pub cond_at : List Lexeme → Read WrittenTree
 cond_at ts = do
   s ← turns_at cond_done cond_turn_at no_cond ts
-  finished s.0.done s.0.level.either s.1
+  end_condition s.0.done s.0.level.either s.1
 
 -- VERIFY or WHERE, and a condition
 unfoldable pub cond_decl_at : List ℕ → List Lexeme → Read Condition

@@ -4,13 +4,13 @@ use Rattle.dms_base.specs.declared.kind.ItemKind.{ItemKind}
 use Rattle.dms_base.specs.declared.kind.ItemKind.TheVariants.{Alpha, Number as Digits, Bool as Truth, Field}
 use Rattle.dms_tokens.specs.declared.token.Token.{Token}
 use Rattle.dms_tokens.specs.declared.token.Token.TheVariants.{Word, Number, Sign}
-use Rattle.dasdl_phrases.specs.Kinds.{joined}
+use Rattle.dasdl_phrases.specs.Kinds.{joined_number}
 
 -- [ S ] number, where the S may be joined to the digits
 pub data IsWidth : Bool → ℕ → List Token → Type 0 where
   without_sign : (n : ℕ) → 1 ≤ n → n ≤ 18 → IsWidth false n (Number n ∷ [])
   with_sign : (n : ℕ) → 1 ≤ n → n ≤ 18 → IsWidth true n (Word (codes "S") ∷ (Number n ∷ []))
-  joined_sign : (word : List ℕ) (n : ℕ) → joined word ≡ Some n → 1 ≤ n → n ≤ 18 → IsWidth true n (Word word ∷ [])
+  joined_sign : (word : List ℕ) (n : ℕ) → joined_number word ≡ Some n → 1 ≤ n → n ≤ 18 → IsWidth true n (Word word ∷ [])
 
 -- [ , number ], which is at most the digits that there are
 pub data ArePlaces : ℕ → ℕ → List Token → Type 0 where

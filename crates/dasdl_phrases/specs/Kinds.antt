@@ -46,15 +46,15 @@ digits_from n [] = Some n
 digits_from n (b ∷ bs) = if is_digit b then digits_from (with_digit n b) bs else None
 
 -- more than 18 digits spell a number above all those of 18
-abbrev pub held : ℕ → Option ℕ → Option ℕ
-held count None = None
-held count (Some n) = Some (if nat_lt 18 count then 1000000000000000000 else n)
+abbrev pub cap_number : ℕ → Option ℕ → Option ℕ
+cap_number count None = None
+cap_number count (Some n) = Some (if nat_lt 18 count then 1000000000000000000 else n)
 
 -- the number in a word that is an S joined to digits
-unfoldable pub joined : List ℕ → Option ℕ
-joined [] = None
-joined (b ∷ []) = None
-joined (b ∷ d ∷ ds) = if b == 83 then held (length (d ∷ ds)) (digits_from 0 (d ∷ ds)) else None
+unfoldable pub joined_number : List ℕ → Option ℕ
+joined_number [] = None
+joined_number (b ∷ []) = None
+joined_number (b ∷ d ∷ ds) = if b == 83 then cap_number (length (d ∷ ds)) (digits_from 0 (d ∷ ds)) else None
 
 -- the place behind one, held at its type's end
 abbrev pub behind : ℕ → ℕ
@@ -64,20 +64,20 @@ abbrev pub joined_of : Option ℕ → ℕ → List Lexeme → Read (Bool × ℕ)
 joined_of None place ls = Err (Expected place)
 joined_of (Some n) place ls = if nat_le 1 n && nat_le n 18 then Ok ((true, n), ls) else Err (NumberRange (behind place))
 
-abbrev pub signed : Read ℕ → Read (Bool × ℕ)
-signed (Ok n) = Ok ((true, n.0), n.1)
-signed (Err e) = Err e
+abbrev pub with_minus : Read ℕ → Read (Bool × ℕ)
+with_minus (Ok n) = Ok ((true, n.0), n.1)
+with_minus (Err e) = Err e
 
-abbrev pub unsigned : Read ℕ → Read (Bool × ℕ)
-unsigned (Ok n) = Ok ((false, n.0), n.1)
-unsigned (Err e) = Err e
+abbrev pub without_minus : Read ℕ → Read (Bool × ℕ)
+without_minus (Ok n) = Ok ((false, n.0), n.1)
+without_minus (Err e) = Err e
 
 abbrev pub is_any_word : Token → Bool
 is_any_word (Word b) = true
 is_any_word token = false
 
 abbrev pub signed_width_of : Token → ℕ → List Lexeme → Read (Bool × ℕ)
-signed_width_of (Word b) place ls = if bytes_eq b (codes "S") then signed (number_at 1 18 ls) else joined_of (joined b) place ls
+signed_width_of (Word b) place ls = if bytes_eq b (codes "S") then with_minus (number_at 1 18 ls) else joined_of (joined_number b) place ls
 signed_width_of token place ls = Err (fault_of token place)
 
 -- S number, or an S joined to the digits, which then stand one place behind it
@@ -87,7 +87,7 @@ signed_width_at (l ∷ ls) = signed_width_of l.token l.place ls
 
 -- [ S ] number
 unfoldable pub width_at : List Lexeme → Read (Bool × ℕ)
-width_at ts = if starts is_any_word ts then signed_width_at ts else unsigned (number_at 1 18 ts)
+width_at ts = if starts is_any_word ts then signed_width_at ts else without_minus (number_at 1 18 ts)
 
 -- ( number )
 unfoldable pub size_at : ℕ → List Lexeme → Read ℕ

@@ -27,43 +27,43 @@ parts (Either a b) = parts a ++ (parts b ++ inr 1 ∷ [])
 parts (Turned a) = parts a ++ inr 2 ∷ []
 
 -- a part takes its operands, the last one first
-abbrev pub taken : WrittenPart → List WrittenTree → List WrittenTree
-taken (inl c) ts = Test c.0 c.1.0 c.1.1 ∷ ts
-taken (inr zero) (b ∷ a ∷ ts) = Both a b ∷ ts
-taken (inr (suc zero)) (b ∷ a ∷ ts) = Either a b ∷ ts
-taken (inr (suc (suc n))) (a ∷ ts) = Turned a ∷ ts
-taken (inr n) ts = ts
+abbrev pub take_operands : WrittenPart → List WrittenTree → List WrittenTree
+take_operands (inl c) ts = Test c.0 c.1.0 c.1.1 ∷ ts
+take_operands (inr zero) (b ∷ a ∷ ts) = Both a b ∷ ts
+take_operands (inr (suc zero)) (b ∷ a ∷ ts) = Either a b ∷ ts
+take_operands (inr (suc (suc n))) (a ∷ ts) = Turned a ∷ ts
+take_operands (inr n) ts = ts
 
-abbrev pub built : List WrittenPart → List WrittenTree → List WrittenTree
-built [] ts = ts
-built (p ∷ ps) ts = built ps (taken p ts)
+abbrev pub build_trees : List WrittenPart → List WrittenTree → List WrittenTree
+build_trees [] ts = ts
+build_trees (p ∷ ps) ts = build_trees ps (take_operands p ts)
 
 abbrev pub first_tree : List WrittenTree → WrittenTree
 first_tree [] = Test [] Equal Null
 first_tree (t ∷ ts) = t
 
-built-append : (ps qs : List WrittenPart) (ts : List WrittenTree) → built (ps ++ qs) ts ≡ built qs (built ps ts)
+built-append : (ps qs : List WrittenPart) (ts : List WrittenTree) → build_trees (ps ++ qs) ts ≡ build_trees qs (build_trees ps ts)
 built-append [] qs ts = refl
-built-append (p ∷ ps) qs ts = built-append ps qs (taken p ts)
+built-append (p ∷ ps) qs ts = built-append ps qs (take_operands p ts)
 
-built-parts : (t : WrittenTree) (ts : List WrittenTree) → built (parts t) ts ≡ t ∷ ts
+built-parts : (t : WrittenTree) (ts : List WrittenTree) → build_trees (parts t) ts ≡ t ∷ ts
 built-parts (Test name op literal) ts = refl
 built-parts (Both a b) ts =
     built-append (parts a) (parts b ++ inr 0 ∷ []) ts
-    ∙ ap (λ (us : List WrittenTree). built (parts b ++ inr 0 ∷ []) us) (built-parts a ts)
+    ∙ ap (λ (us : List WrittenTree). build_trees (parts b ++ inr 0 ∷ []) us) (built-parts a ts)
     ∙ built-append (parts b) (inr 0 ∷ []) (a ∷ ts)
-    ∙ ap (λ (us : List WrittenTree). built (inr 0 ∷ []) us) (built-parts b (a ∷ ts))
+    ∙ ap (λ (us : List WrittenTree). build_trees (inr 0 ∷ []) us) (built-parts b (a ∷ ts))
 built-parts (Either a b) ts =
     built-append (parts a) (parts b ++ inr 1 ∷ []) ts
-    ∙ ap (λ (us : List WrittenTree). built (parts b ++ inr 1 ∷ []) us) (built-parts a ts)
+    ∙ ap (λ (us : List WrittenTree). build_trees (parts b ++ inr 1 ∷ []) us) (built-parts a ts)
     ∙ built-append (parts b) (inr 1 ∷ []) (a ∷ ts)
-    ∙ ap (λ (us : List WrittenTree). built (inr 1 ∷ []) us) (built-parts b (a ∷ ts))
+    ∙ ap (λ (us : List WrittenTree). build_trees (inr 1 ∷ []) us) (built-parts b (a ∷ ts))
 built-parts (Turned a) ts =
     built-append (parts a) (inr 2 ∷ []) ts
-    ∙ ap (λ (us : List WrittenTree). built (inr 2 ∷ []) us) (built-parts a ts)
+    ∙ ap (λ (us : List WrittenTree). build_trees (inr 2 ∷ []) us) (built-parts a ts)
 
-pub tree_again : (t : WrittenTree) → first_tree (built (parts t) []) ≡ t
+pub tree_again : (t : WrittenTree) → first_tree (build_trees (parts t) []) ≡ t
 tree_again t = ap first_tree (built-parts t [])
 
 abbrev pub tree_code : Coded WrittenTree
-tree_code = code_by (List WrittenPart) (coded_list (coded⊎ (coded× (coded_list coded_ℕ) (coded× op_row.the_row.coded literal_row.the_row.coded)) coded_ℕ)) parts (λ ps. first_tree (built ps [])) tree_again
+tree_code = code_by (List WrittenPart) (coded_list (coded⊎ (coded× (coded_list coded_ℕ) (coded× op_row.the_row.coded literal_row.the_row.coded)) coded_ℕ)) parts (λ ps. first_tree (build_trees ps [])) tree_again

@@ -1,6 +1,6 @@
 ghost use Rattle.std.specs.Prelude.{◌≡◌, IfOk};
 ghost use Rattle.dasdl_phrases.specs.Reads.{Takes};
-ghost use Rattle.dasdl_phrases.specs.Conditions.{completed, op_at, compare_at, compare_turn_at, not_turn_at, open_turn_at, factor_turn_at, and_turn_at, or_turn_at, close_turn_at, join_turn_at, cond_turn_at, cond_done, cond_at, cond_decl_at};
+ghost use Rattle.dasdl_phrases.specs.Conditions.{close_factor, op_at, compare_at, compare_turn_at, not_turn_at, open_turn_at, factor_turn_at, and_turn_at, or_turn_at, close_turn_at, join_turn_at, cond_turn_at, cond_done, cond_at, cond_decl_at};
 
 use crate::conditions::{Branch, CondDecl};
 use crate::expect::{expect_sign, expect_word, fault, read_name, starts_free};
@@ -27,18 +27,18 @@ pub struct CondRead {
 }
 
 /// A factor is read.
-#[tactic(auto, unfolding(crate::specs::Conditions::completed))]
-fn completed(
+#[tactic(auto, unfolding(crate::specs::Conditions::close_factor))]
+fn close_factor(
     alloc: Global,
     outer: Levels,
     level: Level,
     nodes: u8,
     factor: Branch,
 ) -> Result<CondRead, Memory>
-    ensures { IfOk result (λ s. s ≡ completed outer level nodes factor) }
+    ensures { IfOk result (λ s. s ≡ close_factor outer level nodes factor) }
 {
     let Level { either, both, nots } = level;
-    let negated = factor.negated(alloc, nots)?;
+    let negated = factor.under_nots(alloc, nots)?;
     let done = negated.with_and(alloc, both)?;
     Ok(CondRead {
         outer,
@@ -88,7 +88,7 @@ fn compare_turn(state: CondRead, cursor: &mut Cursor<'_>) -> Result<CondRead, Pa
         return Err(ParseFault::TooMany(100));
     }
     let factor = compare(cursor)?;
-    let next = completed(
+    let next = close_factor(
         cursor.alloc(),
         state.outer,
         state.level,
@@ -227,7 +227,7 @@ fn close_turn(
         Some(level) => {
             expect_sign(cursor, b')')?;
             let factor = left.with_or(cursor.alloc(), inner.either)?;
-            let next = completed(cursor.alloc(), outer, level, nodes, factor)?;
+            let next = close_factor(cursor.alloc(), outer, level, nodes, factor)?;
             Ok(next)
         }
     }
@@ -327,5 +327,5 @@ pub fn cond_decl(cursor: &mut Cursor<'_>, word: &[u8]) -> Result<CondDecl, Parse
     let place = cursor.place();
     expect_word(cursor, word)?;
     let tree = cond(cursor)?;
-    Ok(tree.declared(place))
+    Ok(tree.declare(place))
 }

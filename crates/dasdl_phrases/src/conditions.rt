@@ -1,6 +1,6 @@
 ghost use Rattle.std.specs.Prelude.{◌≡◌, IfOk};
 ghost use Rattle.dasdl_phrases.specs.Trees.{tree_of};
-ghost use Rattle.dasdl_phrases.specs.Branches.{negated, with_and, with_or};
+ghost use Rattle.dasdl_phrases.specs.Branches.{under_nots, with_and, with_or};
 ghost use Rattle.dasdl_phrases.specs.TreeCodes.WrittenTree.{Test, Turned};
 
 use dms_base::{Literal, Memory, Name, Op};
@@ -83,7 +83,7 @@ impl Branch {
         }
     }
 
-    fn turned(self, alloc: Global) -> Result<Branch, Memory>
+    fn turn_over(self, alloc: Global) -> Result<Branch, Memory>
         ensures { IfOk result (λ b. b ≡ Turned self) }
     {
         let tree = CondTree::Not(Box::new(alloc, self.tree)?);
@@ -91,12 +91,12 @@ impl Branch {
     }
 
     /// Behind so many NOTs. Answers Err where memory is refused.
-    pub fn negated(self, alloc: Global, nots: u8) -> Result<Branch, Memory>
-        ensures { IfOk result (λ b. b ≡ negated nots self) }
+    pub fn under_nots(self, alloc: Global, nots: u8) -> Result<Branch, Memory>
+        ensures { IfOk result (λ b. b ≡ under_nots nots self) }
     {
         let mut branch = self;
         for _not in 0..nots {
-            branch = branch.turned(alloc)?;
+            branch = branch.turn_over(alloc)?;
         }
         Ok(branch)
     }
@@ -128,7 +128,7 @@ impl Branch {
     }
 
     /// The condition behind the word at this place.
-    pub fn declared(self, place: u32) -> CondDecl
+    pub fn declare(self, place: u32) -> CondDecl
         ensures { result ≡ record { place = place; tree = self } }
     {
         CondDecl {

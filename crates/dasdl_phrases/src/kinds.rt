@@ -1,7 +1,7 @@
 ghost use Rattle.std.specs.Prelude.{◌≡◌, ◌<◌, Bool};
 ghost use Rattle.dasdl_phrases.specs.Reads.{Takes};
 ghost use Rattle.dms_tokens.specs.Cursors.{starts};
-ghost use Rattle.dasdl_phrases.specs.Kinds.{literal_at, digits_from, joined, signed_width_at, is_any_word, width_at, size_at, places_at, alpha_at, field_at, decimal_at, truth_at, kind_at, starts_kind};
+ghost use Rattle.dasdl_phrases.specs.Kinds.{literal_at, digits_from, joined_number, signed_width_at, is_any_word, width_at, size_at, places_at, alpha_at, field_at, decimal_at, truth_at, kind_at, starts_kind};
 
 use crate::expect::{expect_sign, expect_word, fault, read_number};
 use crate::fault::ParseFault;
@@ -50,9 +50,9 @@ fn digits_value(digits: &[u8]) -> Option<u64>
 }
 
 /// The number in a word that is an S joined to digits.
-#[tactic(auto, unfolding(crate::specs::Kinds::joined))]
-fn joined(word: &[u8]) -> Option<u64>
-    ensures { result ≡ joined word.now }
+#[tactic(auto, unfolding(crate::specs::Kinds::joined_number))]
+fn joined_number(word: &[u8]) -> Option<u64>
+    ensures { result ≡ joined_number word.now }
 {
     let [first, digits @ ..] = word else {
         return None;
@@ -83,7 +83,7 @@ fn signed_width(cursor: &mut Cursor<'_>) -> Result<(bool, u8), ParseFault>
         let digits = read_number(cursor, 1, 18)?;
         return Ok((true, digits as u8));
     }
-    match joined(word.as_slice()) {
+    match joined_number(word.as_slice()) {
         None => Err(ParseFault::Expected(first.place)),
         Some(digits) => {
             if digits < 1 || 18 < digits {

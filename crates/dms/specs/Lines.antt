@@ -16,15 +16,15 @@ use Rattle.dms_status.specs.declared.status.NeedFault.{NeedFault}
 use Rattle.dms_status.specs.declared.status.NeedFault.TheVariants.{NoDescription, AuditMissing, AuditUnsealed, AuditForeign, NoSuchPoint, Voided, DumpPending}
 
 -- words, the number at their place, and words behind it
-abbrev pub counted : List ℕ → ℕ → List ℕ → List ℕ
-counted before n behind = before ++ (decimal n ++ behind)
+abbrev pub around_number : List ℕ → ℕ → List ℕ → List ℕ
+around_number before n behind = before ++ (decimal n ++ behind)
 
 -- a text that isn't in the schema language, or passes one of its limits
 abbrev pub parse_words : ParseFault → List ℕ
-parse_words (BadCharacter p) = counted (codes "bad character at ") p []
-parse_words (Expected p) = counted (codes "unexpected at ") p []
-parse_words (NumberRange p) = counted (codes "number out of range at ") p []
-parse_words (TooMany n) = counted (codes "more than ") n []
+parse_words (BadCharacter p) = around_number (codes "bad character at ") p []
+parse_words (Expected p) = around_number (codes "unexpected at ") p []
+parse_words (NumberRange p) = around_number (codes "number out of range at ") p []
+parse_words (TooMany n) = around_number (codes "more than ") n []
 parse_words NoSpace = codes "no memory"
 
 -- a check of the compiler that fails
@@ -33,11 +33,11 @@ compile_words (Twice name) = codes "twice " ++ name
 compile_words (Unknown name) = codes "unknown " ++ name
 compile_words (KeyItem name) = codes "bad key " ++ name
 compile_words (CondKind name) = codes "bad condition " ++ name
-compile_words (RecordLong n) = counted (codes "record of ") n (codes " bytes")
-compile_words (KeyLong n) = counted (codes "key of ") n (codes " bytes")
+compile_words (RecordLong n) = around_number (codes "record of ") n (codes " bytes")
+compile_words (KeyLong n) = around_number (codes "key of ") n (codes " bytes")
 compile_words NoRestart = codes "no restart data set"
 compile_words (Embedding name) = codes "bad place " ++ name
-compile_words (DescriptionLong n) = counted (codes "description of ") n (codes " bytes")
+compile_words (DescriptionLong n) = around_number (codes "description of ") n (codes " bytes")
 compile_words NoRoom = codes "no memory"
 
 abbrev pub schema_words : SchemaFault → List ℕ
@@ -45,7 +45,7 @@ schema_words (Parse fault) = parse_words fault
 schema_words (Compile fault) = compile_words fault
 
 abbrev pub limit_words : LimitKind → List ℕ
-limit_words (AuditFile k) = counted (codes "audit file ") k (codes " full")
+limit_words (AuditFile k) = around_number (codes "audit file ") k (codes " full")
 limit_words Lines = codes "too many lines"
 limit_words Bytes = codes "too many bytes"
 limit_words Held = codes "too many held lines"
@@ -53,12 +53,12 @@ limit_words Held = codes "too many held lines"
 -- what is needed and isn't found
 abbrev pub need_words : NeedFault → List ℕ
 need_words NoDescription = codes "no description"
-need_words (AuditMissing k) = counted (codes "audit file ") k (codes " missing")
-need_words (AuditUnsealed k) = counted (codes "audit file ") k (codes " unsealed")
-need_words (AuditForeign k) = counted (codes "audit file ") k (codes " of another database")
-need_words (NoSuchPoint n) = counted (codes "no such point ") n []
-need_words (Voided n) = counted (codes "point ") n (codes " voided")
-need_words (DumpPending d) = counted (codes "restore by dump ") d (codes " pending")
+need_words (AuditMissing k) = around_number (codes "audit file ") k (codes " missing")
+need_words (AuditUnsealed k) = around_number (codes "audit file ") k (codes " unsealed")
+need_words (AuditForeign k) = around_number (codes "audit file ") k (codes " of another database")
+need_words (NoSuchPoint n) = around_number (codes "no such point ") n []
+need_words (Voided n) = around_number (codes "point ") n (codes " voided")
+need_words (DumpPending d) = around_number (codes "restore by dump ") d (codes " pending")
 
 -- a line of the program, with its line feed
 abbrev pub line : List ℕ → List ℕ
@@ -74,7 +74,7 @@ status_lines DiskFault = line (codes "disk fault")
 status_lines InputFault = line (codes "input fault")
 status_lines Memory = line (codes "no memory")
 status_lines (Limit kind) = line (limit_words kind)
-status_lines (Damaged f b) = line (counted (codes "file ") f (counted (codes " block ") b (codes " damaged")))
+status_lines (Damaged f b) = line (around_number (codes "file ") f (around_number (codes " block ") b (codes " damaged")))
 status_lines SayFault = line (codes "output fault")
 status_lines Exists = line (codes "exists already")
 

@@ -13,7 +13,7 @@ use Rattle.dms_audfile.specs.Blocks.{block_entries}
 use Rattle.dms_audfile.specs.BlockLaws.{spellings, AreNoBegins, IsAlone, entered_at, block_of}
 use Rattle.dms_audfile.specs.Trail.{trail_from}
 use Rattle.dms_audfile.specs.TrailEntries.{entry_of, entries_of, entries_in, trail_entries}
-use Rattle.dms_audfile.specs.Ends.{unsealed, EndsAt, HoldsAnEntry, Grown, Seals, Appends, SealsAll}
+use Rattle.dms_audfile.specs.Ends.{unsealed_bytes, EndsAt, HoldsAnEntry, Grown, Seals, Appends, SealsAll}
 use Rattle.dms_audfile.specs.EndLaws.{filled_on}
 use Rattle.std.proofs.lemmas.Bool.{cases_lt, false≢true, cases_Bool}
 use Rattle.dms_audfile.proofs.BlockRead.{block_is_read}
@@ -100,7 +100,7 @@ pub grown_one : (total first : ℕ) (es : List Entry) (content : List ℕ) (old 
 grown_one total first es content old new kind few some is trail = record { made = content ∷ []; trail = trail; filled = (subst (λ (l : List ℕ). HoldsAnEntry l) (sym is) (block_filled es kind few some), tt) }
 
 -- some entry waits where some bytes do
-pub some_wait : (end : AuditEnd) (es : List Entry) → unsealed end ≡ spellings es → length end.block.items ≡ 4096 → end.used ≢ 0 → 0 < length es
+pub some_wait : (end : AuditEnd) (es : List Entry) → unsealed_bytes end ≡ spellings es → length end.block.items ≡ 4096 → end.used ≢ 0 → 0 < length es
 some_wait end [] is size some = absurd (some (omega (arith, ap length is, length-take end.used (drop 2 end.block.items), length-drop 2 end.block.items, size)))
 some_wait end (e ∷ es) is size some = omega arith
 
@@ -269,7 +269,7 @@ appends_all end first es old new clock sealed grown ends =
 -- what waits is sealed, or nothing waits
 pub seals_all_none : (end : AuditEnd) (first : ℕ) (es : List Entry) (files : Files) (clock : Clock Left) → end.used ≡ 0 → EndsAt end first es files clock → SealsAll end first es files files clock
 seals_all_none end first es files clock none at =
-    let empty : unsealed end ≡ [] = ap (λ k. take k (drop 2 end.block.items)) none in
+    let empty : unsealed_bytes end ≡ [] = ap (λ k. take k (drop 2 end.block.items)) none in
     let no_entry : es ≡ [] = none_waits es at.kind (sym empty ∙ at.bytes) in
     record {
       sealed = sym (append-nil (trail_entries end.total first files)) ∙ ap (λ (l : List Entry). trail_entries end.total first files ++ l) (sym no_entry);
@@ -282,7 +282,7 @@ appends_none end first es files clock plain ends = record { some = 0; sealed = s
 
 -- an entry is held behind those that wait
 pub held_ends : (end new : AuditEnd) (first : ℕ) (es : List Entry) (e : Entry) (files : Files) (clock : Clock Left) → EndsAt end first es files clock → AreNoBegins es → IsEntry e → (is_begin e ≡ true → end.used ≡ 0)
-    → unsealed new ≡ unsealed end ++ spelling e → new.total ≡ end.total → new.tag ≡ end.tag → new.file ≡ end.file → new.count ≡ end.count → EndsAt new first (es ++ e ∷ []) files clock
+    → unsealed_bytes new ≡ unsealed_bytes end ++ spelling e → new.total ≡ end.total → new.tag ≡ end.tag → new.file ≡ end.file → new.count ≡ end.count → EndsAt new first (es ++ e ∷ []) files clock
 held_ends end new first es e files clock at plain is alone bytes total tag file count = record {
   low = at.low;
   writes = subst (λ (f : ℕ). IsWrittenUpTo new.total new.tag first f new.count files) (sym file) (subst (λ c. IsWrittenUpTo new.total new.tag first end.file c files) (sym count)

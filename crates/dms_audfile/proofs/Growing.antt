@@ -3,9 +3,9 @@ use Rattle.std.proofs.Common.{ℕ, zero, suc, ◌+◌, ◌-◌, ◌*◌, ◌<◌
 use Rattle.std.proofs.lemmas.Bool.{cases_eq, false≢true}
 use Rattle.std.proofs.lemmas.Bool.Decides.{nat_tests}
 use Rattle.std.proofs.lemmas.List.{drop_all}
-use Rattle.dms_site.specs.Files.{Files, Left, range, overlaid, padded, with_file, OnDisk, InFile, Torn}
+use Rattle.dms_site.specs.Files.{Files, Left, range, overlay_bytes, pad_zeros, with_file, OnDisk, InFile, Torn}
 use Rattle.dms_site.specs.Laws.{get_or-range, range_overlaid, length-overlaid, torn_overlaid, with_file_here, with_file_other}
-use Rattle.dms_audfile.specs.Gates.{block_at, gate, sealed, is_full}
+use Rattle.dms_audfile.specs.Gates.{block_at, gate, sealed_blocks, is_full}
 use Rattle.dms_audfile.specs.Header.{new_header, header_fits, tag_said}
 use Rattle.dms_audfile.specs.Trail.{trail_from}
 use Rattle.dms_audfile.specs.Sealing.{IsSealedUpTo, IsWrittenUpTo, Grows, GrowsLeft, Anyhow}
@@ -33,7 +33,7 @@ writes_same total tag first f n old new w same = record {
 }
 
 grows_by : (total tag first f n : ℕ) (y x : Files) (blocks : List (List ℕ)) → IsWrittenUpTo total tag first f n y → ((g : ℕ) → first ≤ g → g < f → x g ≡ y g)
-    → sealed total (x f) ≡ sealed total (y f) ++ blocks → (is_full total (x f) ≡ true → (r : ℕ) → trail_from r total (f + 1) x ≡ [])
+    → sealed_blocks total (x f) ≡ sealed_blocks total (y f) ++ blocks → (is_full total (x f) ≡ true → (r : ℕ) → trail_from r total (f + 1) x ≡ [])
     → (m : ℕ) → f < first + m → trail_from m total first x ≡ trail_from m total first y ++ blocks
 grows_by total tag first f n y x blocks w same grows none m long =
     trail_grows (f - first) m total first f y x blocks (omega (arith, w.order)) (omega (arith, w.order)) w.full (stands_full total n (y f) w.stands w.not_full) same grows none
@@ -63,7 +63,7 @@ content_kept total tag first f n y x w step =
         ];
       };
       trail = λ m long.
-          grows_by total tag first f n y x [] w (λ g low high. step.others g (omega arith)) (content_sealed total n (y f) (x f) w.stands step.here ∙ sym (append-nil (sealed total (y f)))) none m long
+          grows_by total tag first f n y x [] w (λ g low high. step.others g (omega arith)) (content_sealed total n (y f) (x f) w.stands step.here ∙ sym (append-nil (sealed_blocks total (y f)))) none m long
           ∙ append-nil (trail_from m total first y);
       others = λ g one two. step.others g one;
     }
@@ -77,7 +77,7 @@ next_kept total tag first f n z y x k step =
     record {
       writes = w;
       trail = λ m long.
-          grows_by total tag first f n y x [] k.writes (λ g low high. same g (omega arith)) (ap (sealed total) (same f (omega arith)) ∙ sym (append-nil (sealed total (y f)))) none m long
+          grows_by total tag first f n y x [] k.writes (λ g low high. same g (omega arith)) (ap (sealed_blocks total) (same f (omega arith)) ∙ sym (append-nil (sealed_blocks total (y f)))) none m long
           ∙ append-nil (trail_from m total first y) ∙ k.trail m long;
       others = λ g one two. step.others g two ∙ k.others g one two;
     }
@@ -89,7 +89,7 @@ kept_same total tag first f n z y x k same = subst (λ (l : Files). TrailKept to
 pub none_behind : (total f : ℕ) (x : Files) → 0 < total → IsSealedUpTo total 0 (x f) → (r : ℕ) → trail_from r total f x ≡ []
 none_behind total f x some s zero = refl
 none_behind total f x some s (suc r) =
-    ap (λ b. cond b (sealed total (x f) ++ trail_from r total (f + 1) x) (sealed total (x f))) (stands_full total 0 (x f) s some) ∙ stands_sealed total 0 (x f) s
+    ap (λ b. cond b (sealed_blocks total (x f) ++ trail_from r total (f + 1) x) (sealed_blocks total (x f))) (stands_full total 0 (x f) s some) ∙ stands_sealed total 0 (x f) s
 
 -- ---- the gate
 
@@ -124,7 +124,7 @@ module _ (total tag first f n : ℕ) (content : List ℕ) (z y : Files) (k : Tra
   opened_trail is m far =
       let s = opened_stands total n (y f) (x f) k.writes.stands k.writes.not_full long step.here is in
       grows_by total tag first f n y x (content ∷ []) k.writes below
-      (opened_sealed total n (y f) (x f) k.writes.stands k.writes.not_full long step.here is ∙ ap (λ (l : List ℕ). sealed total (y f) ++ l ∷ []) block)
+      (opened_sealed total n (y f) (x f) k.writes.stands k.writes.not_full long step.here is ∙ ap (λ (l : List ℕ). sealed_blocks total (y f) ++ l ∷ []) block)
       (none_next (n + 1) (omega arith) s) m far
       ∙ ap (λ (l : List (List ℕ)). l ++ content ∷ []) (k.trail m far)
 
@@ -132,7 +132,7 @@ module _ (total tag first f n : ℕ) (content : List ℕ) (z y : Files) (k : Tra
   shut_trail not m far =
       let s = shut_stands total n (y f) (x f) k.writes.stands k.writes.not_full long step.here not in
       grows_by total tag first f n y x [] k.writes below
-      (shut_sealed total n (y f) (x f) k.writes.stands k.writes.not_full long step.here not ∙ sym (append-nil (sealed total (y f))))
+      (shut_sealed total n (y f) (x f) k.writes.stands k.writes.not_full long step.here not ∙ sym (append-nil (sealed_blocks total (y f))))
       (none_next n (omega arith) s) m far
       ∙ append-nil (trail_from m total first y) ∙ k.trail m far
 
@@ -201,13 +201,13 @@ module _ (total tag first f n : ℕ) (content : List ℕ) (z y : Files) (k : Tra
     | inr not ↦ record { some = 0; within = omega arith; trail = λ m far. shut_trail not m far ∙ sym (append-nil (trail_from m total first z)); others = gate_others; file = f; count = n; writes = shut_writes not; low = omega arith; high = omega arith }
   ]
 
-  module _ (whole : x f ≡ overlaid (511 + (n + 1)) (1 ∷ []) (y f)) where
+  module _ (whole : x f ≡ overlay_bytes (511 + (n + 1)) (1 ∷ []) (y f)) where
     is_one : gate (n + 1) (x f) ≡ 1
     is_one =
         let e : 511 + (n + 1) + 0 ≡ 511 + (n + 1) = omega arith in
         ap (λ (l : List ℕ). get_or l (511 + (n + 1)) 0) whole
-        ∙ ap (λ k. get_or (overlaid (511 + (n + 1)) (1 ∷ []) (y f)) k 0) (sym e)
-        ∙ sym (get_or-range (511 + (n + 1)) 1 0 (overlaid (511 + (n + 1)) (1 ∷ []) (y f)) (omega arith))
+        ∙ ap (λ k. get_or (overlay_bytes (511 + (n + 1)) (1 ∷ []) (y f)) k 0) (sym e)
+        ∙ sym (get_or-range (511 + (n + 1)) 1 0 (overlay_bytes (511 + (n + 1)) (1 ∷ []) (y f)) (omega arith))
         ∙ ap (λ (l : List ℕ). get_or l 0 0) (range_overlaid (511 + (n + 1)) (1 ∷ []) (y f))
 
     pub gate_done : (m : ℕ) → f < first + m → trail_from m total first x ≡ trail_from m total first z ++ content ∷ []
@@ -225,15 +225,15 @@ kept_grows total tag first f n blocks z x k said = record {
 }
 
 -- behind the content that was written
-module _ (n : ℕ) (content old new : List ℕ) (size : length content ≡ 4096) (is : new ≡ overlaid (4096 * (n + 1)) content old) where
+module _ (n : ℕ) (content old new : List ℕ) (size : length content ≡ 4096) (is : new ≡ overlay_bytes (4096 * (n + 1)) content old) where
   pub content_torn : Torn (4096 * (n + 1)) 4096 old new
-  content_torn = subst (λ l. Torn (4096 * (n + 1)) 4096 old l) (sym is) (subst (λ k. Torn (4096 * (n + 1)) k old (overlaid (4096 * (n + 1)) content old)) size (torn_overlaid (4096 * (n + 1)) content old))
+  content_torn = subst (λ l. Torn (4096 * (n + 1)) 4096 old l) (sym is) (subst (λ k. Torn (4096 * (n + 1)) k old (overlay_bytes (4096 * (n + 1)) content old)) size (torn_overlaid (4096 * (n + 1)) content old))
 
   pub content_long : 4096 * (n + 2) ≤ length new
   content_long = omega (arith, ap length is, length-overlaid (4096 * (n + 1)) content old, size)
 
   pub content_block : block_at (n + 1) new ≡ content
-  content_block = ap (λ l. range (4096 * (n + 1)) 4096 l) is ∙ subst (λ k. range (4096 * (n + 1)) k (overlaid (4096 * (n + 1)) content old) ≡ content) size (range_overlaid (4096 * (n + 1)) content old)
+  content_block = ap (λ l. range (4096 * (n + 1)) 4096 l) is ∙ subst (λ k. range (4096 * (n + 1)) k (overlay_bytes (4096 * (n + 1)) content old) ≡ content) size (range_overlaid (4096 * (n + 1)) content old)
 
 -- ---- for the code
 
@@ -264,14 +264,14 @@ pub record ReadyToGrow (total tag f n : ℕ) (content : List ℕ) (mid : Files) 
   pub mark : n + 1 ≡ total → tag_said (mid (f + 1)) ≡ tag
 
 pub ready : (total f n k : ℕ) (content head : List ℕ) (old one two : Files) → length content ≡ 4096 → total ≤ 512 → 8 ≤ total → f < 20000 → k ≡ f - 9999 → head ≡ new_header k total (tag_said head)
-    → one ≡ with_file old f (overlaid (4096 * (n + 1)) content (old f)) → (n + 1 ≡ total → two ≡ with_file one (f + 1) head) → (n + 1 ≢ total → two ≡ one) → ReadyToGrow total (tag_said head) f n content two
+    → one ≡ with_file old f (overlay_bytes (4096 * (n + 1)) content (old f)) → (n + 1 ≡ total → two ≡ with_file one (f + 1) head) → (n + 1 ≢ total → two ≡ one) → ReadyToGrow total (tag_said head) f n content two
 ready total f n k content head old one two size few many low k-is head-is first last not_last =
-    let here : one f ≡ overlaid (4096 * (n + 1)) content (old f) = ap (λ (l : Files). l f) first ∙ with_file_here old f (overlaid (4096 * (n + 1)) content (old f)) in
+    let here : one f ≡ overlay_bytes (4096 * (n + 1)) content (old f) = ap (λ (l : Files). l f) first ∙ with_file_here old f (overlay_bytes (4096 * (n + 1)) content (old f)) in
     let same : two f ≡ one f = elim (cases_eq (n + 1) total) [
       | inl is ↦ ap (λ (l : Files). l f) (last is) ∙ with_file_other one (f + 1) head f (omega arith)
       | inr not ↦ ap (λ (l : Files). l f) (not_last not)
     ] in
-    let is : two f ≡ overlaid (4096 * (n + 1)) content (old f) = same ∙ here in
+    let is : two f ≡ overlay_bytes (4096 * (n + 1)) content (old f) = same ∙ here in
     let stands_next : n + 1 ≡ total → two (f + 1) ≡ head = λ at_last. ap (λ (l : Files). l (f + 1)) (last at_last) ∙ with_file_here one (f + 1) head in
     let made : n + 1 ≡ total → two (f + 1) ≡ new_header k total (tag_said head) = λ at_last. stands_next at_last ∙ head-is in
     record {
@@ -295,21 +295,21 @@ gate_step total tag first f n content z y x k r step = record {
 
 -- all three are done
 module _ (total tag first f n : ℕ) (content : List ℕ) (old one two three : Files) (w : IsWrittenUpTo total tag first f n old) (size : length content ≡ 4096) (r : ReadyToGrow total tag f n content two)
-    (wrote : one ≡ with_file old f (overlaid (4096 * (n + 1)) content (old f))) (others : InFile (f + 1) Anyhow one two) (gated : three ≡ with_file two f (overlaid (511 + (n + 1)) (1 ∷ []) (two f))) where
+    (wrote : one ≡ with_file old f (overlay_bytes (4096 * (n + 1)) content (old f))) (others : InFile (f + 1) Anyhow one two) (gated : three ≡ with_file two f (overlay_bytes (511 + (n + 1)) (1 ∷ []) (two f))) where
   kept : TrailKept total tag first f n old two
   kept = next_kept total tag first f n old one two
       (content_kept total tag first f n old one w (record {
-        here = content_torn n content (old f) (one f) size (ap (λ (l : Files). l f) wrote ∙ with_file_here old f (overlaid (4096 * (n + 1)) content (old f)));
-        others = λ g ne. ap (λ (l : Files). l g) wrote ∙ with_file_other old f (overlaid (4096 * (n + 1)) content (old f)) g ne;
+        here = content_torn n content (old f) (one f) size (ap (λ (l : Files). l f) wrote ∙ with_file_here old f (overlay_bytes (4096 * (n + 1)) content (old f)));
+        others = λ g ne. ap (λ (l : Files). l g) wrote ∙ with_file_other old f (overlay_bytes (4096 * (n + 1)) content (old f)) g ne;
       })) others
 
-  whole : three f ≡ overlaid (511 + (n + 1)) (1 ∷ []) (two f)
-  whole = ap (λ (l : Files). l f) gated ∙ with_file_here two f (overlaid (511 + (n + 1)) (1 ∷ []) (two f))
+  whole : three f ≡ overlay_bytes (511 + (n + 1)) (1 ∷ []) (two f)
+  whole = ap (λ (l : Files). l f) gated ∙ with_file_here two f (overlay_bytes (511 + (n + 1)) (1 ∷ []) (two f))
 
   step : InFile f (Torn (511 + (n + 1)) 1) two three
   step = record {
     here = subst (λ l. Torn (511 + (n + 1)) 1 (two f) l) (sym whole) (torn_overlaid (511 + (n + 1)) (1 ∷ []) (two f));
-    others = λ g ne. ap (λ (l : Files). l g) gated ∙ with_file_other two f (overlaid (511 + (n + 1)) (1 ∷ []) (two f)) g ne;
+    others = λ g ne. ap (λ (l : Files). l g) gated ∙ with_file_other two f (overlay_bytes (511 + (n + 1)) (1 ∷ []) (two f)) g ne;
   }
 
   pub done_trail : (m : ℕ) → f < first + m → trail_from m total first three ≡ trail_from m total first old ++ content ∷ []
@@ -320,20 +320,20 @@ module _ (total tag first f n : ℕ) (content : List ℕ) (old one two three : F
 
 -- ---- a file that is started
 
-overlaid_none : (head : List ℕ) → overlaid 0 head [] ≡ head
-unfolding overlaid padded
+overlaid_none : (head : List ℕ) → overlay_bytes 0 head [] ≡ head
+unfolding overlay_bytes pad_zeros
 overlaid_none head = ap (λ (l : List ℕ). head ++ l) (drop_all (0 + length head) [] (omega arith)) ∙ append-nil head
 
-pub start_is : (old mid new : Files) (f : ℕ) (head : List ℕ) → mid ≡ with_file old f (take 0 (old f)) → new ≡ with_file mid f (overlaid 0 head (mid f)) → new ≡ with_file old f head
+pub start_is : (old mid new : Files) (f : ℕ) (head : List ℕ) → mid ≡ with_file old f (take 0 (old f)) → new ≡ with_file mid f (overlay_bytes 0 head (mid f)) → new ≡ with_file old f head
 start_is old mid new f head first then = λ i g. at_each g i
   where
     here : new f ≡ head
-    here = ap (λ (l : Files). l f) then ∙ with_file_here mid f (overlaid 0 head (mid f)) ∙ ap (λ (l : List ℕ). overlaid 0 head l) (ap (λ (l : Files). l f) first ∙ with_file_here old f (take 0 (old f))) ∙ overlaid_none head
+    here = ap (λ (l : Files). l f) then ∙ with_file_here mid f (overlay_bytes 0 head (mid f)) ∙ ap (λ (l : List ℕ). overlay_bytes 0 head l) (ap (λ (l : Files). l f) first ∙ with_file_here old f (take 0 (old f))) ∙ overlaid_none head
 
     at_each : (g : ℕ) → new g ≡ with_file old f head g
     at_each g = elim (cases_eq g f) [
       | inl is ↦ ap new is ∙ here ∙ sym (with_file_here old f head) ∙ ap (with_file old f head) (sym is)
-      | inr other ↦ ap (λ (l : Files). l g) then ∙ with_file_other mid f (overlaid 0 head (mid f)) g other ∙ ap (λ (l : Files). l g) first ∙ with_file_other old f (take 0 (old f)) g other ∙ sym (with_file_other old f head g other)
+      | inr other ↦ ap (λ (l : Files). l g) then ∙ with_file_other mid f (overlay_bytes 0 head (mid f)) g other ∙ ap (λ (l : Files). l g) first ∙ with_file_other old f (take 0 (old f)) g other ∙ sym (with_file_other old f head g other)
     ]
 
 pub anyhow : {one : List ℕ → List ℕ → Type 0} (f : ℕ) (y x : Left) → OnDisk f one y x → OnDisk f Anyhow y x
@@ -351,12 +351,12 @@ next_others f n total one two head last not_last = record {
   ];
 }
 
-pub all_others : (f n : ℕ) (content : List ℕ) (old one two three : Files) → one ≡ with_file old f (overlaid (4096 * (n + 1)) content (old f)) → InFile (f + 1) Anyhow one two → three ≡ with_file two f (overlaid (511 + (n + 1)) (1 ∷ []) (two f))
+pub all_others : (f n : ℕ) (content : List ℕ) (old one two three : Files) → one ≡ with_file old f (overlay_bytes (4096 * (n + 1)) content (old f)) → InFile (f + 1) Anyhow one two → three ≡ with_file two f (overlay_bytes (511 + (n + 1)) (1 ∷ []) (two f))
     → (g : ℕ) → g ≢ f → g ≢ f + 1 → three g ≡ old g
 all_others f n content old one two three wrote others gated g here next =
-    ap (λ (l : Files). l g) gated ∙ with_file_other two f (overlaid (511 + (n + 1)) (1 ∷ []) (two f)) g here
+    ap (λ (l : Files). l g) gated ∙ with_file_other two f (overlay_bytes (511 + (n + 1)) (1 ∷ []) (two f)) g here
     ∙ others.others g next
-    ∙ ap (λ (l : Files). l g) wrote ∙ with_file_other old f (overlaid (4096 * (n + 1)) content (old f)) g here
+    ∙ ap (λ (l : Files). l g) wrote ∙ with_file_other old f (overlay_bytes (4096 * (n + 1)) content (old f)) g here
 
 pub all_next : (f : ℕ) (a b : List ℕ) (old one two three : Files) → one ≡ with_file old f a → two ≡ one → three ≡ with_file two f b → three (f + 1) ≡ old (f + 1)
 all_next f a b old one two three wrote same gated =

@@ -11,15 +11,15 @@ use Rattle.dms_audfile.specs.TrailEntries.{trail_entries}
 use Rattle.dms_audfile.specs.declared.audit_end.AuditEnd.{AuditEnd}
 
 -- the bytes of the entries that aren't sealed
-abbrev pub unsealed : AuditEnd → List ℕ
-unsealed end = take end.used (drop 2 end.block.items)
+abbrev pub unsealed_bytes : AuditEnd → List ℕ
+unsealed_bytes end = take end.used (drop 2 end.block.items)
 
 -- The trail that begins with file `first` ends where this value says, nothing of its files is pending, and these entries wait to be sealed.
 pub record EndsAt (end : AuditEnd) (first : ℕ) (waiting : List Entry) (files : Files) (clock : Clock Left) : Type 0 where
   pub low : 10001 ≤ first
   pub writes : IsWrittenUpTo end.total end.tag first end.file end.count files
   pub settled : AreSettled first end.file files clock
-  pub bytes : unsealed end ≡ spellings waiting
+  pub bytes : unsealed_bytes end ≡ spellings waiting
   pub kind : AreNoBegins waiting ⊎ IsAlone waiting
 
 -- a block is in its grammar and holds an entry

@@ -2,7 +2,7 @@
 use Rattle.std.specs.Prelude.{ℕ, ◌+◌, ◌-◌, ◌*◌, ◌<◌, ◌≤◌, ◌≡◌, ◌≢◌, true, List, ◌++◌, length, take}
 use Rattle.dms_moments.specs.Moments.{Clock}
 use Rattle.dms_site.specs.Files.{Files, Left, OnlyIn}
-use Rattle.dms_audfile.specs.Gates.{gate, sealed, is_full}
+use Rattle.dms_audfile.specs.Gates.{gate, sealed_blocks, is_full}
 use Rattle.dms_audfile.specs.Header.{header_fits, tag_said}
 use Rattle.dms_audfile.specs.Trail.{trail_from}
 
@@ -18,7 +18,7 @@ pub record IsSealedUpTo (total n : ℕ) (file : List ℕ) : Type 0 where
 pub record Sealed (total f : ℕ) (blocks : List (List ℕ)) (old new : Files) : Type 0 where
   pub some : ℕ
   pub within : some ≤ length blocks
-  pub here : sealed total (new f) ≡ sealed total (old f) ++ take some blocks
+  pub here : sealed_blocks total (new f) ≡ sealed_blocks total (old f) ++ take some blocks
   pub others : (g : ℕ) → g ≢ f → new g ≡ old g
 
 pub record SealsBlocks (total f : ℕ) (blocks : List (List ℕ)) (old new : Left) : Type 0 where

@@ -135,6 +135,8 @@ impl AuditEnd {
         requires size { length (spelling (entry_seen entry.now)) ≤ 4094 }
         ensures moments { (first : ℕ) (waiting : List meaning.Entry) → IsTrue S.tells → AreNoBegins waiting → EndsAt self.old first waiting (S.files site.old) (S.clock site.old)
             → Steps (Seals self.old.total self.old.tag first (waiting ++ entry_seen entry.now ∷ [])) (S.clock site.old) (S.clock site.new) }
+        ensures seals_alone { IsErrOf result (AudFault.Full self.old.limit) → (first : ℕ) (waiting : List meaning.Entry) → IsTrue S.tells → EndsAt self.old first waiting (S.files site.old) (S.clock site.old)
+            → Steps (Seals self.old.total self.old.tag first waiting) (S.clock site.old) (S.clock site.new) }
         ensures appends { OnOk result ((first : ℕ) (waiting : List meaning.Entry) → IsTrue S.tells → AreNoBegins waiting → EndsAt self.old first waiting (S.files site.old) (S.clock site.old)
             → Appends self.new first (waiting ++ entry_seen entry.now ∷ []) (S.files site.old) (S.files site.new) (S.clock site.new)) }
         ensures before { OnOk result (IsTrue S.tells → (g : ℕ) → g < self.old.file → S.files site.new g ≡ S.files site.old g) }

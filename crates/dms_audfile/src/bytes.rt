@@ -1,20 +1,20 @@
 //! Blocks and headers laid piece by piece.
 
 ghost use Rattle.std.specs.Prelude.{◌≡◌, ◌+◌, ◌≤◌, length, take, drop};
-ghost use Rattle.dms_fields.specs.Fields.{laid};
+ghost use Rattle.dms_fields.specs.Fields.{lay_bytes};
 ghost use Rattle.dms_audrec.specs.Spelling.{spelling, IsEntry};
 ghost use Rattle.dms_audrec.specs.Seen.{entry_seen};
 ghost use Rattle.dms_audfile.specs.Header.{new_header, tag_said};
-ghost use Rattle.dms_audfile.specs.Unsealed.{cleared, block_with};
+ghost use Rattle.dms_audfile.specs.Unsealed.{clear_from, block_with};
 
 use dms_audrec::{Entry, encode};
 use dms_fields::{put_bytes, put_u16, put_u32, put_u64};
 
 // Zeros from a place on.
-#[tactic(auto, using(std::proofs::lemmas::List::places), unfolding(crate::specs::Unsealed::cleared))]
+#[tactic(auto, using(std::proofs::lemmas::List::places), unfolding(crate::specs::Unsealed::clear_from))]
 fn clear(to: &mut [u8], at: usize)
     requires { at ≤ length to.old }
-    ensures { to.new ≡ cleared at to.old }
+    ensures { to.new ≡ clear_from at to.old }
 {
     to[at..].fill(0);
 }
@@ -23,7 +23,7 @@ fn clear(to: &mut [u8], at: usize)
 pub(crate) fn put_entry(block: &mut [u8], at: usize, entry: &Entry<'_>) -> usize
     requires entry { IsEntry (entry_seen entry.now) }
     requires room { at + length (spelling (entry_seen entry.now)) ≤ length block.old }
-    ensures written { block.new ≡ laid at (spelling (entry_seen entry.now)) block.old }
+    ensures written { block.new ≡ lay_bytes at (spelling (entry_seen entry.now)) block.old }
     ensures taken { result ≡ length (spelling (entry_seen entry.now)) }
 {
     let (_before, rest) = block.split_at_mut(at);

@@ -9,7 +9,7 @@ ghost use Rattle.dms_audrec.specs.Seen.{entry_seen};
 ghost use Rattle.dms_audfile.specs.Trail.{trail_from};
 ghost use Rattle.dms_audfile.specs.Sealing.{IsWrittenUpTo, GrowsLeft, AreSettled};
 ghost use Rattle.dms_audfile.specs.Unsealed.{block_with};
-ghost use Rattle.dms_audfile.specs.Ends.{unsealed, file_behind};
+ghost use Rattle.dms_audfile.specs.Ends.{unsealed_bytes, file_behind};
 
 use crate::AuditEnd;
 use crate::bytes::{finish, make_header, put_entry};
@@ -23,7 +23,7 @@ impl AuditEnd {
         requires entry { IsEntry (entry_seen entry.now) }
         requires room { self.old.used + length (spelling (entry_seen entry.now)) ≤ 4094 }
         requires allowed { self.old.file < 20000 }
-        ensures held { unsealed self.new ≡ unsealed self.old ++ spelling (entry_seen entry.now) }
+        ensures held { unsealed_bytes self.new ≡ unsealed_bytes self.old ++ spelling (entry_seen entry.now) }
         ensures used { self.new.used ≡ self.old.used + length (spelling (entry_seen entry.now)) }
         ensures place { (self.new.file ≡ self.old.file) × (self.new.count ≡ self.old.count) }
         ensures kind { (self.new.total ≡ self.old.total) × (self.new.tag ≡ self.old.tag) × (self.new.limit ≡ self.old.limit) }
@@ -38,9 +38,9 @@ impl AuditEnd {
         requires allowed { self.old.file < 20000 }
         ensures moments { (first : ℕ) → IsTrue S.tells → IsWrittenUpTo self.old.total self.old.tag first self.old.file self.old.count (S.files site.old)
             → AreSettled first self.old.file (S.files site.old) (S.clock site.old)
-            → Steps (GrowsLeft self.old.total self.old.tag first self.old.file (block_with (unsealed self.old) ∷ [])) (S.clock site.old) (S.clock site.new) }
+            → Steps (GrowsLeft self.old.total self.old.tag first self.old.file (block_with (unsealed_bytes self.old) ∷ [])) (S.clock site.old) (S.clock site.new) }
         ensures sealed { OnOk result ((first n : ℕ) → IsTrue S.tells → IsWrittenUpTo self.old.total self.old.tag first self.old.file self.old.count (S.files site.old)
-            → self.old.file < first + n → trail_from n self.old.total first (S.files site.new) ≡ trail_from n self.old.total first (S.files site.old) ++ block_with (unsealed self.old) ∷ []) }
+            → self.old.file < first + n → trail_from n self.old.total first (S.files site.new) ≡ trail_from n self.old.total first (S.files site.old) ++ block_with (unsealed_bytes self.old) ∷ []) }
         ensures writes { OnOk result ((first : ℕ) → IsTrue S.tells → IsWrittenUpTo self.old.total self.old.tag first self.old.file self.old.count (S.files site.old)
             → IsWrittenUpTo self.new.total self.new.tag first self.new.file self.new.count (S.files site.new)) }
         ensures before { OnOk result (IsTrue S.tells → (g : ℕ) → g < self.old.file → S.files site.new g ≡ S.files site.old g) }

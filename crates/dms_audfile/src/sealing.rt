@@ -1,7 +1,7 @@
 ghost use Rattle.std.specs.Prelude.{◌≡◌, ◌≢◌, ◌+◌, ◌-◌, ◌*◌, ◌^◌, ◌<◌, ◌≤◌, ◌++◌, [], ◌∷◌, ℕ, length, OnOk, IsTrue};
 ghost use Rattle.dms_base.specs.Causes.{HasCause};
 ghost use Rattle.dms_moments.specs.Moments.{Steps};
-ghost use Rattle.dms_site.specs.Files.{Only, OnDisk, Torn, overlaid, with_file};
+ghost use Rattle.dms_site.specs.Files.{Only, OnDisk, Torn, overlay_bytes, with_file};
 ghost use Rattle.dms_audfile.specs.Header.{new_header, tag_said};
 ghost use Rattle.dms_audfile.specs.Trail.{trail_from};
 ghost use Rattle.dms_audfile.specs.Sealing.{IsWrittenUpTo, GrowsLeft, AreSettled, Anyhow};
@@ -54,7 +54,7 @@ fn start_next<S: Site>(
 /// Writes the content of a block, and makes it stable.
 fn write_content<S: Site>(site: &mut S, file: u32, at: u64, content: &[u8]) -> Result<(), Failed>
     requires { at + length content.now < 2 ^ 40 }
-    ensures written { OnOk result (IsTrue S.tells → S.files site.new ≡ with_file (S.files site.old) file (overlaid at content.now (S.files site.old file))) }
+    ensures written { OnOk result (IsTrue S.tells → S.files site.new ≡ with_file (S.files site.old) file (overlay_bytes at content.now (S.files site.old file))) }
     ensures durable { OnOk result (IsTrue S.tells → Only (S.files site.new) (S.clock site.new)) }
     ensures moments { Steps (OnDisk file (Torn at (length content.now))) (S.clock site.old) (S.clock site.new) }
     ensures said { S.said site.new ≡ S.said site.old }

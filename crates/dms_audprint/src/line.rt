@@ -84,5 +84,5 @@ pub fn line_text(alloc: Global, line: &EntryLine<'_>) -> Result<Bytes, Memory>
     ensures { IfOk result (λ text. text ≡ entry_line line.now.audit line.now.block (entry_seen line.now.entry)) }
 {
     let written = format!(in alloc; "{line}")?;
-    Bytes::copied(alloc, written.as_str().as_bytes())
+    Bytes::copy_of(alloc, written.as_str().as_bytes())
 }

@@ -1,7 +1,7 @@
 -- An entry that is written field by field, and how long entries are.
 use Rattle.std.proofs.Common.{◌≡◌, ℕ, ◌+◌, ◌*◌, ◌/◌, ◌≤◌, List, ◌∷◌, ◌++◌, length, take, sym, ap, ◌∙◌, arith}
 use Rattle.std.specs.Int.{w16, w64, to_be_bytes}
-use Rattle.dms_fields.specs.Fields.{laid}
+use Rattle.dms_fields.specs.Fields.{lay_bytes}
 use Rattle.dms_fields.specs.Laying.{laid_on}
 use Rattle.dms_history.specs.Entries.{Kind, control_point, begin_restore}
 use Rattle.dms_audrec.specs.Reading.{counts_at, rows_at}
@@ -11,10 +11,10 @@ use Rattle.dms_fields.specs.PrefixLaws.{IsBytes}
 use Rattle.dms_audrec.proofs.Callers.{rows_many}
 
 -- one field more
-pub laid_more : (next size : ℕ) (now before text field old : List ℕ) → now ≡ laid next field before → before ≡ laid 0 text old → next ≡ length text → length field ≡ size → next + size ≤ length old
-    → now ≡ laid 0 (text ++ field) old
+pub laid_more : (next size : ℕ) (now before text field old : List ℕ) → now ≡ lay_bytes next field before → before ≡ lay_bytes 0 text old → next ≡ length text → length field ≡ size → next + size ≤ length old
+    → now ≡ lay_bytes 0 (text ++ field) old
 laid_more next size now before text field old is done place many room =
-    is ∙ ap (λ (l : List ℕ). laid next field l) done ∙ laid_on 0 next text field old (omega (arith, place)) (omega (arith, many, room))
+    is ∙ ap (λ (l : List ℕ). lay_bytes next field l) done ∙ laid_on 0 next text field old (omega (arith, place)) (omega (arith, many, room))
 
 pub control_length : (n next : ℕ) (list : List ℕ) → length (spelling (control_point n next (counts_at (length list / 8) list))) ≡ 19 + 8 * (length list / 8)
 control_length n next list =

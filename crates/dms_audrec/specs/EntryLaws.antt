@@ -348,22 +348,22 @@ pub record BeginsWithEntry (bytes : List ℕ) (x : Entry × List ℕ) : Type 0 w
 front_of : (kind : ℕ) (bytes : List ℕ) (x : Entry × List ℕ) (k : ℕ) → k ≡ kind → ReadsEntry kind bytes x → BeginsWithEntry (k ∷ bytes) x
 front_of kind bytes x k is read = record { parts = ap (λ j. j ∷ bytes) is ∙ read.parts; is = read.is }
 
-abbrev chosen : ℕ → List ℕ → Option (Entry × List ℕ)
-chosen k rest = cond (k == 1) (schema_at rest) (cond (k == 2) (image_at rest) (cond (k == 3) (quiet_at rest) (cond (k == 4) (control_at rest) (cond (k == 5) (begin_at rest) None))))
+abbrev read_as : ℕ → List ℕ → Option (Entry × List ℕ)
+read_as k rest = cond (k == 1) (schema_at rest) (cond (k == 2) (image_at rest) (cond (k == 3) (quiet_at rest) (cond (k == 4) (control_at rest) (cond (k == 5) (begin_at rest) None))))
 
 pub entry_takes : (bytes : List ℕ) (x : Entry × List ℕ) → IsBytes bytes → entry_at bytes ≡ Some x → BeginsWithEntry bytes x
 unfolding entry_at
 entry_takes [] x fits e = absurd cc
 entry_takes (k ∷ rest) x fits e = elim (cases_eq k 1) [
-  | inl one ↦ front_of 1 rest x k one (schema_takes rest x (λ i. fits (suc i)) (subst (λ j. chosen j rest ≡ Some x) one e))
+  | inl one ↦ front_of 1 rest x k one (schema_takes rest x (λ i. fits (suc i)) (subst (λ j. read_as j rest ≡ Some x) one e))
   | inr not_one ↦ elim (cases_eq k 2) [
-    | inl two ↦ front_of 2 rest x k two (image_takes rest x (λ i. fits (suc i)) (subst (λ j. chosen j rest ≡ Some x) two e))
+    | inl two ↦ front_of 2 rest x k two (image_takes rest x (λ i. fits (suc i)) (subst (λ j. read_as j rest ≡ Some x) two e))
     | inr not_two ↦ elim (cases_eq k 3) [
-      | inl three ↦ front_of 3 rest x k three (quiet_takes rest x (λ i. fits (suc i)) (subst (λ j. chosen j rest ≡ Some x) three e))
+      | inl three ↦ front_of 3 rest x k three (quiet_takes rest x (λ i. fits (suc i)) (subst (λ j. read_as j rest ≡ Some x) three e))
       | inr not_three ↦ elim (cases_eq k 4) [
-        | inl four ↦ front_of 4 rest x k four (control_takes rest x (λ i. fits (suc i)) (subst (λ j. chosen j rest ≡ Some x) four e))
+        | inl four ↦ front_of 4 rest x k four (control_takes rest x (λ i. fits (suc i)) (subst (λ j. read_as j rest ≡ Some x) four e))
         | inr not_four ↦ elim (cases_eq k 5) [
-          | inl five ↦ front_of 5 rest x k five (begin_takes rest x (λ i. fits (suc i)) (subst (λ j. chosen j rest ≡ Some x) five e))
+          | inl five ↦ front_of 5 rest x k five (begin_takes rest x (λ i. fits (suc i)) (subst (λ j. read_as j rest ≡ Some x) five e))
           | inr other ↦ absurd (none_else k rest x not_one not_two not_three not_four other e)
         ]
       ]
@@ -371,7 +371,7 @@ entry_takes (k ∷ rest) x fits e = elim (cases_eq k 1) [
   ]
 ]
   where
-    none_else : (k : ℕ) (rest : List ℕ) (x : Entry × List ℕ) → (k ≡ 1 → ⊥) → (k ≡ 2 → ⊥) → (k ≡ 3 → ⊥) → (k ≡ 4 → ⊥) → (k ≡ 5 → ⊥) → chosen k rest ≡ Some x → ⊥
+    none_else : (k : ℕ) (rest : List ℕ) (x : Entry × List ℕ) → (k ≡ 1 → ⊥) → (k ≡ 2 → ⊥) → (k ≡ 3 → ⊥) → (k ≡ 4 → ⊥) → (k ≡ 5 → ⊥) → read_as k rest ≡ Some x → ⊥
     none_else k rest x a b c d f e = grind (arith, nat_tests)
 
 pub entry_again : (e : Entry) (rest : List ℕ) → IsEntry e → entry_at (spelling e ++ rest) ≡ Some (e, rest)

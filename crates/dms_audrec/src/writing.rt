@@ -1,7 +1,7 @@
 //! Writing an entry.
 
 ghost use Rattle.std.specs.Prelude.{◌≡◌, ◌≤◌, ◌<◌, ◌+◌, ◌*◌, ◌/◌, ◌^◌, length, Some, None};
-ghost use Rattle.dms_fields.specs.Fields.{laid};
+ghost use Rattle.dms_fields.specs.Fields.{lay_bytes};
 ghost use Rattle.dms_history.specs.Entries.{schema_part, image, quiet_point, control_point, begin_restore};
 ghost use Rattle.dms_audrec.specs.Reading.{counts_at, rows_at};
 ghost use Rattle.dms_audrec.specs.Spelling.{spelling, IsEntry, how_number, dump_of, rows_of, begin_bytes};
@@ -13,7 +13,7 @@ use dms_fields::{put_bytes, put_u8, put_u16, put_u32, put_u64};
 fn put_schema(to: &mut [u8], part: u16, parts: u16, text: &[u8])
     requires short { length text.now < 2 ^ 16 }
     requires room { 7 + length text.now ≤ length to.old }
-    ensures { to.new ≡ laid 0 (spelling (schema_part part parts text.now)) to.old }
+    ensures { to.new ≡ lay_bytes 0 (spelling (schema_part part parts text.now)) to.old }
 {
     put_u8(to, 0, 1);
     put_u16(to, 1, part);
@@ -24,7 +24,7 @@ fn put_schema(to: &mut [u8], part: u16, parts: u16, text: &[u8])
 
 fn put_new(to: &mut [u8], file: u32, block: u32, after: &[u8])
     requires room { 10 + length after.now ≤ length to.old }
-    ensures { to.new ≡ laid 0 (spelling (image file block None after.now)) to.old }
+    ensures { to.new ≡ lay_bytes 0 (spelling (image file block None after.now)) to.old }
 {
     put_u8(to, 0, 2);
     put_u32(to, 1, file);
@@ -36,7 +36,7 @@ fn put_new(to: &mut [u8], file: u32, block: u32, after: &[u8])
 fn put_changed(to: &mut [u8], file: u32, block: u32, before: &[u8], after: &[u8])
     requires size { length before.now ≡ 1024 }
     requires room { 1034 + length after.now ≤ length to.old }
-    ensures { to.new ≡ laid 0 (spelling (image file block (Some before.now) after.now)) to.old }
+    ensures { to.new ≡ lay_bytes 0 (spelling (image file block (Some before.now) after.now)) to.old }
 {
     put_u8(to, 0, 2);
     put_u32(to, 1, file);
@@ -48,7 +48,7 @@ fn put_changed(to: &mut [u8], file: u32, block: u32, before: &[u8], after: &[u8]
 
 fn put_quiet(to: &mut [u8], n: u64)
     requires room { 9 ≤ length to.old }
-    ensures { to.new ≡ laid 0 (spelling (quiet_point n)) to.old }
+    ensures { to.new ≡ lay_bytes 0 (spelling (quiet_point n)) to.old }
 {
     put_u8(to, 0, 3);
     put_u64(to, 1, n);
@@ -57,7 +57,7 @@ fn put_quiet(to: &mut [u8], n: u64)
 fn put_control(to: &mut [u8], n: u64, next: u64, list: &[u8])
     requires few { length list.now / 8 < 2 ^ 16 }
     requires room { 19 + 8 * (length list.now / 8) ≤ length to.old }
-    ensures { to.new ≡ laid 0 (spelling (control_point n next (counts_at (length list.now / 8) list.now))) to.old }
+    ensures { to.new ≡ lay_bytes 0 (spelling (control_point n next (counts_at (length list.now / 8) list.now))) to.old }
 {
     let files = list.len() / 8;
     put_u8(to, 0, 4);
@@ -87,7 +87,7 @@ fn parts_of<'a>(how: &BeginHow<'a>) -> (u8, u16, &'a [u8])
 fn put_rows(to: &mut [u8], n: u64, how: u8, dump: u16, list: &[u8])
     requires few { length list.now / 8 < 2 ^ 16 }
     requires room { 14 + 8 * (length list.now / 8) ≤ length to.old }
-    ensures { to.new ≡ laid 0 (begin_bytes n how dump (rows_at (length list.now / 8) list.now)) to.old }
+    ensures { to.new ≡ lay_bytes 0 (begin_bytes n how dump (rows_at (length list.now / 8) list.now)) to.old }
 {
     let rows = list.len() / 8;
     put_u8(to, 0, 5);
@@ -101,7 +101,7 @@ fn put_rows(to: &mut [u8], n: u64, how: u8, dump: u16, list: &[u8])
 fn put_begin(to: &mut [u8], n: u64, how: &BeginHow<'_>)
     requires few { length (rows_of (how_seen how.now)) < 2 ^ 16 }
     requires room { 14 + 8 * length (rows_of (how_seen how.now)) ≤ length to.old }
-    ensures { to.new ≡ laid 0 (spelling (begin_restore n (how_seen how.now))) to.old }
+    ensures { to.new ≡ lay_bytes 0 (spelling (begin_restore n (how_seen how.now))) to.old }
 {
     let (number, dump, list) = parts_of(how);
     put_rows(to, n, number, dump, list);
@@ -129,7 +129,7 @@ pub fn length(entry: &Entry<'_>) -> usize
 pub fn encode(entry: &Entry<'_>, to: &mut [u8]) -> usize
     requires entry { IsEntry (entry_seen entry.now) }
     requires room { length (spelling (entry_seen entry.now)) ≤ length to.old }
-    ensures written { to.new ≡ laid 0 (spelling (entry_seen entry.now)) to.old }
+    ensures written { to.new ≡ lay_bytes 0 (spelling (entry_seen entry.now)) to.old }
     ensures taken { result ≡ length (spelling (entry_seen entry.now)) }
 {
     match entry {

@@ -9,7 +9,7 @@ use Rattle.dms_base.specs.declared.kind.ItemKind.{ItemKind}
 use Rattle.dms_base.specs.declared.kind.ItemKind.TheVariants.{Alpha, Number as Decimal, Bool as OneBit, Field, Link}
 use Rattle.dms_base.specs.declared.kind.Literal.{Literal}
 use Rattle.dms_base.specs.declared.kind.Literal.TheVariants.{Null as NoValue, Text as Quoted, Number as Digits, Bool as Word}
-use Rattle.dms_base.specs.Fits.{fits, scaled, signed, ranged, bits_of, value_of}
+use Rattle.dms_base.specs.Fits.{fits, scale, with_sign, number_within, bits_of, value_of}
 
 -- a value that is given where a test holds passes what the test shows
 if_some : (P : Value → Type 0) (t : Bool) (v : Value) → (t ≡ true → P v) → IfSome (cond t (Some v) None) P
@@ -17,7 +17,7 @@ if_some P true v h = h refl
 if_some P false v h = tt
 
 -- the size of a signed size is that size
-pub size_of_signed : (minus : Bool) (size : ℕ) → unsigned_abs (signed minus size) ≡ size
+pub size_of_signed : (minus : Bool) (size : ℕ) → unsigned_abs (with_sign minus size) ≡ size
 size_of_signed false size = refl
 size_of_signed true zero = refl
 size_of_signed true (suc size) = refl
@@ -26,13 +26,13 @@ no_sign : (size : ℕ) → int_lt (pos size) (pos 0) ≡ false
 no_sign size = grind (arith, ints)
 
 -- what may have its sign is negative only where that is allowed
-sign_of_signed : (s minus : Bool) (size : ℕ) → (s || not minus || size == 0) ≡ true → (s || not (int_lt (signed minus size) (pos 0))) ≡ true
+sign_of_signed : (s minus : Bool) (size : ℕ) → (s || not minus || size == 0) ≡ true → (s || not (int_lt (with_sign minus size) (pos 0))) ≡ true
 sign_of_signed true minus size h = refl
 sign_of_signed false false size h = ap not (no_sign size)
 sign_of_signed false true zero h = ap not (no_sign 0)
 sign_of_signed false true (suc size) h = absurd (grind arith)
 
-ranged_fits : (n m : ℕ) (s minus : Bool) (size : Option ℕ) → IfSome (ranged n s minus size) (λ v. IsTrue (fits (Decimal n m s) v))
+ranged_fits : (n m : ℕ) (s minus : Bool) (size : Option ℕ) → IfSome (number_within n s minus size) (λ v. IsTrue (fits (Decimal n m s) v))
 ranged_fits n m s minus None = tt
 ranged_fits n m s minus (Some size) =
     if_some (λ v. IsTrue (fits (Decimal n m s) v)) _ _
@@ -53,7 +53,7 @@ value_of_fits (Decimal n m s) NoValue = refl
 value_of_fits OneBit NoValue = refl
 value_of_fits (Field n) NoValue = refl
 value_of_fits (Alpha n) (Quoted bytes) = if_some (λ v. IsTrue (fits (Alpha n) v)) _ (Text bytes) (λ h. h)
-value_of_fits (Decimal n m s) (Digits minus digits places) = ranged_fits n m s minus (scaled m digits places)
-value_of_fits (Field n) (Digits minus digits places) = bits_fit n minus (scaled 0 digits places)
+value_of_fits (Decimal n m s) (Digits minus digits places) = ranged_fits n m s minus (scale m digits places)
+value_of_fits (Field n) (Digits minus digits places) = bits_fit n minus (scale 0 digits places)
 value_of_fits OneBit (Word b) = refl
 value_of_fits k l = tt

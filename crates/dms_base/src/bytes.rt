@@ -29,7 +29,7 @@ impl Bytes {
     }
 
     /// The list of these bytes. Answers Err where memory is refused.
-    pub fn copied(alloc: Global, bytes: &[u8]) -> Result<Bytes, Memory>
+    pub fn copy_of(alloc: Global, bytes: &[u8]) -> Result<Bytes, Memory>
         ensures { IfOk result (λ b. b ≡ bytes.now) }
     {
         Ok(Bytes {
@@ -66,6 +66,6 @@ impl Bytes {
     pub fn copy(&self, alloc: Global) -> Result<Bytes, Memory>
         ensures { IfOk result (λ b. b ≡ self.now) }
     {
-        Bytes::copied(alloc, self.kept.as_slice())
+        Bytes::copy_of(alloc, self.kept.as_slice())
     }
 }

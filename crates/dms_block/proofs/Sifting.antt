@@ -2,13 +2,13 @@
 use Rattle.std.proofs.Common.{ℕ, ◌+◌, ◌≤◌, ◌<◌, ◌≡◌, ◌∙◌, Bool, true, false, IsTrue, List, [], ◌∷◌, ◌++◌, length, take, get_or, sym, ap, subst, arith, inl, inr, length-append, if◌then◌else◌}
 use Rattle.std.proofs.lemmas.List.{take_more}
 use Rattle.dms_block.specs.declared.change.Change.{Change}
-use Rattle.dms_block.specs.Content.{Content, FitsIn, NoneOf, differing, differs, grown, with_change}
+use Rattle.dms_block.specs.Content.{Content, FitsIn, NoneOf, differing, differs, counts_after, with_change}
 use Rattle.dms_block.specs.Changing.{apart_at, differing_push, fits_at, fits_in_push, grown_high, grown_push, none_push, none_split, raised_old, with_new}
-use Rattle.dms_block.specs.Content.{AreApart, TakesUp, raised}
+use Rattle.dms_block.specs.Content.{AreApart, TakesUp, raise_count}
 
 pub record Sifted (told : Bool) (content : Content) (owns : ℕ → Bool) (counts : ℕ → ℕ) (kept now : List Change) : Type 0 where
   pub fits : FitsIn kept owns counts
-  pub same_counts : grown kept counts ≡ grown now counts
+  pub same_counts : counts_after kept counts ≡ counts_after now counts
   pub differ : IsTrue told → kept ≡ differing content now
   pub none : (f b : ℕ) → NoneOf f b now → NoneOf f b kept
   pub fewer : length kept ≤ length now
@@ -17,11 +17,11 @@ module _ (told : Bool) (content : Content) (owns : ℕ → Bool) (counts : ℕ �
   chosen : (xs : List Change) (x : Change) (t : Bool) → (IsTrue told → t ≡ differs content x) → IsTrue told → differing content (xs ++ x ∷ []) ≡ (if t then differing content xs ++ x ∷ [] else differing content xs)
   chosen xs x t is tells = differing_push content xs x ∙ ap (λ b. if b then differing content xs ++ x ∷ [] else differing content xs) (sym (is tells))
 
-  kept_new : (kept now : List Change) (x : Change) → Sifted told content owns counts kept now → NoneOf x.id.file x.id.block now → IsTrue (owns x.id.file) × (x.id.block < 2097152) × (x.id.block ≤ grown now counts x.id.file)
+  kept_new : (kept now : List Change) (x : Change) → Sifted told content owns counts kept now → NoneOf x.id.file x.id.block now → IsTrue (owns x.id.file) × (x.id.block < 2097152) × (x.id.block ≤ counts_after now counts x.id.file)
       → (IsTrue told → true ≡ differs content x) → Sifted told content owns counts (kept ++ x ∷ []) (now ++ x ∷ [])
   kept_new kept now x s none fit is = record {
     fits = fits_in_push kept x owns counts s.fits fit.0 fit.1 (omega (arith, fit.2, ap (λ k. k x.id.file) s.same_counts));
-    same_counts = grown_push kept x counts ∙ ap (λ k. raised k x.id.file x.id.block) s.same_counts ∙ sym (grown_push now x counts);
+    same_counts = grown_push kept x counts ∙ ap (λ k. raise_count k x.id.file x.id.block) s.same_counts ∙ sym (grown_push now x counts);
     differ = λ tells. ap (λ (l : List Change). l ++ x ∷ []) (s.differ tells) ∙ sym (chosen now x true is tells);
     none = λ f b h. let parts = none_split f b now x h in none_push f b kept x (s.none f b parts.0) parts.1;
     fewer = omega (arith, s.fewer, length-append kept (x ∷ []), length-append now (x ∷ []));
@@ -30,7 +30,7 @@ module _ (told : Bool) (content : Content) (owns : ℕ → Bool) (counts : ℕ �
   kept_none : (kept now : List Change) (x : Change) → Sifted told content owns counts kept now → x.id.block < counts x.id.file → (IsTrue told → false ≡ differs content x) → Sifted told content owns counts kept (now ++ x ∷ [])
   kept_none kept now x s low is = record {
     fits = s.fits;
-    same_counts = s.same_counts ∙ sym (grown_push now x counts ∙ raised_old (grown now counts) x.id.file x.id.block (omega (arith, low, grown_high now counts x.id.file)));
+    same_counts = s.same_counts ∙ sym (grown_push now x counts ∙ raised_old (counts_after now counts) x.id.file x.id.block (omega (arith, low, grown_high now counts x.id.file)));
     differ = λ tells. s.differ tells ∙ sym (chosen now x false is tells);
     none = λ f b h. s.none f b (none_split f b now x h).0;
     fewer = omega (arith, s.fewer, length-append now (x ∷ []));
@@ -43,8 +43,8 @@ module _ (told : Bool) (content : Content) (owns : ℕ → Bool) (counts : ℕ �
       let x = get_or items i d in
       let there : i < length all = subst (λ (l : List Change). i < length l) is low in
       let none : NoneOf x.id.file x.id.block (take i all) = subst (λ (l : List Change). NoneOf (get_or l i d).id.file (get_or l i d).id.block (take i all)) (sym is) (apart_at all i d other there) in
-      let fit : IsTrue (owns x.id.file) × (x.id.block < 2097152) × (x.id.block ≤ grown (take i all) counts x.id.file) =
-      subst (λ (l : List Change). IsTrue (owns (get_or l i d).id.file) × ((get_or l i d).id.block < 2097152) × ((get_or l i d).id.block ≤ grown (take i all) counts (get_or l i d).id.file)) (sym is) (fits_at all owns counts i d fits there) in
+      let fit : IsTrue (owns x.id.file) × (x.id.block < 2097152) × (x.id.block ≤ counts_after (take i all) counts x.id.file) =
+      subst (λ (l : List Change). IsTrue (owns (get_or l i d).id.file) × ((get_or l i d).id.block < 2097152) × ((get_or l i d).id.block ≤ counts_after (take i all) counts (get_or l i d).id.file)) (sym is) (fits_at all owns counts i d fits there) in
       let longer : take (i + 1) all ≡ take i all ++ x ∷ [] = subst (λ l. take (i + 1) l ≡ take i l ++ x ∷ []) is (take_more items i d low) in
       let more : kept' ≡ kept ++ x ∷ [] = made ∙ with_new x.id.file x.id.block x.block.0 kept (s.none x.id.file x.id.block none) in
       subst (λ (l : List Change). Sifted told content owns counts l (take (i + 1) all)) (sym more) (subst (λ (l : List Change). Sifted told content owns counts (kept ++ x ∷ []) l) (sym longer) (kept_new kept (take i all) x s none fit differs_is))

@@ -13,26 +13,26 @@ abbrev pub block_in : Content → ℕ → ℕ → List ℕ
 block_in c f b = slice_index_or (c f) b []
 
 -- an element is another one, or a new one at the end
-abbrev pub laid : ℕ → List ℕ → List (List ℕ) → List (List ℕ)
-laid b x l = take b l ++ (x ∷ drop (suc b) l)
+abbrev pub put_block : ℕ → List ℕ → List (List ℕ) → List (List ℕ)
+put_block b x l = take b l ++ (x ∷ drop (suc b) l)
 
 -- one block is another one, or a new one at the end
 unfoldable pub with_block : Content → ℕ → ℕ → List ℕ → Content
-with_block c f b x = λ g. if g == f then laid b x (c f) else c g
+with_block c f b x = λ g. if g == f then put_block b x (c f) else c g
 
 -- the changes, one after another
-abbrev pub changed : List Change → Content → Content
-changed [] c = c
-changed (x ∷ xs) c = changed xs (with_block c x.id.file x.id.block x.block.0)
+abbrev pub apply_changes : List Change → Content → Content
+apply_changes [] c = c
+apply_changes (x ∷ xs) c = apply_changes xs (with_block c x.id.file x.id.block x.block.0)
 
 -- a count of blocks after one block was changed, or is new
-abbrev pub raised : (ℕ → ℕ) → ℕ → ℕ → ℕ → ℕ
-raised counts f b = λ g. if g == f then max (counts g) (b + 1) else counts g
+abbrev pub raise_count : (ℕ → ℕ) → ℕ → ℕ → ℕ → ℕ
+raise_count counts f b = λ g. if g == f then max (counts g) (b + 1) else counts g
 
 -- the counts after changes
-abbrev pub grown : List Change → (ℕ → ℕ) → ℕ → ℕ
-grown [] counts = counts
-grown (x ∷ xs) counts = grown xs (raised counts x.id.file x.id.block)
+abbrev pub counts_after : List Change → (ℕ → ℕ) → ℕ → ℕ
+counts_after [] counts = counts
+counts_after (x ∷ xs) counts = counts_after xs (raise_count counts x.id.file x.id.block)
 
 -- the first block number that no file has
 abbrev pub limit : ℕ
@@ -41,7 +41,7 @@ limit = 2097152
 -- Changes are of files that the object owns and of blocks below the limit, and each new block stands at its file's count.
 abbrev pub FitsIn : List Change → (ℕ → Bool) → (ℕ → ℕ) → Type 0
 FitsIn [] owns counts = Unit {0}
-FitsIn (x ∷ xs) owns counts = IsTrue (owns x.id.file) × (x.id.block < limit) × (x.id.block ≤ counts x.id.file) × FitsIn xs owns (raised counts x.id.file x.id.block)
+FitsIn (x ∷ xs) owns counts = IsTrue (owns x.id.file) × (x.id.block < limit) × (x.id.block ≤ counts x.id.file) × FitsIn xs owns (raise_count counts x.id.file x.id.block)
 
 -- a change of this block
 abbrev pub is_of : ℕ → ℕ → Change → Bool

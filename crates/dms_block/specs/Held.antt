@@ -1,5 +1,5 @@
 -- What blocks tell of themselves, and what their calls leave of that.
-use Rattle.std.specs.Prelude.{ℕ, ◌+◌, ◌-◌, ◌≤◌, ◌<◌, ◌^◌, ◌≡◌, ◌++◌, Bool, IsTrue, List, [], ◌∷◌, length, take, Some, min, IsErrOf, OnOk, ◌⊎◌}
+use Rattle.std.specs.Prelude.{ℕ, ◌+◌, ◌-◌, ◌%◌, ◌≤◌, ◌<◌, ◌==◌, ◌^◌, ◌≡◌, ◌++◌, ◌&&◌, not, Bool, IsTrue, List, [], ◌∷◌, length, take, Some, min, IsErrOf, OnOk, ◌⊎◌}
 use Rattle.std.specs.declared.option.Option.{Option}
 use Rattle.std.specs.declared.result.Result.{Result}
 use Rattle.std.specs.declared.result.Result.TheVariants.{Ok, Err}
@@ -154,6 +154,19 @@ pub record SameBlocks (a b : Held) : Type 0 where
 -- one more, unless the count stands at its type's end
 abbrev pub one_more : ℕ → ℕ
 one_more n = min (n + 1) (2 ^ 64 - 1)
+
+-- the audit file that may not be passed where something is changed, and how many syncs go before each control point; 0 where none follows a sync
+pub record AuditPace : Type 0 where
+  pub last : ℕ
+  pub every : ℕ
+
+-- a control point follows the sync that is this one, counted from the opening
+abbrev pub is_due_at : ℕ → ℕ → Bool
+is_due_at every n = not (every == 0) && (n % every == 0)
+
+-- a control point follows the sync behind so many others
+abbrev pub is_due : ℕ → ℕ → Bool
+is_due every syncs = is_due_at every (one_more syncs)
 
 -- a count rose by one at most
 abbrev pub IsUpToOne : ℕ → ℕ → Type 0

@@ -6,20 +6,20 @@ use Rattle.dms_block.specs.declared.block_fault.BlockFault.{BlockFault}
 use Rattle.dms_block.specs.declared.blocks.Blocks.{Ghosts}
 use Rattle.dms_block.specs.declared.overlay.Overlay.{Overlay}
 use Rattle.dms_block.specs.Changing.{grown_is}
-use Rattle.dms_block.specs.Content.{changed}
+use Rattle.dms_block.specs.Content.{apply_changes}
 use Rattle.dms_block.specs.Faults.{NotFull}
 use Rattle.dms_block.specs.Held.{BlocksAgree}
 use Rattle.dms_block.specs.HeldLaws.{looks_as, looks_more, looks_none, looks_on}
-use Rattle.dms_block.specs.View.{ReadsOverlay, seen, seen_counts, under, written}
+use Rattle.dms_block.specs.View.{ReadsOverlay, overlay_content, seen_counts, under, overlay_changes}
 
 module _ {B : Type 0} {g : Ghosts B} where
   -- the counts that are seen are those of the content that is seen
-  pub counts_seen : (o : Overlay B g) → BlocksAgree (under o) → IsTrue (under o).told → (f : ℕ) → seen_counts o f ≡ length (seen o f)
-  counts_seen o agrees told f = grown_is (written o) (under o).owns (under o).counts (under o).content (agrees.counted told) o.fits f
+  pub counts_seen : (o : Overlay B g) → BlocksAgree (under o) → IsTrue (under o).told → (f : ℕ) → seen_counts o f ≡ length (overlay_content o f)
+  counts_seen o agrees told f = grown_is (overlay_changes o) (under o).owns (under o).counts (under o).content (agrees.counted told) o.fits f
 
   -- reads alone leave what is seen
-  pub seen_still : {T : Type 0} {n : ℕ} {x : T} {old new : Overlay B g} → ReadsOverlay n (Ok x) old new → IsTrue (under old).told → seen new ≡ seen old
-  seen_still {old = old} {new = new} reads told = λ i. changed (reads.written_still i) (reads.looks.same.content told i)
+  pub seen_still : {T : Type 0} {n : ℕ} {x : T} {old new : Overlay B g} → ReadsOverlay n (Ok x) old new → IsTrue (under old).told → overlay_content new ≡ overlay_content old
+  seen_still {old = old} {new = new} reads told = λ i. apply_changes (reads.written_still i) (reads.looks.same.content told i)
 
   pub reads_none : {T : Type 0} (n : ℕ) (r : Result T BlockFault) (o : Overlay B g) → ((b : B) → g.same_blocks b b) → NotFull r → (under o).sound → ReadsOverlay n r o o
   reads_none n r o again room sound = record { written_still = refl; looks = looks_none n r (under o) room sound; same = again o.below }

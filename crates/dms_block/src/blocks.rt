@@ -1,6 +1,6 @@
-ghost use Rattle.std.specs.Prelude.{◌≡◌, ◌≤◌, ◌<◌, ◌+◌, ◌^◌, ◌++◌, [], ◌∷◌, ℕ, IfOk, OnOk, IsErrOf, IsOkUnless, IsTrue, length, min, ◌-◌};
-ghost use Rattle.dms_block.specs.Content.{block_in, changed, grown, FitsIn};
-ghost use Rattle.dms_block.specs.Held.{BlocksAgree, Alters, HasCauses, Held, IfTold, Lasts, Leaves, LeavesText, Looks, MadeQuiet, MadeDurable, MakesNoPoint, HasNextNumber, SameBlocks, Stays, Synced, WentBack, one_more};
+ghost use Rattle.std.specs.Prelude.{◌≡◌, ◌≤◌, ◌<◌, ◌+◌, ◌^◌, ◌++◌, [], ◌∷◌, IfOk, OnOk, IsErrOf, IsOkUnless, IsTrue, length, min, ◌-◌, true};
+ghost use Rattle.dms_block.specs.Content.{block_in, apply_changes, counts_after, FitsIn};
+ghost use Rattle.dms_block.specs.Held.{AuditPace, BlocksAgree, Alters, HasCauses, Held, IfTold, is_due, Lasts, Leaves, LeavesText, Looks, MadeQuiet, MadeDurable, MakesNoPoint, HasNextNumber, SameBlocks, Stays, Synced, WentBack, one_more};
 ghost use Rattle.dms_block.specs.Faults.{IfFull};
 ghost use Rattle.dms_block.specs.Texts.{Prints, PrintsPrefix};
 
@@ -18,8 +18,8 @@ pub trait Blocks {
     /// The same object, at another time.
     ghost same_blocks: { Self → Self → Type 0 };
 
-    /// The audit file that Full names where something is changed.
-    ghost last: { Self → ℕ };
+    /// The audit file that Full names where something is changed, and how many syncs go before each control point.
+    ghost pace: { Self → AuditPace };
 
     /// How many blocks a file has.
     fn count(&self, file: u32) -> u32
@@ -41,16 +41,17 @@ pub trait Blocks {
     fn apply(&mut self, alloc: Global, changes: &Changes) -> Result<(), BlockFault>
         requires sound { (held self.old).sound }
         requires fits { FitsIn changes.now.items.items (held self.old).owns (held self.old).counts }
-        ensures counts { OnOk result ((held self.new).counts ≡ grown changes.now.items.items (held self.old).counts) }
-        ensures content { OnOk result (IsTrue (held self.old).told → (held self.new).content ≡ changed changes.now.items.items (held self.old).content) }
+        ensures counts { OnOk result ((held self.new).counts ≡ counts_after changes.now.items.items (held self.old).counts) }
+        ensures content { OnOk result (IsTrue (held self.old).told → (held self.new).content ≡ apply_changes changes.now.items.items (held self.old).content) }
         ensures alters { Alters 0 (length changes.now.items.items) result (held self.old) (held self.new) }
         ensures spent { OnOk result ((held self.new).uses.spent ≡ min ((held self.old).uses.spent + length changes.now.items.items) (2 ^ 64 - 1)) }
         ensures causes { HasCauses result (held self.old) (held self.new) }
         ensures silent { IsErrOf result BlockFault.Say → ⊥ }
-        ensures full { IfFull result (λ f. f ≡ last self.old) }
+        ensures full { IfFull result (λ f. f ≡ (pace self.old).last) }
         ensures same { same_blocks self.old self.new };
 
     /// Makes a quiet point, and answers its number. Takes no memory. Where the next number is 2^64 - 1 it stays so.
+    /// Where the audit has no room no stop leaves the new point.
     fn quiet(&mut self) -> Result<u64, BlockFault>
         requires { (held self.old).sound }
         ensures number { HasNextNumber (held self.old) → IfOk result (λ n. n ≡ (held self.old).next) }
@@ -64,10 +65,11 @@ pub trait Blocks {
         ensures memory { IsErrOf result BlockFault.Memory → ⊥ }
         ensures causes { HasCauses result (held self.old) (held self.new) }
         ensures silent { IsErrOf result BlockFault.Say → ⊥ }
-        ensures full { IfFull result (λ f. f ≡ last self.old) }
+        ensures full { IfFull result (λ f. f ≡ (pace self.old).last) }
+        ensures no_point { let a = held self.old in IfFull result (λ f. IfTold a (Leaves a (held self.new) a.points a.next)) }
         ensures same { same_blocks self.old self.new };
 
-    /// Makes all quiet points so far durable. Takes no memory.
+    /// Makes all quiet points so far durable. Takes no memory. The audit may have no room only where a control point is due.
     fn sync(&mut self) -> Result<(), BlockFault>
         requires { (held self.old).sound }
         ensures made { OnOk result (MadeDurable (held self.old) (held self.new)) }
@@ -76,7 +78,8 @@ pub trait Blocks {
         ensures memory { IsErrOf result BlockFault.Memory → ⊥ }
         ensures causes { HasCauses result (held self.old) (held self.new) }
         ensures silent { IsErrOf result BlockFault.Say → ⊥ }
-        ensures full { IfFull result (λ f. f ≡ last self.old) }
+        ensures full { IfFull result (λ f. f ≡ (pace self.old).last) }
+        ensures due { IfFull result (λ f. is_due (pace self.old).every (held self.old).uses.syncs ≡ true) }
         ensures same { same_blocks self.old self.new };
 
     /// Goes back to the last quiet point, or to the content that it began with. Full names file 9,999.
@@ -113,5 +116,5 @@ pub trait Blocks {
 
     ghost same_then: { (a b c : Self) → same_blocks a b → same_blocks b c → same_blocks a c };
 
-    ghost same_last: { (a b : Self) → same_blocks a b → last b ≡ last a };
+    ghost same_pace: { (a b : Self) → same_blocks a b → pace b ≡ pace a };
 }

@@ -10,7 +10,7 @@ impl<B: Blocks> Blocks for &mut B {
 
     ghost same_blocks = { λ a b. (a.ghost_name ≡ b.ghost_name) × B.Blocks.same_blocks a.now b.now };
 
-    ghost last = { λ s. B.Blocks.last s.now };
+    ghost pace = { λ s. B.Blocks.pace s.now };
 
     ghost agrees = { λ s sound. B.Blocks.agrees s.now sound };
 
@@ -18,7 +18,7 @@ impl<B: Blocks> Blocks for &mut B {
 
     ghost same_then = { λ a b c one two. (one.0 ∙ two.0, B.Blocks.same_then a.now b.now c.now one.1 two.1) };
 
-    ghost same_last = { λ a b same. B.Blocks.same_last a.now b.now same.1 };
+    ghost same_pace = { λ a b same. B.Blocks.same_pace a.now b.now same.1 };
 
     fn count(&self, file: u32) -> u32 {
         (**self).count(file)

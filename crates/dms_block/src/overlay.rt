@@ -1,9 +1,9 @@
 ghost use Rattle.std.specs.Prelude.{◌≡◌, ◌<◌, ◌+◌, ◌==◌, if◌then◌else◌, max, [], IfOk};
 ghost use Rattle.std.proofs.Props.{props};
-ghost use Rattle.dms_block.specs.Content.{FitsIn, limit, raised};
+ghost use Rattle.dms_block.specs.Content.{FitsIn, limit, raise_count};
 ghost use Rattle.dms_block.specs.Changing.{FitsIn-prop};
 
-use crate::sift::sifted;
+use crate::sift::sift;
 use crate::{Block, BlockFault, BlockId, Blocks, Change, Changes};
 use std::alloc::Global;
 
@@ -31,12 +31,12 @@ impl<B: Blocks> Overlay<B> {
     ghost use Rattle.dms_block.specs.Content.{block_in, differing, with_block};
     ghost use Rattle.dms_block.specs.Faults.{IfFull};
     ghost use Rattle.dms_block.specs.Held.{Alters, HasCauses};
-    ghost use Rattle.dms_block.specs.View.{ReadsOverlay, seen, seen_counts, under, written};
+    ghost use Rattle.dms_block.specs.View.{ReadsOverlay, overlay_content, seen_counts, under, overlay_changes};
 
     /// Nothing is written yet.
     pub fn new(alloc: Global, below: B) -> Overlay<B>
         ensures below { result.below ≡ below }
-        ensures written { written result ≡ [] }
+        ensures written { overlay_changes result ≡ [] }
     {
         Overlay {
             below,
@@ -60,7 +60,7 @@ impl<B: Blocks> Overlay<B> {
     pub fn read(&mut self, alloc: Global, id: BlockId) -> Result<Block, BlockFault>
         requires sound { (under self.old).sound }
         requires there { id.block < seen_counts self.old id.file }
-        ensures block { IfOk result (λ x. IsTrue (under self.old).told → x.0 ≡ block_in (seen self.old) id.file id.block) }
+        ensures block { IfOk result (λ x. IsTrue (under self.old).told → x.0 ≡ block_in (overlay_content self.old) id.file id.block) }
         ensures reads { ReadsOverlay 1 result self.old self.new }
         ensures causes { HasCauses result (under self.old) (under self.new) }
         ensures silent { IsErrOf result BlockFault.Say → ⊥ }
@@ -78,10 +78,10 @@ impl<B: Blocks> Overlay<B> {
         requires low { id.block < limit }
         requires next { id.block ≤ seen_counts self.old id.file }
         ensures below { self.new.below ≡ self.old.below }
-        ensures seen { OnOk result (IsTrue (under self.old).told → (under self.old).sound → seen self.new ≡ with_block (seen self.old) id.file id.block block.now.0) }
-        ensures counts { OnOk result (seen_counts self.new ≡ raised (seen_counts self.old) id.file id.block) }
-        ensures more { length (written self.new) ≤ length (written self.old) + 1 }
-        ensures err { OnErr result (written self.new ≡ written self.old) }
+        ensures seen { OnOk result (IsTrue (under self.old).told → (under self.old).sound → overlay_content self.new ≡ with_block (overlay_content self.old) id.file id.block block.now.0) }
+        ensures counts { OnOk result (seen_counts self.new ≡ raise_count (seen_counts self.old) id.file id.block) }
+        ensures more { length (overlay_changes self.new) ≤ length (overlay_changes self.old) + 1 }
+        ensures err { OnErr result (overlay_changes self.new ≡ overlay_changes self.old) }
         ensures memory { OnErr result (IsErrOf result BlockFault.Memory) }
     {
         self.changes.set(id, block)
@@ -91,17 +91,17 @@ impl<B: Blocks> Overlay<B> {
     /// Answers Disk, Memory, Full or Damaged where a read below or that call does, and Memory where the list of these blocks is refused.
     pub fn finish(&mut self, alloc: Global) -> Result<(), BlockFault>
         requires sound { (under self.old).sound }
-        ensures written { written self.new ≡ [] }
+        ensures written { overlay_changes self.new ≡ [] }
         ensures counts { OnOk result ((under self.new).counts ≡ seen_counts self.old) }
-        ensures content { OnOk result (IsTrue (under self.old).told → (under self.new).content ≡ seen self.old) }
-        ensures alters { Alters (length (written self.old)) (length (written self.old)) result (under self.old) (under self.new) }
-        ensures spent { OnOk result (IsTrue (under self.old).told → (under self.new).uses.spent ≤ (under self.old).uses.spent + length (differing (under self.old).content (written self.old))) }
+        ensures content { OnOk result (IsTrue (under self.old).told → (under self.new).content ≡ overlay_content self.old) }
+        ensures alters { Alters (length (overlay_changes self.old)) (length (overlay_changes self.old)) result (under self.old) (under self.new) }
+        ensures spent { OnOk result (IsTrue (under self.old).told → (under self.new).uses.spent ≤ (under self.old).uses.spent + length (differing (under self.old).content (overlay_changes self.old))) }
         ensures causes { HasCauses result (under self.old) (under self.new) }
         ensures silent { IsErrOf result BlockFault.Say → ⊥ }
-        ensures full { IfFull result (λ f. f ≡ B.last self.old.below) }
+        ensures full { IfFull result (λ f. f ≡ (B.pace self.old.below).last) }
         ensures same { B.same_blocks self.old.below self.new.below }
     {
-        let kept = sifted(&mut self.below, alloc, &self.changes);
+        let kept = sift(&mut self.below, alloc, &self.changes);
         self.changes.items.clear();
         self.below.apply(alloc, &kept?)
     }
@@ -116,7 +116,7 @@ impl<B: Blocks> Overlay<B> {
     /// Drops what was written.
     pub fn forget(&mut self)
         ensures below { self.new.below ≡ self.old.below }
-        ensures written { written self.new ≡ [] }
+        ensures written { overlay_changes self.new ≡ [] }
     {
         self.changes.items.clear();
     }

@@ -1,5 +1,5 @@
 ghost use Rattle.std.specs.Prelude.{◌≡◌, ◌≤◌, ◌<◌, IfOk, OnOk, IsErrOf, IsTrue, length, true, false};
-ghost use Rattle.dms_block.specs.Content.{FitsIn, TakesUp, differing, differs, grown};
+ghost use Rattle.dms_block.specs.Content.{FitsIn, TakesUp, differing, differs, counts_after};
 ghost use Rattle.dms_block.specs.Held.{HasCauses, Looks};
 
 use crate::{BlockFault, Blocks, Change, Changes};
@@ -46,7 +46,7 @@ fn take_up<B: Blocks>(
 }
 
 /// The changes that differ from what stands below.
-pub fn sifted<B: Blocks>(
+pub fn sift<B: Blocks>(
     below: &mut B,
     alloc: Global,
     changes: &Changes,
@@ -54,7 +54,7 @@ pub fn sifted<B: Blocks>(
     requires sound { (B.held below.old).sound }
     requires fits { FitsIn changes.now.items.items (B.held below.old).owns (B.held below.old).counts }
     ensures kept { IfOk result (λ kept. IsTrue (B.held below.old).told → kept.items.items ≡ differing (B.held below.old).content changes.now.items.items) }
-    ensures counts { IfOk result (λ kept. grown kept.items.items (B.held below.old).counts ≡ grown changes.now.items.items (B.held below.old).counts) }
+    ensures counts { IfOk result (λ kept. counts_after kept.items.items (B.held below.old).counts ≡ counts_after changes.now.items.items (B.held below.old).counts) }
     ensures fits { IfOk result (λ kept. FitsIn kept.items.items (B.held below.old).owns (B.held below.old).counts) }
     ensures fewer { IfOk result (λ kept. length kept.items.items ≤ length changes.now.items.items) }
     ensures looks { Looks (length changes.now.items.items) result (B.held below.old) (B.held below.new) }

@@ -14,11 +14,11 @@ bytes_of w None = []
 bytes_of w (Some i) = w.bytes i
 
 -- the files by number, of 32 bits, for a way to name them
-unfoldable pub seen : (ℕ → List ℕ) → World → Files
-seen name w = λ f. if nat_lt f (2 ^ 32) then bytes_of w (w.names (name f)) else []
+unfoldable pub site_files : (ℕ → List ℕ) → World → Files
+site_files name w = λ f. if nat_lt f (2 ^ 32) then bytes_of w (w.names (name f)) else []
 
 abbrev pub left_of : (ℕ → List ℕ) → World → Left
-left_of name w = record { files = seen name w; said = w.said }
+left_of name w = record { files = site_files name w; said = w.said }
 
 -- the moments of the calls, as they are seen
 unfoldable pub seen_clock : (ℕ → List ℕ) → Clock World → Clock Left
@@ -45,22 +45,22 @@ module _ (name : ℕ → List ℕ) {a b : Clock World} where
 
 module _ (name : ℕ → List ℕ) where
   -- files that are behind their names the same are seen the same
-  pub seen_alike : (v w : World) → ((f : ℕ) → f < 2 ^ 32 → bytes_of v (v.names (name f)) ≡ bytes_of w (w.names (name f))) → seen name v ≡ seen name w
-  unfolding seen
+  pub seen_alike : (v w : World) → ((f : ℕ) → f < 2 ^ 32 → bytes_of v (v.names (name f)) ≡ bytes_of w (w.names (name f))) → site_files name v ≡ site_files name w
+  unfolding site_files
   seen_alike v w same = λ i f. alike f i
     where
-      alike : (f : ℕ) → seen name v f ≡ seen name w f
+      alike : (f : ℕ) → site_files name v f ≡ site_files name w f
       alike f = elim (cases_lt f (2 ^ 32)) [
         | inl low ↦ grind (arith, nat_tests, low, same f low)
         | inr high ↦ grind (arith, nat_tests, high)
       ]
 
-  pub seen_at : (w : World) (f : ℕ) → f < 2 ^ 32 → seen name w f ≡ bytes_of w (w.names (name f))
-  unfolding seen
+  pub seen_at : (w : World) (f : ℕ) → f < 2 ^ 32 → site_files name w f ≡ bytes_of w (w.names (name f))
+  unfolding site_files
   seen_at w f low = grind (arith, nat_tests, low)
 
-  pub seen_at_same : (v w : World) (f : ℕ) → (f < 2 ^ 32 → bytes_of v (v.names (name f)) ≡ bytes_of w (w.names (name f))) → seen name v f ≡ seen name w f
-  unfolding seen
+  pub seen_at_same : (v w : World) (f : ℕ) → (f < 2 ^ 32 → bytes_of v (v.names (name f)) ≡ bytes_of w (w.names (name f))) → site_files name v f ≡ site_files name w f
+  unfolding site_files
   seen_at_same v w f same = elim (cases_lt f (2 ^ 32)) [
     | inl low ↦ grind (arith, nat_tests, low, same low)
     | inr high ↦ grind (arith, nat_tests, high)

@@ -1,7 +1,7 @@
 ghost use Rattle.std.specs.Prelude.{IsTrue, ◌≡◌, ◌+◌, ◌^◌, ◌<◌, ◌≤◌, ℕ, Bool, false, List, [], ◌∷◌, ◌++◌, length, take, drop, IfOk, OnOk, Some, None, MatchOption};
 ghost use Rattle.std.specs.declared.option.Option.{Option};
 ghost use Rattle.dms_moments.specs.Moments.{Clock, Now, Steps};
-ghost use Rattle.dms_site.specs.Files.{range, overlaid, padded, Torn, Cut};
+ghost use Rattle.dms_site.specs.Files.{range, overlay_bytes, pad_zeros, Torn, Cut};
 ghost use Rattle.dms_calls.specs.Names.{IsFileName};
 ghost use Rattle.dms_calls.specs.World.{World, Unchanged, OnFile, MakesFile, Speaks, StableFile, StableNames, AllGiven};
 
@@ -83,7 +83,7 @@ pub trait Calls {
         requires broken { broken self.old ≡ false }
         requires bound { at + length bytes.now < 2 ^ 63 }
         ensures count { IfOk result (λ n. n ≤ length bytes.now) }
-        ensures written { IfOk result (λ n. IsTrue tells → 0 < n → (world self.new).bytes (file handle.now) ≡ overlaid at (take n bytes.now) ((world self.old).bytes (file handle.now))) }
+        ensures written { IfOk result (λ n. IsTrue tells → 0 < n → (world self.new).bytes (file handle.now) ≡ overlay_bytes at (take n bytes.now) ((world self.old).bytes (file handle.now))) }
         ensures torn { OnFile (file handle.now) (Torn at (length bytes.now)) (world self.old) (world self.new) }
         ensures moments { Steps (OnFile (file handle.now) (Torn at (length bytes.now))) (clock self.old) (clock self.new) }
         ensures broken { OnOk result (broken self.new ≡ false) };
@@ -91,7 +91,7 @@ pub trait Calls {
     /// Gives a file a length: cuts off what is behind it, or adds zeros, of which a stop may leave a part or other bytes.
     fn ftruncate(&mut self, handle: &Self::Handle, len: u64) -> Result<(), Failed>
         requires broken { broken self.old ≡ false }
-        ensures resized { OnOk result (IsTrue tells → (world self.new).bytes (file handle.now) ≡ take len (padded ((world self.old).bytes (file handle.now)) len)) }
+        ensures resized { OnOk result (IsTrue tells → (world self.new).bytes (file handle.now) ≡ take len (pad_zeros ((world self.old).bytes (file handle.now)) len)) }
         ensures cut { (IsTrue tells → len ≤ length ((world self.old).bytes (file handle.now))) → OnFile (file handle.now) (Cut len) (world self.old) (world self.new) }
         ensures cut_moments { (IsTrue tells → len ≤ length ((world self.old).bytes (file handle.now))) → Steps (OnFile (file handle.now) (Cut len)) (clock self.old) (clock self.new) }
         ensures grown { (IsTrue tells → length ((world self.old).bytes (file handle.now)) ≤ len) → OnFile (file handle.now) (Torn len 0) (world self.old) (world self.new) }

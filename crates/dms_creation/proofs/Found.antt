@@ -2,7 +2,7 @@
 use Rattle.std.proofs.Common.{ℕ, zero, suc, ◌≤◌, ◌≡◌, true, false, List, [], ◌∷◌, ◌++◌, length, take, drop, get_or, refl, ◌∙◌, ap, arith}
 use Rattle.std.specs.Prelude.{◌&&◌, ◌||◌, slice_index}
 use Rattle.std.proofs.lemmas.Bool.{or_right}
-use Rattle.dms_site.specs.Files.{overlaid, padded}
+use Rattle.dms_site.specs.Files.{overlay_bytes, pad_zeros}
 use Rattle.dms_desc.specs.Shape.{Described}
 use Rattle.dms_desc_bytes.specs.Spelling.{spelling}
 use Rattle.dms_descfile.specs.DescriptionFile.{IsSealed, description_file}
@@ -47,7 +47,7 @@ first_whole d =
 -- ---- the description file
 
 opened_file : (database : ℕ) (bytes : List ℕ) → gate_open (description_file 1 database bytes) ≡ description_file 1 1 bytes
-unfolding description_file overlaid padded
+unfolding description_file overlay_bytes pad_zeros
 opened_file database bytes = refl
 
 open_gate : (bytes : List ℕ) → slice_index (description_file 1 1 bytes) 1 ≡ 1

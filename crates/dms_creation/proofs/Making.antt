@@ -6,12 +6,12 @@ use Rattle.std.proofs.lemmas.Bool.{cases_eq}
 use Rattle.std.proofs.lemmas.Bool.Decides.{nat_tests}
 use Rattle.dms_moments.specs.Moments.{Clock, Now, Steps}
 use Rattle.dms_moments.specs.MomentLaws.{runs_weaken, runs_step, runs_on}
-use Rattle.dms_site.specs.Files.{Files, Left, Only, Same, OnDisk, Torn, with_file, overlaid, range}
+use Rattle.dms_site.specs.Files.{Files, Left, Only, Same, OnDisk, Torn, with_file, overlay_bytes, range}
 use Rattle.dms_site.specs.Laws.{torn_overlaid, length-overlaid, range_overlaid, get_or-range, with_file_here, with_file_other}
 use Rattle.std.proofs.lemmas.List.{length-map}
 use Rattle.dms_desc.specs.declared.description.Description.{Description}
 use Rattle.dms_creation.specs.declared.planning.Plan.{Plan}
-use Rattle.dms_desc.specs.Shape.{Described, described, shape_of}
+use Rattle.dms_desc.specs.Shape.{Described, as_described, shape_of}
 use Rattle.dms_desc_bytes.specs.Spelling.{spelling}
 use Rattle.dms_desc_bytes.specs.WellFormed.{IsWellFormed, has_parameters, are_sound}
 use Rattle.dms_desc_bytes.specs.Reading.{ReadBytes, description_at}
@@ -55,17 +55,17 @@ pub sealed_long : (file : List ℕ) (d : Described) → IsSealed file d → 2 �
 unfolding description_file
 sealed_long file d s = omega (arith, ap length s.is)
 
-byte_one : (old : List ℕ) → get_or (overlaid 1 (1 ∷ []) old) 1 0 ≡ 1
-byte_one old = sym (get_or-range 1 1 0 (overlaid 1 (1 ∷ []) old) (omega arith)) ∙ ap (λ (l : List ℕ). get_or l 0 0) (range_overlaid 1 (1 ∷ []) old)
+byte_one : (old : List ℕ) → get_or (overlay_bytes 1 (1 ∷ []) old) 1 0 ≡ 1
+byte_one old = sym (get_or-range 1 1 0 (overlay_bytes 1 (1 ∷ []) old) (omega arith)) ∙ ap (λ (l : List ℕ). get_or l 0 0) (range_overlaid 1 (1 ∷ []) old)
 
 -- only the gate differs
-only_gate : (old new : List ℕ) → 2 ≤ length old → Torn 1 1 old new → get_or new 1 0 ≡ 1 → new ≡ overlaid 1 (1 ∷ []) old
+only_gate : (old new : List ℕ) → 2 ≤ length old → Torn 1 1 old new → get_or new 1 0 ≡ 1 → new ≡ overlay_bytes 1 (1 ∷ []) old
 only_gate old new long torn is =
     let whole = torn_overlaid 1 (1 ∷ []) old in
-    let len : length new ≡ length (overlaid 1 (1 ∷ []) old) = omega (arith, torn.no_shorter, torn.no_longer, length-overlaid 1 (1 ∷ []) old) in
-    ext_get_or 0 new (overlaid 1 (1 ∷ []) old) len (λ k h. at_each whole k (omega (arith, h, torn.no_longer)))
+    let len : length new ≡ length (overlay_bytes 1 (1 ∷ []) old) = omega (arith, torn.no_shorter, torn.no_longer, length-overlaid 1 (1 ∷ []) old) in
+    ext_get_or 0 new (overlay_bytes 1 (1 ∷ []) old) len (λ k h. at_each whole k (omega (arith, h, torn.no_longer)))
   where
-    at_each : Torn 1 1 old (overlaid 1 (1 ∷ []) old) → (k : ℕ) → k < length old → get_or new k 0 ≡ get_or (overlaid 1 (1 ∷ []) old) k 0
+    at_each : Torn 1 1 old (overlay_bytes 1 (1 ∷ []) old) → (k : ℕ) → k < length old → get_or new k 0 ≡ get_or (overlay_bytes 1 (1 ∷ []) old) k 0
     at_each whole zero h = torn.below 0 h (omega arith) ∙ sym (whole.below 0 h (omega arith))
     at_each whole (suc zero) h = is ∙ sym (byte_one old)
     at_each whole (suc (suc k)) h = torn.above (suc (suc k)) h (omega arith) ∙ sym (whole.above (suc (suc k)) h (omega arith))
@@ -151,11 +151,11 @@ pub made_all : (tag : ℕ) (d : Described) (old mid : Files) (a b c e : Clock Le
 made_all tag d old mid a b c e room looks only keeps settled r gate =
     runs_step (made_early tag d old a b c room looks only keeps) gate (λ y x now step. inr (gated_at tag d old mid y x room.long (settled y now) r step))
 
-pub made_files : (tag : ℕ) (d : Described) (old mid new : Files) → IsReadyToOpen tag d old mid → new ≡ with_file mid 1 (overlaid 1 (1 ∷ []) (mid 1)) → IsMade tag d old new
+pub made_files : (tag : ℕ) (d : Described) (old mid new : Files) → IsReadyToOpen tag d old mid → new ≡ with_file mid 1 (overlay_bytes 1 (1 ∷ []) (mid 1)) → IsMade tag d old new
 made_files tag d old mid new r is =
-    let stay : (g : ℕ) → g ≢ 1 → new g ≡ mid g = λ g other. ap (λ (l : Files). l g) is ∙ with_file_other mid 1 (overlaid 1 (1 ∷ []) (mid 1)) g other in
+    let stay : (g : ℕ) → g ≢ 1 → new g ≡ mid g = λ g other. ap (λ (l : Files). l g) is ∙ with_file_other mid 1 (overlay_bytes 1 (1 ∷ []) (mid 1)) g other in
     record {
-      here = ap (λ (l : Files). l 1) is ∙ with_file_here mid 1 (overlaid 1 (1 ∷ []) (mid 1)) ∙ ap (λ (l : List ℕ). overlaid 1 (1 ∷ []) l) (r.apart 1 one_apart);
+      here = ap (λ (l : Files). l 1) is ∙ with_file_here mid 1 (overlay_bytes 1 (1 ∷ []) (mid 1)) ∙ ap (λ (l : List ℕ). overlay_bytes 1 (1 ∷ []) l) (r.apart 1 one_apart);
       trail = trail_kept tag d.blocks (first_entries d) mid new stay r.trail;
       others = λ g a other. stay g other ∙ r.apart g a;
     }
@@ -174,8 +174,8 @@ pub few_structures : (d : Described) → IsTrue (are_sound d.structures) → len
 unfolding are_sound
 few_structures d on = grind (arith, nat_tests)
 
-pub few_kept : (desc : Description) → IsTrue (are_sound (described desc).structures) → length desc.structures ≤ 200
-few_kept desc on = omega (arith, few_structures (described desc) on, length-map desc.structures shape_of)
+pub few_kept : (desc : Description) → IsTrue (are_sound (as_described desc).structures) → length desc.structures ≤ 200
+few_kept desc on = omega (arith, few_structures (as_described desc) on, length-map desc.structures shape_of)
 
 -- ---- the description in a file is one
 
@@ -189,10 +189,10 @@ spelled_once d e good other same = only_read (spelling e) d e (sym (ap (λ (r : 
 same_sealed : (file : List ℕ) (d e : Described) → IsSealed file d → IsSealed file e → d ≡ e
 same_sealed file d e one two = spelled_once d e one.well_formed two.well_formed (sym (behind_head one.database (spelling d) file one.is) ∙ behind_head two.database (spelling e) file two.is)
 
-pub planned_by : (file : List ℕ) (plan : Plan) (desc : Description) (d : Described) → IsSealed file d → IsSealed file (described desc) → plan.bytes ≡ spelling (described desc) → plan.end.total ≡ desc.blocks
+pub planned_by : (file : List ℕ) (plan : Plan) (desc : Description) (d : Described) → IsSealed file d → IsSealed file (as_described desc) → plan.bytes ≡ spelling (as_described desc) → plan.end.total ≡ desc.blocks
     → plan.counts ≡ pair_bytes count_file count_blocks (zero_counts (length desc.structures) 1) → IsPlanOf plan d
 planned_by file plan desc d sealed read bytes total counts =
-    let same : described desc ≡ d = same_sealed file (described desc) d read sealed in
+    let same : as_described desc ≡ d = same_sealed file (as_described desc) d read sealed in
     let many : length desc.structures ≡ length d.structures = sym (length-map desc.structures shape_of) ∙ ap (λ (x : Described). length x.structures) same in
     record {
       bytes = bytes ∙ ap spelling same;

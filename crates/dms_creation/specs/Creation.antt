@@ -3,7 +3,7 @@ use Rattle.std.specs.Prelude.{ℕ, ◌<◌, ◌≤◌, ◌≡◌, ◌≢◌, ◌
 use Rattle.dms_history.specs.Entries.{Entry}
 use Rattle.dms_moments.specs.Moments.{Clock, Now, Runs}
 use Rattle.dms_desc.specs.Shape.{Described}
-use Rattle.dms_site.specs.Files.{Files, Left, overlaid}
+use Rattle.dms_site.specs.Files.{Files, Left, overlay_bytes}
 use Rattle.dms_site.specs.declared.site.Site.{Ghosts}
 use Rattle.dms_audfile.specs.Sealing.{IsWrittenUpTo}
 use Rattle.dms_audfile.specs.Trail.{trail_from}
@@ -14,7 +14,7 @@ use Rattle.dms_creation.specs.FirstEntries.{first_entries}
 
 -- the description file with the database's gate open, its other bytes as they were
 abbrev pub gate_open : List ℕ → List ℕ
-gate_open file = overlaid 1 (1 ∷ []) file
+gate_open file = overlay_bytes 1 (1 ∷ []) file
 
 -- whether the gate of the database is open in a description file
 pub record IsGate (is_open : Bool) (file : List ℕ) : Type 0 where

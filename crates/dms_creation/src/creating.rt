@@ -4,7 +4,7 @@ ghost use Rattle.std.specs.Prelude.{◌≡◌, ◌≢◌, ◌+◌, ◌≤◌, �
 ghost use Rattle.dms_base.specs.Causes.{HasCause, Rose};
 ghost use Rattle.dms_moments.specs.Moments.{Steps};
 ghost use Rattle.dms_site.specs.Files.{Same, Only};
-ghost use Rattle.dms_desc.specs.Shape.{Described, described};
+ghost use Rattle.dms_desc.specs.Shape.{Described, as_described};
 ghost use Rattle.dms_desc_bytes.specs.WellFormed.{IsWellFormed};
 ghost use Rattle.dms_descfile.specs.DescriptionFile.{IsSealed, IsUnsealed};
 ghost use Rattle.dms_audrec.specs.Spelling.{pair_bytes, count_file, count_blocks};
@@ -46,9 +46,9 @@ fn description_without_database<S: Site>(
     alloc: Global,
     site: &mut S,
 ) -> Result<Description, CreationFault>
-    ensures sealed { IfOk result (λ d. IsTrue S.tells → IsSealed (S.files site.old 1) (described d)) }
+    ensures sealed { IfOk result (λ d. IsTrue S.tells → IsSealed (S.files site.old 1) (as_described d)) }
     ensures shut { IfOk result (λ d. IsTrue S.tells → slice_index (S.files site.old 1) 1 ≢ 1) }
-    ensures sound { IfOk result (λ d. IsWellFormed (described d)) }
+    ensures sound { IfOk result (λ d. IsWellFormed (as_described d)) }
     ensures no_description { IsErrOf result CreationFault.NoDescription → IsTrue S.tells → IsUnsealed (S.files site.old 1) }
     ensures exists { IsErrOf result CreationFault.Exists → IsTrue S.tells → slice_index (S.files site.old 1) 1 ≡ 1 }
     ensures described { IsErrOf result CreationFault.Exists → IsTrue S.tells → (d : Described) × IsSealed (S.files site.old 1) d }

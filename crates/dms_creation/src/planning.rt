@@ -1,7 +1,7 @@
 //! What a new database needs in memory, before the first file is changed.
 
 ghost use Rattle.std.specs.Prelude.{◌≡◌, ◌+◌, ◌≤◌, length, IfOk};
-ghost use Rattle.dms_desc.specs.Shape.{described};
+ghost use Rattle.dms_desc.specs.Shape.{as_described};
 ghost use Rattle.dms_desc_bytes.specs.Spelling.{spelling};
 ghost use Rattle.dms_desc_bytes.specs.WellFormed.{IsWellFormed};
 ghost use Rattle.dms_audrec.specs.Spelling.{pair_bytes, count_file, count_blocks};
@@ -43,8 +43,8 @@ fn counts_of(alloc: Global, structures: usize) -> Result<Bytes, Memory>
 
 /// Takes the memory for a new database of a description, with that tag.
 pub(crate) fn make_plan(alloc: Global, desc: &Description, tag: u64) -> Result<Plan, Memory>
-    requires { IsWellFormed (described desc.now) }
-    ensures bytes { IfOk result (λ p. p.bytes ≡ spelling (described desc.now)) }
+    requires { IsWellFormed (as_described desc.now) }
+    ensures bytes { IfOk result (λ p. p.bytes ≡ spelling (as_described desc.now)) }
     ensures counts { IfOk result (λ p. p.counts ≡ pair_bytes count_file count_blocks (zero_counts (length desc.now.structures) 1)) }
     ensures kind { IfOk result (λ p. (p.end.total ≡ desc.now.blocks) × (p.end.tag ≡ tag) × (p.end.limit ≡ 9999)) }
     ensures place { IfOk result (λ p. (p.end.file ≡ 10001) × (p.end.count ≡ 0) × (p.end.used ≡ 0)) }

@@ -12,14 +12,14 @@ use Rattle.dms_desc.specs.Conds.{item_of, or_null}
 abbrev pub key_of : List KeyPart → List Value → List Value
 key_of parts values = map (λ p. item_of values p.item) parts
 
-abbrev pub turned : Bool → Ordering → Ordering
-turned false o = o
-turned true o = ordering_reverse o
+abbrev pub reverse_if : Bool → Ordering → Ordering
+reverse_if false o = o
+reverse_if true o = ordering_reverse o
 
 -- two keys, from their i-th values on
 abbrev pub key_cmp_from : ℕ → List KeyPart → List Value → List Value → Ordering
 key_cmp_from i [] a b = Equal
-key_cmp_from i (p ∷ ps) a b = ordering_then (turned p.descending (value_cmp (or_null (slice_get a i)) (or_null (slice_get b i)))) (key_cmp_from (i + 1) ps a b)
+key_cmp_from i (p ∷ ps) a b = ordering_then (reverse_if p.descending (value_cmp (or_null (slice_get a i)) (or_null (slice_get b i)))) (key_cmp_from (i + 1) ps a b)
 
 -- by the parts in their order, each with its direction
 abbrev pub key_cmp : List KeyPart → List Value → List Value → Ordering

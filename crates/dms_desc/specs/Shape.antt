@@ -51,5 +51,5 @@ pub record Described : Type 0 where
   pub files : ℕ
   pub structures : List Shape
 
-abbrev pub described : Description → Described
-described d = record { syncpoint = d.syncpoint; controlpoint = d.controlpoint; buffers = d.buffers; blocks = d.blocks; files = d.files; structures = map shape_of d.structures }
+abbrev pub as_described : Description → Described
+as_described d = record { syncpoint = d.syncpoint; controlpoint = d.controlpoint; buffers = d.buffers; blocks = d.blocks; files = d.files; structures = map shape_of d.structures }

@@ -29,9 +29,9 @@ module _ {A : Type 0} (less : A → A → Bool) where
   place_in x (y ∷ ys) = if less x y then x ∷ y ∷ ys else y ∷ place_in x ys
 
   -- a list in the order of the test
-  abbrev pub sorted : List A → List A
-  sorted [] = []
-  sorted (x ∷ xs) = place_in x (sorted xs)
+  abbrev pub sort : List A → List A
+  sort [] = []
+  sort (x ∷ xs) = place_in x (sort xs)
 
 module _ {A : Type 0} (less : A → A → Bool) where
   -- no member of a list is less than x
@@ -68,9 +68,9 @@ module _ {A : Type 0} (less : A → A → Bool) where
     InOrder-place_in x (y ∷ ys) order = in_order_put (less x y) x y ys refl order.0 order.1 (InOrder-place_in x ys order.1)
 
     -- a sorted list is in order
-    pub InOrder-sorted : (xs : List A) → InOrder (sorted less xs)
+    pub InOrder-sorted : (xs : List A) → InOrder (sort less xs)
     InOrder-sorted [] = tt
-    InOrder-sorted (x ∷ xs) = InOrder-place_in x (sorted less xs) (InOrder-sorted xs)
+    InOrder-sorted (x ∷ xs) = InOrder-place_in x (sort less xs) (InOrder-sorted xs)
 
   -- What passes the narrow test passes the wide one, and behind a member that passes the wide test alone none passes the narrow one.
   module _ (wide narrow : A → Bool) (within : (x : A) → narrow x ≡ true → wide x ≡ true)

@@ -21,45 +21,45 @@ parts (Either a b) = parts a ++ (parts b ++ inr 2 ∷ [])
 parts (Contrary a) = parts a ++ inr 3 ∷ []
 
 -- a part takes its operands, the last one first
-abbrev pub taken : Part → List Tree → List Tree
-taken (inl c) ts = Test c.0 c.1.0 c.1.1 ∷ ts
-taken (inr zero) ts = Empty ∷ ts
-taken (inr (suc zero)) (b ∷ a ∷ ts) = Both a b ∷ ts
-taken (inr (suc (suc zero))) (b ∷ a ∷ ts) = Either a b ∷ ts
-taken (inr (suc (suc (suc n)))) (a ∷ ts) = Contrary a ∷ ts
-taken (inr n) ts = ts
+abbrev pub take_operands : Part → List Tree → List Tree
+take_operands (inl c) ts = Test c.0 c.1.0 c.1.1 ∷ ts
+take_operands (inr zero) ts = Empty ∷ ts
+take_operands (inr (suc zero)) (b ∷ a ∷ ts) = Both a b ∷ ts
+take_operands (inr (suc (suc zero))) (b ∷ a ∷ ts) = Either a b ∷ ts
+take_operands (inr (suc (suc (suc n)))) (a ∷ ts) = Contrary a ∷ ts
+take_operands (inr n) ts = ts
 
-abbrev pub built : List Part → List Tree → List Tree
-built [] ts = ts
-built (p ∷ ps) ts = built ps (taken p ts)
+abbrev pub build_trees : List Part → List Tree → List Tree
+build_trees [] ts = ts
+build_trees (p ∷ ps) ts = build_trees ps (take_operands p ts)
 
 abbrev pub first_tree : List Tree → Tree
 first_tree [] = Empty
 first_tree (t ∷ ts) = t
 
-built-append : (ps qs : List Part) (ts : List Tree) → built (ps ++ qs) ts ≡ built qs (built ps ts)
+built-append : (ps qs : List Part) (ts : List Tree) → build_trees (ps ++ qs) ts ≡ build_trees qs (build_trees ps ts)
 built-append [] qs ts = refl
-built-append (p ∷ ps) qs ts = built-append ps qs (taken p ts)
+built-append (p ∷ ps) qs ts = built-append ps qs (take_operands p ts)
 
-built-parts : (t : Tree) (ts : List Tree) → built (parts t) ts ≡ t ∷ ts
+built-parts : (t : Tree) (ts : List Tree) → build_trees (parts t) ts ≡ t ∷ ts
 built-parts Empty ts = refl
 built-parts (Test item op value) ts = refl
 built-parts (Both a b) ts =
     built-append (parts a) (parts b ++ inr 1 ∷ []) ts
-    ∙ ap (λ (us : List Tree). built (parts b ++ inr 1 ∷ []) us) (built-parts a ts)
+    ∙ ap (λ (us : List Tree). build_trees (parts b ++ inr 1 ∷ []) us) (built-parts a ts)
     ∙ built-append (parts b) (inr 1 ∷ []) (a ∷ ts)
-    ∙ ap (λ (us : List Tree). built (inr 1 ∷ []) us) (built-parts b (a ∷ ts))
+    ∙ ap (λ (us : List Tree). build_trees (inr 1 ∷ []) us) (built-parts b (a ∷ ts))
 built-parts (Either a b) ts =
     built-append (parts a) (parts b ++ inr 2 ∷ []) ts
-    ∙ ap (λ (us : List Tree). built (parts b ++ inr 2 ∷ []) us) (built-parts a ts)
+    ∙ ap (λ (us : List Tree). build_trees (parts b ++ inr 2 ∷ []) us) (built-parts a ts)
     ∙ built-append (parts b) (inr 2 ∷ []) (a ∷ ts)
-    ∙ ap (λ (us : List Tree). built (inr 2 ∷ []) us) (built-parts b (a ∷ ts))
+    ∙ ap (λ (us : List Tree). build_trees (inr 2 ∷ []) us) (built-parts b (a ∷ ts))
 built-parts (Contrary a) ts =
     built-append (parts a) (inr 3 ∷ []) ts
-    ∙ ap (λ (us : List Tree). built (inr 3 ∷ []) us) (built-parts a ts)
+    ∙ ap (λ (us : List Tree). build_trees (inr 3 ∷ []) us) (built-parts a ts)
 
-pub tree_again : (t : Tree) → first_tree (built (parts t) []) ≡ t
+pub tree_again : (t : Tree) → first_tree (build_trees (parts t) []) ≡ t
 tree_again t = ap first_tree (built-parts t [])
 
 abbrev pub tree_code : Coded Tree
-tree_code = code_by (List Part) (coded_list (coded⊎ (coded× coded_ℕ (coded× op_row.the_row.coded value_row.the_row.coded)) coded_ℕ)) parts (λ ps. first_tree (built ps [])) tree_again
+tree_code = code_by (List Part) (coded_list (coded⊎ (coded× coded_ℕ (coded× op_row.the_row.coded value_row.the_row.coded)) coded_ℕ)) parts (λ ps. first_tree (build_trees ps [])) tree_again

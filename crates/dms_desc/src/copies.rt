@@ -1,5 +1,5 @@
 ghost use Rattle.std.specs.Prelude.{◌≡◌, IfOk, map};
-ghost use Rattle.dms_desc.specs.Shape.{shape_of, described};
+ghost use Rattle.dms_desc.specs.Shape.{shape_of, as_described};
 
 use crate::{Description, Groups, Item, Items, KeyParts, Structure, Structures};
 use dms_base::Memory;
@@ -100,7 +100,7 @@ impl Structures {
 impl Description {
     /// A copy of a description. Answers Err where memory is refused.
     pub fn copy(&self, alloc: Global) -> Result<Description, Memory>
-        ensures { IfOk result (λ d. described d ≡ described self.now) }
+        ensures { IfOk result (λ d. as_described d ≡ as_described self.now) }
     {
         Ok(Description {
             syncpoint: self.syncpoint,

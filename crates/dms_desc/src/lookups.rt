@@ -1,6 +1,6 @@
 ghost use Rattle.std.specs.Prelude.{◌≡◌, map, option_map};
 ghost use Rattle.std.specs.Option.{option_copied};
-ghost use Rattle.dms_desc.specs.Shape.{shape_of, described};
+ghost use Rattle.dms_desc.specs.Shape.{shape_of, as_described};
 ghost use Rattle.dms_desc.specs.Kinds.{is_data_set, is_restart, is_automatic, is_manual, is_set_or_automatic, is_link, over, takes};
 ghost use Rattle.dms_desc.specs.Lookups.{structure_at, structure_of, structure_named, name_of, items_of, parts_of, set_of, part_item, part_kind, after_item, item_named, group_named};
 
@@ -169,21 +169,21 @@ impl Structure {
 impl Description {
     /// The structure with a number.
     pub fn structure(&self, number: u16) -> Option<&Structure>
-        ensures { option_map shape_of (option_copied result) ≡ structure_of (described self.now) number }
+        ensures { option_map shape_of (option_copied result) ≡ structure_of (as_described self.now) number }
     {
         structure_at(self.structures.as_slice(), number)
     }
 
     /// The first structure with a name.
     pub fn structure_named(&self, name: &Name) -> Option<&Structure>
-        ensures { option_map shape_of (option_copied result) ≡ structure_named name.now (described self.now).structures }
+        ensures { option_map shape_of (option_copied result) ≡ structure_named name.now (as_described self.now).structures }
     {
         structure_named(self.structures.as_slice(), name)
     }
 
     /// The name of the structure with a number.
     pub fn name_of(&self, number: u16) -> Name
-        ensures { result ≡ name_of (structure_of (described self.now) number) }
+        ensures { result ≡ name_of (structure_of (as_described self.now) number) }
     {
         match self.structure(number) {
             None => Name::unknown(),
@@ -193,7 +193,7 @@ impl Description {
 
     /// The items and links of the structure with a number; none where it is no data set.
     pub fn items_of(&self, number: u16) -> &[Item]
-        ensures { result.now ≡ items_of (structure_of (described self.now) number) }
+        ensures { result.now ≡ items_of (structure_of (as_described self.now) number) }
     {
         match self.structure(number) {
             None => &[],
@@ -203,7 +203,7 @@ impl Description {
 
     /// The key of the structure with a number; no parts where it has none.
     pub fn parts_of(&self, number: u16) -> &[KeyPart]
-        ensures { result.now ≡ parts_of (structure_of (described self.now) number) }
+        ensures { result.now ≡ parts_of (structure_of (as_described self.now) number) }
     {
         match self.structure(number) {
             None => &[],
@@ -213,7 +213,7 @@ impl Description {
 
     /// The number of the data set whose records the structure with a number holds, 0 where there is no such structure.
     pub fn set_of(&self, number: u16) -> u16
-        ensures { result ≡ set_of (described self.now) number }
+        ensures { result ≡ set_of (as_described self.now) number }
     {
         match self.structure(number) {
             None => 0,

@@ -12,7 +12,7 @@ use Rattle.dms_desc_bytes.specs.Lists.{is_within, apart, total}
 use Rattle.dms_desc_bytes.specs.Reading.{ReadBytes, bytes_at, number_at, several, structure_at, all_structures_at, description_at}
 use Rattle.dms_desc_bytes.specs.Spelling.{structure_bytes, spelling}
 use Rattle.dms_desc.specs.Kinds.{is_restart}
-use Rattle.dms_desc_bytes.specs.WellFormed.{is_sound, numbered, names_differ, not_both_restart, counted_in, has_parameters, are_sound, IsWellFormed}
+use Rattle.dms_desc_bytes.specs.WellFormed.{is_sound, stand_in_order, names_differ, not_both_restart, counted_in, has_parameters, are_sound, IsWellFormed}
 use Rattle.dms_desc_bytes.proofs.Fields.{Again, bytes_again, u16_again}
 use Rattle.dms_desc_bytes.proofs.MemberLaws.{EachAgain, several_again, three}
 use Rattle.dms_desc_bytes.proofs.StructureLaws.{structure_again}
@@ -20,19 +20,19 @@ use Rattle.dms_desc_bytes.proofs.Soundness.{shape_spelled}
 
 -- ---- structures
 
-each_structure : (whole : List Shape) → length whole ≤ 200 → list_all (is_sound whole) whole ≡ true → (k : ℕ) (ss : List Shape) → numbered k ss ≡ true → list_all (is_sound whole) ss ≡ true → EachAgain structure_at structure_bytes k ss
+each_structure : (whole : List Shape) → length whole ≤ 200 → list_all (is_sound whole) whole ≡ true → (k : ℕ) (ss : List Shape) → stand_in_order k ss ≡ true → list_all (is_sound whole) ss ≡ true → EachAgain structure_at structure_bytes k ss
 each_structure whole few all k [] numbers sound = tt
 each_structure whole few all k (s ∷ ss) numbers sound =
-    let number = and_parts (s.number == k) (numbered (k + 1) ss) numbers in
+    let number = and_parts (s.number == k) (stand_in_order (k + 1) ss) numbers in
     let first = and_parts (is_sound whole s) (list_all (is_sound whole) ss) sound in
     let again = structure_again s (shape_spelled whole s few all first.0) in
     (subst (λ (n : ℕ). Again (structure_at n) (structure_bytes s) s) (eqb-true s.number k number.0) again, each_structure whole few all (k + 1) ss number.1 first.1)
 
-sound_parts : (ss : List Shape) → are_sound ss ≡ true → (length ss ≤ 200) × (numbered 1 ss ≡ true) × (list_all (is_sound ss) ss ≡ true)
+sound_parts : (ss : List Shape) → are_sound ss ≡ true → (length ss ≤ 200) × (stand_in_order 1 ss ≡ true) × (list_all (is_sound ss) ss ≡ true)
 unfolding are_sound
 sound_parts ss good =
     let a = nat_le (length ss) 200 in
-    let b = numbered 1 ss in
+    let b = stand_in_order 1 ss in
     let c = apart names_differ ss in
     let d = list_any is_restart ss in
     let e = apart not_both_restart ss in

@@ -11,7 +11,7 @@ use Rattle.std.proofs.lemmas.Slice.Eq.{bytes_eq-Decides}
 use Rattle.dms_base.specs.Name.{is_name, name_of}
 use Rattle.dms_base.specs.Words.{is_word}
 use Rattle.dms_base.specs.Reserved.{is_reserved}
-use Rattle.dms_base.specs.Text.{is_printable, trimmed, text_of}
+use Rattle.dms_base.specs.Text.{is_printable, trim_spaces, text_of}
 use Rattle.dms_base.specs.Fits.{fits}
 use Rattle.dms_base.specs.Spelling.{is_kind}
 use Rattle.dms_base.specs.declared.value.Value.{Value}
@@ -21,8 +21,8 @@ use Rattle.dms_base.specs.declared.kind.ItemKind.TheVariants.{Alpha, Number as D
 use Rattle.dms_desc.specs.Kinds.{is_link}
 use Rattle.dms_desc.specs.Conds.{is_null}
 use Rattle.dms_desc_bytes.specs.Members.{is_plain}
-use Rattle.dms_desc_bytes.specs.Reading.{ReadBytes, name_at, name_or_unknown, text_or_null, text_at, long_at, truth_at, bits_at, literal_at, kind_at, unshifted}
-use Rattle.dms_desc_bytes.specs.Spelling.{name_bytes, literal_bytes, kind_bytes, shifted}
+use Rattle.dms_desc_bytes.specs.Reading.{ReadBytes, name_at, name_or_unknown, text_or_null, text_at, long_at, truth_at, bits_at, literal_at, kind_at, shift_down}
+use Rattle.dms_desc_bytes.specs.Spelling.{name_bytes, literal_bytes, kind_bytes, shift_up}
 use Rattle.dms_desc_bytes.proofs.Fields.{Again, u64_again, flag_again, counted_again}
 
 -- ---- names
@@ -42,17 +42,17 @@ name_again name good rest =
 -- a value that a description can spell
 abbrev pub SpelledValue : Value → Type 0
 SpelledValue Null = Unit {0}
-SpelledValue (Text text) = (length text ≤ 200) × (list_all is_printable text ≡ true) × (trimmed text ≡ text)
+SpelledValue (Text text) = (length text ≤ 200) × (list_all is_printable text ≡ true) × (trim_spaces text ≡ text)
 SpelledValue (Number z) = unsigned_abs z < 2 ^ 63
 SpelledValue (Truth b) = Unit {0}
 SpelledValue (Bits n) = n < 2 ^ 64
 SpelledValue (Link n) = ⊥
 
-shifted_low : (z : ℤ) → unsigned_abs z < 2 ^ 63 → shifted z < 2 ^ 64
+shifted_low : (z : ℤ) → unsigned_abs z < 2 ^ 63 → shift_up z < 2 ^ 64
 shifted_low (pos n) low = omega (arith, low)
 shifted_low (negsuc n) low = omega (arith, low)
 
-shifted_again : (z : ℤ) → unsigned_abs z < 2 ^ 63 → unshifted (shifted z) ≡ z
+shifted_again : (z : ℤ) → unsigned_abs z < 2 ^ 63 → shift_down (shift_up z) ≡ z
 shifted_again (pos n) low =
     let high : ltb (2 ^ 63 + n) (2 ^ 63) ≡ false = le-ltb _ _ (omega arith) in
     let back : 2 ^ 63 + n - 2 ^ 63 ≡ n = omega arith in
@@ -62,17 +62,17 @@ shifted_again (negsuc n) low =
     let back : 2 ^ 63 - (2 ^ 63 - suc n) - 1 ≡ n = omega (arith, low) in
     rw (below, back) refl
 
-text_again : (text : List ℕ) → length text ≤ 200 → list_all is_printable text ≡ true → trimmed text ≡ text → Again literal_at (literal_bytes (Text text)) (Text text)
+text_again : (text : List ℕ) → length text ≤ 200 → list_all is_printable text ≡ true → trim_spaces text ≡ text → Again literal_at (literal_bytes (Text text)) (Text text)
 unfolding literal_at text_at text_of
 text_again text few plain ends rest =
-    let small : leb (length (trimmed text)) 200 ≡ true = le-leb _ _ (omega (arith, ap length ends, few)) in
+    let small : leb (length (trim_spaces text)) 200 ≡ true = le-leb _ _ (omega (arith, ap length ends, few)) in
     ap (λ (r : ReadBytes (List ℕ)). (text_or_null (text_of r.0), r.1)) (counted_again text (omega (arith, few)) rest)
     ∙ rw (plain, small, ends) refl
 
 number_again : (z : ℤ) → unsigned_abs z < 2 ^ 63 → Again literal_at (literal_bytes (Number z)) (Number z)
 unfolding literal_at long_at
 number_again z low rest =
-    ap (λ (r : ReadBytes ℕ). (Number (unshifted r.0), r.1)) (u64_again (shifted z) (shifted_low z low) rest)
+    ap (λ (r : ReadBytes ℕ). (Number (shift_down r.0), r.1)) (u64_again (shift_up z) (shifted_low z low) rest)
     ∙ ap (λ (y : ℤ). (Number y, rest)) (shifted_again z low)
 
 truth_again : (b : Bool) → Again literal_at (literal_bytes (Truth b)) (Truth b)
@@ -124,8 +124,8 @@ text_spelled : (n : ℕ) (text : List ℕ) → is_kind (Alpha n) ≡ true → fi
 text_spelled n text kind fit plain =
     let most = leb-true n 200 (and_parts (nat_le 1 n) (nat_le n 200) kind).1 in
     let few = leb-true (length text) n fit in
-    let parts = and_parts (list_all is_printable text) (bytes_eq (trimmed text) text) plain in
-    (omega (arith, most, few), parts.0, (bytes_eq-Decides (trimmed text) text).0 parts.1)
+    let parts = and_parts (list_all is_printable text) (bytes_eq (trim_spaces text) text) plain in
+    (omega (arith, most, few), parts.0, (bytes_eq-Decides (trim_spaces text) text).0 parts.1)
 
 number_spelled : (n m : ℕ) (s : Bool) (z : ℤ) → is_kind (Decimal n m s) ≡ true → fits (Decimal n m s) (Number z) ≡ true → SpelledValue (Number z)
 number_spelled n m s z kind fit =

@@ -9,7 +9,7 @@ use Rattle.dms_base.specs.declared.kind.ItemKind.TheVariants.{Alpha, Number as D
 use Rattle.dms_base.specs.Fits.{fits}
 use Rattle.dms_base.specs.Name.{is_name}
 use Rattle.dms_base.specs.Spelling.{is_kind}
-use Rattle.dms_base.specs.Text.{is_printable, trimmed}
+use Rattle.dms_base.specs.Text.{is_printable, trim_spaces}
 use Rattle.dms_desc.specs.declared.structure.Item.{Item}
 use Rattle.dms_desc.specs.declared.structure.Group.{Group}
 use Rattle.dms_desc.specs.Shape.{Shape}
@@ -21,7 +21,7 @@ use Rattle.dms_desc_bytes.specs.Spelling.{is_data_set}
 
 -- a text has characters from the space to `~`, and no space at its end
 abbrev pub is_plain : Value → Bool
-is_plain (Text bytes) = list_all is_printable bytes && bytes_eq (trimmed bytes) bytes
+is_plain (Text bytes) = list_all is_printable bytes && bytes_eq (trim_spaces bytes) bytes
 is_plain Null = true
 is_plain (Number z) = true
 is_plain (Truth b) = true

@@ -62,8 +62,8 @@ unfoldable pub name_at : List ℕ → ReadBytes (List ℕ)
 name_at bytes = (name_or_unknown (name_of (counted_at bytes).0), (counted_at bytes).1)
 
 -- a number that was moved up by 2 ^ 63
-abbrev pub unshifted : ℕ → ℤ
-unshifted n = if nat_lt n (2 ^ 63) then negsuc (2 ^ 63 - n - 1) else pos (n - 2 ^ 63)
+abbrev pub shift_down : ℕ → ℤ
+shift_down n = if nat_lt n (2 ^ 63) then negsuc (2 ^ 63 - n - 1) else pos (n - 2 ^ 63)
 
 abbrev pub text_or_null : Option (List ℕ) → Value
 text_or_null None = Null
@@ -73,7 +73,7 @@ unfoldable pub text_at : List ℕ → ReadBytes Value
 text_at bytes = (text_or_null (text_of (counted_at bytes).0), (counted_at bytes).1)
 
 unfoldable pub long_at : List ℕ → ReadBytes Value
-long_at bytes = (Number (unshifted (number_at w64 bytes).0), (number_at w64 bytes).1)
+long_at bytes = (Number (shift_down (number_at w64 bytes).0), (number_at w64 bytes).1)
 
 unfoldable pub truth_at : List ℕ → ReadBytes Value
 truth_at bytes = (Truth (flag_at bytes).0, (flag_at bytes).1)

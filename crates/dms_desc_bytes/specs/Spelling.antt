@@ -26,15 +26,15 @@ abbrev pub name_bytes : List ℕ → List ℕ
 name_bytes name = count_byte name ∷ name
 
 -- a number moved up by 2 ^ 63, so that none is negative
-abbrev pub shifted : ℤ → ℕ
-shifted (pos n) = 2 ^ 63 + n
-shifted (negsuc n) = 2 ^ 63 - suc n
+abbrev pub shift_up : ℤ → ℕ
+shift_up (pos n) = 2 ^ 63 + n
+shift_up (negsuc n) = 2 ^ 63 - suc n
 
 -- a literal: what it is, and its content; a link's number is never written
 abbrev pub literal_bytes : Value → List ℕ
 literal_bytes Null = 0 ∷ []
 literal_bytes (Text bytes) = 1 ∷ count_byte bytes ∷ bytes
-literal_bytes (Number z) = 2 ∷ to_be_bytes w64 (shifted z)
+literal_bytes (Number z) = 2 ∷ to_be_bytes w64 (shift_up z)
 literal_bytes (Truth b) = 3 ∷ flag b ∷ []
 literal_bytes (Bits n) = 4 ∷ to_be_bytes w64 n
 literal_bytes (Link n) = []

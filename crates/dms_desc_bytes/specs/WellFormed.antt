@@ -165,9 +165,9 @@ is_sound ss s =
     && has_sound_fields ss s
 
 -- structures are numbered in their order
-abbrev pub numbered : ℕ → List Shape → Bool
-numbered n [] = true
-numbered n (s ∷ ss) = s.number == n && numbered (n + 1) ss
+abbrev pub stand_in_order : ℕ → List Shape → Bool
+stand_in_order n [] = true
+stand_in_order n (s ∷ ss) = s.number == n && stand_in_order (n + 1) ss
 
 abbrev pub names_differ : Shape → Shape → Bool
 names_differ a b = not (bytes_eq a.name b.name)
@@ -197,7 +197,7 @@ unfoldable pub are_sound : List Shape → Bool
 are_sound ss =
     -- at most 200
     nat_le (length ss) 200
-    && numbered 1 ss
+    && stand_in_order 1 ss
     -- no name twice
     && apart names_differ ss
     -- exactly one restart data set

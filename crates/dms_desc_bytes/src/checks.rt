@@ -1,9 +1,9 @@
 ghost use Rattle.std.specs.Prelude.{◌≡◌, ◌+◌, map, min};
 ghost use Rattle.std.specs.List.{list_all, list_any};
-ghost use Rattle.dms_desc.specs.Shape.{shape_of, described};
+ghost use Rattle.dms_desc.specs.Shape.{shape_of, as_described};
 ghost use Rattle.dms_desc_bytes.specs.Lists.{apart, total};
 ghost use Rattle.dms_desc.specs.Kinds.{is_restart};
-ghost use Rattle.dms_desc_bytes.specs.WellFormed.{is_open_behind, is_owned_well, is_shallow, stands_in, has_member, has_sound_items, has_sound_groups, has_sound_verify, lacks_set_fields, is_data_set_sound, is_placed, has_sound_fields, is_sound, numbered, names_differ, not_both_restart, counted_in, has_parameters, are_sound};
+ghost use Rattle.dms_desc_bytes.specs.WellFormed.{is_open_behind, is_owned_well, is_shallow, stands_in, has_member, has_sound_items, has_sound_groups, has_sound_verify, lacks_set_fields, is_data_set_sound, is_placed, has_sound_fields, is_sound, stand_in_order, names_differ, not_both_restart, counted_in, has_parameters, are_sound};
 
 use crate::conds::{is_condition, is_nothing};
 use crate::finding::{is_data_set, kind_of, owner_of};
@@ -140,7 +140,7 @@ fn are_all_sound(structures: &[Structure]) -> bool
 }
 
 fn are_numbered(structures: &[Structure]) -> bool
-    ensures { result ≡ numbered 1 (map shape_of structures.now) }
+    ensures { result ≡ stand_in_order 1 (map shape_of structures.now) }
 {
     for (i, s) in structures.iter().enumerate() {
         if s.number as usize != i + 1 {
@@ -219,7 +219,7 @@ fn all_counted_links(structures: &[Structure]) -> u32
 /// Whether each parameter is in its range.
 #[tactic(auto, unfolding(crate::specs::WellFormed::has_parameters))]
 pub fn has_parameters(desc: &Description) -> bool
-    ensures { result ≡ has_parameters (described desc.now) }
+    ensures { result ≡ has_parameters (as_described desc.now) }
 {
     1 <= desc.syncpoint
         && desc.syncpoint <= 10_000

@@ -1,6 +1,6 @@
 ghost use Rattle.std.specs.Prelude.{◌≡◌, IfOk};
 ghost use Rattle.std.specs.Int.{w16, w32, w64};
-ghost use Rattle.dms_desc_bytes.specs.Reading.{byte_at, bytes_at, number_at, flag_at, counted_at, name_at, unshifted, text_at, long_at, truth_at, bits_at, literal_at, kind_of_bytes, kind_at};
+ghost use Rattle.dms_desc_bytes.specs.Reading.{byte_at, bytes_at, number_at, flag_at, counted_at, name_at, shift_down, text_at, long_at, truth_at, bits_at, literal_at, kind_of_bytes, kind_at};
 
 use dms_base::{ItemKind, Memory, Name, Text, Value};
 use std::alloc::Global;
@@ -20,8 +20,8 @@ impl<'a> Model for Input<'a> {
     ghost view = { λ i. i.rest.now };
 }
 
-fn unshifted(n: u64) -> i64
-    ensures { result ≡ unshifted n }
+fn shift_down(n: u64) -> i64
+    ensures { result ≡ shift_down n }
 {
     if n < 1 << 63 {
         -(((1 << 63) - n - 1) as i64) - 1
@@ -131,7 +131,7 @@ impl<'a> Input<'a> {
 
     /// The bytes behind their length.
     #[tactic(auto, unfolding(crate::specs::Reading::counted_at))]
-    fn counted(&mut self) -> &'a [u8]
+    fn take_counted(&mut self) -> &'a [u8]
         ensures { (result.now, self.new) ≡ counted_at self.old }
     {
         let n = self.byte();
@@ -143,7 +143,7 @@ impl<'a> Input<'a> {
     pub fn name(&mut self) -> Name
         ensures { (result, self.new) ≡ name_at self.old }
     {
-        match Name::read(self.counted()) {
+        match Name::read(self.take_counted()) {
             None => Name::unknown(),
             Some(name) => name,
         }
@@ -153,7 +153,7 @@ impl<'a> Input<'a> {
     fn text(&mut self, alloc: Global) -> Result<Value, Memory>
         ensures { IfOk result (λ v. (v, self.new) ≡ text_at self.old) }
     {
-        match Text::read(alloc, self.counted())? {
+        match Text::read(alloc, self.take_counted())? {
             None => Ok(Value::Null),
             Some(text) => Ok(Value::Text(text)),
         }
@@ -163,7 +163,7 @@ impl<'a> Input<'a> {
     fn number(&mut self) -> Value
         ensures { (result, self.new) ≡ long_at self.old }
     {
-        Value::Number(unshifted(self.u64()))
+        Value::Number(shift_down(self.u64()))
     }
 
     #[tactic(auto, unfolding(crate::specs::Reading::truth_at))]

@@ -8,7 +8,7 @@ ghost use Rattle.dms_desc.specs.Conds.{is_null};
 ghost use Rattle.dms_desc_bytes.specs.Members.{is_plain, is_link_sound, points_well, is_item_sound, items_differ, groups_differ, is_free_of, members_differ, items_in_group, is_no_link, is_group_sound, groups_follow, counted_one};
 
 use crate::finding::{is_data_set, kind_of, owner_of};
-use dms_base::{ItemKind, Name, Value, fits, has_printable, is_kind, trimmed};
+use dms_base::{ItemKind, Name, Value, fits, has_printable, is_kind, trim_spaces};
 use dms_desc::{Group, Item, Structure, is_null};
 
 /// Whether these bytes are a name.
@@ -23,7 +23,8 @@ pub fn is_plain(value: &Value) -> bool
     ensures { result ≡ is_plain value.now }
 {
     match value {
-        Value::Text(text) => has_printable(text.bytes()) && trimmed(text.bytes()) == text.bytes(),
+        Value::Text(text) => has_printable(text.bytes())
+            && trim_spaces(text.bytes()) == text.bytes(),
         _ => true,
     }
 }

@@ -1,5 +1,5 @@
 ghost use Rattle.std.specs.Prelude.{◌≡◌, IfOk, map};
-ghost use Rattle.dms_desc.specs.Shape.{tree_of, shape_of, described};
+ghost use Rattle.dms_desc.specs.Shape.{tree_of, shape_of, as_described};
 ghost use Rattle.dms_desc_bytes.specs.Decoding.{Decodes, number_of};
 ghost use Rattle.dms_desc_bytes.specs.Reading.{data_set_at, where_at, set_at, fields_at, structure_at, all_structures_at, description_at};
 
@@ -127,7 +127,7 @@ fn read_structures(alloc: Global, input: &mut Input<'_>) -> Result<Structures, M
 /// What stands in these bytes, whatever they are.
 #[tactic(auto, unfolding(crate::specs::Reading::description_at))]
 fn read_description(alloc: Global, bytes: &[u8]) -> Result<Description, Memory>
-    ensures { IfOk result (λ d. described d ≡ (description_at bytes.now).0) }
+    ensures { IfOk result (λ d. as_described d ≡ (description_at bytes.now).0) }
 {
     let mut input = Input::new(bytes);
     input.bytes(6);

@@ -1,7 +1,7 @@
 ghost use Rattle.std.specs.Prelude.{◌≡◌, ◌++◌, ◌∷◌, [], ◌%◌, IfOk, OnOk, map, flat_map};
 ghost use Rattle.std.specs.Int.{to_be_bytes};
-ghost use Rattle.dms_desc.specs.Shape.{tree_of, shape_of, described};
-ghost use Rattle.dms_desc_bytes.specs.Spelling.{shifted, name_bytes, literal_bytes, kind_bytes, item_bytes, group_bytes, part_bytes, op_number, tree_bytes, data_set_bytes, set_bytes, where_bytes, structure_bytes, spelling};
+ghost use Rattle.dms_desc.specs.Shape.{tree_of, shape_of, as_described};
+ghost use Rattle.dms_desc_bytes.specs.Spelling.{shift_up, name_bytes, literal_bytes, kind_bytes, item_bytes, group_bytes, part_bytes, op_number, tree_bytes, data_set_bytes, set_bytes, where_bytes, structure_bytes, spelling};
 
 use dms_base::{Bytes, ItemKind, Memory, Name, Op, Value};
 use dms_desc::{Cond, Description, Group, Item, KeyPart, Structure};
@@ -20,8 +20,8 @@ fn put_name(out: &mut Bytes, name: &Name) -> Result<(), Memory>
     out.extend(name.bytes())
 }
 
-fn shifted(n: i64) -> u64
-    ensures { result ≡ shifted n }
+fn shift_up(n: i64) -> u64
+    ensures { result ≡ shift_up n }
 {
     if n < 0 {
         (1 << 63) - n.unsigned_abs()
@@ -42,7 +42,7 @@ fn put_literal(out: &mut Bytes, value: &Value) -> Result<(), Memory>
         }
         Value::Number(n) => {
             out.push(2)?;
-            out.extend(&shifted(*n).to_be_bytes())
+            out.extend(&shift_up(*n).to_be_bytes())
         }
         Value::Bool(b) => {
             out.push(3)?;
@@ -222,7 +222,7 @@ fn put_structures(out: &mut Bytes, structures: &[Structure]) -> Result<(), Memor
 /// their fields. Answers Err where memory is refused.
 #[tactic(auto, unfolding(crate::specs::Spelling::spelling))]
 pub fn encode(alloc: Global, desc: &Description) -> Result<Bytes, Memory>
-    ensures { IfOk result (λ bytes. bytes ≡ spelling (described desc.now)) }
+    ensures { IfOk result (λ bytes. bytes ≡ spelling (as_described desc.now)) }
 {
     let mut out = Bytes::new(alloc);
     out.extend(&[68, 77, 83, 83, 0, 1])?;

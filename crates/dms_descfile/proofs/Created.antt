@@ -5,7 +5,7 @@ use Rattle.std.proofs.lemmas.Bool.{cases_eq}
 use Rattle.std.specs.Int.{w32, to_be_bytes}
 use Rattle.dms_moments.specs.Moments.{Clock, Now, Steps}
 use Rattle.dms_moments.specs.MomentLaws.{steps_on, runs_none, runs_on, runs_weaken}
-use Rattle.dms_site.specs.Files.{Files, Left, Torn, Cut, OnDisk, Only, Same, with_file, overlaid, padded}
+use Rattle.dms_site.specs.Files.{Files, Left, Torn, Cut, OnDisk, Only, Same, with_file, overlay_bytes, pad_zeros}
 use Rattle.dms_site.specs.Laws.{with_file_here}
 use Rattle.dms_descfile.specs.DescriptionFile.{description_file, IsUnsealed}
 use Rattle.dms_descfile.specs.Becoming.{Shuts, Becoming, IsCreated, Creates}
@@ -110,29 +110,29 @@ gate_becomes rest z x is step =
     }
 
 -- what the three writes make of the file
-gates_laid : overlaid 0 (0 ∷ 0 ∷ []) [] ≡ 0 ∷ 0 ∷ []
-unfolding overlaid padded
+gates_laid : overlay_bytes 0 (0 ∷ 0 ∷ []) [] ≡ 0 ∷ 0 ∷ []
+unfolding overlay_bytes pad_zeros
 gates_laid = refl
 
-rest_laid : (rest : List ℕ) → overlaid 2 rest (0 ∷ 0 ∷ []) ≡ 0 ∷ 0 ∷ rest
-unfolding overlaid padded
+rest_laid : (rest : List ℕ) → overlay_bytes 2 rest (0 ∷ 0 ∷ []) ≡ 0 ∷ 0 ∷ rest
+unfolding overlay_bytes pad_zeros
 rest_laid rest =
     ap (λ (l : List ℕ). 0 ∷ 0 ∷ (rest ++ l)) (drop_all (2 + length rest) (0 ∷ 0 ∷ []) (omega arith)) ∙ ap (λ (l : List ℕ). 0 ∷ 0 ∷ l) (append-nil rest)
 
-gate_laid : (rest : List ℕ) → overlaid 0 (1 ∷ []) (0 ∷ 0 ∷ rest) ≡ 1 ∷ 0 ∷ rest
-unfolding overlaid padded
+gate_laid : (rest : List ℕ) → overlay_bytes 0 (1 ∷ []) (0 ∷ 0 ∷ rest) ≡ 1 ∷ 0 ∷ rest
+unfolding overlay_bytes pad_zeros
 gate_laid rest = refl
 
-at_file : (old new : Files) (at : ℕ) (bytes file : List ℕ) → new ≡ with_file old 1 (overlaid at bytes (old 1)) → old 1 ≡ file → new 1 ≡ overlaid at bytes file
-at_file old new at bytes file written is = ap (λ (l : Files). l 1) written ∙ with_file_here old 1 (overlaid at bytes (old 1)) ∙ ap (λ (l : List ℕ). overlaid at bytes l) is
+at_file : (old new : Files) (at : ℕ) (bytes file : List ℕ) → new ≡ with_file old 1 (overlay_bytes at bytes (old 1)) → old 1 ≡ file → new 1 ≡ overlay_bytes at bytes file
+at_file old new at bytes file written is = ap (λ (l : Files). l 1) written ∙ with_file_here old 1 (overlay_bytes at bytes (old 1)) ∙ ap (λ (l : List ℕ). overlay_bytes at bytes l) is
 
-pub gates_written : (old new : Files) → new ≡ with_file old 1 (overlaid 0 (0 ∷ 0 ∷ []) (old 1)) → old 1 ≡ [] → new 1 ≡ 0 ∷ 0 ∷ []
+pub gates_written : (old new : Files) → new ≡ with_file old 1 (overlay_bytes 0 (0 ∷ 0 ∷ []) (old 1)) → old 1 ≡ [] → new 1 ≡ 0 ∷ 0 ∷ []
 gates_written old new written none = at_file old new 0 (0 ∷ 0 ∷ []) [] written none ∙ gates_laid
 
-pub rest_written : (old new : Files) (rest : List ℕ) → new ≡ with_file old 1 (overlaid 2 rest (old 1)) → old 1 ≡ 0 ∷ 0 ∷ [] → new 1 ≡ 0 ∷ 0 ∷ rest
+pub rest_written : (old new : Files) (rest : List ℕ) → new ≡ with_file old 1 (overlay_bytes 2 rest (old 1)) → old 1 ≡ 0 ∷ 0 ∷ [] → new 1 ≡ 0 ∷ 0 ∷ rest
 rest_written old new rest written is = at_file old new 2 rest (0 ∷ 0 ∷ []) written is ∙ rest_laid rest
 
-pub gate_written : (old new : Files) (rest : List ℕ) → new ≡ with_file old 1 (overlaid 0 (1 ∷ []) (old 1)) → old 1 ≡ 0 ∷ 0 ∷ rest → new 1 ≡ 1 ∷ 0 ∷ rest
+pub gate_written : (old new : Files) (rest : List ℕ) → new ≡ with_file old 1 (overlay_bytes 0 (1 ∷ []) (old 1)) → old 1 ≡ 0 ∷ 0 ∷ rest → new 1 ≡ 1 ∷ 0 ∷ rest
 gate_written old new rest written is = at_file old new 0 (1 ∷ []) (0 ∷ 0 ∷ rest) written is ∙ gate_laid rest
 
 -- what stands behind the gates

@@ -6,7 +6,7 @@ use Rattle.std.proofs.lemmas.Slice.Eq.{bytes_eq-Decides}
 use Rattle.std.specs.Int.{w32, to_be_bytes}
 use Rattle.dms_desc.specs.declared.description.Description.{Description}
 use Rattle.std.specs.Prelude.{IfSome}
-use Rattle.dms_desc.specs.Shape.{described}
+use Rattle.dms_desc.specs.Shape.{as_described}
 use Rattle.dms_desc_bytes.specs.WellFormed.{IsWellFormed}
 use Rattle.dms_desc_bytes.specs.Spelling.{spelling}
 use Rattle.dms_desc_bytes.specs.Decoding.{Decodes}
@@ -105,6 +105,6 @@ whole_read file into new items len n long size count is =
     take_at new (drop (length new) items) len (omega (arith, long, ap length same)) ∙ same
 
 -- what is decoded is well-formed
-pub sound_of : (bytes : List ℕ) (read : Option Description) → Decodes bytes read → IfSome read (λ d. IsWellFormed (described d))
+pub sound_of : (bytes : List ℕ) (read : Option Description) → Decodes bytes read → IfSome read (λ d. IsWellFormed (as_described d))
 sound_of bytes None decodes = tt
 sound_of bytes (Some d) decodes = decodes.0

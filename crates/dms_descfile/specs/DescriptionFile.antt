@@ -3,7 +3,7 @@ use Rattle.std.specs.Prelude.{◌≡◌, ◌≤◌, ℕ, List, ◌∷◌, ◌++�
 use Rattle.std.specs.Int.{w32, to_be_bytes}
 use Rattle.std.specs.declared.option.Option.{Option}
 use Rattle.dms_desc.specs.declared.description.Description.{Description}
-use Rattle.dms_desc.specs.Shape.{Described, described}
+use Rattle.dms_desc.specs.Shape.{Described, as_described}
 use Rattle.dms_desc_bytes.specs.Spelling.{spelling}
 use Rattle.dms_desc_bytes.specs.WellFormed.{IsWellFormed}
 
@@ -30,4 +30,4 @@ IsUnsealed file = (d : Described) → IsSealed file d → ⊥
 -- the sealed description that a file is, or none where it is no sealed description
 abbrev pub Holds : List ℕ → Option Description → Type 0
 Holds file None = IsUnsealed file
-Holds file (Some d) = IsSealed file (described d)
+Holds file (Some d) = IsSealed file (as_described d)

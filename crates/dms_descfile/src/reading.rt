@@ -2,7 +2,7 @@ ghost use Rattle.std.specs.Prelude.{◌≡◌, ◌+◌, ◌≤◌, ◌<◌, ◌^
 ghost use Rattle.dms_base.specs.Causes.{Rose};
 ghost use Rattle.dms_moments.specs.Moments.{Steps};
 ghost use Rattle.dms_site.specs.Files.{Same};
-ghost use Rattle.dms_desc.specs.Shape.{described};
+ghost use Rattle.dms_desc.specs.Shape.{as_described};
 ghost use Rattle.dms_desc_bytes.specs.WellFormed.{IsWellFormed};
 ghost use Rattle.dms_descfile.specs.DescriptionFile.{Holds};
 ghost use Rattle.dms_descfile.specs.Contents.{Contents, ReadsFile};
@@ -45,7 +45,7 @@ fn content_of(file: &[u8]) -> Option<&[u8]>
 fn description_in(alloc: Global, file: &[u8]) -> Result<Option<Description>, Memory>
     requires { length file.now < 2 ^ 32 }
     ensures holds { IfOk result (λ found. length file.now ≤ 65541 → Holds file.now found) }
-    ensures sound { IfOk result (λ found. IfSome found (λ d. IsWellFormed (described d))) }
+    ensures sound { IfOk result (λ found. IfSome found (λ d. IsWellFormed (as_described d))) }
 {
     match content_of(file) {
         None => Ok(None),
@@ -92,7 +92,7 @@ pub fn read_description<S: Site>(
     site: &mut S,
 ) -> Result<Option<Description>, FileFault>
     ensures found { IfOk result (λ found. IsTrue S.tells → Holds (S.files site.old 1) found) }
-    ensures sound { IfOk result (λ found. IfSome found (λ d. IsWellFormed (described d))) }
+    ensures sound { IfOk result (λ found. IfSome found (λ d. IsWellFormed (as_described d))) }
     ensures files { IsTrue S.tells → S.files site.new ≡ S.files site.old }
     ensures said { S.said site.new ≡ S.said site.old }
     ensures same_site { S.same_site site.old site.new }

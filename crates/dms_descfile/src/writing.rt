@@ -3,7 +3,7 @@ ghost use Rattle.std.specs.Int.{to_be_bytes};
 ghost use Rattle.dms_base.specs.Causes.{HasCause, Rose};
 ghost use Rattle.dms_moments.specs.Moments.{Steps};
 ghost use Rattle.dms_site.specs.Files.{Cut, OnDisk, Only, OnlyIn};
-ghost use Rattle.dms_desc.specs.Shape.{described};
+ghost use Rattle.dms_desc.specs.Shape.{as_described};
 ghost use Rattle.dms_desc_bytes.specs.Spelling.{spelling};
 ghost use Rattle.dms_descfile.specs.DescriptionFile.{sealed_file};
 ghost use Rattle.dms_descfile.specs.Becoming.{Shuts, Becoming, Creates};
@@ -84,12 +84,12 @@ fn write_stable<S: Site>(site: &mut S, rest: &[u8]) -> Result<(), Failed>
 
 /// What stands behind the gates: the length of the description, and its bytes.
 fn behind_gates(alloc: Global, desc: &Description) -> Result<Bytes, Memory>
-    requires { length (spelling (described desc.now)) ≤ 65535 }
-    ensures file { IfOk result (λ rest. 1 ∷ 0 ∷ rest ≡ sealed_file (described desc.now)) }
+    requires { length (spelling (as_described desc.now)) ≤ 65535 }
+    ensures file { IfOk result (λ rest. 1 ∷ 0 ∷ rest ≡ sealed_file (as_described desc.now)) }
     ensures few { IfOk result (λ rest. length rest < 2 ^ 32) }
 {
     let bytes = encode(alloc, desc)?;
-    let mut rest = Bytes::copied(alloc, &(bytes.as_slice().len() as u32).to_be_bytes())?;
+    let mut rest = Bytes::copy_of(alloc, &(bytes.as_slice().len() as u32).to_be_bytes())?;
     rest.extend(bytes.as_slice())?;
     Ok(rest)
 }
@@ -104,12 +104,12 @@ pub fn seal_description<S: Site>(
     site: &mut S,
     desc: &Description,
 ) -> Result<(), FileFault>
-    requires { length (spelling (described desc.now)) ≤ 65535 }
-    ensures written { OnOk result (IsTrue S.tells → S.files site.new 1 ≡ sealed_file (described desc.now)) }
+    requires { length (spelling (as_described desc.now)) ≤ 65535 }
+    ensures written { OnOk result (IsTrue S.tells → S.files site.new 1 ≡ sealed_file (as_described desc.now)) }
     ensures others { IsTrue S.tells → (g : ℕ) → g ≢ 1 → S.files site.new g ≡ S.files site.old g }
     ensures durable { OnOk result (IsTrue S.tells → Only (S.files site.new) (S.clock site.new)) }
-    ensures moments { IsTrue S.tells → Steps (OnDisk 1 (Becoming (sealed_file (described desc.now)))) (S.clock site.old) (S.clock site.new) }
-    ensures creates { IsTrue S.tells → Creates (sealed_file (described desc.now)) (S.files site.old) (S.clock site.old) (S.clock site.new) }
+    ensures moments { IsTrue S.tells → Steps (OnDisk 1 (Becoming (sealed_file (as_described desc.now)))) (S.clock site.old) (S.clock site.new) }
+    ensures creates { IsTrue S.tells → Creates (sealed_file (as_described desc.now)) (S.files site.old) (S.clock site.old) (S.clock site.new) }
     ensures memory { IsErrOf result FileFault.Memory → site.new ≡ site.old }
     ensures said { S.said site.new ≡ S.said site.old }
     ensures same_site { S.same_site site.old site.new }

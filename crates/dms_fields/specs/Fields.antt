@@ -11,5 +11,5 @@ abbrev pub number_at : Width → List ℕ → ℕ → Option ℕ
 number_at w bytes at = option_map (from_be_bytes w) (bytes_at bytes at (byte_len w))
 
 -- these bytes over what was there, from a place on
-unfoldable pub laid : ℕ → List ℕ → List ℕ → List ℕ
-laid at bytes old = take at old ++ (bytes ++ drop (at + length bytes) old)
+unfoldable pub lay_bytes : ℕ → List ℕ → List ℕ → List ℕ
+lay_bytes at bytes old = take at old ++ (bytes ++ drop (at + length bytes) old)

@@ -3,7 +3,7 @@
 
 ghost use Rattle.std.specs.Prelude.{◌≡◌, ◌+◌, ◌^◌, ◌≤◌, ◌<◌, ℕ, List, [], ◌∷◌, length, option_map, Some};
 ghost use Rattle.std.specs.Int.{w16, w32, w64, to_be_bytes};
-ghost use Rattle.dms_fields.specs.Fields.{bytes_at, number_at, laid};
+ghost use Rattle.dms_fields.specs.Fields.{bytes_at, number_at, lay_bytes};
 
 mod prefix;
 
@@ -46,10 +46,10 @@ pub fn take_u64(bytes: &[u8], at: usize) -> Option<u64>
 }
 
 /// Writes bytes over those from a place on.
-#[tactic(auto, using(std::proofs::lemmas::List::places), unfolding(crate::specs::Fields::laid))]
+#[tactic(auto, using(std::proofs::lemmas::List::places), unfolding(crate::specs::Fields::lay_bytes))]
 pub fn put_bytes(to: &mut [u8], at: usize, bytes: &[u8])
     requires { at + length bytes.now ≤ length to.old }
-    ensures { to.new ≡ laid at bytes.now to.old }
+    ensures { to.new ≡ lay_bytes at bytes.now to.old }
 {
     to[at..at + bytes.len()].copy_from_slice(bytes);
 }
@@ -57,7 +57,7 @@ pub fn put_bytes(to: &mut [u8], at: usize, bytes: &[u8])
 /// Writes a byte at a place.
 pub fn put_u8(to: &mut [u8], at: usize, v: u8)
     requires { at + 1 ≤ length to.old }
-    ensures { to.new ≡ laid at (v ∷ []) to.old }
+    ensures { to.new ≡ lay_bytes at (v ∷ []) to.old }
 {
     put_bytes(to, at, &[v]);
 }
@@ -65,7 +65,7 @@ pub fn put_u8(to: &mut [u8], at: usize, v: u8)
 /// Writes a number into the two bytes from a place on.
 pub fn put_u16(to: &mut [u8], at: usize, v: u16)
     requires { at + 2 ≤ length to.old }
-    ensures { to.new ≡ laid at (to_be_bytes w16 v) to.old }
+    ensures { to.new ≡ lay_bytes at (to_be_bytes w16 v) to.old }
 {
     put_bytes(to, at, &v.to_be_bytes());
 }
@@ -73,7 +73,7 @@ pub fn put_u16(to: &mut [u8], at: usize, v: u16)
 /// Writes a number into the four bytes from a place on.
 pub fn put_u32(to: &mut [u8], at: usize, v: u32)
     requires { at + 4 ≤ length to.old }
-    ensures { to.new ≡ laid at (to_be_bytes w32 v) to.old }
+    ensures { to.new ≡ lay_bytes at (to_be_bytes w32 v) to.old }
 {
     put_bytes(to, at, &v.to_be_bytes());
 }
@@ -81,14 +81,14 @@ pub fn put_u32(to: &mut [u8], at: usize, v: u32)
 /// Writes a number into the eight bytes from a place on.
 pub fn put_u64(to: &mut [u8], at: usize, v: u64)
     requires { at + 8 ≤ length to.old }
-    ensures { to.new ≡ laid at (to_be_bytes w64 v) to.old }
+    ensures { to.new ≡ lay_bytes at (to_be_bytes w64 v) to.old }
 {
     put_bytes(to, at, &v.to_be_bytes());
 }
 
 /// A law: a number that was written at a place is what is taken there.
 pub fn put_is_taken()
-    ensures two { (old : List ℕ) (at v : ℕ) → at + 2 ≤ length old → v < 2 ^ 16 → number_at w16 (laid at (to_be_bytes w16 v) old) at ≡ Some v }
-    ensures four { (old : List ℕ) (at v : ℕ) → at + 4 ≤ length old → v < 2 ^ 32 → number_at w32 (laid at (to_be_bytes w32 v) old) at ≡ Some v }
-    ensures eight { (old : List ℕ) (at v : ℕ) → at + 8 ≤ length old → v < 2 ^ 64 → number_at w64 (laid at (to_be_bytes w64 v) old) at ≡ Some v }
+    ensures two { (old : List ℕ) (at v : ℕ) → at + 2 ≤ length old → v < 2 ^ 16 → number_at w16 (lay_bytes at (to_be_bytes w16 v) old) at ≡ Some v }
+    ensures four { (old : List ℕ) (at v : ℕ) → at + 4 ≤ length old → v < 2 ^ 32 → number_at w32 (lay_bytes at (to_be_bytes w32 v) old) at ≡ Some v }
+    ensures eight { (old : List ℕ) (at v : ℕ) → at + 8 ≤ length old → v < 2 ^ 64 → number_at w64 (lay_bytes at (to_be_bytes w64 v) old) at ≡ Some v }
 {}

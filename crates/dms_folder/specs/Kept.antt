@@ -25,8 +25,8 @@ abbrev pub IsAt : {H : Type 0} → List (OpenedFile H) → ℕ → ℕ → Type 
 IsAt {H} opened k n = (o : OpenedFile H) × (slice_get opened k ≡ Some o) × (o.number ≡ n)
 
 -- it is written or cut
-abbrev pub touched : {H : Type 0} → OpenedFile H → OpenedFile H
-touched o = record { number = o.number; file = o.file; touched = true }
+abbrev pub touch_file : {H : Type 0} → OpenedFile H → OpenedFile H
+touch_file o = record { number = o.number; file = o.file; touched = true }
 
 -- A listing gave one more name, and where it is a database file's, that file is stable.
 pub record StableNext (old new : List (List ℕ)) (world : World) (clock : Clock World) : Type 0 where

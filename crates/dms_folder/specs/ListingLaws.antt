@@ -6,7 +6,7 @@ use Rattle.dms_moments.specs.Moments.{Clock, Steps}
 use Rattle.dms_site.specs.Files.{Files, IsLastPresent}
 use Rattle.dms_calls.specs.Names.{name_of}
 use Rattle.dms_calls.specs.World.{World, Unchanged, IsGiven, AllGiven}
-use Rattle.dms_calls.specs.Seen.{seen}
+use Rattle.dms_calls.specs.Seen.{site_files}
 use Rattle.dms_folder.specs.NameLaws.{name_inj}
 use Rattle.dms_folder.specs.Places.{get_push}
 use Rattle.dms_folder.specs.Kept.{StableAt, StableNext}
@@ -63,13 +63,13 @@ present_next files start upto last found (Some k) was later some =
     later.from
 
 -- at the end of the listing the last one is the greatest of all
-pub last_at_end : (w : World) (given : List (List ℕ)) (start upto last : ℕ) → upto < 2 ^ 32 → AllGiven w.names w.names given → AbsentGiven given (seen name_of w) start upto last
-    → (0 < last → (start ≤ last) × (last ≤ upto)) → (0 < last → 0 < length (seen name_of w last)) → IsLastPresent (seen name_of w) start upto last
+pub last_at_end : (w : World) (given : List (List ℕ)) (start upto last : ℕ) → upto < 2 ^ 32 → AllGiven w.names w.names given → AbsentGiven given (site_files name_of w) start upto last
+    → (0 < last → (start ≤ last) × (last ≤ upto)) → (0 < last → 0 < length (site_files name_of w last)) → IsLastPresent (site_files name_of w) start upto last
 last_at_end w given start upto last small all absent bound present = record {
   absent = λ g a b h. behind g (omega (arith, b, small)) a b h (w.names (name_of g)) refl;
   present = λ some. ((bound some).0, (bound some).1, present some);
 }
   where
-    behind : (g : ℕ) → g < 2 ^ 32 → start ≤ g → g ≤ upto → last < g → (o : Option ℕ) → w.names (name_of g) ≡ o → seen name_of w g ≡ []
+    behind : (g : ℕ) → g < 2 ^ 32 → start ≤ g → g ≤ upto → last < g → (o : Option ℕ) → w.names (name_of g) ≡ o → site_files name_of w g ≡ []
     behind g low a b h None is = seen_absent w g low is
     behind g low a b h (Some i) is = absent g (all (name_of g) i is is) low a b h

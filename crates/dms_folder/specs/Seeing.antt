@@ -3,10 +3,10 @@ use Rattle.std.proofs.Common.{ℕ, ◌≡◌, ◌≤◌, ◌∙◌, refl, ap}
 use Rattle.dms_moments.specs.Moments.{Clock, Now}
 use Rattle.dms_site.specs.Files.{Left}
 use Rattle.dms_calls.specs.World.{World}
-use Rattle.dms_calls.specs.Seen.{seen, seen_clock, left_of}
+use Rattle.dms_calls.specs.Seen.{site_files, seen_clock, left_of}
 use Rattle.dms_calls.specs.Names.{name_of}
 
-pub seen_stays : (c : Clock World) (w : World) → Now c w → (x : Left) × Now (seen_clock name_of c) x × (x.files ≡ seen name_of w)
+pub seen_stays : (c : Clock World) (w : World) → Now c w → (x : Left) × Now (seen_clock name_of c) x × (x.files ≡ site_files name_of w)
 unfolding seen_clock
 seen_stays c w now = (left_of name_of w, (w, now, refl), refl)
 

@@ -7,7 +7,7 @@ use Rattle.dms_moments.specs.Moments.{Clock, Now, Steps}
 use Rattle.dms_moments.specs.MomentLaws.{steps_on}
 use Rattle.dms_site.specs.Files.{PrintsPartOf}
 use Rattle.dms_calls.specs.World.{World, Speaks}
-use Rattle.dms_calls.specs.Seen.{seen, seen_clock, seen_steps, bytes_of, seen_alike}
+use Rattle.dms_calls.specs.Seen.{site_files, seen_clock, seen_steps, bytes_of, seen_alike}
 use Rattle.dms_calls.specs.Names.{name_of}
 
 pub speaks_none : (text : List ℕ) (w : World) → Speaks text w w
@@ -37,7 +37,7 @@ same_bytes : (v w : World) → w.bytes ≡ v.bytes → (o : Option ℕ) → byte
 same_bytes v w bytes None = refl
 same_bytes v w bytes (Some i) = ap (λ (b : ℕ → List ℕ). b i) bytes
 
-pub seen_spoken : (v w : World) → w.names ≡ v.names → w.bytes ≡ v.bytes → seen name_of w ≡ seen name_of v
+pub seen_spoken : (v w : World) → w.names ≡ v.names → w.bytes ≡ v.bytes → site_files name_of w ≡ site_files name_of v
 seen_spoken v w names bytes = seen_alike name_of w v (λ f low. ap (λ (n : List ℕ → Option ℕ). bytes_of w (n (name_of f))) names ∙ same_bytes v w bytes (v.names (name_of f)))
 
 pub spoken_steps : {a b : Clock World} (text : List ℕ) → Steps (Speaks text) a b → Steps (PrintsPartOf text) (seen_clock name_of a) (seen_clock name_of b)

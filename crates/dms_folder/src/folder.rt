@@ -1,10 +1,10 @@
 ghost use Rattle.std.specs.Prelude.{◌≡◌, ◌≢◌, ◌+◌, ◌^◌, ◌<◌, ◌≤◌, ◌⊎◌, ℕ, [], ◌++◌, take, drop, false, length, slice_get, OnOk, IfOk, IfSome, IsTrue, MatchOption, Some, None};
 ghost use Rattle.dms_moments.specs.Moments.{Steps};
-ghost use Rattle.dms_site.specs.Files.{with_file, overlaid, range, InFile, Torn, Cut, OnDisk, Same, Only, IsLastPresent};
+ghost use Rattle.dms_site.specs.Files.{with_file, overlay_bytes, range, InFile, Torn, Cut, OnDisk, Same, Only, IsLastPresent};
 ghost use Rattle.dms_calls.specs.World.{Unchanged, AllGiven};
-ghost use Rattle.dms_calls.specs.Seen.{seen, seen_clock};
+ghost use Rattle.dms_calls.specs.Seen.{site_files, seen_clock};
 ghost use Rattle.dms_calls.specs.Names.{name_of};
-ghost use Rattle.dms_folder.specs.Kept.{KeepsFolder, StableAt, StableNext, IsAt, touched};
+ghost use Rattle.dms_folder.specs.Kept.{KeepsFolder, StableAt, StableNext, IsAt, touch_file};
 ghost use Rattle.dms_folder.specs.Listings.{IsLater};
 ghost use Rattle.std.specs.Bool.{MatchBool};
 
@@ -202,7 +202,7 @@ impl<C: Calls> Folder<C> {
         requires absent { IsTrue C.tells → (C.world self.old.calls).names (name_of file) ≡ None }
         ensures kept { IsTrue C.tells → KeepsFolder C.file self.new.opened.items self.new.made self.new.synced (C.world self.new.calls) (C.clock self.new.calls) }
         ensures place { IfOk result (λ i. IsAt self.new.opened.items i file) }
-        ensures files { IsTrue C.tells → seen name_of (C.world self.new.calls) ≡ seen name_of (C.world self.old.calls) }
+        ensures files { IsTrue C.tells → site_files name_of (C.world self.new.calls) ≡ site_files name_of (C.world self.old.calls) }
         ensures said { (C.world self.new.calls).said ≡ (C.world self.old.calls).said }
         ensures moments { Steps Same (seen_clock name_of (C.clock self.old.calls)) (seen_clock name_of (C.clock self.new.calls)) }
         ensures broken { OnOk result (C.broken self.new.calls ≡ false) }
@@ -219,7 +219,7 @@ impl<C: Calls> Folder<C> {
         requires kept { IsTrue C.tells → KeepsFolder C.file self.old.opened.items self.old.made self.old.synced (C.world self.old.calls) (C.clock self.old.calls) }
         ensures kept { IsTrue C.tells → KeepsFolder C.file self.new.opened.items self.new.made self.new.synced (C.world self.new.calls) (C.clock self.new.calls) }
         ensures place { IfOk result (λ i. IsAt self.new.opened.items i file) }
-        ensures files { IsTrue C.tells → seen name_of (C.world self.new.calls) ≡ seen name_of (C.world self.old.calls) }
+        ensures files { IsTrue C.tells → site_files name_of (C.world self.new.calls) ≡ site_files name_of (C.world self.old.calls) }
         ensures said { (C.world self.new.calls).said ≡ (C.world self.old.calls).said }
         ensures moments { Steps Same (seen_clock name_of (C.clock self.old.calls)) (seen_clock name_of (C.clock self.new.calls)) }
         ensures broken { OnOk result (C.broken self.new.calls ≡ false) }
@@ -237,9 +237,9 @@ impl<C: Calls> Folder<C> {
         requires kept { IsTrue C.tells → KeepsFolder C.file self.old.opened.items self.old.made self.old.synced (C.world self.old.calls) (C.clock self.old.calls) }
         requires bound { at + length bytes.now < 2 ^ 40 }
         ensures kept { IsTrue C.tells → KeepsFolder C.file self.new.opened.items self.new.made self.new.synced (C.world self.new.calls) (C.clock self.new.calls) }
-        ensures written { OnOk result (IsTrue C.tells → seen name_of (C.world self.new.calls)
-            ≡ with_file (seen name_of (C.world self.old.calls)) file (overlaid at bytes.now (seen name_of (C.world self.old.calls) file))) }
-        ensures torn { IsTrue C.tells → InFile file (Torn at (length bytes.now)) (seen name_of (C.world self.old.calls)) (seen name_of (C.world self.new.calls)) }
+        ensures written { OnOk result (IsTrue C.tells → site_files name_of (C.world self.new.calls)
+            ≡ with_file (site_files name_of (C.world self.old.calls)) file (overlay_bytes at bytes.now (site_files name_of (C.world self.old.calls) file))) }
+        ensures torn { IsTrue C.tells → InFile file (Torn at (length bytes.now)) (site_files name_of (C.world self.old.calls)) (site_files name_of (C.world self.new.calls)) }
         ensures said { (C.world self.new.calls).said ≡ (C.world self.old.calls).said }
         ensures moments { Steps (OnDisk file (Torn at (length bytes.now))) (seen_clock name_of (C.clock self.old.calls)) (seen_clock name_of (C.clock self.new.calls)) }
         ensures nothing { at ≡ 0 → bytes.now ≡ [] → self.new ≡ self.old }
@@ -258,7 +258,7 @@ impl<C: Calls> Folder<C> {
         requires place { place < length self.old.opened.items }
         requires kept { IsTrue C.tells → KeepsFolder C.file self.old.opened.items self.old.made self.old.synced (C.world self.old.calls) (C.clock self.old.calls) }
         ensures kept { IsTrue C.tells → KeepsFolder C.file self.new.opened.items self.new.made self.new.synced (C.world self.new.calls) (C.clock self.new.calls) }
-        ensures marked { (o : OpenedFile C.Handle) → slice_get self.old.opened.items place ≡ Some o → slice_get self.new.opened.items place ≡ Some (touched o) }
+        ensures marked { (o : OpenedFile C.Handle) → slice_get self.old.opened.items place ≡ Some o → slice_get self.new.opened.items place ≡ Some (touch_file o) }
         ensures calls { self.new.calls ≡ self.old.calls }
         ensures made { self.new.made ≡ self.old.made }
         ensures synced { self.new.synced ≡ self.old.synced }
@@ -272,7 +272,7 @@ impl<C: Calls> Folder<C> {
         requires broken { C.broken self.old.calls ≡ false }
         requires kept { IsTrue C.tells → KeepsFolder C.file self.old.opened.items self.old.made self.old.synced (C.world self.old.calls) (C.clock self.old.calls) }
         ensures kept { IsTrue C.tells → KeepsFolder C.file self.new.opened.items self.new.made self.new.synced (C.world self.new.calls) (C.clock self.new.calls) }
-        ensures durable { OnOk result (IsTrue C.tells → Only (seen name_of (C.world self.old.calls)) (seen_clock name_of (C.clock self.new.calls))) }
+        ensures durable { OnOk result (IsTrue C.tells → Only (site_files name_of (C.world self.old.calls)) (seen_clock name_of (C.clock self.new.calls))) }
         ensures world { C.world self.new.calls ≡ C.world self.old.calls }
         ensures moments { Steps Unchanged (C.clock self.old.calls) (C.clock self.new.calls) }
         ensures broken { OnOk result (C.broken self.new.calls ≡ false) }
@@ -357,7 +357,7 @@ impl<C: Calls> Folder<C> {
         requires kept { IsTrue C.tells → KeepsFolder C.file self.old.opened.items self.old.made self.old.synced (C.world self.old.calls) (C.clock self.old.calls) }
         ensures kept { IsTrue C.tells → KeepsFolder C.file self.new.opened.items self.new.made self.new.synced (C.world self.new.calls) (C.clock self.new.calls) }
         ensures bound { IfOk result (λ n. 0 < n → (from ≤ n) × (n ≤ upto)) }
-        ensures found { IfOk result (λ n. IsTrue C.tells → IsLastPresent (seen name_of (C.world self.old.calls)) from upto n) }
+        ensures found { IfOk result (λ n. IsTrue C.tells → IsLastPresent (site_files name_of (C.world self.old.calls)) from upto n) }
         ensures world { C.world self.new.calls ≡ C.world self.old.calls }
         ensures moments { Steps Unchanged (C.clock self.old.calls) (C.clock self.new.calls) }
         ensures broken { OnOk result (C.broken self.new.calls ≡ false) }
@@ -379,7 +379,7 @@ impl<C: Calls> Folder<C> {
         requires kept { IsTrue C.tells → KeepsFolder C.file self.old.opened.items self.old.made self.old.synced (C.world self.old.calls) (C.clock self.old.calls) }
         ensures kept { IsTrue C.tells → KeepsFolder C.file self.new.opened.items self.new.made self.new.synced (C.world self.new.calls) (C.clock self.new.calls) }
         ensures bound { IfOk result (λ n. (n ≡ last) ⊎ ((from ≤ n) × (n ≤ upto))) }
-        ensures later { IfOk result (λ n. IsTrue C.tells → MatchOption found (n ≡ last) (λ number. IsLater (seen name_of (C.world self.old.calls)) from upto last number n)) }
+        ensures later { IfOk result (λ n. IsTrue C.tells → MatchOption found (n ≡ last) (λ number. IsLater (site_files name_of (C.world self.old.calls)) from upto last number n)) }
         ensures world { C.world self.new.calls ≡ C.world self.old.calls }
         ensures moments { Steps Unchanged (C.clock self.old.calls) (C.clock self.new.calls) }
         ensures broken { OnOk result (C.broken self.new.calls ≡ false) }
@@ -398,7 +398,7 @@ impl<C: Calls> Folder<C> {
         requires broken { C.broken self.old.calls ≡ false }
         requires kept { IsTrue C.tells → KeepsFolder C.file self.old.opened.items self.old.made self.old.synced (C.world self.old.calls) (C.clock self.old.calls) }
         ensures kept { IsTrue C.tells → KeepsFolder C.file self.new.opened.items self.new.made self.new.synced (C.world self.new.calls) (C.clock self.new.calls) }
-        ensures length { IfOk result (λ n. IsTrue C.tells → n ≡ length (seen name_of (C.world self.old.calls) file)) }
+        ensures length { IfOk result (λ n. IsTrue C.tells → n ≡ length (site_files name_of (C.world self.old.calls) file)) }
         ensures world { C.world self.new.calls ≡ C.world self.old.calls }
         ensures moments { Steps Unchanged (C.clock self.old.calls) (C.clock self.new.calls) }
         ensures broken { OnOk result (C.broken self.new.calls ≡ false) }
@@ -415,8 +415,8 @@ impl<C: Calls> Folder<C> {
         requires kept { IsTrue C.tells → KeepsFolder C.file self.old.opened.items self.old.made self.old.synced (C.world self.old.calls) (C.clock self.old.calls) }
         requires bound { at + length into.old < 2 ^ 40 }
         ensures kept { IsTrue C.tells → KeepsFolder C.file self.new.opened.items self.new.made self.new.synced (C.world self.new.calls) (C.clock self.new.calls) }
-        ensures bytes { IfOk result (λ n. IsTrue C.tells → (n ≡ length (range at (length into.old) (seen name_of (C.world self.old.calls) file)))
-            × (into.new ≡ range at (length into.old) (seen name_of (C.world self.old.calls) file) ++ drop n into.old)) }
+        ensures bytes { IfOk result (λ n. IsTrue C.tells → (n ≡ length (range at (length into.old) (site_files name_of (C.world self.old.calls) file)))
+            × (into.new ≡ range at (length into.old) (site_files name_of (C.world self.old.calls) file) ++ drop n into.old)) }
         ensures count { IfOk result (λ n. n ≤ length into.old) }
         ensures world { C.world self.new.calls ≡ C.world self.old.calls }
         ensures moments { Steps Unchanged (C.clock self.old.calls) (C.clock self.new.calls) }
@@ -433,9 +433,9 @@ impl<C: Calls> Folder<C> {
         requires broken { C.broken self.old.calls ≡ false }
         requires kept { IsTrue C.tells → KeepsFolder C.file self.old.opened.items self.old.made self.old.synced (C.world self.old.calls) (C.clock self.old.calls) }
         ensures kept { IsTrue C.tells → KeepsFolder C.file self.new.opened.items self.new.made self.new.synced (C.world self.new.calls) (C.clock self.new.calls) }
-        ensures cut { OnOk result (IsTrue C.tells → seen name_of (C.world self.new.calls)
-            ≡ with_file (seen name_of (C.world self.old.calls)) file (take len (seen name_of (C.world self.old.calls) file))) }
-        ensures torn { IsTrue C.tells → InFile file (Cut len) (seen name_of (C.world self.old.calls)) (seen name_of (C.world self.new.calls)) }
+        ensures cut { OnOk result (IsTrue C.tells → site_files name_of (C.world self.new.calls)
+            ≡ with_file (site_files name_of (C.world self.old.calls)) file (take len (site_files name_of (C.world self.old.calls) file))) }
+        ensures torn { IsTrue C.tells → InFile file (Cut len) (site_files name_of (C.world self.old.calls)) (site_files name_of (C.world self.new.calls)) }
         ensures said { (C.world self.new.calls).said ≡ (C.world self.old.calls).said }
         ensures moments { Steps (OnDisk file (Cut len)) (seen_clock name_of (C.clock self.old.calls)) (seen_clock name_of (C.clock self.new.calls)) }
         ensures broken { OnOk result (C.broken self.new.calls ≡ false) }
@@ -452,9 +452,9 @@ impl<C: Calls> Folder<C> {
         requires kept { IsTrue C.tells → KeepsFolder C.file self.old.opened.items self.old.made self.old.synced (C.world self.old.calls) (C.clock self.old.calls) }
         requires place { IsAt self.old.opened.items place file }
         ensures kept { IsTrue C.tells → KeepsFolder C.file self.new.opened.items self.new.made self.new.synced (C.world self.new.calls) (C.clock self.new.calls) }
-        ensures cut { OnOk result (IsTrue C.tells → seen name_of (C.world self.new.calls)
-            ≡ with_file (seen name_of (C.world self.old.calls)) file (take len (seen name_of (C.world self.old.calls) file))) }
-        ensures torn { IsTrue C.tells → InFile file (Cut len) (seen name_of (C.world self.old.calls)) (seen name_of (C.world self.new.calls)) }
+        ensures cut { OnOk result (IsTrue C.tells → site_files name_of (C.world self.new.calls)
+            ≡ with_file (site_files name_of (C.world self.old.calls)) file (take len (site_files name_of (C.world self.old.calls) file))) }
+        ensures torn { IsTrue C.tells → InFile file (Cut len) (site_files name_of (C.world self.old.calls)) (site_files name_of (C.world self.new.calls)) }
         ensures said { (C.world self.new.calls).said ≡ (C.world self.old.calls).said }
         ensures moments { Steps (OnDisk file (Cut len)) (seen_clock name_of (C.clock self.old.calls)) (seen_clock name_of (C.clock self.new.calls)) }
         ensures broken { OnOk result (C.broken self.new.calls ≡ false) }

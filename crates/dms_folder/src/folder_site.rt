@@ -1,6 +1,6 @@
 ghost use Rattle.std.specs.Prelude.{◌≡◌, ◌+◌, ◌<◌, ◌≤◌, IsTrue, false, IfOk};
 ghost use Rattle.dms_base.specs.Causes.{Rose};
-ghost use Rattle.dms_calls.specs.Seen.{seen, seen_clock};
+ghost use Rattle.dms_calls.specs.Seen.{site_files, seen_clock};
 ghost use Rattle.dms_calls.specs.Names.{name_of};
 ghost use Rattle.dms_folder.specs.Kept.{KeepsFolder};
 
@@ -64,7 +64,7 @@ impl<C: Calls> Site for FolderSite<C> {
 
     ghost tells_said = { C.tells };
 
-    ghost files = { λ s. seen name_of (C.world s.folder.calls) };
+    ghost files = { λ s. site_files name_of (C.world s.folder.calls) };
 
     ghost said = { λ s. (C.world s.folder.calls).said };
 

@@ -1,6 +1,6 @@
 ghost use Rattle.std.specs.Prelude.{◌≡◌, ◌+◌, ◌^◌, ◌<◌, false, [], length, OnOk, IsTrue};
 ghost use Rattle.dms_moments.specs.Moments.{Steps};
-ghost use Rattle.dms_site.specs.Files.{overlaid, Torn};
+ghost use Rattle.dms_site.specs.Files.{overlay_bytes, Torn};
 ghost use Rattle.dms_calls.specs.World.{OnFile};
 
 use dms_calls::Calls;
@@ -15,7 +15,7 @@ pub fn write_all<C: Calls>(
 ) -> Result<(), Failed>
     requires broken { C.broken calls.old ≡ false }
     requires bound { at + length bytes.now < 2 ^ 40 }
-    ensures written { OnOk result (IsTrue C.tells → (C.world calls.new).bytes (C.file handle.now) ≡ overlaid at bytes.now ((C.world calls.old).bytes (C.file handle.now))) }
+    ensures written { OnOk result (IsTrue C.tells → (C.world calls.new).bytes (C.file handle.now) ≡ overlay_bytes at bytes.now ((C.world calls.old).bytes (C.file handle.now))) }
     ensures torn { OnFile (C.file handle.now) (Torn at (length bytes.now)) (C.world calls.old) (C.world calls.new) }
     ensures moments { Steps (OnFile (C.file handle.now) (Torn at (length bytes.now))) (C.clock calls.old) (C.clock calls.new) }
     ensures broken { OnOk result (C.broken calls.new ≡ false) }
@@ -37,7 +37,7 @@ pub fn write_all<C: Calls>(
 /// Adds zeros up to a length.
 fn lengthen<C: Calls>(calls: &mut C, handle: &C::Handle, len: u64) -> Result<(), Failed>
     requires broken { C.broken calls.old ≡ false }
-    ensures written { OnOk result (IsTrue C.tells → (C.world calls.new).bytes (C.file handle.now) ≡ overlaid len [] ((C.world calls.old).bytes (C.file handle.now))) }
+    ensures written { OnOk result (IsTrue C.tells → (C.world calls.new).bytes (C.file handle.now) ≡ overlay_bytes len [] ((C.world calls.old).bytes (C.file handle.now))) }
     ensures torn { OnFile (C.file handle.now) (Torn len 0) (C.world calls.old) (C.world calls.new) }
     ensures moments { Steps (OnFile (C.file handle.now) (Torn len 0)) (C.clock calls.old) (C.clock calls.new) }
     ensures broken { OnOk result (C.broken calls.new ≡ false) }

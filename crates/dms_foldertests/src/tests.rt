@@ -64,7 +64,7 @@ fn leaves_what_it_may(
     }
     let left = calls.crash(alloc, call, pick)?;
     let named = call >= 10 || (call >= 7 && pick % 2 == 1);
-    let unmade = call < 14 && !looks_sealed(&left) && left.said().is_empty();
+    let unmade = call < 14 && !looks_sealed(&left) && left.text().is_empty();
     Ok(left.bytes(NAME).is_some() == named && (unmade || is_whole(&left)))
 }
 
@@ -74,7 +74,7 @@ fn a_stop_leaves_no_half_description(rt: HostRuntime) -> Result<(), Fail> {
     let made = run_compile(alloc, Vec::new(alloc))?;
     let calls = made.site.calls();
     assert_eq!(rt; made.status, Status::Ok);
-    assert_eq!(rt; calls.said(), b"COMPILED 2 STRUCTURES\n".as_slice());
+    assert_eq!(rt; calls.text(), b"COMPILED 2 STRUCTURES\n".as_slice());
     assert!(rt; is_whole(calls));
     assert_eq!(rt; calls.calls(), 15);
     for call in 1..16usize {
@@ -98,7 +98,7 @@ fn no_call_follows_one_that_failed(rt: HostRuntime) -> Result<(), Fail> {
         };
         assert_eq!(rt; made.status, wanted, "call {call}");
         assert_eq!(rt; made.site.calls().calls(), call);
-        assert_eq!(rt; made.site.calls().said(), b"".as_slice());
+        assert_eq!(rt; made.site.calls().text(), b"".as_slice());
     }
     Ok(())
 }

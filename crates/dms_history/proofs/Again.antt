@@ -10,11 +10,11 @@ use Rattle.dms_history.specs.Base.{Sound, opening, from_control}
 use Rattle.dms_history.specs.History.{History, history_from, after_event}
 use Rattle.dms_history.specs.Here.{here_by, here}
 use Rattle.dms_history.specs.Restores.{Steady}
-use Rattle.dms_history.specs.Often.{Disk, RestoreStep, began, wrote, ended, moved, May, StepsKeep, HoweverOften, FromAnything}
+use Rattle.dms_history.specs.Often.{Disk, RestoreStep, began, wrote, ended, disk_after_step, May, StepsKeep, HoweverOften, FromAnything}
 use Rattle.dms_history.specs.LawsOfRunning.{RunsSteady}
 use Rattle.dms_history.specs.Replay.{replay, with_block}
 use Rattle.dms_history.specs.Images.{or_else, last_after}
-use Rattle.dms_history.specs.Ranges.{patched, range_change}
+use Rattle.dms_history.specs.Ranges.{patch_bytes, range_change}
 use Rattle.dms_history.specs.LawsOfRanges.{RangesSteady}
 use Rattle.dms_history.proofs.Picks.{last_append, last_stands}
 use Rattle.dms_history.proofs.AtPoints.{replay_append}
@@ -37,7 +37,7 @@ was_live live m n next counts described at on = elim (cases_Bool (has (is_point 
       ]
 ]
 
-one_step : (dumps : Dumps) (base : AllBlocks) (d : Disk) (s : RestoreStep) → Steady dumps d.history base d.stored → May dumps base d s → StepsKeep dumps base d (moved d s)
+one_step : (dumps : Dumps) (base : AllBlocks) (d : Disk) (s : RestoreStep) → Steady dumps d.history base d.stored → May dumps base d s → StepsKeep dumps base d (disk_after_step d s)
 one_step dumps base d (began how m) steady ready =
     let r = restore_begins how dumps d.history base (here dumps d.history d.stored) d.stored m ready in
     record { steady = r.steady; points = λ n at. record { lives = live_in d.history.live m n at; same = sym (r.points n at) } }
@@ -47,18 +47,18 @@ one_step dumps base d (wrote written) steady may =
 one_step dumps base d (ended written m next counts described) steady may =
     let p = may.p in
     let r = restore_ends dumps d.history base d.stored written p next counts described may.is steady may.counted may.stand in
-    let new : Disk = moved d (ended written p.point next counts described) in
+    let new : Disk = disk_after_step d (ended written p.point next counts described) in
     let kept : StepsKeep dumps base d new = record {
       steady = r.steady;
       points = λ n at. let was = was_live d.history.live p.point n next counts described (steady.point_lives p may.is) at in record { lives = was; same = sym (r.points n was).same };
     } in
-    subst (λ k. StepsKeep dumps base d (moved d (ended written k next counts described))) (sym may.its_point) kept
+    subst (λ k. StepsKeep dumps base d (disk_after_step d (ended written k next counts described))) (sym may.its_point) kept
 
 pub however_often : HoweverOften
 however_often dumps base d [] steady may = record { steady = steady; points = λ n at. record { lives = at; same = refl } }
 however_often dumps base d (s ∷ ss) steady may =
     let one = one_step dumps base d s steady may.0 in
-    let rest = however_often dumps base (moved d s) ss one.steady may.1 in
+    let rest = however_often dumps base (disk_after_step d s) ss one.steady may.1 in
     record { steady = rest.steady; points = λ n at. let r = rest.points n at in let q = one.points n r.lives in record { lives = q.lives; same = q.same ∙ r.same } }
 
 -- ---- a database that runs
@@ -91,15 +91,15 @@ runs_steady dumps t base stored none controlled steady =
 pub ranges_steady : RangesSteady
 ranges_steady dumps t base stored f b place bytes old none found steady last =
     let all = from_control t.live in
-    let e = change f b (Some old) (patched place bytes old) in
+    let e = change f b (Some old) (patch_bytes place bytes old) in
     let live_last : last_after f b t.live ≡ Some old = ap (λ (l : List Event). last_after f b l) (sym (parts t.live)) ∙ last_append (opening t.live) all f b ∙ ap (λ o. or_else o (last_after f b (opening t.live))) last in
     let chain = steady.sound.chain in
     let stands : old ≡ block_in (replay all base) f b = sym (last_stands all base f b old chain last) in
     let grown : from_control (t.live ++ e ∷ []) ≡ all ++ e ∷ [] = (opening_append t.live (e ∷ []) found).1 in
     record {
       is = ap (λ o. history_from t (range_change f b place bytes o)) live_last;
-      steady = (runs_steady dumps t base stored none found steady).change f b (Some old) (patched place bytes old) (logged_below all base f b old chain last, stands);
-      content = ap (λ (l : List Event). replay l base) grown ∙ replay_append all (e ∷ []) base ∙ ap (λ x. with_block (replay all base) f b (patched place bytes x)) stands;
+      steady = (runs_steady dumps t base stored none found steady).change f b (Some old) (patch_bytes place bytes old) (logged_below all base f b old chain last, stands);
+      content = ap (λ (l : List Event). replay l base) grown ∙ replay_append all (e ∷ []) base ∙ ap (λ x. with_block (replay all base) f b (patch_bytes place bytes x)) stands;
     }
 
 pub from_anything : FromAnything

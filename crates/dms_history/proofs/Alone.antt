@@ -8,7 +8,7 @@ use Rattle.dms_history.specs.History.{History, history_from, history}
 use Rattle.dms_history.specs.Agrees.{ends_restore, BeginsAloneEvents}
 use Rattle.dms_history.specs.Ranges.{Logged, event, range, range_change, events_from, told_events}
 use Rattle.dms_history.specs.Entries.{Entry}
-use Rattle.dms_history.specs.EntryEvents.{logged, events, ends_restore_logged, history_of, BeginsAlone}
+use Rattle.dms_history.specs.EntryEvents.{events_in, events, ends_restore_logged, history_of, BeginsAlone}
 use Rattle.dms_history.proofs.Order.{not_empty, split_push}
 use Rattle.dms_history.proofs.Sealed.{told_push, one_more_event}
 
@@ -36,9 +36,9 @@ alone_from (range f b place bytes ∷ xs) h alone us vs m how e is =
     go (Some old) [] is rest = absurd cc
     go (Some old) (u ∷ us) is rest = rest (history_from h (range_change f b place bytes (Some old))) us vs m how e cc
 
-pub alone_events : (entries : List Entry) → BeginsAlone (logged entries) → BeginsAloneEvents (events entries)
+pub alone_events : (entries : List Entry) → BeginsAlone (events_in entries) → BeginsAloneEvents (events entries)
 unfolding told_events
-alone_events entries alone = alone_from (logged entries) (record { live = []; pending = None }) alone
+alone_events entries alone = alone_from (events_in entries) (record { live = []; pending = None }) alone
 
 pub alone_more : (ls : List Logged) (l : Logged) → BeginsAlone ls → ((xs : List Logged) (m : ℕ) (how : How) → ls ≡ xs ++ event (begin m how) ∷ [] → ends_restore_logged l ≡ true) → BeginsAlone (ls ++ l ∷ [])
 alone_more ls l alone last xs ys m how x is =
@@ -48,7 +48,7 @@ alone_more ls l alone last xs ys m how x is =
     ]
 
 -- where no restore is pending, the entries don't end with a Begin
-pub not_begun : (es : List Entry) → (history_of es).pending ≡ None → (xs : List Logged) (m : ℕ) (how : How) → logged es ≡ xs ++ event (begin m how) ∷ [] → ⊥
+pub not_begun : (es : List Entry) → (history_of es).pending ≡ None → (xs : List Logged) (m : ℕ) (how : How) → events_in es ≡ xs ++ event (begin m how) ∷ [] → ⊥
 not_begun es none xs m how is =
     let said : events es ≡ told_events xs ++ begin m how ∷ [] = ap told_events is ∙ told_push xs (event (begin m how)) in
     none-some (record { entries = (history (told_events xs)).live; point = m; how = how })

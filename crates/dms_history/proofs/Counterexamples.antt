@@ -41,13 +41,13 @@ no_base base counted sound =
 abbrev false_dumps : Dumps
 false_dumps d = record { point = 1; blocks = λ f. (9 ∷ []) ∷ [] }
 
-abbrev logged : List Event
-logged = control 0 1 (λ _. 0) true ∷ change 3 0 None (7 ∷ []) ∷ quiet 1 ∷ []
+abbrev log_example : List Event
+log_example = control 0 1 (λ _. 0) true ∷ change 3 0 None (7 ∷ []) ∷ quiet 1 ∷ []
 
 abbrev rebuilding : List Event
-rebuilding = logged ++ begin 1 (rebuild 2) ∷ []
+rebuilding = log_example ++ begin 1 (rebuild 2) ∷ []
 
-had_seven : (stored : Stored) → blocks_at logged stored 1 3 ≡ (7 ∷ []) ∷ []
+had_seven : (stored : Stored) → blocks_at log_example stored 1 3 ≡ (7 ∷ []) ∷ []
 unfolding blocks_at content_of count_at pick choice
 had_seven stored = refl
 
@@ -55,7 +55,7 @@ counts_nine : (stored : Stored) → here false_dumps (history rebuilding) stored
 unfolding history outcome content_of restore_pick dump_pick count_at
 counts_nine stored = refl
 
-numbers : Numbered logged (next_number rebuilding)
+numbers : Numbered log_example (next_number rebuilding)
 unfolding next_number
 numbers =
     let start : List Event = control 0 1 (λ _. 0) true ∷ [] in
@@ -63,14 +63,14 @@ numbers =
     let one = numbers_first (λ _. 0) true in
     let two = numbers_change start start 3 0 None (7 ∷ []) one in
     let three = numbers_quiet more more 1 two (omega arith) (omega arith) in
-    numbers_begin logged logged 1 (rebuild 2) three refl
+    numbers_begin log_example log_example 1 (rebuild 2) three refl
 
 nothing : AllBlocks
 nothing f = []
 
-lists_agree : (stored : Stored) → ListAgrees true logged (next_number rebuilding) (here false_dumps (history rebuilding) stored)
+lists_agree : (stored : Stored) → ListAgrees true log_example (next_number rebuilding) (here false_dumps (history rebuilding) stored)
 unfolding nothing
-lists_agree stored = base_agrees true logged (next_number rebuilding) (here false_dumps (history rebuilding) stored) nothing
+lists_agree stored = base_agrees true log_example (next_number rebuilding) (here false_dumps (history rebuilding) stored) nothing
     (record {
       chain = ((λ f. refl), ((refl, tt)));
       stands = λ f b low none. elim (place_cases f b 3 0) [
@@ -79,14 +79,14 @@ lists_agree stored = base_agrees true logged (next_number rebuilding) (here fals
       ];
     }) (record { leads = λ f b x last. absurd cc; linked = λ xs ys f b before after old is last. absurd (not_empty xs ys (change f b before after) (sym is)) }) numbers (λ yes_first f. refl)
 
-ended : List Event
-ended = control 0 1 (λ _. 0) true ∷ change 3 0 None (7 ∷ []) ∷ quiet 1 ∷ control 1 2 one_block true ∷ []
+end_example : List Event
+end_example = control 0 1 (λ _. 0) true ∷ change 3 0 None (7 ∷ []) ∷ quiet 1 ∷ control 1 2 one_block true ∷ []
 
-no_base_then : (base : AllBlocks) (written : Stored) → written 3 0 ≡ 9 ∷ [] → Sound ended base written → ⊥
-unfolding ended
+no_base_then : (base : AllBlocks) (written : Stored) → written 3 0 ≡ 9 ∷ [] → Sound end_example base written → ⊥
+unfolding end_example
 no_base_then base written is sound =
-    let low = logged_below ended base 3 0 (7 ∷ []) sound.chain refl in
-    let same : written 3 0 ≡ 7 ∷ [] = sound.stands 3 0 low refl ∙ last_stands ended base 3 0 (7 ∷ []) sound.chain refl in
+    let low = logged_below end_example base 3 0 (7 ∷ []) sound.chain refl in
+    let same : written 3 0 ≡ 7 ∷ [] = sound.stands 3 0 low refl ∙ last_stands end_example base 3 0 (7 ∷ []) sound.chain refl in
     let heads : 9 ≡ 7 = ap (λ (l : List ℕ). get_or l 0 0) (sym is ∙ same) in
     omega (arith, heads)
 
@@ -94,7 +94,7 @@ no_base_then base written is sound =
 refused : (stored : Stored) → EventsAgree true rebuilding false_dumps stored → ⊥
 unfolding history
 refused stored agrees =
-    let same : 9 ∷ [] ≡ 7 ∷ [] = sym (counts_nine stored) ∙ agrees.restored (record { entries = logged; point = 1; how = rebuild 2 }) 3 0 (7 ∷ []) refl refl in
+    let same : 9 ∷ [] ≡ 7 ∷ [] = sym (counts_nine stored) ∙ agrees.restored (record { entries = log_example; point = 1; how = rebuild 2 }) 3 0 (7 ∷ []) refl refl in
     let heads : 9 ≡ 7 = ap (λ (l : List ℕ). get_or l 0 0) same in
     omega (arith, heads)
 

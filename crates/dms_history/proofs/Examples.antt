@@ -14,7 +14,7 @@ use Rattle.dms_history.specs.History.{history, live, last_point, next_number}
 use Rattle.dms_history.specs.Images.{choice}
 use Rattle.dms_history.specs.Pick.{Dumps, count_at, pick, dump_pick, content_of, blocks_at}
 use Rattle.dms_history.specs.Here.{restore_pick, outcome, here}
-use Rattle.dms_history.specs.Ranges.{told_events, patched}
+use Rattle.dms_history.specs.Ranges.{told_events, patch_bytes}
 use Rattle.dms_history.specs.Entries.{by_halt_load, by_roll_back, Entry, schema_part, image, byte_range, quiet_point, control_point, begin_restore, counts_in, named_by}
 use Rattle.dms_history.specs.EntryEvents.{events, history_of}
 
@@ -114,7 +114,7 @@ ranges : events (
     ∷ byte_range 30001 0 1 (6 ∷ [])
     ∷ []
     ) ≡ control 0 1 (counts_in (record { file = 30001; blocks = 1 } ∷ [])) true ∷ change 30001 0 (Some (1 ∷ 2 ∷ 3 ∷ [])) (5 ∷ 2 ∷ 3 ∷ []) ∷ change 30001 0 (Some (5 ∷ 2 ∷ 3 ∷ [])) (5 ∷ 6 ∷ 3 ∷ []) ∷ []
-unfolding told_events patched
+unfolding told_events patch_bytes
 ranges = refl
 
 -- A Control behind a Schema in two parts is described; behind its second part alone, or with something between, it isn't.

@@ -47,28 +47,28 @@ test_live live n at = λ i. at.found i && at.described i
 
 -- ---- the answers apart
 
-abbrev judged : Bool → Bool → Bool → Option PointRefusal
-judged none lives low = cond none (Some no_such_point) (cond lives None (cond low (Some voided) (Some audit_missing)))
+abbrev refusal_by : Bool → Bool → Bool → Option PointRefusal
+refusal_by none lives low = cond none (Some no_such_point) (cond lives None (cond low (Some voided) (Some audit_missing)))
 
-when_lives : (a b c : Bool) → judged a b c ≡ None → (a ≡ false) × (b ≡ true)
+when_lives : (a b c : Bool) → refusal_by a b c ≡ None → (a ≡ false) × (b ≡ true)
 when_lives true b c is = absurd cc
 when_lives false true c is = (refl, refl)
 when_lives false false true is = absurd cc
 when_lives false false false is = absurd cc
 
-when_none : (a b c : Bool) → judged a b c ≡ Some no_such_point → a ≡ true
+when_none : (a b c : Bool) → refusal_by a b c ≡ Some no_such_point → a ≡ true
 when_none true b c is = refl
 when_none false true c is = absurd cc
 when_none false false true is = absurd cc
 when_none false false false is = absurd cc
 
-when_missing : (a b c : Bool) → judged a b c ≡ Some audit_missing → (a ≡ false) × (b ≡ false) × (c ≡ false)
+when_missing : (a b c : Bool) → refusal_by a b c ≡ Some audit_missing → (a ≡ false) × (b ≡ false) × (c ≡ false)
 when_missing true b c is = absurd cc
 when_missing false true c is = absurd cc
 when_missing false false true is = absurd cc
 when_missing false false false is = (refl, refl, refl)
 
-when_void : (a b c : Bool) → judged a b c ≡ Some voided → (a ≡ false) × (b ≡ false) × (c ≡ true)
+when_void : (a b c : Bool) → refusal_by a b c ≡ Some voided → (a ≡ false) × (b ≡ false) × (c ≡ true)
 when_void true b c is = absurd cc
 when_void false true c is = absurd cc
 when_void false false true is = (refl, refl, refl)
@@ -95,9 +95,9 @@ each_judged live next n =
     record {
       lives = (
         λ is. let both = when_lives a b c is in (below next n both.0, live_test live n both.1),
-        λ both. λ i. judged (not_below next n both.0 i) (test_live live n both.1 i) c,
+        λ both. λ i. refusal_by (not_below next n both.0 i) (test_live live n both.1 i) c,
       );
-      no_such = (λ is. used_up next n (when_none a b c is), λ le. λ i. judged (free_number next n le i) b c);
+      no_such = (λ is. used_up next n (when_none a b c is), λ le. λ i. refusal_by (free_number next n le i) b c);
       missing = (
         λ is.
             let all = when_missing a b c is in
@@ -108,7 +108,7 @@ each_judged live next n =
               | inr none ↦ none
               | inl some ↦ let r = some_low live n (live_numbers live) (all_live live) some in let up = both.1 r.0 r.1 in absurd (omega (arith, up, r.2))
             ] in
-            λ i. judged (not_below next n both.0 i) (off i) (none i),
+            λ i. refusal_by (not_below next n both.0 i) (off i) (none i),
       );
       void = (
         λ is.
@@ -118,7 +118,7 @@ each_judged live next n =
         λ cut.
             let off : b ≡ false = elim (cases_Bool b) [ inr off ↦ off | inl on ↦ absurd (cut.gone (live_test live n on)) ] in
             let low : cut.lower ≤ n = omega (arith, cut.is_lower) in
-            λ i. judged (not_below next n cut.used i) (off i) (low_listed n cut.lower (live_numbers live) low (live_is_listed live cut.lower cut.lower_lives) i),
+            λ i. refusal_by (not_below next n cut.used i) (off i) (low_listed n cut.lower (live_numbers live) low (live_is_listed live cut.lower cut.lower_lives) i),
       );
     }
   where

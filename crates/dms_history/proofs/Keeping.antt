@@ -12,12 +12,12 @@ use Rattle.dms_history.specs.Here.{here}
 use Rattle.dms_history.specs.Base.{opening, from_control, base_of, Sound, OpenedFrom}
 use Rattle.dms_history.specs.Agrees.{Numbered}
 use Rattle.dms_history.specs.Restores.{Steady}
-use Rattle.dms_history.specs.Ranges.{Logged, event, range, patched, all_changes, told_events, live_step, live_logged}
+use Rattle.dms_history.specs.Ranges.{Logged, event, range, patch_bytes, all_changes, told_events, live_step, live_logged}
 use Rattle.dms_history.specs.LawsOfRanges.{HasImages}
 use Rattle.dms_history.specs.Entries.{Entry, schema_part, image, byte_range, quiet_point, control_point, begin_restore, counts_in, how_of}
 use Rattle.dms_history.specs.declared.event.FileCount.{FileCount}
 use Rattle.dms_history.specs.Schemas.{no_parts, parts_from, is_whole, schema_entries}
-use Rattle.dms_history.specs.EntryEvents.{said_by, logged, events, history_of, live_of, next_of, ends_restore_logged, BeginsAlone}
+use Rattle.dms_history.specs.EntryEvents.{said_by, events_in, events, history_of, live_of, next_of, ends_restore_logged, BeginsAlone}
 use Rattle.dms_history.specs.Kept.{content_told, Kept}
 use Rattle.dms_history.specs.LawsOfKept.{KeptFirst, KeptImage, KeptRange, KeptQuiet, KeptSchema, KeptControl, KeptBegin, KeptEnds, KeptWrites, KeptRestores, KeptAgrees, AgreesKept, KeptInParts, FirstAgrees}
 use Rattle.dms_history.proofs.Picks.{last_append}
@@ -43,7 +43,7 @@ use Rattle.dms_history.proofs.Imaged.{image_told}
 -- ---- one more entry
 
 -- all that is kept depends on what the entries say
-kept_same : (first : Bool) (es more : List Entry) (dumps : Dumps) (base : AllBlocks) (stored : Stored) → logged more ≡ logged es → Kept first es dumps base stored → Kept first more dumps base stored
+kept_same : (first : Bool) (es more : List Entry) (dumps : Dumps) (base : AllBlocks) (stored : Stored) → events_in more ≡ events_in es → Kept first es dumps base stored → Kept first more dumps base stored
 kept_same first es more dumps base stored same k = record {
   steady = subst (λ (l : List Logged). Steady dumps (history (told_events l)) base stored) (sym same) k.steady;
   opened = subst (λ (l : List Logged). OpenedFrom (opening (history (told_events l)).live) base) (sym same) k.opened;
@@ -53,8 +53,8 @@ kept_same first es more dumps base stored same k = record {
   empty = k.empty;
 }
 
-says_one : (es : List Entry) (e : Entry) (l : Logged) → said_by (parts_from no_parts es) e ≡ l ∷ [] → logged (es ++ e ∷ []) ≡ logged es ++ l ∷ []
-says_one es e l said = logged_append es (e ∷ []) no_parts ∙ ap (λ (k : List Logged). logged es ++ (k ++ [])) said
+says_one : (es : List Entry) (e : Entry) (l : Logged) → said_by (parts_from no_parts es) e ≡ l ∷ [] → events_in (es ++ e ∷ []) ≡ events_in es ++ l ∷ []
+says_one es e l said = logged_append es (e ∷ []) no_parts ∙ ap (λ (k : List Logged). events_in es ++ (k ++ [])) said
 
 live_append : (xs ys live : List Logged) → live_logged live (xs ++ ys) ≡ live_logged (live_logged live xs) ys
 live_append [] ys live = refl
@@ -64,17 +64,17 @@ module _ (first : Bool) (es : List Entry) (e : Entry) (l : Logged) (ev : Event) 
   one_step : history_of (es ++ e ∷ []) ≡ after_event (history_of es) ev
   one_step = ap history is ∙ one_more_event (events es) ev
 
-  kept_event : (others : Dumps) (stored written : Stored) → Kept first es dumps base stored → logged (es ++ e ∷ []) ≡ logged es ++ l ∷ []
+  kept_event : (others : Dumps) (stored written : Stored) → Kept first es dumps base stored → events_in (es ++ e ∷ []) ≡ events_in es ++ l ∷ []
       → Steady others (after_event (history_of es) ev) base written → OpenedFrom (opening (after_event (history_of es) ev).live) base
       → Numbered (after_event (history_of es) ev).live (next_number (events es ++ ev ∷ []))
-      → ((xs : List Logged) (m : ℕ) (how : How) → logged es ≡ xs ++ event (begin m how) ∷ [] → ends_restore_logged l ≡ true)
-      → HasImages (live_step (live_logged [] (logged es)) l) → Kept first (es ++ e ∷ []) others base written
+      → ((xs : List Logged) (m : ℕ) (how : How) → events_in es ≡ xs ++ event (begin m how) ∷ [] → ends_restore_logged l ≡ true)
+      → HasImages (live_step (live_logged [] (events_in es)) l) → Kept first (es ++ e ∷ []) others base written
   kept_event others stored written k says steady opened numbered alone images = record {
     steady = subst (λ (h : History). Steady others h base written) (sym one_step) steady;
     opened = subst (λ (h : History). OpenedFrom (opening h.live) base) (sym one_step) opened;
     numbered = subst (λ (h : History). Numbered h.live (next_of (es ++ e ∷ []))) (sym one_step) (subst (λ (k : List Event). Numbered (after_event (history_of es) ev).live (next_number k)) (sym is) numbered);
-    alone = subst BeginsAlone (sym says) (alone_more (logged es) l k.alone alone);
-    images = subst (λ (k : List Logged). HasImages (live_logged [] k)) (sym says) (subst HasImages (sym (live_append (logged es) (l ∷ []) [])) images);
+    alone = subst BeginsAlone (sym says) (alone_more (events_in es) l k.alone alone);
+    images = subst (λ (k : List Logged). HasImages (live_logged [] k)) (sym says) (subst HasImages (sym (live_append (events_in es) (l ∷ []) [])) images);
     empty = k.empty;
   }
 
@@ -99,7 +99,7 @@ kept_image first es dumps base stored f b before after k idle tells =
           (still_opened live ev base idle.controlled k.opened)
           (numbers_change (events es) live f b before after k.numbered)
           (λ xs m how at. absurd (not_begun es idle.none xs m how at))
-          ((images_go_on (live_logged [] (logged es)) k.images).others (event ev) refl);
+          ((images_go_on (live_logged [] (events_in es)) k.images).others (event ev) refl);
       tells = content_event first es (image f b before after) (event ev) ev dumps base is refl idle.controlled;
     }
 
@@ -108,19 +108,19 @@ kept_range first es dumps base stored f b place bytes k idle itself =
     let e = byte_range f b place bytes in
     let l : Logged = range f b place bytes in
     let live = live_of es in
-    let ls = live_logged [] (logged es) in
-    let told : live ≡ all_changes ls = live_of_ranges (logged es) in
+    let ls = live_logged [] (events_in es) in
+    let told : live ≡ all_changes ls = live_of_ranges (events_in es) in
     let had = image_told ls f b k.images (ap (λ (l : List Event). has is_control l) (sym told) ∙ idle.controlled) itself in
     let old = had.0 in
     let last : last_after f b (from_control live) ≡ Some old = ap (λ (l : List Event). last_after f b (from_control l)) told ∙ had.1 in
     let live_last : last_after f b live ≡ Some old =
     ap (λ (l : List Event). last_after f b l) (sym (parts live)) ∙ last_append (opening live) (from_control live) f b ∙ ap (λ o. or_else o (last_after f b (opening live))) last in
-    let ev = change f b (Some old) (patched place bytes old) in
+    let ev = change f b (Some old) (patch_bytes place bytes old) in
     let is = (range_sealed es f b place bytes).0 old live_last in
     let r = ranges_steady dumps (history_of es) base stored f b place bytes old idle.none idle.controlled k.steady last in record {
       kept = kept_event first es e l ev dumps base is dumps stored stored k (says_one es e l refl) r.steady
           (still_opened live ev base idle.controlled k.opened)
-          (numbers_change (events es) live f b (Some old) (patched place bytes old) k.numbered)
+          (numbers_change (events es) live f b (Some old) (patch_bytes place bytes old) k.numbered)
           (λ xs m how at. absurd (not_begun es idle.none xs m how at))
           ((images_go_on ls k.images).ranges f b place bytes itself);
       tells = ap (λ (h : History). replay (from_control h.live) base) (one_step first es e l ev dumps base is) ∙ r.content;
@@ -136,13 +136,13 @@ kept_quiet first es dumps base stored n k idle free low =
           (still_opened live ev base idle.controlled k.opened)
           (numbers_quiet (events es) live n k.numbered free low)
           (λ xs m how at. absurd (not_begun es idle.none xs m how at))
-          ((images_go_on (live_logged [] (logged es)) k.images).others (event ev) refl);
+          ((images_go_on (live_logged [] (events_in es)) k.images).others (event ev) refl);
       tells = content_event first es (quiet_point n) (event ev) ev dumps base is refl idle.controlled;
     }
 
 pub kept_schema : KeptSchema
 kept_schema first es dumps base stored part parts bytes k =
-    kept_same first es (es ++ schema_part part parts bytes ∷ []) dumps base stored (logged_append es (schema_part part parts bytes ∷ []) no_parts ∙ append_none (logged es)) k
+    kept_same first es (es ++ schema_part part parts bytes ∷ []) dumps base stored (logged_append es (schema_part part parts bytes ∷ []) no_parts ∙ append_none (events_in es)) k
 
 module _ (first : Bool) (es : List Entry) (n next : ℕ) (counts : List FileCount) where
   abbrev pub the_control : Event
@@ -161,7 +161,7 @@ kept_control first es dumps base stored written n next counts k idle last placed
           (still_opened live ev base idle.controlled k.opened)
           (numbers_control (events es) (history_of es) n next (counts_in counts) (is_whole (parts_from no_parts es)) k.numbered last placed carried)
           (λ xs m how at. refl)
-          ((images_go_on (live_logged [] (logged es)) k.images).others (event ev) refl);
+          ((images_go_on (live_logged [] (events_in es)) k.images).others (event ev) refl);
       tells = content_event first es (control_point n next counts) (event ev) ev dumps base is refl idle.controlled;
     }
 
@@ -190,7 +190,7 @@ kept_begin first es dumps others base right stored m kind k ready =
     (subst (λ (l : List Event). OpenedFrom l base) (sym ((opening_stays live).1 m ready.point_lives)) k.opened)
     (numbers_begin (events es) live m how k.numbered ready.point_lives.found)
     (λ xs n other at. refl)
-    ((images_go_on (live_logged [] (logged es)) k.images).cuts m)
+    ((images_go_on (live_logged [] (events_in es)) k.images).cuts m)
 
 pub kept_restores : KeptRestores
 kept_restores first es dumps base stored written p k is same =
@@ -219,7 +219,7 @@ kept_ends first es dumps base stored written p next counts k pending carried cou
           (still_opened live ev base found k.opened)
           (numbers_control (events es) (history_of es) p.point next (counts_in counts) (is_whole (parts_from no_parts es)) k.numbered cut.last at.found carried)
           (λ xs m how at. refl)
-          ((images_go_on (live_logged [] (logged es)) k.images).others (event ev) refl);
+          ((images_go_on (live_logged [] (events_in es)) k.images).others (event ev) refl);
       tells = content_event first es (control_point p.point next counts) (event ev) ev dumps base is refl found;
     }
 
@@ -267,7 +267,7 @@ pub kept_first : KeptFirst
 kept_first one rest dumps stored =
     let c = control 0 1 (counts_in []) true in
     let es = schema_entries (one ∷ rest) ++ control_point 0 1 [] ∷ [] in
-    let says : logged es ≡ event c ∷ [] = control_logged no_parts one rest 0 1 [] in
+    let says : events_in es ≡ event c ∷ [] = control_logged no_parts one rest 0 1 [] in
     let is : events es ≡ c ∷ [] = control_sealed [] one rest 0 1 [] ∙ ap (λ (l : List Event). l ++ c ∷ []) nothing_yet in
     record {
       steady = subst (λ (l : List Event). Steady dumps (history l) (λ f. []) stored) (sym is) (first_steady dumps stored);

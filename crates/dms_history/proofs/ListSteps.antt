@@ -12,7 +12,7 @@ use Rattle.dms_history.specs.History.{after_event}
 use Rattle.dms_history.specs.Base.{from_control, Sound}
 use Rattle.dms_history.specs.Agrees.{Numbered}
 use Rattle.dms_history.specs.Here.{here}
-use Rattle.dms_history.specs.Points.{LivePoint, placed, numbers_from, live_numbers, point_at, live_points, up_to, AllAbove, Rises, AllLive, ListsPoints}
+use Rattle.dms_history.specs.Points.{LivePoint, live_number, numbers_from, live_numbers, point_at, live_points, up_to, AllAbove, Rises, AllLive, ListsPoints}
 use Rattle.dms_history.specs.LawsOfPointLists.{ListsChange, ListsQuiet, ListsControl, ListsBegin, LastKeepsAll}
 use Rattle.dms_history.proofs.AtPoints.{split_first, true_or}
 use Rattle.dms_history.proofs.Base.{has_append}
@@ -58,13 +58,13 @@ stays live more next base counted later ps numbered none sound grown listed =
 pub lists_change : ListsChange
 lists_change live next base counted ps f b before after numbered sound grown listed = stays live (change f b before after ∷ []) next base counted counted ps numbered refl sound grown listed
 
-not_placed : (n : ℕ) (front : List Event) (e : Event) → has (is_point n) front ≡ true → placed n front e ≡ []
+not_placed : (n : ℕ) (front : List Event) (e : Event) → has (is_point n) front ≡ true → live_number n front e ≡ []
 not_placed n front e found = ap (λ k. cond (not k && has is_described (front ++ e ∷ [])) (n ∷ []) []) found
 
 pub lists_control : ListsControl
-lists_control live next base counted later ps n after counts described numbered placed sound grown listed =
+lists_control live next base counted later ps n after counts described numbered live_number sound grown listed =
     let e = control n after counts described in
-    stays live (e ∷ []) next base counted later ps numbered (ap (λ (l : List ℕ). l ++ []) (not_placed n live e placed)) sound grown listed
+    stays live (e ∷ []) next base counted later ps numbered (ap (λ (l : List ℕ). l ++ []) (not_placed n live e live_number)) sound grown listed
 
 -- ---- a new point
 

@@ -9,7 +9,7 @@ use Rattle.dms_history.specs.Lists.{has, until_first}
 use Rattle.dms_history.specs.Places.{is_point, is_described, point_numbers, IsLive}
 use Rattle.dms_history.specs.Pick.{blocks_at}
 use Rattle.dms_history.specs.Agrees.{Numbered}
-use Rattle.dms_history.specs.Points.{LivePoint, numbers_of, placed, new_place, numbers_from, live_numbers, point_at, live_points, AllAbove, Rises, AllLive, ListsPoints}
+use Rattle.dms_history.specs.Points.{LivePoint, numbers_of, live_number, new_place, numbers_from, live_numbers, point_at, live_points, AllAbove, Rises, AllLive, ListsPoints}
 use Rattle.dms_history.specs.LawsOfPointLists.{PointsListed, OneList, PointsPrefix, PointsStay}
 use Rattle.dms_history.proofs.AtPoints.{true_or, or_true_right}
 use Rattle.dms_history.proofs.Base.{has_append}
@@ -47,7 +47,7 @@ all_both : (live : List Event) (ns ms : List ℕ) → EachLive live ns → EachL
 all_both live [] ms one two = two
 all_both live (n ∷ ns) ms one two = (one.0, all_both live ns ms one.1 two)
 
-placed_live : (n : ℕ) (front : List Event) (e : Event) (es : List Event) → is_point n e ≡ true → EachLive (front ++ e ∷ es) (placed n front e)
+placed_live : (n : ℕ) (front : List Event) (e : Event) (es : List Event) → is_point n e ≡ true → EachLive (front ++ e ∷ es) (live_number n front e)
 placed_live n front e es at = go (has (is_point n) front) (has is_described (front ++ e ∷ [])) refl refl
   where
     go : (a b : Bool) → has (is_point n) front ≡ a → has is_described (front ++ e ∷ []) ≡ b → EachLive (front ++ e ∷ es) (cond (not a && b) (n ∷ []) [])
@@ -84,7 +84,7 @@ points_live live counted (n ∷ ns) all = (record { lives = all.0; same = refl }
 -- ---- the numbers rise
 
 -- a number that gets its place behind that of n is another one
-place_above : (n k : ℕ) (front : List Event) (e : Event) (rest : List ℕ) → has (is_point n) front ≡ true → n ≤ k → AllAbove n rest → AllAbove n (placed k front e ++ rest)
+place_above : (n k : ℕ) (front : List Event) (e : Event) (rest : List ℕ) → has (is_point n) front ≡ true → n ≤ k → AllAbove n rest → AllAbove n (live_number k front e ++ rest)
 place_above n k front e rest found le above = go (has (is_point k) front) (has is_described (front ++ e ∷ [])) refl
   where
     go : (a b : Bool) → has (is_point k) front ≡ a → AllAbove n (cond (not a && b) (k ∷ []) [] ++ rest)
@@ -107,7 +107,7 @@ rest_above n front (begin m how ∷ es) found above = rest_above n (front ++ beg
 abbrev NeverFall : List ℕ → Type 0
 NeverFall ns = (xs ys zs : List ℕ) (a b : ℕ) → ns ≡ xs ++ a ∷ (ys ++ b ∷ zs) → a ≤ b
 
-place_rises : (n : ℕ) (front : List Event) (e : Event) (rest : List ℕ) → AllAbove n rest → Rises rest → Rises (placed n front e ++ rest)
+place_rises : (n : ℕ) (front : List Event) (e : Event) (rest : List ℕ) → AllAbove n rest → Rises rest → Rises (live_number n front e ++ rest)
 place_rises n front e rest above rises = go (not (has (is_point n) front) && has is_described (front ++ e ∷ []))
   where
     go : (b : Bool) → Rises (cond b (n ∷ []) [] ++ rest)
@@ -136,7 +136,7 @@ lists_right : (n : ℕ) (xs ys : List ℕ) → lists n ys ≡ true → lists n (
 lists_right n [] ys on = on
 lists_right n (x ∷ xs) ys on = or_true_right (x == n) (lists n (xs ++ ys)) (lists_right n xs ys on)
 
-place_listed : (n k : ℕ) (front : List Event) (e : Event) (rest : List ℕ) → k ≡ n → has (is_point n) front ≡ false → has is_described (front ++ e ∷ []) ≡ true → lists n (placed k front e ++ rest) ≡ true
+place_listed : (n k : ℕ) (front : List Event) (e : Event) (rest : List ℕ) → k ≡ n → has (is_point n) front ≡ false → has is_described (front ++ e ∷ []) ≡ true → lists n (live_number k front e ++ rest) ≡ true
 place_listed n k front e rest same off told =
     (λ i. lists n (cond (not ((ap (λ j. has (is_point j) front) same ∙ off) i) && told i) (k ∷ []) [] ++ rest)) ∙ true_or (k == n) (lists n rest) (grind (arith, nat_tests, same))
 

@@ -2,7 +2,7 @@
 use Rattle.std.proofs.Common.{ℕ, ◌+◌, ◌≤◌, ◌≡◌, min, inl, inr, List, [], ◌∷◌, ◌++◌, length, take, drop, refl, sym, ◌∙◌, ap, arith, append_assoc, length-drop}
 use Rattle.std.proofs.lemmas.Bool.{cases_lt}
 use Rattle.std.proofs.lemmas.List.{take_all}
-use Rattle.dms_history.specs.Ranges.{patched}
+use Rattle.dms_history.specs.Ranges.{patch_bytes}
 
 none_left : (xs : List ℕ) → length xs ≡ 0 → xs ≡ []
 none_left [] is = refl
@@ -30,8 +30,8 @@ cut_end start n old = elim (cases_lt (start + n) (length old)) [
 ]
 
 pub patched_is : (place start end : ℕ) (bytes old front whole : List ℕ) → start ≡ min place (length old) → end ≡ min (start + length bytes) (length old) → front ≡ take start old
-    → whole ≡ (front ++ bytes) ++ drop end old → whole ≡ patched place bytes old
-unfolding patched
+    → whole ≡ (front ++ bytes) ++ drop end old → whole ≡ patch_bytes place bytes old
+unfolding patch_bytes
 patched_is place start end bytes old front whole is ends cut put =
     put ∙ append_assoc front bytes (drop end old)
     ∙ (λ i. (cut ∙ same_front place start old is) i ++ (bytes ++ (ap (λ k. drop k old) ends ∙ cut_end start (length bytes) old ∙ same_rest place start (length bytes) old is) i))

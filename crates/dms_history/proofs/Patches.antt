@@ -3,18 +3,18 @@ use Rattle.std.proofs.Common.{ℕ, ◌+◌, ◌-◌, ◌<◌, ◌≤◌, ◌≡�
 use Rattle.std.proofs.lemmas.List.{ext_get_or, get_or_append_left, get_or-take, get_or-drop, get_or-append_right}
 use Rattle.std.proofs.lemmas.Bool.{cases_lt}
 use Rattle.dms_history.specs.Events.{BlockBytes}
-use Rattle.dms_history.specs.Ranges.{patched}
+use Rattle.dms_history.specs.Ranges.{patch_bytes}
 use Rattle.dms_history.specs.LawsOfRanges.{RangeFits}
 
-patched_length : (place : ℕ) (bytes : List ℕ) (old : BlockBytes) → place + length bytes ≤ length old → length (patched place bytes old) ≡ length old
-unfolding patched
+patched_length : (place : ℕ) (bytes : List ℕ) (old : BlockBytes) → place + length bytes ≤ length old → length (patch_bytes place bytes old) ≡ length old
+unfolding patch_bytes
 patched_length place bytes old fits =
     omega (arith, length-append (take place old) (bytes ++ drop (place + length bytes) old), length-append bytes (drop (place + length bytes) old), length-take place old, length-drop (place + length bytes) old)
 
 patched_at : (place n : ℕ) (old new : BlockBytes) → place + n ≤ length old → length new ≡ length old
     → ((i : ℕ) → i < place → get_or new i 0 ≡ get_or old i 0) → ((i : ℕ) → place + n ≤ i → i < length old → get_or new i 0 ≡ get_or old i 0)
-    → (i : ℕ) → i < length old → get_or (patched place (take n (drop place new)) old) i 0 ≡ get_or new i 0
-unfolding patched
+    → (i : ℕ) → i < length old → get_or (patch_bytes place (take n (drop place new)) old) i 0 ≡ get_or new i 0
+unfolding patch_bytes
 patched_at place n old new fits long below above i low =
     let bytes = take n (drop place new) in
     let size : length bytes ≡ n = omega (arith, length-take n (drop place new), length-drop place new) in
@@ -37,7 +37,7 @@ patched_at place n old new fits long below above i low =
 pub range_fits : RangeFits
 range_fits place n old new fits long below above = (
   let size : length (take n (drop place new)) ≡ n = omega (arith, length-take n (drop place new), length-drop place new) in
-      let same : length (patched place (take n (drop place new)) old) ≡ length old = patched_length place (take n (drop place new)) old (omega (arith, size, fits)) in
-      ext_get_or 0 (patched place (take n (drop place new)) old) new (same ∙ sym long) (λ i low. patched_at place n old new fits long below above i (omega (arith, low, same))),
+      let same : length (patch_bytes place (take n (drop place new)) old) ≡ length old = patched_length place (take n (drop place new)) old (omega (arith, size, fits)) in
+      ext_get_or 0 (patch_bytes place (take n (drop place new)) old) new (same ∙ sym long) (λ i low. patched_at place n old new fits long below above i (omega (arith, low, same))),
   λ bytes room. patched_length place bytes old room,
 )

@@ -11,16 +11,16 @@ use Rattle.dms_history.specs.LawsOfPoints.{ChoiceGivesContent}
 
 -- ---- one block is written
 
-abbrev laid : ℕ → BlockBytes → List BlockBytes → List BlockBytes
-laid b x l = take b l ++ (x ∷ drop (suc b) l)
+abbrev put_block : ℕ → BlockBytes → List BlockBytes → List BlockBytes
+put_block b x l = take b l ++ (x ∷ drop (suc b) l)
 
-pub laid_length : (b : ℕ) (x : BlockBytes) (l : List BlockBytes) → b ≤ length l → length (laid b x l) ≡ max (length l) (b + 1)
+pub laid_length : (b : ℕ) (x : BlockBytes) (l : List BlockBytes) → b ≤ length l → length (put_block b x l) ≡ max (length l) (b + 1)
 laid_length b x l le = omega (arith, length-append (take b l) (x ∷ drop (suc b) l), length-take b l, length-drop (suc b) l)
 
-laid_here : (b : ℕ) (x : BlockBytes) (l : List BlockBytes) → b ≤ length l → get_or (laid b x l) b [] ≡ x
+laid_here : (b : ℕ) (x : BlockBytes) (l : List BlockBytes) → b ≤ length l → get_or (put_block b x l) b [] ≡ x
 laid_here b x l le = get_or_at (take b l) x (drop (suc b) l) [] b (omega (arith, length-take b l))
 
-laid_other : (b : ℕ) (x : BlockBytes) (l : List BlockBytes) (k : ℕ) → b ≤ length l → k ≢ b → k < length l → get_or (laid b x l) k [] ≡ get_or l k []
+laid_other : (b : ℕ) (x : BlockBytes) (l : List BlockBytes) (k : ℕ) → b ≤ length l → k ≢ b → k < length l → get_or (put_block b x l) k [] ≡ get_or l k []
 laid_other b x l k le other low = elim (cases_lt k b) [
   | inl less ↦ get_or_append_left (take b l) (x ∷ drop (suc b) l) [] k (omega (arith, length-take b l)) ∙ get_or-take b l k [] less
   | inr no_less ↦
@@ -32,7 +32,7 @@ laid_other b x l k le other low = elim (cases_lt k b) [
       ∙ ap (λ j. get_or l j []) place
 ]
 
-pub in_file : (c : AllBlocks) (f b : ℕ) (x : BlockBytes) → with_block c f b x f ≡ laid b x (c f)
+pub in_file : (c : AllBlocks) (f b : ℕ) (x : BlockBytes) → with_block c f b x f ≡ put_block b x (c f)
 unfolding with_block
 in_file c f b x = grind (arith, nat_tests)
 

@@ -3,7 +3,7 @@ use Rattle.std.proofs.Common.{ℕ, zero, suc, ◌+◌, ◌≡◌, ◌⊎◌, inl
 use Rattle.dms_history.specs.Ranges.{Logged, told_events}
 use Rattle.dms_history.specs.Entries.{Entry, schema_part, image, byte_range, quiet_point, control_point, begin_restore}
 use Rattle.dms_history.specs.Schemas.{Parts, no_parts, after_entry, parts_from, parts_of_schema, schema_entries}
-use Rattle.dms_history.specs.EntryEvents.{logged_from, logged}
+use Rattle.dms_history.specs.EntryEvents.{logged_from, events_in}
 use Rattle.dms_history.specs.LawsOfEntries.{AllSchemaParts, PartsSayNothing, SchemaInParts}
 use Rattle.dms_history.proofs.Order.{append_none}
 use Rattle.dms_history.proofs.Schemas.{logged_append}
@@ -23,7 +23,7 @@ nothing_said (begin_restore n kind ∷ ps) p all = absurd all.0
 
 pub parts_say_nothing : PartsSayNothing
 parts_say_nothing es ps all =
-    let same : logged (es ++ ps) ≡ logged es = logged_append es ps no_parts ∙ ap (λ (l : List Logged). logged es ++ l) (nothing_said ps (parts_from no_parts es) all) ∙ append_none (logged es) in
+    let same : events_in (es ++ ps) ≡ events_in es = logged_append es ps no_parts ∙ ap (λ (l : List Logged). events_in es ++ l) (nothing_said ps (parts_from no_parts es) all) ∙ append_none (events_in es) in
     (same, ap told_events same)
 
 pub take_nothing : (k : ℕ) (l : List Entry) → l ≡ [] → take k l ≡ []

@@ -9,8 +9,8 @@ use Rattle.dms_history.specs.Places.{is_point, is_described}
 use Rattle.dms_history.specs.Ranges.{Logged, event, range, range_change, changes_of, changes_from, all_changes}
 use Rattle.dms_history.specs.Entries.{Entry, schema_part, image, byte_range, quiet_point, control_point, begin_restore, is_begin}
 use Rattle.dms_history.specs.Schemas.{no_parts, after_entry, parts_from, is_whole, parts_of_schema, schema_entries}
-use Rattle.dms_history.specs.EntryEvents.{logged_from, logged, is_place, live_after, live_entries_from, live_entries, live_of}
-use Rattle.dms_history.specs.SchemaAt.{SchemaRead, no_schema, after_schema, last_schema, schema_of, schema_at, joined}
+use Rattle.dms_history.specs.EntryEvents.{logged_from, events_in, is_place, live_after, live_entries_from, live_entries, live_of}
+use Rattle.dms_history.specs.SchemaAt.{SchemaRead, no_schema, after_schema, last_schema, schema_of, schema_at, join_parts}
 use Rattle.dms_history.specs.LawsOfSchemas.{EachSchema, SchemaStays, SchemaOfNew, LiveHasSchema}
 use Rattle.dms_history.proofs.AtPoints.{true_or, or_true_right, or_no}
 use Rattle.dms_history.proofs.Base.{has_append}
@@ -116,7 +116,7 @@ parts_are [] r = refl
 parts_are (e ∷ xs) r = parts_are xs (after_schema r e) ∙ ap (λ p. parts_from p xs) (parts_read e r)
 
 reads_on : (bodies : List (List ℕ)) (k all : ℕ) (acc : List ℕ) (found : Option (List ℕ)) → 0 < k → k + length bodies ≡ all → (length bodies ≡ 0 → found ≡ Some acc)
-    → last_schema (record { parts = record { read = k; all = all }; bytes = acc }) found (parts_of_schema (k + 1) all bodies) ≡ Some (acc ++ joined bodies)
+    → last_schema (record { parts = record { read = k; all = all }; bytes = acc }) found (parts_of_schema (k + 1) all bodies) ≡ Some (acc ++ join_parts bodies)
 reads_on [] k all acc found above count last = last refl ∙ ap (λ (l : List ℕ). Some l) (sym (append_none acc))
 reads_on (bytes ∷ rest) k all acc found above count last =
     let step : after_schema (record { parts = record { read = k; all = all }; bytes = acc }) (schema_part (k + 1) all bytes) ≡ record { parts = record { read = k + 1; all = all }; bytes = acc ++ bytes } =
@@ -124,7 +124,7 @@ reads_on (bytes ∷ rest) k all acc found above count last =
     ap (λ (r : SchemaRead). last_schema r (cond (is_whole r.parts) (Some r.bytes) found) (parts_of_schema (k + 1 + 1) all rest)) step
     ∙ reads_on rest (k + 1) all (acc ++ bytes) (cond (is_whole (record { read = k + 1; all = all })) (Some (acc ++ bytes)) found) (omega (arith, above)) (omega (arith, count))
     (λ none. ap (λ c. cond c (Some (acc ++ bytes)) found) (whole (k + 1) all (omega arith) (omega (arith, count, none))))
-    ∙ ap (λ (l : List ℕ). Some l) (append_assoc acc bytes (joined rest))
+    ∙ ap (λ (l : List ℕ). Some l) (append_assoc acc bytes (join_parts rest))
   where
     part_step : (k all : ℕ) (bytes : List ℕ) → 0 < k → after_entry (record { read = k; all = all }) (schema_part (k + 1) all bytes) ≡ record { read = k + 1; all = all }
     part_step k all bytes above = grind (arith, nat_tests)
@@ -135,7 +135,7 @@ reads_on (bytes ∷ rest) k all acc found above count last =
     whole : (n m : ℕ) → 0 < n → n ≡ m → is_whole (record { read = n; all = m }) ≡ true
     whole n m above same = grind (arith, nat_tests)
 
-whole_read : (r : SchemaRead) (found : Option (List ℕ)) (first : List ℕ) (rest : List (List ℕ)) → last_schema r found (schema_entries (first ∷ rest)) ≡ Some (joined (first ∷ rest))
+whole_read : (r : SchemaRead) (found : Option (List ℕ)) (first : List ℕ) (rest : List (List ℕ)) → last_schema r found (schema_entries (first ∷ rest)) ≡ Some (join_parts (first ∷ rest))
 whole_read r found first rest =
     reads_on rest 1 (length (first ∷ rest)) first (cond (is_whole (record { read = 1; all = length (first ∷ rest) })) (Some first) found) (omega arith) (omega arith)
     (λ none. ap (λ c. cond c (Some first) found) (whole (length (first ∷ rest)) (omega (arith, none))))
@@ -234,7 +234,7 @@ pub live_has_schema : LiveHasSchema
 unfolding schema_at all_changes
 live_has_schema entries n at =
     let front = until_first (is_place n) (live_entries entries) in
-    let told : all_changes (logged front) ≡ until_first (is_point n) (live_of entries) =
-    ap all_changes (cut_logged n (live_entries entries) no_parts) ∙ changes_until n (logged (live_entries entries))
-    ∙ ap (λ (l : List Logged). until_first (is_point n) (all_changes l)) (live_of_entries entries) ∙ ap (λ (l : List Event). until_first (is_point n) l) (sym (live_of_ranges (logged entries))) in
-    finds_one front no_schema None (λ on. absurd (true≢false (sym on))) (changes_told (logged front) [] (ap (λ (l : List Event). has is_described l) told ∙ at.described))
+    let told : all_changes (events_in front) ≡ until_first (is_point n) (live_of entries) =
+    ap all_changes (cut_logged n (live_entries entries) no_parts) ∙ changes_until n (events_in (live_entries entries))
+    ∙ ap (λ (l : List Logged). until_first (is_point n) (all_changes l)) (live_of_entries entries) ∙ ap (λ (l : List Event). until_first (is_point n) l) (sym (live_of_ranges (events_in entries))) in
+    finds_one front no_schema None (λ on. absurd (true≢false (sym on))) (changes_told (events_in front) [] (ap (λ (l : List Event). has is_described l) told ∙ at.described))

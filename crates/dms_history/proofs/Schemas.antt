@@ -7,7 +7,7 @@ use Rattle.dms_history.specs.Lists.{has, until_first}
 use Rattle.dms_history.specs.Ranges.{Logged, event, range, is_point_logged, live_logged}
 use Rattle.dms_history.specs.Entries.{Entry, schema_part, image, byte_range, quiet_point, control_point, begin_restore, counts_in, how_of, is_in_row}
 use Rattle.dms_history.specs.Schemas.{Parts, no_parts, after_entry, parts_from, is_whole, parts_of_schema, schema_entries}
-use Rattle.dms_history.specs.EntryEvents.{said_by, logged_from, logged, is_place, live_entries_from}
+use Rattle.dms_history.specs.EntryEvents.{said_by, logged_from, events_in, is_place, live_entries_from}
 use Rattle.dms_history.specs.LawsOfEntries.{EndsWithSchema, WholeSchemas, LiveOfEntries, RowsOfBlocks}
 use Rattle.dms_history.proofs.Cuts.{until_none}
 use Rattle.dms_history.proofs.HalfDone.{or_at}
@@ -199,15 +199,15 @@ cut_parts n xs = elim (cases_Bool (has (is_place n) xs)) [
 pushed : (L : List Entry) (p : Parts) (e : Entry) → parts_from no_parts L ≡ p → parts_from no_parts (L ++ e ∷ []) ≡ after_entry p e
 pushed L p e is = parts_append L (e ∷ []) no_parts ∙ ap (λ q. after_entry q e) is
 
-one_more : (L : List Entry) (p : Parts) (e : Entry) (x : Logged) → parts_from no_parts L ≡ p → said_by p e ≡ x ∷ [] → logged (L ++ e ∷ []) ≡ logged L ++ x ∷ []
-one_more L p e x is says_it = logged_append L (e ∷ []) no_parts ∙ ap (λ q. logged L ++ (said_by q e ++ [])) is ∙ ap (λ (l : List Logged). logged L ++ (l ++ [])) says_it
+one_more : (L : List Entry) (p : Parts) (e : Entry) (x : Logged) → parts_from no_parts L ≡ p → said_by p e ≡ x ∷ [] → events_in (L ++ e ∷ []) ≡ events_in L ++ x ∷ []
+one_more L p e x is says_it = logged_append L (e ∷ []) no_parts ∙ ap (λ q. events_in L ++ (said_by q e ++ [])) is ∙ ap (λ (l : List Logged). events_in L ++ (l ++ [])) says_it
 
-live_all : (xs L : List Entry) (p : Parts) → parts_from no_parts L ≡ p → logged (live_entries_from L xs) ≡ live_logged (logged L) (logged_from p xs)
+live_all : (xs L : List Entry) (p : Parts) → parts_from no_parts L ≡ p → events_in (live_entries_from L xs) ≡ live_logged (events_in L) (logged_from p xs)
 live_all [] L p is = refl
 live_all (schema_part part parts bytes ∷ xs) L p is =
     let e = schema_part part parts bytes in
     live_all xs (L ++ e ∷ []) (after_entry p e) (pushed L p e is)
-    ∙ ap (λ (l : List Logged). live_logged l (logged_from (after_entry p e) xs)) (logged_append L (e ∷ []) no_parts ∙ append_none (logged L))
+    ∙ ap (λ (l : List Logged). live_logged l (logged_from (after_entry p e) xs)) (logged_append L (e ∷ []) no_parts ∙ append_none (events_in L))
 live_all (image f b before after ∷ xs) L p is =
     let e = image f b before after in
     live_all xs (L ++ e ∷ []) no_parts (pushed L p e is) ∙ ap (λ (l : List Logged). live_logged l (logged_from no_parts xs)) (one_more L p e (event (change f b before after)) is refl)

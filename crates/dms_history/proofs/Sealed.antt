@@ -6,7 +6,7 @@ use Rattle.dms_history.specs.Ranges.{Logged, event, range, range_change, changes
 use Rattle.dms_history.specs.Entries.{Entry, schema_part, image, byte_range, quiet_point, control_point, begin_restore, counts_in, how_of}
 use Rattle.dms_history.specs.declared.event.FileCount.{FileCount}
 use Rattle.dms_history.specs.Schemas.{Parts, no_parts, parts_from, parts_of_schema, schema_entries}
-use Rattle.dms_history.specs.EntryEvents.{said_by, logged_from, logged, events}
+use Rattle.dms_history.specs.EntryEvents.{said_by, logged_from, events_in, events}
 use Rattle.dms_history.specs.LawsOfEntries.{SchemaSealed, ImageSealed, RangeSealed, QuietSealed, ControlSealed, BeginSealed, OneMoreEvent}
 use Rattle.dms_history.proofs.Order.{append_none}
 use Rattle.dms_history.proofs.Turns.{history_append}
@@ -30,10 +30,10 @@ told_push xs x =
 -- one entry more that says something
 pub one : (entries : List Entry) (e : Entry) (x : Logged) → said_by (parts_from no_parts entries) e ≡ x ∷ [] → events (entries ++ e ∷ []) ≡ events entries ++ changes_of (history (events entries)).live x
 one entries e x is =
-    ap told_events (logged_append entries (e ∷ []) no_parts ∙ ap (λ (l : List Logged). logged entries ++ (l ++ [])) is) ∙ told_push (logged entries) x
+    ap told_events (logged_append entries (e ∷ []) no_parts ∙ ap (λ (l : List Logged). events_in entries ++ (l ++ [])) is) ∙ told_push (events_in entries) x
 
 pub schema_sealed : SchemaSealed
-schema_sealed entries part parts bytes = ap told_events (logged_append entries (schema_part part parts bytes ∷ []) no_parts ∙ append_none (logged entries))
+schema_sealed entries part parts bytes = ap told_events (logged_append entries (schema_part part parts bytes ∷ []) no_parts ∙ append_none (events_in entries))
 
 pub image_sealed : ImageSealed
 image_sealed entries f b before after = one entries (image f b before after) (event (change f b before after)) refl
@@ -66,8 +66,8 @@ control_sealed entries first rest n next counts =
     let p = parts_from no_parts entries in
     let schema = schema_entries (first ∷ rest) in
     let c = control_point n next counts in
-    ap told_events (logged_append entries (schema ++ c ∷ []) no_parts ∙ ap (λ (l : List Logged). logged entries ++ l) (control_logged p first rest n next counts))
-    ∙ told_push (logged entries) (event (control n next (counts_in counts) true))
+    ap told_events (logged_append entries (schema ++ c ∷ []) no_parts ∙ ap (λ (l : List Logged). events_in entries ++ l) (control_logged p first rest n next counts))
+    ∙ told_push (events_in entries) (event (control n next (counts_in counts) true))
 
 pub one_more_event : OneMoreEvent
 unfolding history

@@ -8,7 +8,7 @@ use Rattle.dms_history.specs.Lists.{has, until_first}
 use Rattle.dms_history.specs.Places.{is_point}
 use Rattle.dms_history.specs.Base.{Sound}
 use Rattle.dms_history.specs.History.{History, after_event, history_from, history}
-use Rattle.dms_history.specs.Ranges.{Logged, event, range, patched, range_change, changes_of, changes_from, all_changes, events_from, told_events, is_point_logged, live_step, live_logged, is_image}
+use Rattle.dms_history.specs.Ranges.{Logged, event, range, patch_bytes, range_change, changes_of, changes_from, all_changes, events_from, told_events, is_point_logged, live_step, live_logged, is_image}
 use Rattle.dms_history.specs.LawsOfRanges.{NoRanges, LiveOfRanges, LeftOut, RangeChanges}
 use Rattle.dms_history.proofs.Cuts.{until_none}
 use Rattle.dms_history.proofs.Picks.{place_cases, if_none, or_none, last_append, last_stands}
@@ -20,12 +20,12 @@ use Rattle.dms_history.proofs.Order.{append_none}
 
 pub range_changes : RangeChanges
 range_changes entries base stored f b place bytes old sound last =
-    let e = change f b (Some old) (patched place bytes old) in
+    let e = change f b (Some old) (patch_bytes place bytes old) in
     let is : changes_of entries (range f b place bytes) ≡ e ∷ [] = ap (λ o. range_change f b place bytes o) last in
     let low = logged_below entries base f b old sound.chain last in
     let stands : old ≡ block_in (replay entries base) f b = sym (last_stands entries base f b old sound.chain last) in (
-      subst (λ (l : List Event). Sound (entries ++ l) base stored) (sym is) (changes entries base stored f b (Some old) (patched place bytes old) sound (low, stands)),
-      ap (λ (l : List Event). replay (entries ++ l) base) is ∙ replay_append entries (e ∷ []) base ∙ ap (λ x. with_block (replay entries base) f b (patched place bytes x)) stands,
+      subst (λ (l : List Event). Sound (entries ++ l) base stored) (sym is) (changes entries base stored f b (Some old) (patch_bytes place bytes old) sound (low, stands)),
+      ap (λ (l : List Event). replay (entries ++ l) base) is ∙ replay_append entries (e ∷ []) base ∙ ap (λ x. with_block (replay entries base) f b (patch_bytes place bytes x)) stands,
     )
 
 changes_of_events : (es acc : List Event) → changes_from acc (map event es) ≡ acc ++ es
@@ -166,7 +166,7 @@ change_none f b acc (range g k place bytes) none off = go (last_after g k acc) r
     go None is = refl
     go (Some old) is = elim (place_cases f b g k) [
       | inl at ↦ absurd (some_not_none old (sym is ∙ (λ i. last_after (at.0 i) (at.1 i) acc) ∙ none))
-      | inr apart ↦ ap (λ t. cond t (Some (patched place bytes old)) None) apart.1
+      | inr apart ↦ ap (λ t. cond t (Some (patch_bytes place bytes old)) None) apart.1
     ]
 
 image_none : (f b : ℕ) (acc : List Event) (x : Logged) → last_after f b (changes_of acc x) ≡ None → is_image f b x ≡ false

@@ -23,12 +23,12 @@ abbrev pub logged_from : Parts → List Entry → List Logged
 logged_from p [] = []
 logged_from p (e ∷ es) = said_by p e ++ logged_from (after_entry p e) es
 
-abbrev pub logged : List Entry → List Logged
-logged entries = logged_from no_parts entries
+abbrev pub events_in : List Entry → List Logged
+events_in entries = logged_from no_parts entries
 
 -- all entries as events
 abbrev pub events : List Entry → List Event
-events entries = told_events (logged entries)
+events entries = told_events (events_in entries)
 
 -- the live events and the pending restore of some entries
 abbrev pub history_of : List Entry → History
@@ -81,7 +81,7 @@ BeginsAlone xs = (us vs : List Logged) (m : ℕ) (how : How) (x : Logged) → xs
 pub record Agrees (first : Bool) (entries : List Entry) (dumps : Dumps) (stored : Stored) : Type 0 where
   pub events_agree : EventsAgree first (events entries) dumps stored
   -- Only Schema parts stand after a Begin up to the next Begin or Control; no Range does either.
-  pub alone : BeginsAlone (logged entries)
+  pub alone : BeginsAlone (events_in entries)
   -- Every live Range that isn't left out has an Image of its block before it: after the last live Control before the Range, or
   -- anywhere from the front where there is no such Control.
-  pub images : HasImages (live_logged [] (logged entries))
+  pub images : HasImages (live_logged [] (events_in entries))

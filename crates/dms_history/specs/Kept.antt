@@ -9,7 +9,7 @@ use Rattle.dms_history.specs.Restores.{Steady}
 use Rattle.dms_history.specs.Ranges.{live_logged}
 use Rattle.dms_history.specs.LawsOfRanges.{HasImages}
 use Rattle.dms_history.specs.Entries.{Entry}
-use Rattle.dms_history.specs.EntryEvents.{logged, history_of, live_of, next_of, BeginsAlone}
+use Rattle.dms_history.specs.EntryEvents.{events_in, history_of, live_of, next_of, BeginsAlone}
 
 -- the content that entries tell over a base: the base is the content at the first live Control
 abbrev pub content_told : List Entry → AllBlocks → AllBlocks
@@ -25,9 +25,9 @@ pub record Kept (first : Bool) (entries : List Entry) (dumps : Dumps) (base : Al
   -- The numbers of live Quiets and Controls never fall, and are below the next number.
   pub numbered : Numbered (live_of entries) (next_of entries)
   -- Only Schema parts stand after a Begin up to the next Begin or Control.
-  pub alone : BeginsAlone (logged entries)
+  pub alone : BeginsAlone (events_in entries)
   -- Every live Range that isn't left out has an Image of its block before it: after the last live Control before the Range, or
   -- anywhere from the front where there is no such Control.
-  pub images : HasImages (live_logged [] (logged entries))
+  pub images : HasImages (live_logged [] (events_in entries))
   -- Where the trail begins with audit file 1, the base is empty.
   pub empty : first ≡ true → (f : ℕ) → length (base f) ≡ 0

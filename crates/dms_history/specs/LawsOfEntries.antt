@@ -3,11 +3,11 @@ use Rattle.std.specs.Prelude.{ℕ, ◌+◌, ◌*◌, ◌≤◌, ◌<◌, ◌≡�
 use Rattle.dms_history.specs.Events.{BlockBytes, Event, change, quiet, control, begin}
 use Rattle.dms_history.specs.Images.{last_after}
 use Rattle.dms_history.specs.History.{after_event, history, History, history_from}
-use Rattle.dms_history.specs.Ranges.{patched, live_logged}
+use Rattle.dms_history.specs.Ranges.{patch_bytes, live_logged}
 use Rattle.dms_history.specs.declared.event.FileCount.{FileCount}
 use Rattle.dms_history.specs.Entries.{Kind, Entry, schema_part, image, byte_range, quiet_point, control_point, begin_restore, counts_in, how_of, is_in_row}
 use Rattle.dms_history.specs.Schemas.{no_parts, parts_from, is_whole, schema_entries}
-use Rattle.dms_history.specs.EntryEvents.{logged, events, live_entries, BeginsAlone}
+use Rattle.dms_history.specs.EntryEvents.{events_in, events, live_entries, BeginsAlone}
 use Rattle.dms_history.specs.Agrees.{BeginsAloneEvents}
 
 -- Behind some earlier entries stands a whole Schema: its parts 1 to the last, one directly after another.
@@ -23,7 +23,7 @@ WholeSchemas = (entries : List Entry) → (is_whole (parts_from no_parts entries
 
 -- The live events are those of the live entries: which Controls stand directly after a whole Schema is the same in both.
 abbrev pub LiveOfEntries : Type 0
-LiveOfEntries = (entries : List Entry) → logged (live_entries entries) ≡ live_logged [] (logged entries)
+LiveOfEntries = (entries : List Entry) → events_in (live_entries entries) ≡ live_logged [] (events_in entries)
 
 -- A block is in row r of its file where its number divided by 16 is r, and no row names a block of another file.
 pub record RowOfBlock (f b r : ℕ) : Type 0 where
@@ -48,7 +48,7 @@ ImageSealed = (entries : List Entry) (f b : ℕ) (before : Option BlockBytes) (a
 abbrev pub RangeSealed : Type 0
 RangeSealed = (entries : List Entry) (f b place : ℕ) (bytes : List ℕ)
     → ((old : BlockBytes) → last_after f b (history (events entries)).live ≡ Some old
-    → events (entries ++ byte_range f b place bytes ∷ []) ≡ events entries ++ change f b (Some old) (patched place bytes old) ∷ [])
+    → events (entries ++ byte_range f b place bytes ∷ []) ≡ events entries ++ change f b (Some old) (patch_bytes place bytes old) ∷ [])
     × (last_after f b (history (events entries)).live ≡ None → events (entries ++ byte_range f b place bytes ∷ []) ≡ events entries)
 
 abbrev pub QuietSealed : Type 0
@@ -76,7 +76,7 @@ AllSchemaParts (e ∷ es) = IsSchemaPart e × AllSchemaParts es
 
 -- Schema parts say nothing, whole or not.
 abbrev pub PartsSayNothing : Type 0
-PartsSayNothing = (entries parts : List Entry) → AllSchemaParts parts → (logged (entries ++ parts) ≡ logged entries) × (events (entries ++ parts) ≡ events entries)
+PartsSayNothing = (entries parts : List Entry) → AllSchemaParts parts → (events_in (entries ++ parts) ≡ events_in entries) × (events (entries ++ parts) ≡ events entries)
 
 -- The first so many of a Schema and its Control: Schema parts alone, or all.
 abbrev pub SchemaInParts : Type 0
@@ -93,4 +93,4 @@ OneMoreEvent = (es : List Event) (e : Event) → history (es ++ e ∷ []) ≡ af
 
 -- What may stand after a Begin among the entries may stand there among their events.
 abbrev pub EntriesAlone : Type 0
-EntriesAlone = (entries : List Entry) → BeginsAlone (logged entries) → BeginsAloneEvents (events entries)
+EntriesAlone = (entries : List Entry) → BeginsAlone (events_in entries) → BeginsAloneEvents (events entries)

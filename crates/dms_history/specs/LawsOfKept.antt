@@ -10,11 +10,11 @@ use Rattle.dms_history.specs.Pick.{Dumps, count_at}
 use Rattle.dms_history.specs.Here.{here}
 use Rattle.dms_history.specs.Base.{from_control}
 use Rattle.dms_history.specs.Restores.{Ready, takes_stored}
-use Rattle.dms_history.specs.Ranges.{patched, is_control_logged, is_image, live_logged}
+use Rattle.dms_history.specs.Ranges.{patch_bytes, is_control_logged, is_image, live_logged}
 use Rattle.dms_history.specs.declared.event.FileCount.{FileCount}
 use Rattle.dms_history.specs.Entries.{Kind, Entry, schema_part, image, byte_range, quiet_point, control_point, begin_restore, counts_in, how_of}
 use Rattle.dms_history.specs.Schemas.{schema_entries}
-use Rattle.dms_history.specs.EntryEvents.{logged, history_of, live_of, next_of, Agrees}
+use Rattle.dms_history.specs.EntryEvents.{events_in, history_of, live_of, next_of, Agrees}
 use Rattle.dms_history.specs.Kept.{content_told, Kept}
 
 -- No restore is pending, and there is a live Control: the database may run.
@@ -41,9 +41,9 @@ KeptImage = (first : Bool) (entries : List Entry) (dumps : Dumps) (base : AllBlo
 -- A Range of a block with an Image itself since the last Control: the content has its bytes.
 abbrev pub KeptRange : Type 0
 KeptRange = (first : Bool) (entries : List Entry) (dumps : Dumps) (base : AllBlocks) (stored : Stored) (f b place : ℕ) (bytes : List ℕ) → Kept first entries dumps base stored
-    → IsIdle entries → has (is_image f b) (after_last is_control_logged (live_logged [] (logged entries))) ≡ true
+    → IsIdle entries → has (is_image f b) (after_last is_control_logged (live_logged [] (events_in entries))) ≡ true
     → KeptTelling first (entries ++ byte_range f b place bytes ∷ []) dumps base stored
-    (with_block (content_told entries base) f b (patched place bytes (block_in (content_told entries base) f b)))
+    (with_block (content_told entries base) f b (patch_bytes place bytes (block_in (content_told entries base) f b)))
 
 -- A Quiet with a number that is free.
 abbrev pub KeptQuiet : Type 0

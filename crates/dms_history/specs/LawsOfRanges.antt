@@ -9,7 +9,7 @@ use Rattle.dms_history.specs.Base.{from_control, Sound}
 use Rattle.dms_history.specs.Places.{is_control}
 use Rattle.dms_history.specs.Pick.{Dumps}
 use Rattle.dms_history.specs.Restores.{Steady}
-use Rattle.dms_history.specs.Ranges.{Logged, event, range, patched, changes_of, all_changes, told_events, is_point_logged, is_control_logged, is_image, live_logged}
+use Rattle.dms_history.specs.Ranges.{Logged, event, range, patch_bytes, changes_of, all_changes, told_events, is_point_logged, is_control_logged, is_image, live_logged}
 
 -- A list without Ranges stays as it is.
 abbrev pub NoRanges : Type 0
@@ -27,14 +27,14 @@ LeftOut = (xs : List Logged) (f b : ℕ) → (has (is_image f b) xs ≡ false �
 abbrev pub RangeChanges : Type 0
 RangeChanges = (entries : List Event) (base : AllBlocks) (stored : Stored) (f b place : ℕ) (bytes : List ℕ) (old : BlockBytes) → Sound entries base stored → last_after f b entries ≡ Some old
     → Sound (entries ++ changes_of entries (range f b place bytes)) base stored
-    × (replay (entries ++ changes_of entries (range f b place bytes)) base ≡ with_block (replay entries base) f b (patched place bytes (block_in (replay entries base) f b)))
+    × (replay (entries ++ changes_of entries (range f b place bytes)) base ≡ with_block (replay entries base) f b (patch_bytes place bytes (block_in (replay entries base) f b)))
 
 -- The same over a whole history without a pending restore: a Range of a block with a change since the first Control.
 pub record RangeSteady (dumps : Dumps) (h : History) (base : AllBlocks) (stored : Stored) (f b place : ℕ) (bytes : List ℕ) (old : BlockBytes) : Type 0 where
-  pub is : history_from h (changes_of h.live (range f b place bytes)) ≡ after_event h (change f b (Some old) (patched place bytes old))
-  pub steady : Steady dumps (after_event h (change f b (Some old) (patched place bytes old))) base stored
-  pub content : replay (from_control (after_event h (change f b (Some old) (patched place bytes old))).live) base
-      ≡ with_block (replay (from_control h.live) base) f b (patched place bytes (block_in (replay (from_control h.live) base) f b))
+  pub is : history_from h (changes_of h.live (range f b place bytes)) ≡ after_event h (change f b (Some old) (patch_bytes place bytes old))
+  pub steady : Steady dumps (after_event h (change f b (Some old) (patch_bytes place bytes old))) base stored
+  pub content : replay (from_control (after_event h (change f b (Some old) (patch_bytes place bytes old))).live) base
+      ≡ with_block (replay (from_control h.live) base) f b (patch_bytes place bytes (block_in (replay (from_control h.live) base) f b))
 
 abbrev pub RangesSteady : Type 0
 RangesSteady = (dumps : Dumps) (h : History) (base : AllBlocks) (stored : Stored) (f b place : ℕ) (bytes : List ℕ) (old : BlockBytes) → h.pending ≡ None → has is_control h.live ≡ true
@@ -68,4 +68,4 @@ ImagesGoOn = (live : List Logged) → HasImages live → ImagesOn live
 abbrev pub RangeFits : Type 0
 RangeFits = (place n : ℕ) (old new : BlockBytes) → place + n ≤ length old → length new ≡ length old
     → ((i : ℕ) → i < place → slice_index_or new i 0 ≡ slice_index_or old i 0) → ((i : ℕ) → place + n ≤ i → i < length old → slice_index_or new i 0 ≡ slice_index_or old i 0)
-    → (patched place (take n (drop place new)) old ≡ new) × ((bytes : List ℕ) → place + length bytes ≤ length old → length (patched place bytes old) ≡ length old)
+    → (patch_bytes place (take n (drop place new)) old ≡ new) × ((bytes : List ℕ) → place + length bytes ≤ length old → length (patch_bytes place bytes old) ≡ length old)

@@ -6,11 +6,11 @@ use Rattle.dms_history.specs.declared.event.FileCount.{FileCount}
 use Rattle.dms_history.specs.Entries.{Kind, Entry, quiet_point, control_point, begin_restore, is_begin}
 use Rattle.dms_history.specs.Schemas.{no_parts, parts_from, is_whole, schema_entries}
 use Rattle.dms_history.specs.EntryEvents.{is_place, live_entries, live_of}
-use Rattle.dms_history.specs.SchemaAt.{schema_of, schema_at, joined}
+use Rattle.dms_history.specs.SchemaAt.{schema_of, schema_at, join_parts}
 
 -- A whole Schema that the entries end with is the last one, and its bytes are those of its parts; an entry that makes none whole leaves the last one.
 pub record ReadsSchema (entries : List Entry) : Type 0 where
-  pub whole : (first : List ℕ) (rest : List (List ℕ)) → schema_of (entries ++ schema_entries (first ∷ rest)) ≡ Some (joined (first ∷ rest))
+  pub whole : (first : List ℕ) (rest : List (List ℕ)) → schema_of (entries ++ schema_entries (first ∷ rest)) ≡ Some (join_parts (first ∷ rest))
   pub stays : (e : Entry) → is_whole (parts_from no_parts (entries ++ e ∷ [])) ≡ false → schema_of (entries ++ e ∷ []) ≡ schema_of entries
 
 abbrev pub EachSchema : Type 0

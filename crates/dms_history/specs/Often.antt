@@ -21,14 +21,14 @@ pub data RestoreStep : Type 0 where
   wrote : Stored → RestoreStep
   ended : Stored → ℕ → ℕ → Counts → Bool → RestoreStep
 
-abbrev pub moved : Disk → RestoreStep → Disk
-moved d (began how m) = record { history = after_event d.history (begin m how); stored = d.stored }
-moved d (wrote written) = record { history = d.history; stored = written }
-moved d (ended written m next counts described) = record { history = after_event d.history (control m next counts described); stored = written }
+abbrev pub disk_after_step : Disk → RestoreStep → Disk
+disk_after_step d (began how m) = record { history = after_event d.history (begin m how); stored = d.stored }
+disk_after_step d (wrote written) = record { history = d.history; stored = written }
+disk_after_step d (ended written m next counts described) = record { history = after_event d.history (control m next counts described); stored = written }
 
 abbrev pub all_moved : Disk → List RestoreStep → Disk
 all_moved d [] = d
-all_moved d (s ∷ ss) = all_moved (moved d s) ss
+all_moved d (s ∷ ss) = all_moved (disk_after_step d s) ss
 
 -- A restore is pending, and each block below its file's count that it takes from what is stored stays.
 pub record MayWrite (dumps : Dumps) (d : Disk) (written : Stored) : Type 0 where
@@ -52,7 +52,7 @@ May dumps base d (ended written m next counts described) = MayEnd dumps d writte
 
 abbrev pub AllMay : Dumps → AllBlocks → Disk → List RestoreStep → Type 0
 AllMay dumps base d [] = Unit {0}
-AllMay dumps base d (s ∷ ss) = May dumps base d s × AllMay dumps base (moved d s) ss
+AllMay dumps base d (s ∷ ss) = May dumps base d s × AllMay dumps base (disk_after_step d s) ss
 
 -- the content at a point, a restore pending or not
 abbrev pub content_at : Dumps → Disk → ℕ → AllBlocks
@@ -68,13 +68,13 @@ abbrev pub HoweverOften : Type 0
 HoweverOften = (dumps : Dumps) (base : AllBlocks) (d : Disk) (steps : List RestoreStep) → Steady dumps d.history base d.stored → AllMay dumps base d steps
     → StepsKeep dumps base d (all_moved d steps)
 
-abbrev pub begun : How → History → ℕ → Stored → Disk
-begun how h m stored = record { history = after_event h (begin m how); stored = stored }
+abbrev pub disk_at_begin : How → History → ℕ → Stored → Disk
+disk_at_begin how h m stored = record { history = after_event h (begin m how); stored = stored }
 
 -- Law: a restore is begun over blocks that may hold anything where its rule doesn't look, and whatever follows,
 -- each point that is live in the end has the content that it had before.
 abbrev pub FromAnything : Type 0
 FromAnything = (how : How) (dumps : Dumps) (h : History) (base : AllBlocks) (counted stored : Stored) (m : ℕ) (steps : List RestoreStep) → Ready how dumps h.live base counted stored m
-    → AllMay dumps base (begun how h m stored) steps
-    → (n : ℕ) → IsLive (all_moved (begun how h m stored) steps).history.live n
-    → HasPoint h.live counted n (content_at dumps (all_moved (begun how h m stored) steps) n)
+    → AllMay dumps base (disk_at_begin how h m stored) steps
+    → (n : ℕ) → IsLive (all_moved (disk_at_begin how h m stored) steps).history.live n
+    → HasPoint h.live counted n (content_at dumps (all_moved (disk_at_begin how h m stored) steps) n)

@@ -19,13 +19,13 @@ abbrev pub numbers_of : List LivePoint → List ℕ
 numbers_of points = map (λ (p : LivePoint). p.number) points
 
 -- the number, where the event behind these ones is its place and it is live there
-abbrev pub placed : ℕ → List Event → Event → List ℕ
-placed n front e = if not (has (is_point n) front) && has is_described (front ++ e ∷ []) then n ∷ [] else []
+abbrev pub live_number : ℕ → List Event → Event → List ℕ
+live_number n front e = if not (has (is_point n) front) && has is_described (front ++ e ∷ []) then n ∷ [] else []
 
 abbrev pub new_place : List Event → Event → List ℕ
 new_place front (change f b before after) = []
-new_place front (quiet n) = placed n front (quiet n)
-new_place front (control n next counts described) = placed n front (control n next counts described)
+new_place front (quiet n) = live_number n front (quiet n)
+new_place front (control n next counts described) = live_number n front (control n next counts described)
 new_place front (begin n how) = []
 
 -- the numbers that get a live place in the second list, behind the first

@@ -12,14 +12,14 @@ pub data Logged : Type 0 where
   range : ℕ → ℕ → ℕ → List ℕ → Logged
 
 -- bytes over a block
-unfoldable pub patched : ℕ → List ℕ → BlockBytes → BlockBytes
-patched place bytes old = take place old ++ (bytes ++ drop (place + length bytes) old)
+unfoldable pub patch_bytes : ℕ → List ℕ → BlockBytes → BlockBytes
+patch_bytes place bytes old = take place old ++ (bytes ++ drop (place + length bytes) old)
 
 -- A Range's before-image is the after-image of the last live change of its block, and its after-image is that with the Range's bytes.
 -- Where there is no such change the Range is left out.
 abbrev pub range_change : ℕ → ℕ → ℕ → List ℕ → Option BlockBytes → List Event
 range_change f b place bytes None = []
-range_change f b place bytes (Some old) = change f b (Some old) (patched place bytes old) ∷ []
+range_change f b place bytes (Some old) = change f b (Some old) (patch_bytes place bytes old) ∷ []
 
 -- an entry as changes, after the live changes before it
 abbrev pub changes_of : List Event → Logged → List Event

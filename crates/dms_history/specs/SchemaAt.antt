@@ -35,6 +35,6 @@ unfoldable pub schema_at : List Entry → ℕ → Option (List ℕ)
 schema_at entries n = schema_of (until_first (is_place n) (live_entries entries))
 
 -- the bytes of all parts
-abbrev pub joined : List (List ℕ) → List ℕ
-joined [] = []
-joined (bytes ∷ rest) = bytes ++ joined rest
+abbrev pub join_parts : List (List ℕ) → List ℕ
+join_parts [] = []
+join_parts (bytes ∷ rest) = bytes ++ join_parts rest

@@ -7,7 +7,7 @@ ghost use Rattle.dms_history.specs.Places.{is_control, is_described, is_point, I
 ghost use Rattle.dms_history.specs.Images.{is_at, last_after, first_before, else_stored};
 ghost use Rattle.dms_history.specs.Pick.{reached_count, count_at, pick, blocks_at};
 ghost use Rattle.dms_history.specs.Told.{undone_to, told_block};
-ghost use Rattle.dms_history.specs.Ranges.{patched};
+ghost use Rattle.dms_history.specs.Ranges.{patch_bytes};
 ghost use Rattle.dms_history.specs.Entries.{counts_in, is_in_row, named_by};
 ghost use Rattle.dms_history.specs.Plain.{event_seen, events_seen, block_of, blocks_seen};
 
@@ -112,7 +112,7 @@ pub fn last_after<'a>(events: &[Event<'a>], file: u32, block: u64) -> Option<&'a
 }
 
 /// A block before the first change of it: the before-image of that change, and what is stored where it has none or there is no change.
-fn undone<'a>(events: &[Event<'a>], file: u32, block: u64, stored: &'a [u8]) -> &'a [u8]
+fn block_before<'a>(events: &[Event<'a>], file: u32, block: u64, stored: &'a [u8]) -> &'a [u8]
     ensures { result.now ≡ else_stored (first_before file block (events_seen events.now)) stored.now }
 {
     let mut before: Option<&[u8]> = None;
@@ -136,7 +136,7 @@ pub fn pick<'a>(live: &[Event<'a>], point: u64, file: u32, block: u64, stored: &
             let front = &live[..end];
             match last_after(&front[after_control(front)..], file, block) {
                 Some(after) => after,
-                None => undone(&live[end..], file, block, stored),
+                None => block_before(&live[end..], file, block, stored),
             }
         }
     }
@@ -245,7 +245,7 @@ fn before_changes<'a>(events: &[Event<'a>], file: u32, block: u64) -> Option<&'a
 }
 
 /// What the audit tells of a block at a point; none where the block is to stay as it is stored.
-pub fn told<'a>(live: &[Event<'a>], point: u64, file: u32, block: u64) -> Option<&'a [u8]>
+pub fn told_block<'a>(live: &[Event<'a>], point: u64, file: u32, block: u64) -> Option<&'a [u8]>
     ensures { option_copied result ≡ told_block (events_seen live.now) point file block }
 {
     match place(live, point) {
@@ -261,8 +261,8 @@ pub fn told<'a>(live: &[Event<'a>], point: u64, file: u32, block: u64) -> Option
 }
 
 /// A block with other bytes from a place on. Bytes past its end make it longer.
-fn patched(alloc: Global, old: &[u8], place: usize, bytes: &[u8]) -> Result<Vec<u8>, AllocError>
-    ensures { IfOk result (λ v. v.items ≡ patched place bytes.now old.now) }
+fn patch_bytes(alloc: Global, old: &[u8], place: usize, bytes: &[u8]) -> Result<Vec<u8>, AllocError>
+    ensures { IfOk result (λ v. v.items ≡ patch_bytes place bytes.now old.now) }
 {
     let start = place.min(old.len());
     let end = (start + bytes.len()).min(old.len());
@@ -273,7 +273,7 @@ fn patched(alloc: Global, old: &[u8], place: usize, bytes: &[u8]) -> Result<Vec<
 }
 
 /// A block as a Range leaves it: as it was last logged, with these bytes; none where it wasn't logged, and the Range is left out.
-pub fn ranged(
+pub fn range_of(
     alloc: Global,
     live: &[Event],
     file: u32,
@@ -281,10 +281,10 @@ pub fn ranged(
     place: usize,
     bytes: &[u8],
 ) -> Result<Option<Vec<u8>>, AllocError>
-    ensures { IfOk result (λ o. option_map (λ v. v.items) o ≡ option_map (patched place bytes.now) (last_after file block (events_seen live.now))) }
+    ensures { IfOk result (λ o. option_map (λ v. v.items) o ≡ option_map (patch_bytes place bytes.now) (last_after file block (events_seen live.now))) }
 {
     match last_after(live, file, block) {
-        Some(old) => Ok(Some(patched(alloc, old, place, bytes)?)),
+        Some(old) => Ok(Some(patch_bytes(alloc, old, place, bytes)?)),
         None => Ok(None),
     }
 }

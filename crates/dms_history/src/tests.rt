@@ -1,6 +1,6 @@
 use crate::{
     Begin, BlockChange, Control, Dumped, Event, FileCount, How, Row, blocks_at, here, is_live,
-    last_point, ranged, read_history, told,
+    last_point, range_of, read_history, told_block,
 };
 use std::test::Fail;
 
@@ -111,7 +111,10 @@ fn leaves_a_block_that_a_voided_change_made_new(rt: HostRuntime) -> Result<(), F
 
 #[test]
 fn tells_a_block_of_the_audit(rt: HostRuntime) -> Result<(), Fail> {
-    assert_eq!(rt; told(&two_points(), 1, 30001, 0), Some([7].as_slice()));
+    assert_eq!(rt;
+        told_block(&two_points(), 1, 30001, 0),
+        Some([7].as_slice())
+    );
     Ok(())
 }
 
@@ -123,13 +126,13 @@ fn takes_a_range_over_the_image_before_it(rt: HostRuntime) -> Result<(), Fail> {
         before: Some(&[1, 2, 3]),
         after: &[5, 2, 3],
     })];
-    let over = ranged(rt.alloc(), &logged, 30001, 0, 1, &[6])?;
+    let over = range_of(rt.alloc(), &logged, 30001, 0, 1, &[6])?;
     assert_eq!(rt;
         over.is_some_and(|block| block.as_slice() == [5, 6, 3].as_slice()),
         true
     );
     assert_eq!(rt;
-        ranged(rt.alloc(), &logged, 30001, 1, 1, &[6])?.is_none(),
+        range_of(rt.alloc(), &logged, 30001, 1, 1, &[6])?.is_none(),
         true
     );
     Ok(())

@@ -1,6 +1,6 @@
 ghost use Rattle.std.specs.Prelude.{false, Ok, Err, None, [], ◌≡◌, MatchResult};
 ghost use Rattle.std.proofs.lemmas.Bool.{false≢true};
-ghost use Rattle.dms_calls.specs.Untold.{no_world, untold};
+ghost use Rattle.dms_calls.specs.Untold.{no_world, untold_clock};
 
 use crate::listing::Listing;
 use dms_calls::Calls;
@@ -26,7 +26,7 @@ impl<R: Files> Host<R> {
 }
 
 /// Its value, or that the call failed.
-pub(crate) fn failed<T: Drop>(outcome: io::Result<T>) -> Result<T, Failed>
+pub(crate) fn or_failed<T: Drop>(outcome: io::Result<T>) -> Result<T, Failed>
     ensures { MatchResult outcome (λ value. result ≡ Ok value) (λ e. result ≡ Err (record {})) }
 {
     match outcome {
@@ -53,7 +53,7 @@ where
 
     ghost world = { λ s. no_world };
 
-    ghost clock = { λ s. untold };
+    ghost clock = { λ s. untold_clock };
 
     ghost broken = { λ s. false };
 
@@ -80,7 +80,7 @@ where
     }
 
     fn create(&mut self, name: &str) -> Result<R::File, Failed> {
-        failed(
+        or_failed(
             OpenOptions::new()
                 .read(true)
                 .write(true)
@@ -90,31 +90,31 @@ where
     }
 
     fn size(&mut self, handle: &R::File) -> Result<u64, Failed> {
-        Ok(failed(handle.metadata())?.len())
+        Ok(or_failed(handle.metadata())?.len())
     }
 
     fn pread(&mut self, handle: &R::File, at: u64, into: &mut [u8]) -> Result<usize, Failed> {
-        failed(handle.read_at(into, at))
+        or_failed(handle.read_at(into, at))
     }
 
     fn pwrite(&mut self, handle: &R::File, at: u64, bytes: &[u8]) -> Result<usize, Failed> {
-        failed(handle.write_at(bytes, at))
+        or_failed(handle.write_at(bytes, at))
     }
 
     fn ftruncate(&mut self, handle: &R::File, len: u64) -> Result<(), Failed> {
-        failed(handle.set_len(len))
+        or_failed(handle.set_len(len))
     }
 
     fn fsync(&mut self, handle: &R::File) -> Result<(), Failed> {
-        failed(handle.sync_all())
+        or_failed(handle.sync_all())
     }
 
     fn fsync_folder(&mut self) -> Result<(), Failed> {
-        failed(failed(fs::open(&self.rt, "."))?.sync_all())
+        or_failed(or_failed(fs::open(&self.rt, "."))?.sync_all())
     }
 
     fn list(&mut self) -> Result<Listing<R::Dir>, Failed> {
-        Ok(Listing::new(failed(self.rt.open_dir("."))?))
+        Ok(Listing::new(or_failed(self.rt.open_dir("."))?))
     }
 
     fn next_name(
@@ -127,6 +127,6 @@ where
     }
 
     fn print(&mut self, bytes: &[u8]) -> Result<usize, Failed> {
-        failed(io::writer(&self.rt).write(bytes))
+        or_failed(io::writer(&self.rt).write(bytes))
     }
 }

@@ -1,6 +1,6 @@
 ghost use Rattle.std.specs.Prelude.{◌≡◌, ◌≤◌, ◌<◌, length, IfOk};
 
-use crate::host::failed;
+use crate::host::or_failed;
 use dms_site::Failed;
 use std::io::Read;
 
@@ -39,7 +39,7 @@ impl<D: Read> Listing<D> {
         if self.from < self.to {
             return Ok(());
         }
-        let count = failed(self.dir.read(&mut self.names))?;
+        let count = or_failed(self.dir.read(&mut self.names))?;
         self.from = 0;
         self.to = count;
         Ok(())

@@ -78,8 +78,8 @@ pow_some : (k : ℕ) → 0 < 256 ^ k
 pow_some zero = omega arith
 pow_some (suc k) = omega (arith, nat.pow-suc 256 k, pow_some k)
 
-parted : (n p d r q e : ℕ) → n ≡ d * p + r → d ≡ q * 256 + e → n ≡ q * (p * 256) + (e * p + r)
-parted n p d r q e h k = h ∙ ap (λ x. x * p + r) k ∙ omega arith
+parts_again : (n p d r q e : ℕ) → n ≡ d * p + r → d ≡ q * 256 + e → n ≡ q * (p * 256) + (e * p + r)
+parts_again n p d r q e h k = h ∙ ap (λ x. x * p + r) k ∙ omega arith
 
 mod_split : (n p : ℕ) → 0 < p → n % (p * 256) ≡ n / p % 256 * p + n % p
 mod_split n p some =
@@ -88,7 +88,7 @@ mod_split n p some =
     let digit : d ≡ d / 256 * 256 + d % 256 = omega arith in
     let low : n % p < p = nat.mod-lt n some in
     let high : d % 256 * p ≤ 255 * p = nat.mul-le-mul_right p (omega arith) in
-    ap (λ x. x % (p * 256)) (parted n p d (n % p) (d / 256) (d % 256) whole digit)
+    ap (λ x. x % (p * 256)) (parts_again n p d (n % p) (d / 256) (d % 256) whole digit)
     ∙ mod-mul-add (d / 256) (p * 256) (d % 256 * p + n % p) (omega (arith, high, low))
 
 -- a number by its highest byte of so many and the rest

@@ -17,9 +17,9 @@ use Rattle.dms_desc.specs.Widths.{width_of, item_width}
 -- ---- values
 
 -- a number moved so that the least one is 0
-abbrev pub shifted : ℤ → ℕ
-shifted (pos n) = 2 ^ 63 + n
-shifted (negsuc n) = 2 ^ 63 - (n + 1)
+abbrev pub shift_up : ℤ → ℕ
+shift_up (pos n) = 2 ^ 63 + n
+shift_up (negsuc n) = 2 ^ 63 - (n + 1)
 
 abbrev pub bit_of : Bool → ℕ
 bit_of true = 1
@@ -29,7 +29,7 @@ bit_of false = 0
 -- with its highest byte first; zeros where the value is of another kind
 abbrev pub value_bytes : ItemKind → Value → List ℕ
 value_bytes (Alpha n) (Text bytes) = bytes ++ replicate (n - length bytes) 32
-value_bytes (Decimal n m s) (Number z) = to_be_bytes w64 (shifted z)
+value_bytes (Decimal n m s) (Number z) = to_be_bytes w64 (shift_up z)
 value_bytes OneBit (Truth b) = bit_of b ∷ []
 value_bytes (Field n) (Bits b) = to_be_bytes w64 b
 value_bytes (Link to counted) (Reference r) = to_be_bytes w32 r

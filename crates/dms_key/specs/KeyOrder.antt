@@ -20,13 +20,13 @@ use Rattle.dms_base.specs.declared.kind.ItemKind.{ItemKind}
 use Rattle.dms_base.specs.declared.kind.ItemKind.TheVariants.{Alpha, Number as Decimal, Bool as OneBit, Field, Link}
 use Rattle.dms_base.specs.Fits.{fits}
 use Rattle.dms_base.specs.Orders.{value_cmp, truth_cmp}
-use Rattle.dms_base.specs.Text.{IsText, trimmed, before_trimmed, is_printable}
+use Rattle.dms_base.specs.Text.{IsText, trim_spaces, before_trimmed, is_printable}
 use Rattle.dms_desc.specs.declared.structure.KeyPart.{KeyPart}
 use Rattle.dms_desc.specs.Conds.{is_null, or_null}
 use Rattle.dms_desc.specs.Widths.{width_of}
-use Rattle.dms_desc.specs.Keys.{key_cmp_from, key_cmp, turned}
+use Rattle.dms_desc.specs.Keys.{key_cmp_from, key_cmp, reverse_if}
 use Rattle.dms_key.specs.ByteOrder.{less_is, equal_is, greater_is, append_cmp, AreBytes, complement_cmp, moved_cmp, high_first_cmp, high_first_bytes}
-use Rattle.dms_key.specs.KeyBytes.{bytes_cmp, shifted, bit_of, field_bytes, turned_bytes, kind_of, part_bytes, part_width, key_bytes, key_width, FitsPart, KeyHasKinds}
+use Rattle.dms_key.specs.KeyBytes.{bytes_cmp, shift_up, bit_of, field_bytes, turned_bytes, kind_of, part_bytes, part_width, key_bytes, key_width, FitsPart, KeyHasKinds}
 use Rattle.dms_desc.specs.Plain.{FitsKind}
 
 -- numbers of so many bytes
@@ -52,14 +52,14 @@ int_below Less a b is = grind (arith, nat_tests, is)
 int_below Equal a b is = grind (arith, nat_tests, is)
 int_below Greater a b is = grind (arith, nat_tests, is)
 
-pub shift_order : (x y : ℤ) → unsigned_abs x < 2 ^ 63 → unsigned_abs y < 2 ^ 63 → nat_cmp (shifted x) (shifted y) ≡ int_cmp x y
+pub shift_order : (x y : ℤ) → unsigned_abs x < 2 ^ 63 → unsigned_abs y < 2 ^ 63 → nat_cmp (shift_up x) (shift_up y) ≡ int_cmp x y
 shift_order (pos a) (pos b) p q = moved_cmp (2 ^ 63) a b ∙ int_of a b
 shift_order (pos a) (negsuc b) p q = greater_is (2 ^ 63 + a) (2 ^ 63 - (b + 1)) (omega arith)
 shift_order (negsuc a) (pos b) p q = less_is (2 ^ 63 - (a + 1)) (2 ^ 63 + b) (omega arith)
 shift_order (negsuc a) (negsuc b) p q =
     below_at (nat_cmp a b) a b (ranked a b (nat_cmp a b) refl) (omega (arith, p)) (omega (arith, q)) ∙ int_below (nat_cmp a b) a b (ranked a b (nat_cmp a b) refl)
 
-pub shifted_small : (x : ℤ) → unsigned_abs x < 2 ^ 63 → shifted x < 2 ^ 64
+pub shifted_small : (x : ℤ) → unsigned_abs x < 2 ^ 63 → shift_up x < 2 ^ 64
 shifted_small (pos a) p = omega (arith, p)
 shifted_small (negsuc a) p = omega (arith, p)
 
@@ -85,52 +85,52 @@ last_at : (z : Bool) (b : ℕ) → (b == 32) ≡ z → b ≡ 32 → cond z [] (b
 last_at true b e s h = absurd (cc)
 last_at false b e s h = absurd (grind (arith, nat_tests, e, s))
 
-no_space : (b : ℕ) (bs : List ℕ) → trimmed (b ∷ bs) ≡ b ∷ bs → b ≡ 32 → bs ≡ [] → ⊥
+no_space : (b : ℕ) (bs : List ℕ) → trim_spaces (b ∷ bs) ≡ b ∷ bs → b ≡ 32 → bs ≡ [] → ⊥
 no_space b [] h s none = last_at (b == 32) b refl s h
 no_space b (x ∷ bs) h s none = absurd (cc)
 
-pub tail_of : (bs : List ℕ) → list_all is_printable bs ≡ true → trimmed bs ≡ bs → IsTail bs
+pub tail_of : (bs : List ℕ) → list_all is_printable bs ≡ true → trim_spaces bs ≡ bs → IsTail bs
 tail_of [] p t = tt
 tail_of (b ∷ bs) p t =
     let both = and_parts (is_printable b) (list_all is_printable bs) p in
     let range = and_parts (leb 32 b) (leb b 126) both.0 in
-    (grind (arith, nat_tests, range.0), no_space b bs t, tail_of bs both.1 (tail_trimmed (trimmed bs) b bs t))
+    (grind (arith, nat_tests, range.0), no_space b bs t, tail_of bs both.1 (tail_trimmed (trim_spaces bs) b bs t))
 
 pub equal_itself : (bs : List ℕ) → bytes_cmp bs bs ≡ Equal
 equal_itself [] = refl
 equal_itself (b ∷ bs) = ap (λ o. ordering_then o (bytes_cmp bs bs)) (equal_is b b refl) ∙ equal_itself bs
 
-abbrev filled : ℕ → List ℕ → List ℕ
-filled n bs = bs ++ replicate (n - length bs) 32
+abbrev fill_spaces : ℕ → List ℕ → List ℕ
+fill_spaces n bs = bs ++ replicate (n - length bs) 32
 
-filled_more : (m y : ℕ) (ys : List ℕ) → filled (suc m) (y ∷ ys) ≡ y ∷ filled m ys
+filled_more : (m y : ℕ) (ys : List ℕ) → fill_spaces (suc m) (y ∷ ys) ≡ y ∷ fill_spaces m ys
 filled_more m y ys = ap (λ n. y ∷ ys ++ replicate n 32) (omega arith)
 
 some_byte : (y : ℕ) (ys : List ℕ) → ◌≡◌ {A = List ℕ} (y ∷ ys) [] → ⊥
 some_byte y ys h = absurd (cc)
 
-fill_at : (o : Ordering) (m y : ℕ) (ys : List ℕ) → MatchOrdering o (32 < y) (32 ≡ y) (y < 32) → 32 ≤ y → (32 ≡ y → bytes_cmp (replicate m 32) (filled m ys) ≡ Less) → ordering_then o (bytes_cmp (replicate m 32) (filled m ys)) ≡ Less
+fill_at : (o : Ordering) (m y : ℕ) (ys : List ℕ) → MatchOrdering o (32 < y) (32 ≡ y) (y < 32) → 32 ≤ y → (32 ≡ y → bytes_cmp (replicate m 32) (fill_spaces m ys) ≡ Less) → ordering_then o (bytes_cmp (replicate m 32) (fill_spaces m ys)) ≡ Less
 fill_at Less m y ys is low rest = refl
 fill_at Equal m y ys is low rest = rest is
 fill_at Greater m y ys is low rest = absurd (omega (arith, is, low))
 
 -- spaces are less than a text
-fill_less : (m : ℕ) (ys : List ℕ) → length ys ≤ m → IsTail ys → (ys ≡ [] → ⊥) → bytes_cmp (replicate m 32) (filled m ys) ≡ Less
+fill_less : (m : ℕ) (ys : List ℕ) → length ys ≤ m → IsTail ys → (ys ≡ [] → ⊥) → bytes_cmp (replicate m 32) (fill_spaces m ys) ≡ Less
 fill_less m [] le tail some = absurd (some refl)
 fill_less zero (y ∷ ys) le tail some = absurd (omega (arith, le))
 fill_less (suc m) (y ∷ ys) le tail some =
     ap (bytes_cmp (replicate (suc m) 32)) (filled_more m y ys)
     ∙ fill_at (nat_cmp 32 y) m y ys (ranked 32 y (nat_cmp 32 y) refl) tail.0 (λ e. fill_less m ys (omega (arith, le)) tail.2 (tail.1 (sym e)))
 
-nothing_filled : (m : ℕ) → filled m [] ≡ replicate m 32
+nothing_filled : (m : ℕ) → fill_spaces m [] ≡ replicate m 32
 nothing_filled m = ap (λ n. replicate n 32) (omega arith)
 
-pub filled_cmp : (n : ℕ) (a b : List ℕ) → length a ≤ n → length b ≤ n → IsTail a → IsTail b → bytes_cmp (filled n a) (filled n b) ≡ bytes_cmp a b
-filled_cmp n [] [] p q s t = equal_itself (filled n [])
-filled_cmp n [] (y ∷ ys) p q s t = ap (λ x. bytes_cmp x (filled n (y ∷ ys))) (nothing_filled n) ∙ fill_less n (y ∷ ys) q t (some_byte y ys)
+pub filled_cmp : (n : ℕ) (a b : List ℕ) → length a ≤ n → length b ≤ n → IsTail a → IsTail b → bytes_cmp (fill_spaces n a) (fill_spaces n b) ≡ bytes_cmp a b
+filled_cmp n [] [] p q s t = equal_itself (fill_spaces n [])
+filled_cmp n [] (y ∷ ys) p q s t = ap (λ x. bytes_cmp x (fill_spaces n (y ∷ ys))) (nothing_filled n) ∙ fill_less n (y ∷ ys) q t (some_byte y ys)
 filled_cmp n (x ∷ xs) [] p q s t =
-    nat_list_cmp_total.antisymm (filled n (x ∷ xs)) (filled n [])
-    ∙ ap (λ z. ordering_reverse (bytes_cmp z (filled n (x ∷ xs)))) (nothing_filled n) ∙ ap ordering_reverse (fill_less n (x ∷ xs) p s (some_byte x xs))
+    nat_list_cmp_total.antisymm (fill_spaces n (x ∷ xs)) (fill_spaces n [])
+    ∙ ap (λ z. ordering_reverse (bytes_cmp z (fill_spaces n (x ∷ xs)))) (nothing_filled n) ∙ ap ordering_reverse (fill_less n (x ∷ xs) p s (some_byte x xs))
 filled_cmp zero (x ∷ xs) (y ∷ ys) p q s t = absurd (omega (arith, p))
 filled_cmp (suc n) (x ∷ xs) (y ∷ ys) p q s t =
     (λ i. bytes_cmp (filled_more n x xs i) (filled_more n y ys i)) ∙ ap (ordering_then (nat_cmp x y)) (filled_cmp n xs ys (omega (arith, p)) (omega (arith, q)) s.2 t.2)
@@ -141,7 +141,7 @@ spaces_length : (n m : ℕ) → length (replicate n m) ≡ n
 spaces_length zero m = refl
 spaces_length (suc n) m = ap suc (spaces_length n m)
 
-filled_length : (n : ℕ) (a : List ℕ) → length a ≤ n → length (filled n a) ≡ n
+filled_length : (n : ℕ) (a : List ℕ) → length a ≤ n → length (fill_spaces n a) ≡ n
 filled_length n a le = length-append a (replicate (n - length a) 32) ∙ ap (λ m. length a + m) (spaces_length (n - length a) 32) ∙ omega (arith, le)
 
 small_power : (n : ℕ) → n ≤ 18 → 10 ^ n ≤ 10 ^ 18
@@ -181,7 +181,7 @@ field_order (Alpha n) (Text a) (Text b) f g = filled_cmp n a b (text_short n a f
 field_order (Decimal n m s) (Number x) (Number y) f g =
     let p = number_small n x _ f.kind.1 f.fits in
     let q = number_small n y _ f.kind.1 g.fits in
-    eight_cmp (shifted x) (shifted y) (shifted_small x p) (shifted_small y q) ∙ shift_order x y p q
+    eight_cmp (shift_up x) (shift_up y) (shifted_small x p) (shifted_small y q) ∙ shift_order x y p q
 field_order OneBit (Truth a) (Truth b) f g = bit_order a b
 field_order (Field n) (Bits a) (Bits b) f g = eight_cmp a b (bits_small n a f.kind.1 f.fits) (bits_small n b f.kind.1 g.fits)
 field_order (Link to counted) (Reference a) (Reference b) f g = four_cmp a b (link_small a f.fits) (link_small b g.fits)
@@ -234,7 +234,7 @@ bit_small false = omega arith
 pub field_are_bytes : (k : ItemKind) (v : Value) → FitsKind k v → AreBytes (field_bytes k v)
 field_are_bytes k Null f = (omega arith, all_bytes (width_of k) 255 (omega arith))
 field_are_bytes (Alpha n) (Text a) f = (omega arith, append_bytes a (replicate (n - length a) 32) (text_bytes a f.plain.printable) (all_bytes (n - length a) 32 (omega arith)))
-field_are_bytes (Decimal n m s) (Number z) f = (omega arith, high_first_bytes 8 (shifted z))
+field_are_bytes (Decimal n m s) (Number z) f = (omega arith, high_first_bytes 8 (shift_up z))
 field_are_bytes OneBit (Truth b) f = (omega arith, (bit_small b, tt))
 field_are_bytes (Field n) (Bits b) f = (omega arith, high_first_bytes 8 b)
 field_are_bytes (Link to counted) (Reference r) f = (omega arith, high_first_bytes 4 r)
@@ -242,7 +242,7 @@ field_are_bytes k v f = absurd (cc (f.fits))
 
 -- parts and keys
 
-turned_order : (d : Bool) (x y : List ℕ) (o : Ordering) → length x ≡ length y → AreBytes x → AreBytes y → bytes_cmp x y ≡ o → bytes_cmp (turned_bytes d x) (turned_bytes d y) ≡ turned d o
+turned_order : (d : Bool) (x y : List ℕ) (o : Ordering) → length x ≡ length y → AreBytes x → AreBytes y → bytes_cmp x y ≡ o → bytes_cmp (turned_bytes d x) (turned_bytes d y) ≡ reverse_if d o
 turned_order false x y o e p q h = h
 turned_order true x y o e p q h = complement_cmp x y e p q ∙ ap ordering_reverse h
 
@@ -259,7 +259,7 @@ pub part_length : (o : Option ItemKind) (d : Bool) (v : Value) → FitsPart o v 
 part_length None d v f = absurd f
 part_length (Some k) d v f = turned_length d (field_bytes k v) ∙ field_length k v f
 
-part_order : (o : Option ItemKind) (d : Bool) (v w : Value) → FitsPart o v → FitsPart o w → bytes_cmp (part_bytes o d v) (part_bytes o d w) ≡ turned d (value_cmp v w)
+part_order : (o : Option ItemKind) (d : Bool) (v w : Value) → FitsPart o v → FitsPart o w → bytes_cmp (part_bytes o d v) (part_bytes o d w) ≡ reverse_if d (value_cmp v w)
 part_order None d v w f g = absurd f
 part_order (Some k) d v w f g =
     turned_order d (field_bytes k v) (field_bytes k w) (value_cmp v w) (field_length k v f ∙ sym (field_length k w g)) (field_are_bytes k v f) (field_are_bytes k w g) (field_order k v w f g)
@@ -270,7 +270,7 @@ slice_next xs x i = ap (slice_get (x ∷ xs)) (let e : i + 1 ≡ suc i = omega a
 key_next : (i : ℕ) (ps : List KeyPart) (v w : Value) (a b : List Value) → key_cmp_from (i + 1) ps (v ∷ a) (w ∷ b) ≡ key_cmp_from i ps a b
 key_next i [] v w a b = refl
 key_next i (p ∷ ps) v w a b =
-    (λ j. ordering_then (turned p.descending (value_cmp (or_null (slice_next a v i j)) (or_null (slice_next b w i j)))) (key_next (i + 1) ps v w a b j))
+    (λ j. ordering_then (reverse_if p.descending (value_cmp (or_null (slice_next a v i j)) (or_null (slice_next b w i j)))) (key_next (i + 1) ps v w a b j))
 
 -- the order of the first values of keys is that of their bytes
 pub prefix_order : (kinds : List ItemKind) (ps : List KeyPart) (a b : List Value) → KeyHasKinds kinds ps a → KeyHasKinds kinds ps b → length a ≡ length b

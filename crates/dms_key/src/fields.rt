@@ -1,12 +1,12 @@
 ghost use Rattle.std.specs.Prelude.{◌≡◌, ◌++◌, ◌-◌, OnOk, replicate};
-ghost use Rattle.dms_key.specs.KeyBytes.{shifted, field_bytes, value_bytes};
+ghost use Rattle.dms_key.specs.KeyBytes.{shift_up, field_bytes, value_bytes};
 
 use dms_base::{Bytes, ItemKind, Memory, Value};
 use dms_desc::width_of;
 
 /// A number moved so that the least one is 0: a number plus 2 to the power 63.
-pub fn shifted(number: i64) -> u64
-    ensures { result ≡ shifted number }
+pub fn shift_up(number: i64) -> u64
+    ensures { result ≡ shift_up number }
 {
     if number < 0 {
         (1 << 63) - number.unsigned_abs()
@@ -34,7 +34,7 @@ fn put_value(out: &mut Bytes, kind: ItemKind, value: &Value) -> Result<(), Memor
             out.extend(text.bytes())?;
             fill(out, (n as usize).saturating_sub(text.bytes().len()), b' ')
         }
-        (ItemKind::Number(_, _, _), Value::Number(z)) => out.extend(&shifted(*z).to_be_bytes()),
+        (ItemKind::Number(_, _, _), Value::Number(z)) => out.extend(&shift_up(*z).to_be_bytes()),
         (ItemKind::Bool, Value::Bool(b)) => out.push(u8::from(*b)),
         (ItemKind::Field(_), Value::Bits(bits)) => out.extend(&bits.to_be_bytes()),
         (ItemKind::Link(_, _), Value::Link(record)) => out.extend(&record.to_be_bytes()[4..]),

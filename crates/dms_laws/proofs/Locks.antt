@@ -24,8 +24,8 @@ use Rattle.dms_model.specs.declared.put.Put.TheVariants.{Stored}
 use Rattle.dms_model.specs.declared.spot.Spot.{Spot}
 use Rattle.dms_model.specs.Db.{Db, Place}
 use Rattle.dms_desc.specs.Lookups.{structure_of, items_of, set_of}
-use Rattle.dms_model.specs.Stores.{put_answer, put_after, linked}
-use Rattle.dms_model.specs.Session.{Session, Outcome, StoreResult, Refused, Keeps, Filled, Misfit, Values', refuse, done, shows, settle, keep, store_step, after_store, begin_step, after_begin, begun, current_of, holds, replies, end_step, after_end, abort_step, find_step, find_for, after_find, found_by, create_step, create_for, owner_for, put_step, put_area, after_put, filled, get_step, get_area, close_step, open_as, open_in, open_step, verb_step, step_at, answered, carried_out, step, with_program, with_work, with_lock, restart_of, someone_works, is_inquiry, opens, changes, path_of, new_program, place_of, carried, entered, left, without, idle, backed_out, found_program, stored_program, let_go, is_lock, is_elsewhere, area_values, record_of, with_values, area_of}
+use Rattle.dms_model.specs.Stores.{put_answer, put_after, with_links_of}
+use Rattle.dms_model.specs.Session.{Session, Outcome, StoreResult, Refused, Keeps, Filled, Misfit, Values', refuse, succeeds, shows, settle, keep, store_step, after_store, begin_step, after_begin, begin_transaction, current_of, holds, replies, end_step, after_end, abort_step, find_step, find_for, after_find, found_by, create_step, create_for, owner_for, put_step, put_area, after_put, fill_values, get_step, get_area, close_step, open_as, open_in, open_step, verb_step, step_at, after_answer, carried_out, step, with_program, with_work, with_lock, restart_of, someone_works, is_inquiry, opens, changes, path_of, new_program, place_of, activate, enter_transaction, leave_transaction, without, idle, backed_out, found_program, stored_program, let_go, is_lock, is_elsewhere, area_values, record_of, with_values, area_of}
 use Rattle.dms_laws.specs.Exclusive.{ShareNoLock, AllShareNoLock, AreSafe, AreExclusive, IsExclusive, locks_it, is_locked_for, backs_out, is_done, LocksStayExclusive, LosesNoUpdate, LeavesLocks, BacksOut, locks_left}
 use Rattle.dms_model.specs.Traits.{traits}
 use Rattle.dms_laws.specs.Runs.{after}
@@ -122,7 +122,7 @@ fair_refuse s name verb ex c n = fair_replies s name verb ex (Exception c n)
 idle_safe : (db mark : Db) (x : Program) → AreSafe db mark x → AreSafe db db (idle x)
 idle_safe db mark x h = record { stand = h.stand; kept = λ free place l. refl }
 
-settle_fair : (s : Session) (name : List ℕ) (verb : Verb) (t : Session) (pending : Bool) (since next : ℕ) (sync : Option ℕ) (text : List ℕ) (quiets : List (ℕ × Db)) → Fair s name verb (done t)
+settle_fair : (s : Session) (name : List ℕ) (verb : Verb) (t : Session) (pending : Bool) (since next : ℕ) (sync : Option ℕ) (text : List ℕ) (quiets : List (ℕ × Db)) → Fair s name verb (succeeds t)
     → Fair s name verb (record { session = record t { mark = t.db; next = next; programs = map idle t.programs; pending = pending; since = since }; reply = Done text; sync = sync; quiets = quiets })
 settle_fair s name verb t pending since next sync text quiets h =
     let same = λ (who : List ℕ) (place : Place). any_mapped who place idle (λ x. refl) t.programs in
@@ -135,7 +135,7 @@ settle_fair s name verb t pending since next sync text quiets h =
       locks = λ who place apart no. same who place ∙ h.locks who place apart no;
     }
 
-fair_settled : (s : Session) (name : List ℕ) (verb : Verb) (t : Session) → Fair s name verb (done t) → Fair s name verb (settle t)
+fair_settled : (s : Session) (name : List ℕ) (verb : Verb) (t : Session) → Fair s name verb (succeeds t) → Fair s name verb (settle t)
 unfolding settle
 fair_settled s name verb t h =
     fair_if s name verb (someone_works t.programs) _ _ h
@@ -203,8 +203,8 @@ module _ (s : Session) (i : ℕ) (p : Program) (name : List ℕ) (at : slice_get
     same = λ place was some. refl;
   }
 
-  fair_at : (verb : Verb) (q : Program) (text : List ℕ) → q.name ≡ p.name → ((place : Place) → locks_it q place ≡ true → locks_it p place ≡ true) → Fair s name verb (shows (with_program s i (carried q)) text)
-  fair_at verb q text same fewer = fair_moved (carried q) s.db (moves_same (carried q) same fewer) verb s.pending s.since text (λ active place l. absurd (cc))
+  fair_at : (verb : Verb) (q : Program) (text : List ℕ) → q.name ≡ p.name → ((place : Place) → locks_it q place ≡ true → locks_it p place ≡ true) → Fair s name verb (shows (with_program s i (activate q)) text)
+  fair_at verb q text same fewer = fair_moved (activate q) s.db (moves_same (activate q) same fewer) verb s.pending s.since text (λ active place l. absurd (cc))
 
   -- storing
 
@@ -217,7 +217,7 @@ module _ (s : Session) (i : ℕ) (p : Program) (name : List ℕ) (at : slice_get
 
   stored_moves : (desc : Described) (set number : ℕ) (a : Area) → (locks_it p (set, number) ≡ false → get s.db.records (set, number) ≡ None) → Moves s p (stored_program p set number a) (put_after (Stored number) desc s.db set (record_of a))
   stored_moves desc set number a free =
-      let v = linked (items_of (structure_of desc set)) (get s.db.records (set, number)) (record_of a) in
+      let v = with_links_of (items_of (structure_of desc set)) (get s.db.records (set, number)) (record_of a) in
       let w = with_work p set (record { current = Some number; area = Some (Old (area_values a)) }) in
       record {
         name = cond_name (list_any (is_lock set number) p.locks) w _ p.name refl refl;
@@ -257,31 +257,31 @@ module _ (s : Session) (i : ℕ) (p : Program) (name : List ℕ) (at : slice_get
   if_moves : (audit : Bool) (desc : Described) → KeptMoves (cond audit (keep desc p s.db (restart_of desc)) (Keeps p s.db))
   if_moves audit desc = kept_if audit (keep desc p s.db (restart_of desc)) (Keeps p s.db) (λ h. keep_moves desc (restart_of desc)) same_moves
 
-  begun_moves : (audit : Bool) (desc : Described) → KeptMoves (begun desc p s audit)
+  begun_moves : (audit : Bool) (desc : Described) → KeptMoves (begin_transaction desc p s audit)
   begun_moves audit desc = begun_any KeptMoves desc p s audit (λ is. kept_from desc (restart_of desc)) same_moves (λ r. tt)
 
-  carried_moves : (q : Program) (db : Db) → Moves s p q db → Moves s p (carried q) db
+  carried_moves : (q : Program) (db : Db) → Moves s p q db → Moves s p (activate q) db
   carried_moves q db m = record { name = m.name; new = m.new; stand = m.stand; same = m.same }
 
-  entered_moves : (q : Program) (db : Db) → Moves s p q db → Moves s p (entered q) db
+  entered_moves : (q : Program) (db : Db) → Moves s p q db → Moves s p (enter_transaction q) db
   entered_moves q db m = record { name = m.name; new = m.new; stand = m.stand; same = m.same }
 
-  left_moves : (q : Program) (db : Db) → Moves s p q db → Moves s p (left q) db
+  left_moves : (q : Program) (db : Db) → Moves s p q db → Moves s p (leave_transaction q) db
   left_moves q db m = record { name = m.name; new = λ place was now. absurd (cc); stand = λ place l. absurd (cc); same = m.same }
 
   store_fair : (verb : Verb) (k : StoreResult) → KeptMoves k → Fair s name verb (after_store k i s)
   store_fair verb (Refused r) m = fair_replies s name verb ex r
-  store_fair verb (Keeps q db) m = fair_moved (carried q) db (carried_moves q db m) verb s.pending s.since [] (λ active place l. absurd (cc))
+  store_fair verb (Keeps q db) m = fair_moved (activate q) db (carried_moves q db m) verb s.pending s.since [] (λ active place l. absurd (cc))
 
   after_begin_fair : (verb : Verb) (k : StoreResult) → KeptMoves k → Fair s name verb (after_begin k i s)
   after_begin_fair verb (Refused r) m = fair_replies s name verb ex r
-  after_begin_fair verb (Keeps q db) m = fair_moved (entered q) db (entered_moves q db m) verb s.pending s.since [] (λ active place l. absurd (cc))
+  after_begin_fair verb (Keeps q db) m = fair_moved (enter_transaction q) db (entered_moves q db m) verb s.pending s.since [] (λ active place l. absurd (cc))
 
   end_fair : (verb : Verb) (k : StoreResult) (desc : Described) (sync : Bool) → KeptMoves k → Fair s name verb (after_end k desc i s sync)
   end_fair verb (Refused r) desc sync m = fair_replies s name verb ex r
   end_fair verb (Keeps q db) desc sync m =
-      fair_settled s name verb (record s { db = db; programs = slice_set s.programs i (left q); pending = s.pending || sync || nat_le desc.syncpoint (one_more s.since); since = one_more s.since })
-      (fair_moved (left q) db (left_moves q db m) verb (s.pending || sync || nat_le desc.syncpoint (one_more s.since)) (one_more s.since) [] (λ active place l. absurd (cc)))
+      fair_settled s name verb (record s { db = db; programs = slice_set s.programs i (leave_transaction q); pending = s.pending || sync || nat_le desc.syncpoint (one_more s.since); since = one_more s.since })
+      (fair_moved (leave_transaction q) db (left_moves q db m) verb (s.pending || sync || nat_le desc.syncpoint (one_more s.since)) (one_more s.since) [] (λ active place l. absurd (cc)))
 
   -- the other verbs
 
@@ -295,7 +295,7 @@ module _ (s : Session) (i : ℕ) (p : Program) (name : List ℕ) (at : slice_get
   find_for_fair verb None desc path = fair_refuse s name verb ex _ _
   find_for_fair verb (Some owner) desc path = find_fair verb (found_by desc s.db owner path) desc (path_of path)
 
-  create_fair : (verb : Verb) (set : ℕ) (a : Area) → Fair s name verb (shows (with_program s i (carried (let_go (with_work p set (record { current = None; area = Some a })) set))) [])
+  create_fair : (verb : Verb) (set : ℕ) (a : Area) → Fair s name verb (shows (with_program s i (activate (let_go (with_work p set (record { current = None; area = Some a })) set))) [])
   create_fair verb set a =
       let w = with_work p set (record { current = None; area = Some a }) in
       fair_at verb (let_go w set) [] (cond_name p.in_transaction w _ p.name refl refl) (λ place l. let_go_locks w set place l)
@@ -310,13 +310,13 @@ module _ (s : Session) (i : ℕ) (p : Program) (name : List ℕ) (at : slice_get
 
   put_fair : (verb : Verb) (a : Option Area) (desc : Described) (set : ℕ) (settings : List Setting) → Fair s name verb (put_area a desc i p s set settings)
   put_fair verb None desc set settings = fair_refuse s name verb ex _ _
-  put_fair verb (Some a) desc set settings = after_put_fair verb (filled (items_of (structure_of desc set)) settings (area_values a)) set a
+  put_fair verb (Some a) desc set settings = after_put_fair verb (fill_values (items_of (structure_of desc set)) settings (area_values a)) set a
 
   get_fair : (verb : Verb) (a : Option Area) (desc : Described) (set : ℕ) (numbers : List ℕ) → Fair s name verb (get_area a desc i p s set numbers)
   get_fair verb None desc set numbers = fair_refuse s name verb ex _ _
   get_fair verb (Some a) desc set numbers = fair_at verb p _ refl (λ place l. l)
 
-  close_fair : (verb : Verb) → Fair s name verb (done (record s { programs = without i s.programs }))
+  close_fair : (verb : Verb) → Fair s name verb (succeeds (record s { programs = without i s.programs }))
   close_fair verb = record {
     exclusive = record { apart = apart_without s.programs i ex.apart; safe = all_without (AreSafe s.db s.mark) s.programs i ex.safe };
     same = λ who place apart was now. refl;
@@ -386,7 +386,7 @@ still_same s name ex who place now =
     of_lock (Unmoved s.db s.mark) (get s.mark.records place ≡ get s.db.records place) who place (λ x u is l. u place l)
     (map (backed_out name) s.programs) (all_mapped (Unmoved s.db s.mark) (backed_out name) s.programs (backed_unmoved s.db s.mark name) ex.safe) now
 
-back_fair : (s : Session) (p name : List ℕ) → IsExclusive s → Fair s name Abort (done (back p s))
+back_fair : (s : Session) (p name : List ℕ) → IsExclusive s → Fair s name Abort (succeeds (back p s))
 back_fair s p name ex = record {
   exclusive = record {
     apart = apart_mapped (backed_out p) (backed_apart p) s.programs ex.apart;
@@ -420,8 +420,8 @@ verb_fair desc i p s name (Store set) at ex own =
     fair_if s name (Store set) p.in_transaction (after_store (keep desc p s.db set) i s) (refuse s AuditError p.name)
     (store_fair s i p name at ex own (Store set) (keep desc p s.db set) (keep_moves s i p name at ex own desc set)) (fair_refuse s name (Store set) ex AuditError p.name)
 verb_fair desc i p s name (Begin audit) at ex own =
-    fair_if s name (Begin audit) p.in_transaction (refuse s AuditError p.name) (after_begin (begun desc p s audit) i s) (fair_refuse s name (Begin audit) ex AuditError p.name)
-    (after_begin_fair s i p name at ex own (Begin audit) (begun desc p s audit) (begun_moves s i p name at ex own audit desc))
+    fair_if s name (Begin audit) p.in_transaction (refuse s AuditError p.name) (after_begin (begin_transaction desc p s audit) i s) (fair_refuse s name (Begin audit) ex AuditError p.name)
+    (after_begin_fair s i p name at ex own (Begin audit) (begin_transaction desc p s audit) (begun_moves s i p name at ex own audit desc))
 verb_fair desc i p s name (End audit sync) at ex own =
     fair_if s name (End audit sync) p.in_transaction (after_end (cond audit (keep desc p s.db (restart_of desc)) (Keeps p s.db)) desc i s sync) (refuse s AuditError p.name)
     (end_fair s i p name at ex own (End audit sync) (cond audit (keep desc p s.db (restart_of desc)) (Keeps p s.db)) desc sync (if_moves s i p name at ex own audit desc)) (fair_refuse s name (End audit sync) ex AuditError p.name)
@@ -433,7 +433,7 @@ new_apart desc name mode x apart = record { names = apart; locks = λ place l r.
 open_as_fair : (desc : Described) (s : Session) (name : List ℕ) (verb : Verb) (mode : Mode) → IsExclusive s → AllByRecursion (λ x. x.name ≢ name) s.programs → Fair s name verb (open_as desc s name mode)
 open_as_fair desc s name verb mode ex none =
     let opened : Session = record s { programs = s.programs ++ new_program desc name mode ∷ [] } in
-    fair_if s name verb (nat_le 64 (length s.programs)) (refuse s LimitError name) (done opened) (fair_refuse s name verb ex LimitError name)
+    fair_if s name verb (nat_le 64 (length s.programs)) (refuse s LimitError name) (succeeds opened) (fair_refuse s name verb ex LimitError name)
     (record {
       exclusive = record {
         apart = apart_pushed s.programs (new_program desc name mode) ex.apart (all_both {P = λ x. x.name ≢ name} {Q = λ x. x.name ≢ name} (λ x. ShareNoLock x (new_program desc name mode)) s.programs (λ x h k. new_apart desc name mode x h) none none);
@@ -459,7 +459,7 @@ step_at_fair desc (Some p) s name v at ex =
     (fair_if s name v p.owes_abort (record { session = with_program s (place_of name s.programs) (record p { owes_abort = false }); reply = Exception AbortDue name; sync = None; quiets = [] }) _ (due_fair s (place_of name s.programs) p name at ex own v)
     (fair_if s name v (is_inquiry p.mode && changes v) _ _ (fair_refuse s name v ex _ _) (verb_fair desc (place_of name s.programs) p s name v at ex own)))
 
-answered_fair : (s : Session) (name : List ℕ) (v : Verb) (o : Outcome) → Fair s name v o → Fair s name v (answered name o)
+answered_fair : (s : Session) (name : List ℕ) (v : Verb) (o : Outcome) → Fair s name v o → Fair s name v (after_answer name o)
 answered_fair s name v o h = record { exclusive = h.exclusive; same = h.same; locks = h.locks }
 
 step_fair : (desc : Described) (s : Session) (name : List ℕ) (v : Verb) → IsExclusive s → Fair s name v (step desc s name v)
@@ -500,7 +500,7 @@ step_at_back desc (Some p) i s name ex =
     (back_if s (is_inquiry p.mode && true) _ _ (λ h. absurd (cc))
     (back_if s p.in_transaction _ _ (λ h. back_is s p.name ex) (λ h. absurd (cc))))
 
-answered_back : (s : Session) (name : List ℕ) (o : Outcome) → BackIf s o → BackIf s (answered name o)
+answered_back : (s : Session) (name : List ℕ) (o : Outcome) → BackIf s o → BackIf s (after_answer name o)
 answered_back s name o back h = let b = back h in record { db = b.db; mark = b.mark; names = b.names; locks = b.locks; unchanged = b.unchanged }
 
 pub backs_out_so : (desc : Described) (s : Session) (name : List ℕ) (verb : Verb) → IsExclusive s → backs_out verb (step desc s name verb) ≡ true → BacksOut s (step desc s name verb).session

@@ -16,7 +16,7 @@ use Rattle.dms_model.specs.declared.reply.Reply.TheVariants.{Exception}
 use Rattle.dms_model.specs.declared.spot.Spot.{Spot}
 use Rattle.dms_desc.specs.Lookups.{structure_of, items_of}
 use Rattle.dms_model.specs.Points.{Quiet}
-use Rattle.dms_model.specs.Session.{Session, Outcome, StoreResult, Refused, Keeps, Filled, Misfit, Values', refuse, done, settle, keep, store_step, after_store, begin_step, after_begin, begun, end_step, after_end, abort_step, find_step, find_for, after_find, found_by, create_step, create_for, owner_for, put_step, put_area, after_put, filled, get_step, get_area, close_step, open_as, open_in, open_step, verb_step, step_at, carried_out, step, with_program, restart_of, someone_works, is_inquiry, opens, changes, path_of, new_program, place_of, without, area_values, left, area_of}
+use Rattle.dms_model.specs.Session.{Session, Outcome, StoreResult, Refused, Keeps, Filled, Misfit, Values', refuse, succeeds, settle, keep, store_step, after_store, begin_step, after_begin, begin_transaction, end_step, after_end, abort_step, find_step, find_for, after_find, found_by, create_step, create_for, owner_for, put_step, put_area, after_put, fill_values, get_step, get_area, close_step, open_as, open_in, open_step, verb_step, step_at, carried_out, step, with_program, restart_of, someone_works, is_inquiry, opens, changes, path_of, new_program, place_of, without, area_values, leave_transaction, area_of}
 use Rattle.dms_block.specs.Held.{one_more}
 
 abbrev pub HasPoints : Outcome → Type 0
@@ -40,7 +40,7 @@ begun_points (Keeps p db) i s = tt
 
 end_points : (k : StoreResult) (desc : Described) (i : ℕ) (s : Session) (sync : Bool) → HasPoints (after_end k desc i s sync)
 end_points (Refused r) desc i s sync = tt
-end_points (Keeps p db) desc i s sync = settle_points (record s { db = db; programs = slice_set s.programs i (left p); pending = s.pending || sync || nat_le desc.syncpoint (one_more s.since); since = one_more s.since })
+end_points (Keeps p db) desc i s sync = settle_points (record s { db = db; programs = slice_set s.programs i (leave_transaction p); pending = s.pending || sync || nat_le desc.syncpoint (one_more s.since); since = one_more s.since })
 
 find_points : (r : Option Spot) (desc : Described) (i : ℕ) (p : Program) (s : Session) (x : ℕ) → HasPoints (after_find r desc i p s x)
 find_points None desc i p s x = tt
@@ -60,7 +60,7 @@ after_put_points (Values' values) i p s set a = tt
 
 put_points : (a : Option Area) (desc : Described) (i : ℕ) (p : Program) (s : Session) (set : ℕ) (settings : List Setting) → HasPoints (put_area a desc i p s set settings)
 put_points None desc i p s set settings = tt
-put_points (Some a) desc i p s set settings = after_put_points (filled (items_of (structure_of desc set)) settings (area_values a)) i p s set a
+put_points (Some a) desc i p s set settings = after_put_points (fill_values (items_of (structure_of desc set)) settings (area_values a)) i p s set a
 
 get_points : (a : Option Area) (desc : Described) (i : ℕ) (p : Program) (s : Session) (set : ℕ) (numbers : List ℕ) → HasPoints (get_area a desc i p s set numbers)
 get_points None desc i p s set numbers = tt
@@ -70,20 +70,20 @@ verb_points : (desc : Described) (i : ℕ) (p : Program) (s : Session) (v : Verb
 unfolding verb_step store_step begin_step end_step abort_step find_step create_step put_step get_step close_step
 verb_points desc i p s OpenUpdate = tt
 verb_points desc i p s OpenInquiry = tt
-verb_points desc i p s Close = points_if p.in_transaction (refuse s AuditError p.name) (done (record s { programs = without i s.programs })) tt tt
+verb_points desc i p s Close = points_if p.in_transaction (refuse s AuditError p.name) (succeeds (record s { programs = without i s.programs })) tt tt
 verb_points desc i p s (Find path) = find_for_points (owner_for desc p (path_of path)) desc i p s path
 verb_points desc i p s (Create set) = create_for_points (owner_for desc p set) desc i p s set
 verb_points desc i p s (PutItems set settings) = put_points (area_of p set) desc i p s set settings
 verb_points desc i p s (Get set items) = get_points (area_of p set) desc i p s set items
 verb_points desc i p s (Store set) = points_if p.in_transaction (after_store (keep desc p s.db set) i s) (refuse s AuditError p.name) (store_points (keep desc p s.db set) i s) tt
-verb_points desc i p s (Begin audit) = points_if p.in_transaction (refuse s AuditError p.name) (after_begin (begun desc p s audit) i s) tt (begun_points (begun desc p s audit) i s)
+verb_points desc i p s (Begin audit) = points_if p.in_transaction (refuse s AuditError p.name) (after_begin (begin_transaction desc p s audit) i s) tt (begun_points (begin_transaction desc p s audit) i s)
 verb_points desc i p s (End audit sync) =
     points_if p.in_transaction (after_end (cond audit (keep desc p s.db (restart_of desc)) (Keeps p s.db)) desc i s sync) (refuse s AuditError p.name)
     (end_points (cond audit (keep desc p s.db (restart_of desc)) (Keeps p s.db)) desc i s sync) tt
 verb_points desc i p s Abort = points_if p.in_transaction _ (refuse s AuditError p.name) tt tt
 
 open_as_points : (desc : Described) (s : Session) (name : List ℕ) (mode : Mode) → HasPoints (open_as desc s name mode)
-open_as_points desc s name mode = points_if (nat_le 64 (length s.programs)) (refuse s LimitError name) (done (record s { programs = s.programs ++ new_program desc name mode ∷ [] })) tt tt
+open_as_points desc s name mode = points_if (nat_le 64 (length s.programs)) (refuse s LimitError name) (succeeds (record s { programs = s.programs ++ new_program desc name mode ∷ [] })) tt tt
 
 open_in_points : (o : Option Mode) (desc : Described) (s : Session) (name : List ℕ) → HasPoints (open_in o desc s name)
 open_in_points None desc s name = tt

@@ -28,8 +28,8 @@ use Rattle.dms_model.specs.declared.spot.Spot.{Spot}
 use Rattle.dms_model.specs.Db.{Db, Place, fresh, records_of, rows_of, empty_db, place_cmp}
 use Rattle.dms_model.specs.Points.{Quiet}
 use Rattle.dms_desc.specs.Lookups.{structure_of, items_of, set_of}
-use Rattle.dms_model.specs.Stores.{put_answer, is_full, clash, put_after, linked, is_other, old_of, stored, values_of, kept_owner}
-use Rattle.dms_model.specs.Session.{Session, Outcome, StoreResult, Refused, Keeps, Filled, Misfit, Values', refuse, done, settle, keep, store_step, after_store, begin_step, after_begin, begun, current_of, holds, end_step, after_end, abort_step, find_step, find_for, after_find, found_by, create_step, create_for, created, owner_for, put_step, put_area, after_put, filled, get_step, get_area, close_step, open_as, open_in, open_step, verb_step, step_at, carried_out, step, with_program, with_work, with_values, restart_of, someone_works, is_inquiry, opens, changes, path_of, new_program, place_of, carried, entered, left, without, idle, backed_out, found_program, stored_program, let_go, is_lock, missing_from, verified, area_values, area_owner, record_of, area_of}
+use Rattle.dms_model.specs.Stores.{put_answer, is_full, clash, put_after, with_links_of, is_other, old_of, record_to_store, values_of, kept_owner}
+use Rattle.dms_model.specs.Session.{Session, Outcome, StoreResult, Refused, Keeps, Filled, Misfit, Values', refuse, succeeds, settle, keep, store_step, after_store, begin_step, after_begin, begin_transaction, current_of, holds, end_step, after_end, abort_step, find_step, find_for, after_find, found_by, create_step, create_for, create_area, owner_for, put_step, put_area, after_put, fill_values, get_step, get_area, close_step, open_as, open_in, open_step, verb_step, step_at, carried_out, step, with_program, with_work, with_values, restart_of, someone_works, is_inquiry, opens, changes, path_of, new_program, place_of, activate, enter_transaction, leave_transaction, without, idle, backed_out, found_program, stored_program, let_go, is_lock, missing_from, meets_verify, area_values, area_owner, record_of, area_of}
 use Rattle.dms_laws.specs.Exclusive.{AreSafe, IsExclusive, locks_it}
 use Rattle.dms_model.specs.Spoken.{IsOuter, IsPlainLiteral}
 use Rattle.dms_model.specs.Valid.{OfItems, IsValid, is_data_set, is_set, link_stands, owner_stands}
@@ -127,8 +127,8 @@ one_at_most : (b : Bool) (n m : ℕ) → n ≤ cond b 1 0 + m → n ≤ 1 + m
 one_at_most true n m h = h
 one_at_most false n m h = omega (arith, h)
 
-verified_is : (o : Option Shape) (shape : Shape) (values : List Value) → o ≡ Some shape → verified o values ≡ true → meets shape.cond values ≡ true
-verified_is o shape values h v = ap (λ (x : Option Shape). verified x values) (sym h) ∙ v
+verified_is : (o : Option Shape) (shape : Shape) (values : List Value) → o ≡ Some shape → meets_verify o values ≡ true → meets shape.cond values ≡ true
+verified_is o shape values h v = ap (λ (x : Option Shape). meets_verify x values) (sym h) ∙ v
 
 required_is : (o : Option Shape) (shape : Shape) (values : List Value) → o ≡ Some shape → missing_from 0 (items_of o) values ≡ None → OfItems shape.items values (λ item v. item.required ≡ true → is_null v ≡ false)
 required_is o shape values h none = required_of shape.items values (ap (λ (x : Option Shape). missing_from 0 (items_of x) values) (sym h) ∙ none)
@@ -150,12 +150,12 @@ module _ (desc : Described) (made : IsWellMade desc) (s : Session) (i : ℕ) (p 
   olds set n = values_of (get s.db.records (set, n))
 
   abbrev put_record : ℕ → ℕ → Area → Shape → Record
-  put_record set n a shape = linked shape.items (get s.db.records (set, n)) (record_of a)
+  put_record set n a shape = with_links_of shape.items (get s.db.records (set, n)) (record_of a)
 
   stored_sane : (set n : ℕ) (a : Area) (shape : Shape) → AreFitting shape.items (area_values a) → RecordMayStand desc s.db (set, n) (put_record set n a shape) shape → HoldsSound desc (stored_program p set n a) (put_after (Stored n) desc s.db set (record_of a))
   stored_sane set n a shape values may =
       let k : Place = (set, n) in
-      let is : linked (items_of (structure_of desc set)) (get s.db.records k) (record_of a) ≡ put_record set n a shape = ap (λ (o : Option Shape). linked (items_of o) (get s.db.records k) (record_of a)) may.here in
+      let is : with_links_of (items_of (structure_of desc set)) (get s.db.records k) (record_of a) ≡ put_record set n a shape = ap (λ (o : Option Shape). with_links_of (items_of o) (get s.db.records k) (record_of a)) may.here in
       let w : Work = record { current = Some n; area = Some (Old (area_values a)) } in
       let q : Program = with_work p set w in
       let areas = areas_with desc p set shape w may.here values mine in
@@ -183,7 +183,7 @@ module _ (desc : Described) (made : IsWellMade desc) (s : Session) (i : ℕ) (p 
 
   -- what may stand at a place, where the tests of storing were met
   may_stand : (set n : ℕ) (a : Area) (shape : Shape) (number : Option ℕ) → structure_of desc set ≡ Some shape → IsOuter (Some shape) → area_owner a ≡ 0 → AreFitting shape.items (area_values a)
-      → missing_from 0 (items_of (structure_of desc set)) (area_values a) ≡ None → verified (structure_of desc set) (area_values a) ≡ true
+      → missing_from 0 (items_of (structure_of desc set)) (area_values a) ≡ None → meets_verify (structure_of desc set) (area_values a) ≡ true
       → clash desc.structures s.db set number (put_record set n a shape) ≡ None → ((q : Place) → q ≢ (set, n) → q.0 ≡ set → is_other number q.1 ≡ true)
       → (1 ≤ n) × (n ≤ shape.population) → length (records_of (insert s.db.records (set, n) (put_record set n a shape)) set) ≤ shape.population
       → RecordMayStand desc s.db (set, n) (put_record set n a shape) shape
@@ -209,10 +209,10 @@ module _ (desc : Described) (made : IsWellMade desc) (s : Session) (i : ℕ) (p 
         key = own_key desc s.db k number (put_record set n a shape) sane.flat.entries clear other;
       }
 
-  module _ (set : ℕ) (a : Area) (none : missing_from 0 (items_of (structure_of desc set)) (area_values a) ≡ None) (met : verified (structure_of desc set) (area_values a) ≡ true) where
+  module _ (set : ℕ) (a : Area) (none : missing_from 0 (items_of (structure_of desc set)) (area_values a) ≡ None) (met : meets_verify (structure_of desc set) (area_values a) ≡ true) where
     -- what was judged is what is stored
-    as_stored : (number : Option ℕ) (n : ℕ) (b : Area) (shape : Shape) → structure_of desc set ≡ Some shape → old_of s.db set number ≡ get s.db.records (set, n) → stored desc s.db set number (record_of b) ≡ put_record set n b shape
-    as_stored number n b shape here old = λ i. linked (items_of (here i)) (old i) (record_of b)
+    as_stored : (number : Option ℕ) (n : ℕ) (b : Area) (shape : Shape) → structure_of desc set ≡ Some shape → old_of s.db set number ≡ get s.db.records (set, n) → record_to_store desc s.db set number (record_of b) ≡ put_record set n b shape
+    as_stored number n b shape here old = λ i. with_links_of (items_of (here i)) (old i) (record_of b)
 
     -- a new record, in a data set that has room
     new_sane : (n : ℕ) (shape : Shape) → structure_of desc set ≡ Some shape → IsOuter (Some shape) → area_owner a ≡ 0 → AreFitting shape.items (area_values a) → HasNewNumber desc s.db set n (record_of a)
@@ -263,7 +263,7 @@ module _ (desc : Described) (made : IsWellMade desc) (s : Session) (i : ℕ) (p 
   area_fits set shape o here is = subst (AreaFits shape) is (mine set shape here)
 
   old_kept : (set : ℕ) (values : List Value) (c : Option ℕ) (n : ℕ) → area_of p set ≡ Some (Old values) → holds p set c ≡ true → missing_from 0 (items_of (structure_of desc set)) values ≡ None
-      → verified (structure_of desc set) values ≡ true → put_answer desc s.db set c (record_of (Old values)) ≡ Stored n → HoldsSound desc (stored_program p set n (Old values)) (put_after (Stored n) desc s.db set (record_of (Old values)))
+      → meets_verify (structure_of desc set) values ≡ true → put_answer desc s.db set c (record_of (Old values)) ≡ Stored n → HoldsSound desc (stored_program p set n (Old values)) (put_after (Stored n) desc s.db set (record_of (Old values)))
   old_kept set values None n has free none met is = absurd (cc)
   old_kept set values (Some m) n has free none met is =
       locked_old set m free (HoldsSound desc (stored_program p set n (Old values)) (put_after (Stored n) desc s.db set (record_of (Old values))))
@@ -288,22 +288,22 @@ module _ (desc : Described) (made : IsWellMade desc) (s : Session) (i : ℕ) (p 
   if_sane : (audit : Bool) → KeptSane desc (cond audit (keep desc p s.db (restart_of desc)) (Keeps p s.db))
   if_sane audit = kept_if desc audit (keep desc p s.db (restart_of desc)) (Keeps p s.db) (λ h. keep_sane (restart_of desc)) (record { valid = sane.valid; flat = sane.flat; areas = mine })
 
-  begun_sane : (audit : Bool) → KeptSane desc (begun desc p s audit)
+  begun_sane : (audit : Bool) → KeptSane desc (begin_transaction desc p s audit)
   begun_sane audit = begun_any (KeptSane desc) desc p s audit (λ is. kept_sane (restart_of desc)) (record { valid = sane.valid; flat = sane.flat; areas = mine }) (λ r. tt)
 
   store_leaves : (k : StoreResult) → KeptSane desc k → LeavesSound desc (after_store k i s)
   store_leaves (Refused r) h = sane
-  store_leaves (Keeps q db) h = sane_with (carried q) db h.valid h.flat h.areas
+  store_leaves (Keeps q db) h = sane_with (activate q) db h.valid h.flat h.areas
 
   begun_leaves : (k : StoreResult) → KeptSane desc k → LeavesSound desc (after_begin k i s)
   begun_leaves (Refused r) h = sane
-  begun_leaves (Keeps q db) h = sane_with (entered q) db h.valid h.flat h.areas
+  begun_leaves (Keeps q db) h = sane_with (enter_transaction q) db h.valid h.flat h.areas
 
   end_leaves : (k : StoreResult) (sync : Bool) → KeptSane desc k → LeavesSound desc (after_end k desc i s sync)
   end_leaves (Refused r) sync h = sane
   end_leaves (Keeps q db) sync h =
-      settle_leaves desc (record s { db = db; programs = slice_set s.programs i (left q); pending = s.pending || sync || nat_le desc.syncpoint (one_more s.since); since = one_more s.since })
-      (sane_with (left q) db h.valid h.flat h.areas)
+      settle_leaves desc (record s { db = db; programs = slice_set s.programs i (leave_transaction q); pending = s.pending || sync || nat_le desc.syncpoint (one_more s.since); since = one_more s.since })
+      (sane_with (leave_transaction q) db h.valid h.flat h.areas)
 
   -- finding
 
@@ -324,7 +324,7 @@ module _ (desc : Described) (made : IsWellMade desc) (s : Session) (i : ℕ) (p 
       found_fits (set_of desc x) r stands (LeavesSound desc (after_find (Some r) desc i p s x))
       (λ shape here fits.
       let w : Work = record { current = Some r.number; area = Some (Old r.rec.values) } in
-      sane_at (carried (found_program p (set_of desc x) r)) (let_go_areas desc (with_work p (set_of desc x) w) (set_of desc x) (areas_with desc p (set_of desc x) shape w here fits mine)))
+      sane_at (activate (found_program p (set_of desc x) r)) (let_go_areas desc (with_work p (set_of desc x) w) (set_of desc x) (areas_with desc p (set_of desc x) shape w here fits mine)))
 
   find_for_leaves : (o : Option ℕ) (path : Path) → LeavesSound desc (find_for o desc i p s path)
   find_for_leaves None path = sane
@@ -339,14 +339,14 @@ module _ (desc : Described) (made : IsWellMade desc) (s : Session) (i : ℕ) (p 
       by None h = let kind = ap is_data_set (sym h) ∙ outer.data_set in absurd (cc)
       by (Some shape) h = with_shape shape h (subst IsOuter h outer)
 
-  create_leaves : (set owner : ℕ) → IsOuter (structure_of desc set) → owner ≡ 0 → LeavesSound desc (done (with_program s i (carried (created desc p set owner))))
+  create_leaves : (set owner : ℕ) → IsOuter (structure_of desc set) → owner ≡ 0 → LeavesSound desc (succeeds (with_program s i (activate (create_area desc p set owner))))
   create_leaves set owner outer none =
       let w : Work = record { current = None; area = Some (New (map (λ (t : Item). t.initial) (items_of (structure_of desc set))) owner) } in
-      outer_shape set outer (LeavesSound desc (done (with_program s i (carried (let_go (with_work p set w) set)))))
+      outer_shape set outer (LeavesSound desc (succeeds (with_program s i (activate (let_go (with_work p set w) set)))))
       (λ shape here out.
       let fits : AreFitting shape.items (map (λ (t : Item). t.initial) (items_of (structure_of desc set))) =
       subst (λ (o : Option Shape). AreFitting shape.items (map (λ (t : Item). t.initial) (items_of o))) (sym here) (initial_fits shape.items (made.initial set shape here) (made.plain set shape here)) in
-      sane_at (carried (let_go (with_work p set w) set)) (let_go_areas desc (with_work p set w) set (areas_with desc p set shape w here (out, (none, fits)) mine)))
+      sane_at (activate (let_go (with_work p set w) set)) (let_go_areas desc (with_work p set w) set (areas_with desc p set shape w here (out, (none, fits)) mine)))
 
   create_for_leaves : (o : Option ℕ) (set : ℕ) → owner_for desc p set ≡ o → IsOuter (structure_of desc set) → LeavesSound desc (create_for o desc i p s set)
   create_for_leaves None set is outer = sane
@@ -356,28 +356,28 @@ module _ (desc : Described) (made : IsWellMade desc) (s : Session) (i : ℕ) (p 
   after_put_leaves (Misfit item) set a shape here old fits = sane
   after_put_leaves (Values' values) set a shape here old fits =
       let w : Work = record { current = current_of p set; area = Some (with_values a values) } in
-      sane_at (carried (with_work p set w)) (areas_with desc p set shape w here (with_new shape a values old fits) mine)
+      sane_at (activate (with_work p set w)) (areas_with desc p set shape w here (with_new shape a values old fits) mine)
 
   put_leaves : (o : Option Area) (set : ℕ) (settings : List Setting) → IsOuter (structure_of desc set) → AllByRecursion (λ t. IsPlainLiteral t.literal) settings → area_of p set ≡ o → LeavesSound desc (put_area o desc i p s set settings)
   put_leaves None set settings outer plain has = sane
   put_leaves (Some a) set settings outer plain has =
-      let f = filled (items_of (structure_of desc set)) settings (area_values a) in
+      let f = fill_values (items_of (structure_of desc set)) settings (area_values a) in
       outer_shape set outer (LeavesSound desc (after_put f i p s set a))
       (λ shape here out.
       let old = area_fits set shape (Some a) here has in
-      let fits : FilledFits shape.items f = subst (λ (o : Option Shape). FilledFits shape.items (filled (items_of o) settings (area_values a))) (sym here) (filled_fits shape.items settings (area_values a) plain (values_fit shape a old)) in
+      let fits : FilledFits shape.items f = subst (λ (o : Option Shape). FilledFits shape.items (fill_values (items_of o) settings (area_values a))) (sym here) (filled_fits shape.items settings (area_values a) plain (values_fit shape a old)) in
       after_put_leaves f set a shape here old fits)
 
   get_leaves : (o : Option Area) (set : ℕ) (numbers : List ℕ) → LeavesSound desc (get_area o desc i p s set numbers)
   get_leaves None set numbers = sane
-  get_leaves (Some a) set numbers = sane_at (carried p) mine
+  get_leaves (Some a) set numbers = sane_at (activate p) mine
 
-  close_leaves : LeavesSound desc (done (record s { programs = without i s.programs }))
+  close_leaves : LeavesSound desc (succeeds (record s { programs = without i s.programs }))
   close_leaves = record { valid = sane.valid; valid_mark = sane.valid_mark; flat = sane.flat; flat_mark = sane.flat_mark; areas = all_without (AreasFit desc) s.programs i sane.areas }
 
 -- every verb
 
-back_leaves : (desc : Described) (s : Session) (name : List ℕ) → Sane desc s.db s.mark s.programs → LeavesSound desc (done (record s { db = s.mark; programs = map (backed_out name) s.programs; pending = false; since = 0 }))
+back_leaves : (desc : Described) (s : Session) (name : List ℕ) → Sane desc s.db s.mark s.programs → LeavesSound desc (succeeds (record s { db = s.mark; programs = map (backed_out name) s.programs; pending = false; since = 0 }))
 back_leaves desc s name sane = record {
   valid = sane.valid_mark;
   valid_mark = sane.valid_mark;
@@ -398,8 +398,8 @@ verb_leaves desc made i p s (Get set items) outer at ex sane = get_leaves desc m
 verb_leaves desc made i p s (Store set) outer at ex sane =
     leaves_if desc p.in_transaction (after_store (keep desc p s.db set) i s) (refuse s AuditError p.name) (store_leaves desc made s i p at ex sane (keep desc p s.db set) (keep_sane desc made s i p at ex sane set)) sane
 verb_leaves desc made i p s (Begin audit) outer at ex sane =
-    leaves_if desc p.in_transaction (refuse s AuditError p.name) (after_begin (begun desc p s audit) i s) sane
-    (begun_leaves desc made s i p at ex sane (begun desc p s audit) (begun_sane desc made s i p at ex sane audit))
+    leaves_if desc p.in_transaction (refuse s AuditError p.name) (after_begin (begin_transaction desc p s audit) i s) sane
+    (begun_leaves desc made s i p at ex sane (begin_transaction desc p s audit) (begun_sane desc made s i p at ex sane audit))
 verb_leaves desc made i p s (End audit sync) outer at ex sane =
     leaves_if desc p.in_transaction (after_end (cond audit (keep desc p s.db (restart_of desc)) (Keeps p s.db)) desc i s sync) (refuse s AuditError p.name)
     (end_leaves desc made s i p at ex sane (cond audit (keep desc p s.db (restart_of desc)) (Keeps p s.db)) sync (if_sane desc made s i p at ex sane audit)) sane
@@ -408,7 +408,7 @@ verb_leaves desc made i p s Abort outer at ex sane = leaves_if desc p.in_transac
 open_as_leaves : (desc : Described) (s : Session) (name : List ℕ) (mode : Mode) → Sane desc s.db s.mark s.programs → LeavesSound desc (open_as desc s name mode)
 open_as_leaves desc s name mode sane =
     let opened : Session = record s { programs = s.programs ++ new_program desc name mode ∷ [] } in
-    leaves_if desc (nat_le 64 (length s.programs)) (refuse s LimitError name) (done opened) sane
+    leaves_if desc (nat_le 64 (length s.programs)) (refuse s LimitError name) (succeeds opened) sane
     (record { valid = sane.valid; valid_mark = sane.valid_mark; flat = sane.flat; flat_mark = sane.flat_mark; areas = all_pushed (AreasFit desc) s.programs (new_program desc name mode) sane.areas (new_areas desc name mode) })
 
 open_in_leaves : (o : Option Mode) (desc : Described) (s : Session) (name : List ℕ) → Sane desc s.db s.mark s.programs → LeavesSound desc (open_in o desc s name)

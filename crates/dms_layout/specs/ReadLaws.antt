@@ -13,7 +13,7 @@ use Rattle.std.proofs.lemmas.Bool.{and_from, and_parts}
 use Rattle.dms_base.specs.declared.value.Value.TheVariants.{Null}
 use Rattle.dms_base.specs.declared.kind.ItemKind.{ItemKind}
 use Rattle.dms_base.specs.declared.kind.ItemKind.TheVariants.{Alpha, Number as Decimal, Bool as OneBit, Field, Link}
-use Rattle.dms_base.specs.Text.{IsText, text_of, trimmed, is_printable}
+use Rattle.dms_base.specs.Text.{IsText, text_of, trim_spaces, is_printable}
 use Rattle.dms_base.proofs.Kept.{texted}
 use Rattle.dms_desc.specs.declared.structure.Item.{Item}
 use Rattle.dms_desc.specs.Plain.{IsPlain, ArePlain}
@@ -29,14 +29,14 @@ use Rattle.dms_layout.specs.SlotLaws.{slot_again}
 
 -- ---- texts that are read are plain
 
-text_is : (b : Bool) (c : Bool) (bytes t : List ℕ) → list_all is_printable bytes ≡ b → nat_le (length (trimmed bytes)) 200 ≡ c → cond (b && c) (Some (trimmed bytes)) None ≡ Some t → IsText t
-text_is true true bytes t p few h = texted bytes t (let e : t ≡ trimmed bytes = cc in e) p (leb-true _ _ few)
+text_is : (b : Bool) (c : Bool) (bytes t : List ℕ) → list_all is_printable bytes ≡ b → nat_le (length (trim_spaces bytes)) 200 ≡ c → cond (b && c) (Some (trim_spaces bytes)) None ≡ Some t → IsText t
+text_is true true bytes t p few h = texted bytes t (let e : t ≡ trim_spaces bytes = cc in e) p (leb-true _ _ few)
 text_is true false bytes t p few h = absurd (cc)
 text_is false c bytes t p few h = absurd (cc)
 
 read_text : (bytes t : List ℕ) → text_of bytes ≡ Some t → IsText t
 unfolding text_of
-read_text bytes t h = text_is (list_all is_printable bytes) (nat_le (length (trimmed bytes)) 200) bytes t refl refl h
+read_text bytes t h = text_is (list_all is_printable bytes) (nat_le (length (trim_spaces bytes)) 200) bytes t refl refl h
 
 text_plain : (o : Option (List ℕ)) (bytes : List ℕ) → text_of bytes ≡ o → IsPlain (text_or_null o)
 text_plain None bytes h = tt

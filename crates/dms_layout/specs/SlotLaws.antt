@@ -15,28 +15,28 @@ use Rattle.dms_base.specs.declared.value.Value.TheVariants.{Null, Text, Number, 
 use Rattle.dms_base.specs.declared.kind.ItemKind.{ItemKind}
 use Rattle.dms_base.specs.declared.kind.ItemKind.TheVariants.{Alpha, Number as Decimal, Bool as OneBit, Field, Link}
 use Rattle.dms_base.specs.Fits.{fits}
-use Rattle.dms_base.specs.Text.{IsText, text_of, trimmed, before_trimmed, is_printable}
+use Rattle.dms_base.specs.Text.{IsText, text_of, trim_spaces, before_trimmed, is_printable}
 use Rattle.dms_desc.specs.declared.structure.Item.{Item}
 use Rattle.dms_desc.specs.Plain.{ArePlain, FitsKind}
 use Rattle.dms_desc.specs.Shape.{Shape}
 use Rattle.dms_fields.specs.Fields.{number_at}
 use Rattle.dms_fields.specs.Laid.{bytes_again}
-use Rattle.dms_key.specs.KeyBytes.{shifted, bit_of, field_bytes}
+use Rattle.dms_key.specs.KeyBytes.{shift_up, bit_of, field_bytes}
 use Rattle.dms_key.specs.KeyOrder.{field_length, fits_length, number_small, bits_small, link_small, shifted_small}
 use Rattle.dms_layout.specs.declared.slot.Slot.{Slot}
 use Rattle.dms_layout.specs.declared.slot.SlotRead.TheVariants.{Used}
 use Rattle.dms_desc.specs.Widths.{item_width, record_width}
-use Rattle.dms_layout.specs.Slots.{record_bytes, slot_width, slot_bytes, SlotFits, AreKinds, or_zero, text_or_null, unshifted, value_at, values_at, slot_in, is_free, is_spelled, slot_by, slot_of}
+use Rattle.dms_layout.specs.Slots.{record_bytes, slot_width, slot_bytes, SlotFits, AreKinds, or_zero, text_or_null, shift_down, value_at, values_at, slot_in, is_free, is_spelled, slot_by, slot_of}
 use Rattle.dms_desc.specs.Fitting.{values_fit}
 
 -- ---- texts
 
-only_spaces : (m : ℕ) → trimmed (replicate m 32) ≡ []
+only_spaces : (m : ℕ) → trim_spaces (replicate m 32) ≡ []
 only_spaces zero = refl
 only_spaces (suc m) = ap (before_trimmed 32) (only_spaces m)
 
 -- spaces behind a text are dropped
-spaces_dropped : (a : List ℕ) (m : ℕ) → trimmed (a ++ replicate m 32) ≡ trimmed a
+spaces_dropped : (a : List ℕ) (m : ℕ) → trim_spaces (a ++ replicate m 32) ≡ trim_spaces a
 spaces_dropped [] m = only_spaces m
 spaces_dropped (b ∷ a) m = ap (before_trimmed b) (spaces_dropped a m)
 
@@ -48,13 +48,13 @@ text_again : (a : List ℕ) (m : ℕ) → IsText a → text_of (a ++ replicate m
 unfolding text_of
 text_again a m t =
     let printable : list_all is_printable (a ++ replicate m 32) ≡ true = list_all-append is_printable a (replicate m 32) ∙ and_from _ _ t.printable (spaces_printable m) in
-    let trim : trimmed (a ++ replicate m 32) ≡ a = spaces_dropped a m ∙ t.without_space in
+    let trim : trim_spaces (a ++ replicate m 32) ≡ a = spaces_dropped a m ∙ t.without_space in
     let few : leb (length a) 200 ≡ true = le-leb _ _ t.few in
     rw (printable, trim, few) refl
 
 -- ---- numbers
 
-shifted_again : (z : ℤ) → unsigned_abs z < 2 ^ 63 → unshifted (shifted z) ≡ z
+shifted_again : (z : ℤ) → unsigned_abs z < 2 ^ 63 → shift_down (shift_up z) ≡ z
 shifted_again (pos n) low =
     let high : ltb (2 ^ 63 + n) (2 ^ 63) ≡ false = le-ltb _ _ (omega arith) in
     let back : 2 ^ 63 + n - 2 ^ 63 ≡ n = omega arith in
@@ -82,7 +82,7 @@ value_again k Null f = refl
 value_again (Alpha n) (Text a) f = ap text_or_null (text_again a (n - length a) f.plain)
 value_again (Decimal n m s) (Number z) f =
     let small = number_small n z _ f.kind.1 f.fits in
-    ap (λ x. Number (unshifted x)) (eight_again (shifted z) (shifted_small z small)) ∙ ap (λ (x : ℤ). Number x) (shifted_again z small)
+    ap (λ x. Number (shift_down x)) (eight_again (shift_up z) (shifted_small z small)) ∙ ap (λ (x : ℤ). Number x) (shifted_again z small)
 value_again OneBit (Truth b) f = ap (λ (x : Bool). Truth x) (bit_again b)
 value_again (Field n) (Bits b) f = ap (λ (x : ℕ). Bits x) (eight_again b (bits_small n b f.kind.1 f.fits))
 value_again (Link to counted) (Reference r) f = ap (λ (x : ℕ). Reference x) (four_again r (link_small r f.fits))

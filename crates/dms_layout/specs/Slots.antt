@@ -69,13 +69,13 @@ text_or_null None = Null
 text_or_null (Some bytes) = Text bytes
 
 -- the number that was moved so that the least one is 0
-abbrev pub unshifted : ℕ → ℤ
-unshifted n = if nat_lt n (2 ^ 63) then negsuc (2 ^ 63 - n - 1) else pos (n - 2 ^ 63)
+abbrev pub shift_down : ℕ → ℤ
+shift_down n = if nat_lt n (2 ^ 63) then negsuc (2 ^ 63 - n - 1) else pos (n - 2 ^ 63)
 
 -- what a value's bytes say behind the byte for its presence
 abbrev pub value_in : ItemKind → List ℕ → Value
 value_in (Alpha n) field = text_or_null (text_of (drop 1 field))
-value_in (Decimal n m s) field = Number (unshifted (or_zero (number_at w64 field 1)))
+value_in (Decimal n m s) field = Number (shift_down (or_zero (number_at w64 field 1)))
 value_in OneBit field = Truth (slice_index field 1 == 1)
 value_in (Field n) field = Bits (or_zero (number_at w64 field 1))
 value_in (Link to counted) field = Reference (or_zero (number_at w32 field 1))

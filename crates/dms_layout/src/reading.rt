@@ -1,7 +1,7 @@
 ghost use Rattle.std.specs.Prelude.{◌≡◌, ◌==◌, IfOk, length, drop};
 ghost use Rattle.std.specs.List.{list_all};
 ghost use Rattle.dms_desc.specs.Shape.{shape_of};
-ghost use Rattle.dms_layout.specs.Slots.{unshifted, text_or_null, value_in, value_at, values_at, slot_in, is_zero, is_free, may_own, is_spelled, slot_of, slot_width};
+ghost use Rattle.dms_layout.specs.Slots.{shift_down, text_or_null, value_in, value_at, values_at, slot_in, is_zero, is_free, may_own, is_spelled, slot_of, slot_width};
 ghost use Rattle.dms_base.specs.Text.{text_of};
 
 use crate::writing::to_slot;
@@ -12,8 +12,8 @@ use dms_fields::{take_u32, take_u64};
 use std::alloc::Global;
 
 // The number that was moved so that the least one is 0.
-fn unshifted(number: u64) -> i64
-    ensures { result ≡ unshifted number }
+fn shift_down(number: u64) -> i64
+    ensures { result ≡ shift_down number }
 {
     if number < 1 << 63 {
         -(((1 << 63) - number - 1) as i64) - 1
@@ -42,7 +42,7 @@ fn value_in(alloc: Global, kind: ItemKind, field: &[u8]) -> Result<Value, Memory
 {
     match kind {
         ItemKind::Alpha(_) => text_in(alloc, field),
-        ItemKind::Number(_, _, _) => Ok(Value::Number(unshifted(take_u64(field, 1).unwrap_or(0)))),
+        ItemKind::Number(_, _, _) => Ok(Value::Number(shift_down(take_u64(field, 1).unwrap_or(0)))),
         ItemKind::Bool => Ok(Value::Bool(field.len() > 1 && field[1] == 1)),
         ItemKind::Field(_) => Ok(Value::Bits(take_u64(field, 1).unwrap_or(0))),
         ItemKind::Link(_, _) => Ok(Value::Link(u64::from(take_u32(field, 1).unwrap_or(0)))),

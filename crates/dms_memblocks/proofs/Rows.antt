@@ -6,7 +6,7 @@ use Rattle.std.specs.Global.{Vec}
 use Rattle.dms_block.specs.declared.block.Block.{Block}
 use Rattle.dms_memblocks.specs.declared.undo.BlockUndo.{BlockUndo}
 use Rattle.dms_memblocks.specs.UndoLaws.{drop_all, take_all}
-use Rattle.dms_memblocks.specs.Undoing.{BlockLists, old_in, rows, undo, undone}
+use Rattle.dms_memblocks.specs.Undoing.{BlockLists, old_in, rows, undo, undo_all}
 
 pub set_rows : (vs : List (Vec Block)) (k : ℕ) (v : Vec Block) → rows (set vs k v) ≡ set (rows vs) k v.items
 set_rows [] k v = refl
@@ -54,15 +54,15 @@ drop_at (suc k) [] d low = absurd (omega arith)
 drop_at zero (u ∷ us) d low = refl
 drop_at (suc k) (u ∷ us) d low = drop_at k us d (omega arith) ∙ ap (λ l. get_or us k d ∷ l) (drops k u us)
 
-pub back_step : (old log log' : List BlockUndo) (r0 r r' : BlockLists) (d : BlockUndo) (last : ℕ) → last + 1 ≡ length log → log ≡ take (length log) old → r ≡ undone (drop (length log) old) r0 → log' ≡ take last log → r' ≡ undo (get_or log last d) r
-    → (log' ≡ take (length log') old) × (r' ≡ undone (drop (length log') old) r0) × (length log' ≡ last)
+pub back_step : (old log log' : List BlockUndo) (r0 r r' : BlockLists) (d : BlockUndo) (last : ℕ) → last + 1 ≡ length log → log ≡ take (length log) old → r ≡ undo_all (drop (length log) old) r0 → log' ≡ take last log → r' ≡ undo (get_or log last d) r
+    → (log' ≡ take (length log') old) × (r' ≡ undo_all (drop (length log') old) r0) × (length log' ≡ last)
 back_step old log log' r0 r r' d last is so_far back less now =
     let long : length log ≤ length old = omega (arith, ap length so_far, length-take (length log) old) in
     let short : length log' ≡ last = omega (arith, ap length less, length-take last log, is) in
     let entry : get_or log last d ≡ get_or old last d = ap (λ l. get_or l last d) so_far ∙ get_or-take (length log) old last d (omega (arith, is)) in (
       less ∙ ap (λ l. take last l) so_far ∙ take-take last (length log) old (omega (arith, is)) ∙ ap (λ n. take n old) (omega (arith, short, is)),
-      now ∙ ap (λ u. undo u r) entry ∙ ap (λ f. undo (get_or old last d) f) (back ∙ ap (λ n. undone (drop n old) r0) (sym is))
-          ∙ ap (λ l. undone l r0) (sym (drop_at last old d (omega (arith, long, is)))) ∙ ap (λ n. undone (drop n old) r0) (sym short),
+      now ∙ ap (λ u. undo u r) entry ∙ ap (λ f. undo (get_or old last d) f) (back ∙ ap (λ n. undo_all (drop n old) r0) (sym is))
+          ∙ ap (λ l. undo_all l r0) (sym (drop_at last old d (omega (arith, long, is)))) ∙ ap (λ n. undo_all (drop n old) r0) (sym short),
       short,
     )
 

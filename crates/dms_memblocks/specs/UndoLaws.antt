@@ -10,12 +10,12 @@ use Rattle.dms_block.specs.declared.block.Block.{Block}
 use Rattle.dms_block.specs.declared.block.BlockId.{BlockId}
 use Rattle.dms_moments.specs.Moments.{Runs}
 use Rattle.dms_block.specs.declared.change.Change.{Change}
-use Rattle.dms_block.specs.Content.{Content, FitsIn, grown, laid, limit, with_block}
-use Rattle.dms_block.specs.Changing.{changed_push, fits_at, fits_take, grown_is, picked}
+use Rattle.dms_block.specs.Content.{Content, FitsIn, counts_after, put_block, limit, with_block}
+use Rattle.dms_block.specs.Changing.{changed_push, fits_at, fits_take, grown_is, either_way}
 use Rattle.dms_block.specs.ContentLaws.{in_file, in_others}
 use Rattle.dms_block.specs.Held.{BlocksAgree, BlockPoint, BlockStop, MakesNoPoint, Prefix, Stays, TextIs, Uses}
 use Rattle.dms_memblocks.specs.declared.undo.BlockUndo.{BlockUndo}
-use Rattle.dms_memblocks.specs.Undoing.{AreBefore, AreEmpty, AreSince, AreSmall, BlockLists, after, bytes, content_of, old_in, owns_of, place, points_to, put_at, put_in, taken_back, undo, undone, LeavesBlocks, PutAll, clock_of, held_of}
+use Rattle.dms_memblocks.specs.Undoing.{AreBefore, AreEmpty, AreSince, AreSmall, BlockLists, after, bytes, content_of, old_in, owns_of, place, points_to, put_at, put_in, taken_back, undo, undo_all, LeavesBlocks, PutAll, clock_of, held_of}
 
 pub AreBefore-prop : (n : ℕ) (us : List BlockUndo) → IsProp (AreBefore n us)
 AreBefore-prop n [] = Unit-prop
@@ -37,19 +37,19 @@ low_is a b is = grind (arith, nat_tests)
 high_is : (a b : ℕ) → nat_lt a b ≡ false → b ≤ a
 high_is a b is = grind (arith, nat_tests)
 
-set_laid : (b : ℕ) (x : Block) (l : List Block) → b < length l → map bytes (set l b x) ≡ laid b (bytes x) (map bytes l)
+set_laid : (b : ℕ) (x : Block) (l : List Block) → b < length l → map bytes (set l b x) ≡ put_block b (bytes x) (map bytes l)
 set_laid b x [] low = absurd (omega arith)
 set_laid zero x (y ∷ l) low = refl
 set_laid (suc b) x (y ∷ l) low = ap (λ m. bytes y ∷ m) (set_laid b x l (omega arith))
 
-push_laid : (b : ℕ) (x : Block) (l : List Block) → b ≡ length l → map bytes (l ++ x ∷ []) ≡ laid b (bytes x) (map bytes l)
+push_laid : (b : ℕ) (x : Block) (l : List Block) → b ≡ length l → map bytes (l ++ x ∷ []) ≡ put_block b (bytes x) (map bytes l)
 push_laid zero x [] is = refl
 push_laid (suc b) x [] is = absurd (omega (arith, is))
 push_laid zero x (y ∷ l) is = absurd (omega (arith, is))
 push_laid (suc b) x (y ∷ l) is = ap (λ m. bytes y ∷ m) (push_laid b x l (omega (arith, is)))
 
-pub put_laid : (b : ℕ) (x : Block) (l : List Block) → b ≤ length l → map bytes (put_in b x l) ≡ laid b (bytes x) (map bytes l)
-put_laid b x l le = picked (λ m. map bytes m ≡ laid b (bytes x) (map bytes l)) (nat_lt b (length l)) (set l b x) (l ++ x ∷ [])
+pub put_laid : (b : ℕ) (x : Block) (l : List Block) → b ≤ length l → map bytes (put_in b x l) ≡ put_block b (bytes x) (map bytes l)
+put_laid b x l le = either_way (λ m. map bytes m ≡ put_block b (bytes x) (map bytes l)) (nat_lt b (length l)) (set l b x) (l ++ x ∷ [])
     (λ is. set_laid b x l (low_is b (length l) is)) (λ is. let high = high_is b (length l) is in push_laid b x l (omega (arith, le, high)))
 
 under_cons : (b : ℕ) (y : Block) (old : Option Block) (l : List Block) → taken_back (suc b) old (y ∷ l) ≡ y ∷ taken_back b old l
@@ -69,7 +69,7 @@ push_back (suc b) x (y ∷ l) is = under_cons b y (old_in b l) (l ++ x ∷ []) �
 
 -- a change that is taken back
 put_back : (b : ℕ) (x : Block) (l : List Block) → b ≤ length l → taken_back b (old_in b l) (put_in b x l) ≡ l
-put_back b x l le = picked (λ m. taken_back b (old_in b l) m ≡ l) (nat_lt b (length l)) (set l b x) (l ++ x ∷ [])
+put_back b x l le = either_way (λ m. taken_back b (old_in b l) m ≡ l) (nat_lt b (length l)) (set l b x) (l ++ x ∷ [])
     (λ is. set_back b x l (low_is b (length l) is)) (λ is. let high = high_is b (length l) is in push_back b x l (omega (arith, le, high)))
 
 -- all files
@@ -113,18 +113,18 @@ undo_put u x files low le is =
 
 -- many changes
 
-pub undone-append : (us vs : List BlockUndo) (files : BlockLists) → undone (us ++ vs) files ≡ undone us (undone vs files)
+pub undone-append : (us vs : List BlockUndo) (files : BlockLists) → undo_all (us ++ vs) files ≡ undo_all us (undo_all vs files)
 undone-append [] vs files = refl
 undone-append (u ∷ us) vs files = ap (λ f. undo u f) (undone-append us vs files)
 
 after_before : (n : ℕ) (us : List BlockUndo) → AreBefore n us → after n us ≡ []
 after_before n [] before = refl
-after_before n (u ∷ us) before = picked (λ l. l ≡ []) (nat_lt n u.point) (u ∷ after n us) (after n us)
+after_before n (u ∷ us) before = either_way (λ l. l ≡ []) (nat_lt n u.point) (u ∷ after n us) (after n us)
     (λ is. let high = low_is n u.point is in absurd (omega (arith, high, before.0))) (λ is. after_before n us before.1)
 
 after_since : (n m : ℕ) (us : List BlockUndo) → m ≤ n → AreSince n us → after m us ≡ us
 after_since n m [] le since = refl
-after_since n m (u ∷ us) le since = picked (λ l. l ≡ u ∷ us) (nat_lt m u.point) (u ∷ after m us) (after m us)
+after_since n m (u ∷ us) le since = either_way (λ l. l ≡ u ∷ us) (nat_lt m u.point) (u ∷ after m us) (after m us)
     (λ is. ap (λ l. u ∷ l) (after_since n m us le since.2)) (λ is. let low = high_is m u.point is in absurd (omega (arith, low, since.0, le)))
 
 before_more : (n m : ℕ) (us : List BlockUndo) → n ≤ m → AreBefore n us → AreBefore m us
@@ -157,8 +157,8 @@ since_append n (u ∷ us) vs one two = (one.0, one.1, since_append n us vs one.2
 
 -- the content of the files
 
-owned : (files : BlockLists) (f : ℕ) → IsTrue (owns_of files f) → (30000 < f) × (place f < length files)
-owned files f is = (grind (arith, nat_tests), (let high : 30000 < f = grind (arith, nat_tests) in let low : f ≤ 30000 + length files = grind (arith, nat_tests) in omega (arith, high, low)))
+owns_list : (files : BlockLists) (f : ℕ) → IsTrue (owns_of files f) → (30000 < f) × (place f < length files)
+owns_list files f is = (grind (arith, nat_tests), (let high : 30000 < f = grind (arith, nat_tests) in let low : f ≤ 30000 + length files = grind (arith, nat_tests) in omega (arith, high, low)))
 
 pub content_at : (files : BlockLists) (f : ℕ) → 30000 < f → content_of files f ≡ map bytes (get_or files (place f) [])
 content_at files f high = grind (arith, nat_tests)
@@ -185,7 +185,7 @@ pub put_content : (files : BlockLists) (f b : ℕ) (x : Block) → 30000 < f →
 put_content files f b x high low le = λ i g. (elim (cases_eq g f) as (λ _. content_of (put_at (place f) b x files) g ≡ with_block (content_of files) f b (bytes x) g) [
   | inl same ↦ subst (λ j. content_of (put_at (place f) b x files) j ≡ with_block (content_of files) f b (bytes x) j) (sym same)
       (content_at (put_at (place f) b x files) f high ∙ ap (λ l. map bytes l) (at_set files (place f) (put_in b x (get_or files (place f) [])) low)
-      ∙ put_laid b x (get_or files (place f) []) le ∙ sym (in_file (content_of files) f b (bytes x) ∙ ap (λ l. laid b (bytes x) l) (content_at files f high)))
+      ∙ put_laid b x (get_or files (place f) []) le ∙ sym (in_file (content_of files) f b (bytes x) ∙ ap (λ l. put_block b (bytes x) l) (content_at files f high)))
   | inr other ↦ elsewhere files f b x g high other
 ]) i
 
@@ -210,7 +210,7 @@ set_blocks zero x (y ∷ l) = refl
 set_blocks (suc b) x (y ∷ l) = ap suc (set_blocks b x l)
 
 put_length : (b : ℕ) (x : Block) (l : List Block) → length l ≤ limit → b < limit → b ≤ length l → length (put_in b x l) ≤ limit
-put_length b x l small low le = picked (λ m. length m ≤ limit) (nat_lt b (length l)) (set l b x) (l ++ x ∷ [])
+put_length b x l small low le = either_way (λ m. length m ≤ limit) (nat_lt b (length l)) (set l b x) (l ++ x ∷ [])
     (λ is. omega (arith, set_blocks b x l, small)) (λ is. let high = high_is b (length l) is in omega (arith, length-append l (x ∷ []), low, high, le))
 
 pub small_at : (files : BlockLists) (k : ℕ) → AreSmall files → length (get_or files k []) ≤ limit
@@ -238,7 +238,7 @@ put_one made cs x r0 r l0 l u small put high there low le point id old =
       more = put.more ++ u ∷ [];
       logged = ap (λ m. m ++ u ∷ []) put.logged ∙ append_assoc l0 put.more (u ∷ []);
       since = since_push made put.more u put.since (omega (arith, point)) (omega (arith, point));
-      back = undone-append put.more (u ∷ []) r' ∙ ap (λ f. undone put.more f) back ∙ put.back;
+      back = undone-append put.more (u ∷ []) r' ∙ ap (λ f. undo_all put.more f) back ∙ put.back;
       content = put_content r x.id.file b x.block high there le ∙ ap (λ (c : Content). with_block c x.id.file b (bytes x.block)) put.content ∙ sym (changed_push cs x (content_of r0));
       many = set_length r k (put_in b x.block (get_or r k [])) ∙ put.many;
       small = small_set r k (put_in b x.block (get_or r k [])) small (put_length b x.block (get_or r k []) (small_at r k small) low le);
@@ -247,7 +247,7 @@ put_one made cs x r0 r l0 l u small put high there low le point id old =
 pub place_low : (cs items : List Change) (i : ℕ) (d : Change) (r0 : BlockLists) → items ≡ cs → i < length items → FitsIn cs (owns_of r0) (λ f. length (content_of r0 f)) → place (get_or items i d).id.file < length r0
 place_low cs items i d r0 is low fits =
     let there : i < length cs = subst (λ (l : List Change). i < length l) is low in
-    subst (λ (l : List Change). place (get_or l i d).id.file < length r0) (sym is) (owned r0 (get_or cs i d).id.file (fits_at cs (owns_of r0) (λ f. length (content_of r0 f)) i d fits there).0).1
+    subst (λ (l : List Change). place (get_or l i d).id.file < length r0) (sym is) (owns_list r0 (get_or cs i d).id.file (fits_at cs (owns_of r0) (λ f. length (content_of r0 f)) i d fits there).0).1
 
 pub put_step : (made : ℕ) (cs items : List Change) (i : ℕ) (d : Change) (r0 r r' : BlockLists) (l0 l l' : List BlockUndo) (u : BlockUndo) → items ≡ cs → i < length items → FitsIn cs (owns_of r0) (λ f. length (content_of r0 f)) → PutAll made (take i cs) r0 l0 r l
     → u.point ≡ made + 1 → u.id ≡ (get_or items i d).id → u.old ≡ old_in (get_or items i d).id.block (get_or r (place (get_or items i d).id.file) [])
@@ -257,10 +257,10 @@ put_step made cs items i d r0 r r' l0 l l' u is low fits put point id old now lo
     let f = x.id.file in
     let counts : ℕ → ℕ = λ g. length (content_of r0 g) in
     let there : i < length cs = subst (λ (l : List Change). i < length l) is low in
-    let fit : IsTrue (owns_of r0 f) × (x.id.block < limit) × (x.id.block ≤ grown (take i cs) counts f) =
-    subst (λ (l : List Change). IsTrue (owns_of r0 (get_or l i d).id.file) × ((get_or l i d).id.block < limit) × ((get_or l i d).id.block ≤ grown (take i cs) counts (get_or l i d).id.file)) (sym is) (fits_at cs (owns_of r0) counts i d fits there) in
-    let mine = owned r0 f fit.0 in
-    let grows : grown (take i cs) counts f ≡ length (content_of r f) = grown_is (take i cs) (owns_of r0) counts (content_of r0) (λ g. refl) (fits_take i cs (owns_of r0) counts fits) f ∙ ap (λ (c : Content). length (c f)) (sym put.content) in
+    let fit : IsTrue (owns_of r0 f) × (x.id.block < limit) × (x.id.block ≤ counts_after (take i cs) counts f) =
+    subst (λ (l : List Change). IsTrue (owns_of r0 (get_or l i d).id.file) × ((get_or l i d).id.block < limit) × ((get_or l i d).id.block ≤ counts_after (take i cs) counts (get_or l i d).id.file)) (sym is) (fits_at cs (owns_of r0) counts i d fits there) in
+    let mine = owns_list r0 f fit.0 in
+    let grows : counts_after (take i cs) counts f ≡ length (content_of r f) = grown_is (take i cs) (owns_of r0) counts (content_of r0) (λ g. refl) (fits_take i cs (owns_of r0) counts fits) f ∙ ap (λ (c : Content). length (c f)) (sym put.content) in
     let le : x.id.block ≤ length (get_or r (place f) []) = omega (arith, fit.2, grows, content_length r f mine.0) in
     let longer : take (i + 1) cs ≡ take i cs ++ x ∷ [] = subst (λ (m : List Change). take (i + 1) m ≡ take i m ++ x ∷ []) is (take_more items i d low) in
     subst (λ (m : List Change). PutAll made m r0 l0 r' l') (sym longer)
@@ -271,57 +271,57 @@ put_step made cs items i d r0 r r' l0 l l' u is low fits put point id old now lo
 -- points
 
 -- the points are as they were where the content before each change after them is
-points_still : (schema : List ℕ) (files files' : BlockLists) (log log' : List BlockUndo) (n : ℕ) → ((k : ℕ) → k ≤ n → content_of (undone (after k log') files') ≡ content_of (undone (after k log) files)) → points_to schema files' log' n ≡ points_to schema files log n
+points_still : (schema : List ℕ) (files files' : BlockLists) (log log' : List BlockUndo) (n : ℕ) → ((k : ℕ) → k ≤ n → content_of (undo_all (after k log') files') ≡ content_of (undo_all (after k log) files)) → points_to schema files' log' n ≡ points_to schema files log n
 points_still schema files files' log log' zero same = refl
 points_still schema files files' log log' (suc n) same =
-    ap (λ ps. ps ++ (record { number = suc n; blocks = content_of (undone (after (suc n) log') files'); schema = schema } ∷ [])) (points_still schema files files' log log' n (λ k le. same k (omega (arith, le))))
+    ap (λ ps. ps ++ (record { number = suc n; blocks = content_of (undo_all (after (suc n) log') files'); schema = schema } ∷ [])) (points_still schema files files' log log' n (λ k le. same k (omega (arith, le))))
     ∙ ap (λ (c : Content). points_to schema files log n ++ (record { number = suc n; blocks = c; schema = schema } ∷ [])) (same (suc n) (omega arith))
 
 pub points-length : (schema : List ℕ) (files : BlockLists) (log : List BlockUndo) (n : ℕ) → length (points_to schema files log n) ≡ n
 points-length schema files log zero = refl
-points-length schema files log (suc n) = omega (arith, length-append (points_to schema files log n) (record { number = suc n; blocks = content_of (undone (after (suc n) log) files); schema = schema } ∷ []), points-length schema files log n)
+points-length schema files log (suc n) = omega (arith, length-append (points_to schema files log n) (record { number = suc n; blocks = content_of (undo_all (after (suc n) log) files); schema = schema } ∷ []), points-length schema files log n)
 
 -- after changes that the log takes back
-more_still : (made k : ℕ) (files files' : BlockLists) (log more : List BlockUndo) → AreSince made more → undone more files' ≡ files → k ≤ made → undone (after k (log ++ more)) files' ≡ undone (after k log) files
+more_still : (made k : ℕ) (files files' : BlockLists) (log more : List BlockUndo) → AreSince made more → undo_all more files' ≡ files → k ≤ made → undo_all (after k (log ++ more)) files' ≡ undo_all (after k log) files
 more_still made k files files' log more since back le =
-    ap (λ l. undone l files') (filter-append (λ u. nat_lt k u.point) log more ∙ ap (λ l. filter (λ u. nat_lt k u.point) log ++ l) (after_since made k more le since))
-    ∙ undone-append (after k log) more files' ∙ ap (λ f. undone (after k log) f) back
+    ap (λ l. undo_all l files') (filter-append (λ u. nat_lt k u.point) log more ∙ ap (λ l. filter (λ u. nat_lt k u.point) log ++ l) (after_since made k more le since))
+    ∙ undone-append (after k log) more files' ∙ ap (λ f. undo_all (after k log) f) back
 
 pub put_points : (schema : List ℕ) (made n : ℕ) (changes : List Change) (files files' : BlockLists) (log log' : List BlockUndo) → PutAll made changes files log files' log' → n ≤ made → points_to schema files' log' n ≡ points_to schema files log n
 put_points schema made n changes files files' log log' put le = points_still schema files files' log log' n (λ k low.
-    ap content_of (ap (λ l. undone (after k l) files') put.logged ∙ more_still made k files files' log put.more put.since put.back (omega (arith, le, low))))
+    ap content_of (ap (λ l. undo_all (after k l) files') put.logged ∙ more_still made k files files' log put.more put.since put.back (omega (arith, le, low))))
 
-pub put_mark : (made : ℕ) (changes : List Change) (files files' : BlockLists) (log log' : List BlockUndo) → PutAll made changes files log files' log' → content_of (undone (after made log') files') ≡ content_of (undone (after made log) files)
-put_mark made changes files files' log log' put = ap content_of (ap (λ l. undone (after made l) files') put.logged ∙ more_still made made files files' log put.more put.since put.back (omega arith))
+pub put_mark : (made : ℕ) (changes : List Change) (files files' : BlockLists) (log log' : List BlockUndo) → PutAll made changes files log files' log' → content_of (undo_all (after made log') files') ≡ content_of (undo_all (after made log) files)
+put_mark made changes files files' log log' put = ap content_of (ap (λ l. undo_all (after made l) files') put.logged ∙ more_still made made files files' log put.more put.since put.back (omega arith))
 
 -- after all changes since the mark are taken back
-out_still : (made mark k : ℕ) (files : BlockLists) (log : List BlockUndo) → AreSince made (drop mark log) → k ≤ made → undone (after k (take mark log)) (undone (drop mark log) files) ≡ undone (after k log) files
+out_still : (made mark k : ℕ) (files : BlockLists) (log : List BlockUndo) → AreSince made (drop mark log) → k ≤ made → undo_all (after k (take mark log)) (undo_all (drop mark log) files) ≡ undo_all (after k log) files
 out_still made mark k files log since le =
-    sym (more_still made k (undone (drop mark log) files) files (take mark log) (drop mark log) since refl le) ∙ ap (λ l. undone (after k l) files) (take_drop mark log)
+    sym (more_still made k (undo_all (drop mark log) files) files (take mark log) (drop mark log) since refl le) ∙ ap (λ l. undo_all (after k l) files) (take_drop mark log)
 
-pub out_points : (schema : List ℕ) (made mark : ℕ) (files : BlockLists) (log : List BlockUndo) → AreSince made (drop mark log) → points_to schema (undone (drop mark log) files) (take mark log) made ≡ points_to schema files log made
-out_points schema made mark files log since = points_still schema files (undone (drop mark log) files) log (take mark log) made (λ k low. ap content_of (out_still made mark k files log since low))
+pub out_points : (schema : List ℕ) (made mark : ℕ) (files : BlockLists) (log : List BlockUndo) → AreSince made (drop mark log) → points_to schema (undo_all (drop mark log) files) (take mark log) made ≡ points_to schema files log made
+out_points schema made mark files log since = points_still schema files (undo_all (drop mark log) files) log (take mark log) made (λ k low. ap content_of (out_still made mark k files log since low))
 
-pub out_mark : (made mark : ℕ) (files : BlockLists) (log : List BlockUndo) → AreSince made (drop mark log) → content_of (undone (after made (take mark log)) (undone (drop mark log) files)) ≡ content_of (undone (after made log) files)
+pub out_mark : (made mark : ℕ) (files : BlockLists) (log : List BlockUndo) → AreSince made (drop mark log) → content_of (undo_all (after made (take mark log)) (undo_all (drop mark log) files)) ≡ content_of (undo_all (after made log) files)
 out_mark made mark files log since = ap content_of (out_still made mark made files log since (omega arith))
 
 -- and they are the content at the last point
-pub out_content : (made mark : ℕ) (files : BlockLists) (log : List BlockUndo) → AreBefore made (take mark log) → AreSince made (drop mark log) → content_of (undone (drop mark log) files) ≡ content_of (undone (after made log) files)
+pub out_content : (made mark : ℕ) (files : BlockLists) (log : List BlockUndo) → AreBefore made (take mark log) → AreSince made (drop mark log) → content_of (undo_all (drop mark log) files) ≡ content_of (undo_all (after made log) files)
 out_content made mark files log before since =
-    sym (ap (λ l. content_of (undone l (undone (drop mark log) files))) (after_before made (take mark log) before)) ∙ out_mark made mark files log since
+    sym (ap (λ l. content_of (undo_all l (undo_all (drop mark log) files))) (after_before made (take mark log) before)) ∙ out_mark made mark files log since
 
 pub all_before : (made mark : ℕ) (log : List BlockUndo) → AreBefore made (take mark log) → AreSince made (drop mark log) → AreBefore (made + 1) log
 all_before made mark log before since = subst (λ l. AreBefore (made + 1) l) (take_drop mark log) (before_append (made + 1) (take mark log) (drop mark log) (before_more made (made + 1) (take mark log) (omega arith) before) (since_before made (drop mark log) since))
 
 -- a point that is made now
-pub quiet_mark : (made mark : ℕ) (files : BlockLists) (log : List BlockUndo) → AreBefore made (take mark log) → AreSince made (drop mark log) → content_of (undone (after (made + 1) log) files) ≡ content_of files
-quiet_mark made mark files log before since = ap (λ l. content_of (undone l files)) (after_before (made + 1) log (all_before made mark log before since))
+pub quiet_mark : (made mark : ℕ) (files : BlockLists) (log : List BlockUndo) → AreBefore made (take mark log) → AreSince made (drop mark log) → content_of (undo_all (after (made + 1) log) files) ≡ content_of files
+quiet_mark made mark files log before since = ap (λ l. content_of (undo_all l files)) (after_before (made + 1) log (all_before made mark log before since))
 
 pub quiet_points : (schema : List ℕ) (made mark : ℕ) (files : BlockLists) (log : List BlockUndo) → AreBefore made (take mark log) → AreSince made (drop mark log)
     → points_to schema files log (made + 1) ≡ points_to schema files log made ++ (record { number = made + 1; blocks = content_of files; schema = schema } ∷ [])
 quiet_points schema made mark files log before since =
     subst (λ n. points_to schema files log n ≡ points_to schema files log made ++ (record { number = n; blocks = content_of files; schema = schema } ∷ [])) (one_more made)
-    (ap (λ (c : Content). points_to schema files log made ++ (record { number = suc made; blocks = c; schema = schema } ∷ [])) (ap (λ n. content_of (undone (after n log) files)) (one_more made) ∙ quiet_mark made mark files log before since))
+    (ap (λ (c : Content). points_to schema files log made ++ (record { number = suc made; blocks = c; schema = schema } ∷ [])) (ap (λ n. content_of (undo_all (after n log) files)) (one_more made) ∙ quiet_mark made mark files log before since))
 
 -- moments
 
@@ -414,29 +414,29 @@ passes schema files files' log log' made d d' uses uses' many points le = record
   leaves = λ t room. runs_quietly (points_to schema files log made) (points_to schema files' log' made) d d' _ points le;
 }
 
-pub stays : (schema : List ℕ) (files files' : BlockLists) (log log' : List BlockUndo) (made d d' : ℕ) (uses uses' : Uses) → content_of (undone (after made log') files') ≡ content_of (undone (after made log) files) → points_to schema files' log' made ≡ points_to schema files log made → d ≤ d' → Stays (held_of schema files log made d uses) (held_of schema files' log' made d' uses')
+pub stays : (schema : List ℕ) (files files' : BlockLists) (log log' : List BlockUndo) (made d d' : ℕ) (uses uses' : Uses) → content_of (undo_all (after made log') files') ≡ content_of (undo_all (after made log) files) → points_to schema files' log' made ≡ points_to schema files log made → d ≤ d' → Stays (held_of schema files log made d uses) (held_of schema files' log' made d' uses')
 stays schema files files' log log' made d d' uses uses' mark points le = record { sound = tt; mark = λ t. mark; points = λ t room. (points, le) }
 
-undone_length : (us : List BlockUndo) (files : BlockLists) → length (undone us files) ≡ length files
+undone_length : (us : List BlockUndo) (files : BlockLists) → length (undo_all us files) ≡ length files
 undone_length [] files = refl
-undone_length (u ∷ us) files = set_length (undone us files) (place u.id.file) _ ∙ undone_length us files
+undone_length (u ∷ us) files = set_length (undo_all us files) (place u.id.file) _ ∙ undone_length us files
 
-pub out_passes : (schema : List ℕ) (files : BlockLists) (log : List BlockUndo) (made mark d : ℕ) (uses uses' : Uses) → AreSince made (drop mark log) → MakesNoPoint (held_of schema files log made d uses) (held_of schema (undone (drop mark log) files) (take mark log) made d uses')
-out_passes schema files log made mark d uses uses' since = passes schema files (undone (drop mark log) files) log (take mark log) made d d uses uses' (undone_length (drop mark log) files) (out_points schema made mark files log since) (omega arith)
+pub out_passes : (schema : List ℕ) (files : BlockLists) (log : List BlockUndo) (made mark d : ℕ) (uses uses' : Uses) → AreSince made (drop mark log) → MakesNoPoint (held_of schema files log made d uses) (held_of schema (undo_all (drop mark log) files) (take mark log) made d uses')
+out_passes schema files log made mark d uses uses' since = passes schema files (undo_all (drop mark log) files) log (take mark log) made d d uses uses' (undone_length (drop mark log) files) (out_points schema made mark files log since) (omega arith)
 
-pub out_stays : (schema : List ℕ) (files : BlockLists) (log : List BlockUndo) (made mark d : ℕ) (uses uses' : Uses) → AreSince made (drop mark log) → Stays (held_of schema files log made d uses) (held_of schema (undone (drop mark log) files) (take mark log) made d uses')
-out_stays schema files log made mark d uses uses' since = stays schema files (undone (drop mark log) files) log (take mark log) made d d uses uses' (out_mark made mark files log since) (out_points schema made mark files log since) (omega arith)
+pub out_stays : (schema : List ℕ) (files : BlockLists) (log : List BlockUndo) (made mark d : ℕ) (uses uses' : Uses) → AreSince made (drop mark log) → Stays (held_of schema files log made d uses) (held_of schema (undo_all (drop mark log) files) (take mark log) made d uses')
+out_stays schema files log made mark d uses uses' since = stays schema files (undo_all (drop mark log) files) log (take mark log) made d d uses uses' (out_mark made mark files log since) (out_points schema made mark files log since) (omega arith)
 
 -- no file grows when changes are taken back
 back_length : (b : ℕ) (old : Option Block) (l : List Block) → length l ≤ limit → length (taken_back b old l) ≤ limit
 back_length b None l le = omega (arith, length-take b l, le)
 back_length b (Some x) l le = omega (arith, set_blocks b x l, le)
 
-pub undone_small : (us : List BlockUndo) (files : BlockLists) → AreSmall files → AreSmall (undone us files)
+pub undone_small : (us : List BlockUndo) (files : BlockLists) → AreSmall files → AreSmall (undo_all us files)
 undone_small [] files small = small
 undone_small (u ∷ us) files small =
-    let rest : AreSmall (undone us files) = undone_small us files small in
-    small_set (undone us files) (place u.id.file) _ rest (back_length u.id.block u.old (get_or (undone us files) (place u.id.file) []) (small_at (undone us files) (place u.id.file) rest))
+    let rest : AreSmall (undo_all us files) = undone_small us files small in
+    small_set (undo_all us files) (place u.id.file) _ rest (back_length u.id.block u.old (get_or (undo_all us files) (place u.id.file) []) (small_at (undo_all us files) (place u.id.file) rest))
 
 -- after all changes since the mark are taken back there are none
 drop_take : (n : ℕ) (us : List BlockUndo) → drop n (take n us) ≡ []
@@ -470,7 +470,7 @@ put_since made mark cs r0 r l0 l put le since = subst (λ m. AreSince made (drop
 pub put_marked : (made mark : ℕ) (cs : List Change) (r0 r : BlockLists) (l0 l : List BlockUndo) → PutAll made cs r0 l0 r l → mark ≤ length l0 → mark ≤ length l
 put_marked made mark cs r0 r l0 l put le = omega (arith, le, ap length put.logged, length-append l0 put.more)
 
-pub put_counts : (made : ℕ) (cs : List Change) (r0 r : BlockLists) (l0 l : List BlockUndo) → PutAll made cs r0 l0 r l → FitsIn cs (owns_of r0) (λ f. length (content_of r0 f)) → (λ f. length (content_of r f)) ≡ grown cs (λ f. length (content_of r0 f))
+pub put_counts : (made : ℕ) (cs : List Change) (r0 r : BlockLists) (l0 l : List BlockUndo) → PutAll made cs r0 l0 r l → FitsIn cs (owns_of r0) (λ f. length (content_of r0 f)) → (λ f. length (content_of r f)) ≡ counts_after cs (λ f. length (content_of r0 f))
 put_counts made cs r0 r l0 l put fits = λ i f. (ap (λ (c : Content). length (c f)) put.content ∙ sym (grown_is cs (owns_of r0) (λ g. length (content_of r0 g)) (content_of r0) (λ g. refl) fits f)) i
 
 pub take_all : (n : ℕ) (us : List BlockUndo) → length us ≤ n → take n us ≡ us

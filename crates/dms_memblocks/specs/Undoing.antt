@@ -6,7 +6,7 @@ use Rattle.dms_moments.specs.Moments.{Clock}
 use Rattle.dms_block.specs.declared.block.Block.{Block}
 use Rattle.dms_block.specs.declared.block.BlockId.{BlockId}
 use Rattle.dms_block.specs.declared.change.Change.{Change}
-use Rattle.dms_block.specs.Content.{Content, changed, limit}
+use Rattle.dms_block.specs.Content.{Content, apply_changes, limit}
 use Rattle.dms_block.specs.Held.{BlockPoint, BlockStop, Held, Uses}
 use Rattle.dms_memblocks.specs.declared.undo.BlockUndo.{BlockUndo}
 
@@ -36,9 +36,9 @@ abbrev pub undo : BlockUndo → BlockLists → BlockLists
 undo u files = set files (place u.id.file) (taken_back u.id.block u.old (slice_index_or files (place u.id.file) []))
 
 -- the files before these changes, of which the last is taken back first
-abbrev pub undone : List BlockUndo → BlockLists → BlockLists
-undone [] files = files
-undone (u ∷ us) files = undo u (undone us files)
+abbrev pub undo_all : List BlockUndo → BlockLists → BlockLists
+undo_all [] files = files
+undo_all (u ∷ us) files = undo u (undo_all us files)
 
 -- the changes after a quiet point
 abbrev pub after : ℕ → List BlockUndo → List BlockUndo
@@ -47,7 +47,7 @@ after n log = filter (λ u. nat_lt n u.point) log
 -- the quiet points 1 to n, under these bytes of a description
 abbrev pub points_to : List ℕ → BlockLists → List BlockUndo → ℕ → List BlockPoint
 points_to schema files log zero = []
-points_to schema files log (suc n) = points_to schema files log n ++ (record { number = suc n; blocks = content_of (undone (after (suc n) log) files); schema = schema } ∷ [])
+points_to schema files log (suc n) = points_to schema files log n ++ (record { number = suc n; blocks = content_of (undo_all (after (suc n) log) files); schema = schema } ∷ [])
 
 -- What a stop since the moment t leaves: the first so many points, not fewer than t, and the next number behind them. The number
 -- of a moment is that of the points that were durable then.
@@ -71,7 +71,7 @@ held_of schema files log made durable uses = record {
   owns = owns_of files;
   counts = λ f. length (content_of files f);
   content = content_of files;
-  mark = content_of (undone (after made log) files);
+  mark = content_of (undo_all (after made log) files);
   next = made + 1;
   said = None;
   points = points_to schema files log made;
@@ -120,8 +120,8 @@ pub record PutAll (made : ℕ) (changes : List Change) (files : BlockLists) (log
   pub more : List BlockUndo
   pub logged : log' ≡ log ++ more
   pub since : AreSince made more
-  pub back : undone more files' ≡ files
-  pub content : content_of files' ≡ changed changes (content_of files)
+  pub back : undo_all more files' ≡ files
+  pub content : content_of files' ≡ apply_changes changes (content_of files)
   pub many : length files' ≡ length files
   pub small : AreSmall files'
 

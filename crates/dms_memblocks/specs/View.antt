@@ -4,8 +4,8 @@ use Rattle.dms_block.specs.Held.{Held}
 use Rattle.dms_memblocks.specs.declared.memory.MemBlocks.{MemBlocks}
 use Rattle.dms_memblocks.specs.Undoing.{held_of, rows}
 
-abbrev pub held : MemBlocks → Held
-held b = held_of b.schema (rows b.files.items) b.log.items b.made b.durable (record { reads = b.reads; spent = b.spent; syncs = b.syncs; outs = b.outs })
+abbrev pub held_view : MemBlocks → Held
+held_view b = held_of b.schema (rows b.files.items) b.log.items b.made b.durable (record { reads = b.reads; spent = b.spent; syncs = b.syncs; outs = b.outs })
 
 -- so many empty files, and no quiet point yet; what is gone back to is empty too
 pub record IsNew (files : ℕ) (h : Held) : Type 0 where

@@ -1,5 +1,5 @@
 ghost use Rattle.std.proofs.Common.{refl};
-ghost use Rattle.dms_memblocks.specs.View.{held};
+ghost use Rattle.dms_memblocks.specs.View.{held_view};
 ghost use Rattle.dms_memblocks.specs.UndoLaws.{agrees};
 ghost use Rattle.dms_memblocks.specs.Undoing.{rows};
 
@@ -9,11 +9,11 @@ use dms_block::{Block, BlockFault, BlockId, Blocks, Changes};
 use std::alloc::Global;
 
 impl Blocks for MemBlocks {
-    ghost held = { λ b. held b };
+    ghost held = { λ b. held_view b };
 
     ghost same_blocks = { λ a b. Unit {0} };
 
-    ghost last = { λ b. 9999 };
+    ghost pace = { λ b. record { last = 9999; every = 0 } };
 
     ghost agrees = { λ b sound. agrees b.schema (rows b.files.items) b.log.items b.made b.durable _ b.durable_low };
 
@@ -21,7 +21,7 @@ impl Blocks for MemBlocks {
 
     ghost same_then = { λ a b c one two. tt };
 
-    ghost same_last = { λ a b same. refl };
+    ghost same_pace = { λ a b same. refl };
 
     fn count(&self, file: u32) -> u32 {
         self.blocks_of(file).len() as u32

@@ -1,6 +1,6 @@
 ghost use Rattle.std.specs.Prelude.{◌≡◌, ◌<◌, ◌+◌, ◌^◌, ◌++◌, ◌∷◌, [], length, take, drop, OnOk, OnErr};
 ghost use Rattle.dms_block.specs.Content.{FitsIn};
-ghost use Rattle.dms_memblocks.specs.Undoing.{AreSmall, PutAll, content_of, owns_of, place, put_at, rows, undo, undo_entry, undone};
+ghost use Rattle.dms_memblocks.specs.Undoing.{AreSmall, PutAll, content_of, owns_of, place, put_at, rows, undo, undo_entry, undo_all};
 
 use crate::BlockUndo;
 use crate::undo::{old_of, place_of, put_block, restore};
@@ -18,7 +18,7 @@ fn take_back(files: &mut Vec<Vec<Block>>, entry: &BlockUndo)
 
 /// Takes all changes back but the first so many of the log, the last one first.
 pub fn take_back_to(files: &mut Vec<Vec<Block>>, log: &mut Vec<BlockUndo>, n: usize)
-    ensures files { rows files.new.items ≡ undone (drop n log.old.items) (rows files.old.items) }
+    ensures files { rows files.new.items ≡ undo_all (drop n log.old.items) (rows files.old.items) }
     ensures log { log.new.items ≡ take n log.old.items }
 {
     while log.len() > n {

@@ -51,12 +51,12 @@ fn empty_files(alloc: Global, files: u32) -> Result<Vec<Vec<Block>>, Memory>
 }
 
 impl MemBlocks {
-    ghost use Rattle.dms_memblocks.specs.View.{held, IsNew};
+    ghost use Rattle.dms_memblocks.specs.View.{held_view, IsNew};
 
     /// The files 30,001 to 30,000 + `files`, all empty. Points are made under no bytes of a description. Answers Err where memory is refused.
     pub fn new(alloc: Global, files: u32) -> Result<MemBlocks, Memory>
         requires { files ≤ 200 }
-        ensures { IfOk result (λ b. IsNew files (held b)) }
+        ensures { IfOk result (λ b. IsNew files (held_view b)) }
     {
         MemBlocks::under(alloc, files, Bytes::new(alloc))
     }
@@ -64,8 +64,8 @@ impl MemBlocks {
     /// The files 30,001 to 30,000 + `files`, all empty. Points are made under these bytes of a description. Answers Err where memory is refused.
     pub fn under(alloc: Global, files: u32, schema: Bytes) -> Result<MemBlocks, Memory>
         requires { files ≤ 200 }
-        ensures new { IfOk result (λ b. IsNew files (held b)) }
-        ensures schema { IfOk result (λ b. (held b).here.schema ≡ schema) }
+        ensures new { IfOk result (λ b. IsNew files (held_view b)) }
+        ensures schema { IfOk result (λ b. (held_view b).here.schema ≡ schema) }
     {
         let files = empty_files(alloc, files)?;
         Ok(MemBlocks {
@@ -85,7 +85,7 @@ impl MemBlocks {
 
     /// The blocks of a file.
     pub fn blocks_of(&self, file: u32) -> &[Block]
-        ensures blocks { map bytes result.now ≡ (held self.now).content file }
+        ensures blocks { map bytes result.now ≡ (held_view self.now).content file }
         ensures small { length result.now ≤ limit }
     {
         if file <= 30_000 {

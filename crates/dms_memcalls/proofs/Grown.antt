@@ -6,7 +6,7 @@ use Rattle.std.specs.declared.alloc.Global.{Global}
 use Rattle.std.proofs.lemmas.List.{take_all, drop_all, take-append-le, append-nil}
 use Rattle.std.proofs.lemmas.Bool.{cases_lt, false≢true}
 use Rattle.dms_moments.specs.Moments.{Steps}
-use Rattle.dms_site.specs.Files.{Files, range, with_file, overlaid, padded, Torn, Cut}
+use Rattle.dms_site.specs.Files.{Files, range, with_file, overlay_bytes, pad_zeros, Torn, Cut}
 use Rattle.dms_site.specs.Laws.{with_file_here, with_file_other, torn_refl}
 use Rattle.dms_calls.specs.World.{World, OnFile, Speaks}
 use Rattle.dms_memcalls.specs.declared.event.CallEvent.{CallEvent}
@@ -61,11 +61,11 @@ said_alike a b text alike = record { count = alike.count; names = alike.names; b
 pub alike_after : (e : CallEvent) (a b : FolderSeen) → AlikeFolders a b → AlikeFolders (seen_after e a) (seen_after e b)
 alike_after (Looked ok) a b alike = alike
 alike_after (Made name ok) a b alike = made_alike a b _ _ alike
-alike_after (Wrote f at bytes true) a b alike = bytes_alike a b f (λ l. overlaid at bytes.items l) alike
+alike_after (Wrote f at bytes true) a b alike = bytes_alike a b f (λ l. overlay_bytes at bytes.items l) alike
 alike_after (Wrote f at bytes false) a b alike = alike
 alike_after (Shortened f len true) a b alike = bytes_alike a b f (λ l. take len l) alike
 alike_after (Shortened f len false) a b alike = alike
-alike_after (Lengthened f len true) a b alike = bytes_alike a b f (λ l. overlaid len [] l) alike
+alike_after (Lengthened f len true) a b alike = bytes_alike a b f (λ l. overlay_bytes len [] l) alike
 alike_after (Lengthened f len false) a b alike = alike
 alike_after (Synced f ok) a b alike = alike
 alike_after (SyncedNames ok) a b alike = alike
@@ -105,12 +105,12 @@ module _ (events all : List CallEvent) (f at : ℕ) (v : Vec ℕ Global) (done :
   wrote_moments grew = subst (λ (l : List ℕ). Steps (OnFile f (Torn at (length l))) (clock_of events) (clock_of all)) is
       (steps_grew events all (Wrote f at v done) (OnFile f (Torn at (length v.items))) grew (on_file_same f _ (torn_refl at (length v.items))) (λ x y step. step))
 
-  pub wrote_done : all ≡ events ++ Wrote f at v done ∷ [] → IsTrue done → (world_now all).bytes f ≡ overlaid at (take (length bytes) bytes) ((world_now events).bytes f)
+  pub wrote_done : all ≡ events ++ Wrote f at v done ∷ [] → IsTrue done → (world_now all).bytes f ≡ overlay_bytes at (take (length bytes) bytes) ((world_now events).bytes f)
   wrote_done more yes' =
       ap (λ (l : List CallEvent). (seen_now l).bytes f) more ∙ ap (λ (s : FolderSeen). s.bytes f) (seen_push events (Wrote f at v done)) ∙ by done yes'
     where
-      by : (b : Bool) → IsTrue b → (seen_after (Wrote f at v b) (seen_now events)).bytes f ≡ overlaid at (take (length bytes) bytes) ((seen_now events).bytes f)
-      by true now = with_file_here (seen_now events).bytes f _ ∙ ap (λ (l : List ℕ). overlaid at l ((seen_now events).bytes f)) (is ∙ sym (take_all (length bytes) bytes (omega arith)))
+      by : (b : Bool) → IsTrue b → (seen_after (Wrote f at v b) (seen_now events)).bytes f ≡ overlay_bytes at (take (length bytes) bytes) ((seen_now events).bytes f)
+      by true now = with_file_here (seen_now events).bytes f _ ∙ ap (λ (l : List ℕ). overlay_bytes at l ((seen_now events).bytes f)) (is ∙ sym (take_all (length bytes) bytes (omega arith)))
       by false now = absurd (false≢true now)
 
 -- printing
@@ -132,34 +132,34 @@ module _ (events all : List CallEvent) (v : Vec ℕ Global) (done : Bool) (bytes
       by false now = absurd (false≢true now)
 
 -- a length that a file is given
-padded_long : (file : List ℕ) (len : ℕ) → length file ≤ len → take len (padded file len) ≡ overlaid len [] file
-unfolding padded overlaid
+padded_long : (file : List ℕ) (len : ℕ) → length file ≤ len → take len (pad_zeros file len) ≡ overlay_bytes len [] file
+unfolding pad_zeros overlay_bytes
 padded_long file len le =
-    let front = take len (padded file len) in
+    let front = take len (pad_zeros file len) in
     sym (ap (λ (l : List ℕ). front ++ [] ++ l) (drop_all (len + 0) file (omega (arith, le))) ∙ append-nil (front ++ []) ∙ append-nil front)
 
-padded_short : (file : List ℕ) (len : ℕ) → len ≤ length file → take len (padded file len) ≡ take len file
-unfolding padded
+padded_short : (file : List ℕ) (len : ℕ) → len ≤ length file → take len (pad_zeros file len) ≡ take len file
+unfolding pad_zeros
 padded_short file len le = take-append-le len file (replicate (len - length file) 0) le
 
 module _ (events all : List CallEvent) (f len : ℕ) (done : Bool) where
-  pub cut_done : all ≡ events ++ Shortened f len done ∷ [] → IsTrue done → len ≤ length ((world_now events).bytes f) → (world_now all).bytes f ≡ take len (padded ((world_now events).bytes f) len)
+  pub cut_done : all ≡ events ++ Shortened f len done ∷ [] → IsTrue done → len ≤ length ((world_now events).bytes f) → (world_now all).bytes f ≡ take len (pad_zeros ((world_now events).bytes f) len)
   cut_done more yes' le =
       ap (λ (l : List CallEvent). (seen_now l).bytes f) more ∙ ap (λ (s : FolderSeen). s.bytes f) (seen_push events (Shortened f len done)) ∙ by done yes'
     where
-      by : (b : Bool) → IsTrue b → (seen_after (Shortened f len b) (seen_now events)).bytes f ≡ take len (padded ((seen_now events).bytes f) len)
+      by : (b : Bool) → IsTrue b → (seen_after (Shortened f len b) (seen_now events)).bytes f ≡ take len (pad_zeros ((seen_now events).bytes f) len)
       by true now = with_file_here (seen_now events).bytes f _ ∙ sym (padded_short ((seen_now events).bytes f) len le)
       by false now = absurd (false≢true now)
 
-  pub grown_done : all ≡ events ++ Lengthened f len done ∷ [] → IsTrue done → length ((world_now events).bytes f) ≤ len → (world_now all).bytes f ≡ take len (padded ((world_now events).bytes f) len)
+  pub grown_done : all ≡ events ++ Lengthened f len done ∷ [] → IsTrue done → length ((world_now events).bytes f) ≤ len → (world_now all).bytes f ≡ take len (pad_zeros ((world_now events).bytes f) len)
   grown_done more yes' le =
       ap (λ (l : List CallEvent). (seen_now l).bytes f) more ∙ ap (λ (s : FolderSeen). s.bytes f) (seen_push events (Lengthened f len done)) ∙ by done yes'
     where
-      by : (b : Bool) → IsTrue b → (seen_after (Lengthened f len b) (seen_now events)).bytes f ≡ take len (padded ((seen_now events).bytes f) len)
+      by : (b : Bool) → IsTrue b → (seen_after (Lengthened f len b) (seen_now events)).bytes f ≡ take len (pad_zeros ((seen_now events).bytes f) len)
       by true now = with_file_here (seen_now events).bytes f _ ∙ sym (padded_long ((seen_now events).bytes f) len le)
       by false now = absurd (false≢true now)
 
-  pub equal_done : all ≡ events ++ Looked done ∷ [] → len ≡ length ((world_now events).bytes f) → (world_now all).bytes f ≡ take len (padded ((world_now events).bytes f) len)
+  pub equal_done : all ≡ events ++ Looked done ∷ [] → len ≡ length ((world_now events).bytes f) → (world_now all).bytes f ≡ take len (pad_zeros ((world_now events).bytes f) len)
   equal_done more e =
       ap (λ (l : List CallEvent). (seen_now l).bytes f) more ∙ ap (λ (s : FolderSeen). s.bytes f) (seen_push events (Looked done))
       ∙ sym (padded_short ((seen_now events).bytes f) len (omega (arith, e)) ∙ take_all len ((seen_now events).bytes f) (omega (arith, e)))

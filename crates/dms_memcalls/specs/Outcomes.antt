@@ -49,13 +49,13 @@ WorldMayBeLeft [] w = w ≡ world_of nothing
 WorldMayBeLeft (event ∷ past) w = IsOutcomeOf (seen_after event (seen_of past)) w × ((v : World) × WorldMayBeLeft past v × EventMakes (seen_of past) event v w)
 
 -- events in front of others, the newest first
-abbrev pub turned : List CallEvent → List CallEvent → List CallEvent
-turned [] past = past
-turned (event ∷ events) past = turned events (event ∷ past)
+abbrev pub reverse_onto : List CallEvent → List CallEvent → List CallEvent
+reverse_onto [] past = past
+reverse_onto (event ∷ events) past = reverse_onto events (event ∷ past)
 
 -- these events, the newest first
 abbrev pub past_of : List CallEvent → List CallEvent
-past_of events = turned events []
+past_of events = reverse_onto events []
 
 -- what is seen after these events
 unfoldable pub seen_now : List CallEvent → FolderSeen

@@ -17,8 +17,8 @@ abbrev pub put : ℕ → List ℕ → World → World
 put f bytes w = record { names = w.names; bytes = with_file w.bytes f bytes; said = w.said }
 
 -- a world with the names that are seen
-abbrev pub renamed : FolderSeen → World → World
-renamed s w = record { names = (world_of s).names; bytes = w.bytes; said = w.said }
+abbrev pub with_names : FolderSeen → World → World
+with_names s w = record { names = (world_of s).names; bytes = w.bytes; said = w.said }
 
 module _ (f : ℕ) where
   settle_added : (name bytes : List ℕ) (i : ℕ) (old new : List ℕ) (u v : World) → Adds name bytes i u v → (f ≡ i → new ≡ bytes) → (f ≢ i → new ≡ old) → Adds name bytes i (put f old u) (put f new v)
@@ -97,32 +97,32 @@ module _ (f : ℕ) where
   settle_step s (Recalled text) u v step = settle_spoken text.items (s.bytes f) u v step
 
   -- an outcome in which this file is as it is seen
-  pub settled : (past : List CallEvent) (v : World) → WorldMayBeLeft past v → WorldMayBeLeft past (put f ((seen_of past).bytes f) v)
-  settled [] v may = subst (λ (w : World). put f [] w ≡ world_of nothing) (sym may) (λ i. record { names = (world_of nothing).names; bytes = λ k. none k i; said = [] })
+  pub world_settles : (past : List CallEvent) (v : World) → WorldMayBeLeft past v → WorldMayBeLeft past (put f ((seen_of past).bytes f) v)
+  world_settles [] v may = subst (λ (w : World). put f [] w ≡ world_of nothing) (sym may) (λ i. record { names = (world_of nothing).names; bytes = λ k. none k i; said = [] })
     where
       none : (k : ℕ) → with_file (λ j. []) f [] k ≡ []
       none k = elim (cases_eq f k) [
         | inl e ↦ ap (λ (j : ℕ). with_file (λ j. []) f [] j) (sym e) ∙ with_file_here (λ j. []) f []
         | inr other ↦ with_file_other (λ j. []) f [] k (λ e. other (sym e))
       ]
-  settled (e ∷ past) v may = (
+  world_settles (e ∷ past) v may = (
     record { said = may.0.said; one_name = may.0.one_name },
-    (put f ((seen_of past).bytes f) may.1.0, settled past may.1.0 may.1.1, settle_step (seen_of past) e may.1.0 v may.1.2),
+    (put f ((seen_of past).bytes f) may.1.0, world_settles past may.1.0 may.1.1, settle_step (seen_of past) e may.1.0 v may.1.2),
   )
 
-rename_added : (s : FolderSeen) (name given bytes : List ℕ) (u v : World) → (given ≡ name) ⊎ (given ≡ []) → Adds name bytes s.count u v → Adds name bytes s.count (renamed s u) (renamed (with_made s given bytes) v)
+rename_added : (s : FolderSeen) (name given bytes : List ℕ) (u v : World) → (given ≡ name) ⊎ (given ≡ []) → Adds name bytes s.count u v → Adds name bytes s.count (with_names s u) (with_names (with_made s given bytes) v)
 rename_added s name given bytes u v which adds =
     let seen = adds_seen s name given bytes which in
     record { holds = adds.holds; others = adds.others; free = seen.free; here = seen.here; names = seen.names; said = adds.said }
 
-rename_file : (s : FolderSeen) (i : ℕ) (step : List ℕ → List ℕ → Type 0) (u v : World) → OnFile i step u v → OnFile i step (renamed s u) (renamed s v)
+rename_file : (s : FolderSeen) (i : ℕ) (step : List ℕ → List ℕ → Type 0) (u v : World) → OnFile i step u v → OnFile i step (with_names s u) (with_names s v)
 rename_file s i step u v on = record { here = on.here; others = on.others; names = λ m. refl; said = on.said }
 
-rename_spoken : (s : FolderSeen) (text : List ℕ) (u v : World) → Speaks text u v → Speaks text (renamed s u) (renamed s v)
+rename_spoken : (s : FolderSeen) (text : List ℕ) (u v : World) → Speaks text u v → Speaks text (with_names s u) (with_names s v)
 rename_spoken s text u v speaks = record { names = refl; bytes = speaks.bytes; some = speaks.some; said = speaks.said }
 
-rename_step : (s : FolderSeen) (e : CallEvent) (u v : World) → EventMakes s e u v → EventMakes s e (renamed s u) (renamed (seen_after e s) v)
-rename_step s (Looked ok) u v step = ap (renamed s) step
+rename_step : (s : FolderSeen) (e : CallEvent) (u v : World) → EventMakes s e u v → EventMakes s e (with_names s u) (with_names (seen_after e s) v)
+rename_step s (Looked ok) u v step = ap (with_names s) step
 rename_step s (Made name true) u v step = rename_added s name.items name.items [] u v (inl refl) step
 rename_step s (Made name false) u v step = rename_added s name.items [] [] u v (inr refl) step
 rename_step s (Wrote i at bytes true) u v step = rename_file s i _ u v step
@@ -131,17 +131,17 @@ rename_step s (Shortened i len true) u v step = rename_file s i _ u v step
 rename_step s (Shortened i len false) u v step = rename_file s i _ u v step
 rename_step s (Lengthened i len true) u v step = rename_file s i _ u v step
 rename_step s (Lengthened i len false) u v step = rename_file s i _ u v step
-rename_step s (Synced i ok) u v step = (ap (renamed s) step.0, step.1)
-rename_step s (SyncedNames ok) u v step = (ap (renamed s) step.0, λ done m. refl)
+rename_step s (Synced i ok) u v step = (ap (with_names s) step.0, step.1)
+rename_step s (SyncedNames ok) u v step = (ap (with_names s) step.0, λ done m. refl)
 rename_step s (Printed text true) u v step = rename_spoken s text.items u v step
 rename_step s (Printed text false) u v step = rename_spoken s text.items u v step
 rename_step s (Found name bytes) u v step = rename_added s name.items name.items bytes.items u v (inl refl) step
 rename_step s (Recalled text) u v step = rename_spoken s text.items u v step
 
 -- an outcome in which all names are as they are seen
-pub settled_names : (past : List CallEvent) (v : World) → WorldMayBeLeft past v → WorldMayBeLeft past (renamed (seen_of past) v)
-settled_names [] v may = subst (λ (w : World). renamed nothing w ≡ world_of nothing) (sym may) refl
+pub settled_names : (past : List CallEvent) (v : World) → WorldMayBeLeft past v → WorldMayBeLeft past (with_names (seen_of past) v)
+settled_names [] v may = subst (λ (w : World). with_names nothing w ≡ world_of nothing) (sym may) refl
 settled_names (e ∷ past) v may = (
   record { said = may.0.said; one_name = (fits_seen (seen_after e (seen_of past))).one_name },
-  (renamed (seen_of past) may.1.0, settled_names past may.1.0 may.1.1, rename_step (seen_of past) e may.1.0 v may.1.2),
+  (with_names (seen_of past) may.1.0, settled_names past may.1.0 may.1.1, rename_step (seen_of past) e may.1.0 v may.1.2),
 )

@@ -11,7 +11,7 @@ use Rattle.dms_memcalls.specs.Names.{leads}
 use Rattle.dms_memcalls.specs.NameLaws.{name_is, leads_is, leads_same, adds_seen}
 use Rattle.dms_memcalls.specs.Folders.{FolderSeen, nothing, with_bytes, with_said, world_of, AlikeFolders}
 use Rattle.dms_memcalls.specs.Events.{seen_after}
-use Rattle.dms_memcalls.specs.Outcomes.{EventMakes, IsOutcomeOf, seen_of, WorldMayBeLeft, turned, past_of, seen_now, world_now, clock_of}
+use Rattle.dms_memcalls.specs.Outcomes.{EventMakes, IsOutcomeOf, seen_of, WorldMayBeLeft, reverse_onto, past_of, seen_now, world_now, clock_of}
 
 -- the same folder is seen the same
 pub alike_world : (a b : FolderSeen) → AlikeFolders a b → world_of a ≡ world_of b
@@ -71,7 +71,7 @@ fits [] w is = subst (λ (v : World). IsOutcomeOf nothing v) (sym is) (fits_seen
 fits (e ∷ past) w may = may.0
 
 -- one more event
-turned_push : (events : List CallEvent) (e : CallEvent) (past : List CallEvent) → turned (events ++ e ∷ []) past ≡ e ∷ turned events past
+turned_push : (events : List CallEvent) (e : CallEvent) (past : List CallEvent) → reverse_onto (events ++ e ∷ []) past ≡ e ∷ reverse_onto events past
 turned_push [] e past = refl
 turned_push (x ∷ events) e past = turned_push events e (x ∷ past)
 
@@ -96,9 +96,9 @@ unfolding clock_of
 counts_since events t w le left = (left.0, omega (arith, le, left.1), left.2, left.3)
 
 -- One more event does a step, where each outcome after it comes by that step from one before it.
-pushed : (events : List CallEvent) (e : CallEvent) (step : World → World → Type 0) → ((v w : World) → EventMakes (seen_now events) e v w → step v w) → Steps step (clock_of events) (clock_of (events ++ e ∷ []))
+push_holds : (events : List CallEvent) (e : CallEvent) (step : World → World → Type 0) → ((v w : World) → EventMakes (seen_now events) e v w → step v w) → Steps step (clock_of events) (clock_of (events ++ e ∷ []))
 unfolding clock_of seen_now
-pushed events e step leads = record { follows = λ w now. one w (left_now all w now); runs = record { later = later; only = only; keeps = keeps } }
+push_holds events e step leads = record { follows = λ w now. one w (left_now all w now); runs = record { later = later; only = only; keeps = keeps } }
   where
     all : List CallEvent
     all = events ++ e ∷ []
@@ -131,7 +131,7 @@ still events step refls = record {
 }
 
 pub steps_more : (events all : List CallEvent) (e : CallEvent) (step : World → World → Type 0) → all ≡ events ++ e ∷ [] → ((v w : World) → EventMakes (seen_now events) e v w → step v w) → Steps step (clock_of events) (clock_of all)
-steps_more events all e step more leads = subst (λ (l : List CallEvent). Steps step (clock_of events) (clock_of l)) (sym more) (pushed events e step leads)
+steps_more events all e step more leads = subst (λ (l : List CallEvent). Steps step (clock_of events) (clock_of l)) (sym more) (push_holds events e step leads)
 
 pub step_more : (events all : List CallEvent) (e : CallEvent) (step : World → World → Type 0) → all ≡ events ++ e ∷ [] → ((v w : World) → EventMakes (seen_now events) e v w → step v w) → step (world_now events) (world_now all)
 step_more events all e step more leads = subst (λ (s : FolderSeen). step (world_now events) (world_of s)) (sym (ap seen_now more ∙ seen_push events e)) (leads _ _ (takes_seen (seen_now events) e))

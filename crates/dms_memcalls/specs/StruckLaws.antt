@@ -12,7 +12,7 @@ use Rattle.dms_memcalls.specs.Folders.{FolderSeen, with_made, with_bytes, with_s
 use Rattle.dms_memcalls.specs.Events.{seen_after}
 use Rattle.dms_memcalls.specs.Outcomes.{Adds, EventMakes, IsOutcomeOf, seen_of, WorldMayBeLeft}
 use Rattle.dms_memcalls.specs.Steady.{on_file, speaks_all, speaks_none}
-use Rattle.dms_memcalls.specs.Settled.{put, renamed, settled, settled_names}
+use Rattle.dms_memcalls.specs.Settled.{put, with_names, world_settles, settled_names}
 use Rattle.dms_memcalls.specs.Strikes.{FileChanged, NamedFile, Strikes, IsLeft}
 
 -- one name here and there, where there is one in both
@@ -109,13 +109,13 @@ module _ (past : List CallEvent) (left : FolderSeen) (was : IsLeft past left) wh
   synced_left f new now =
       let bytes = (seen_of past).bytes f in
       subst (λ (n : FolderSeen). IsLeft (Synced f true ∷ past) n) (sym now) (next past (Synced f true) (with_bytes left f bytes) was.count was.said was.owners
-      (put f bytes (world_of left)) (settled f past (world_of left) was.may) (refl, λ done. with_file_here left.bytes f bytes))
+      (put f bytes (world_of left)) (world_settles f past (world_of left) was.may) (refl, λ done. with_file_here left.bytes f bytes))
 
   -- the names are stable
   named_left : (new : FolderSeen) → NamedFile (seen_of past) left new → IsLeft (SyncedNames true ∷ past) new
   named_left new named = next past (SyncedNames true) new (named.count ∙ was.count) (named.said ∙ was.said)
       (λ k low. inr (inr (named.names k (omega (arith, low, named.count, was.count)))))
-      (renamed (seen_of past) (world_of left)) (settled_names past (world_of left) was.may)
+      (with_names (seen_of past) (world_of left)) (settled_names past (world_of left) was.may)
       (λ i. record { names = λ m. names m i; bytes = named.bytes i; said = named.said i }, λ done m. names m)
     where
       names : (m : List ℕ) → leads new.count new.names m ≡ leads (seen_of past).count (seen_of past).names m

@@ -151,7 +151,7 @@ pub fn left_after(
 }
 
 /// The story of a folder that begins with the files of a disk and its text. Answers Err where memory is refused.
-pub fn begun(alloc: Global, disk: &MemDisk) -> Result<Story, AllocError>
+pub fn begin_story(alloc: Global, disk: &MemDisk) -> Result<Story, AllocError>
     ensures { IfOk result (λ story. Shows (world_of (view disk.now)) (world_now story.events.items)) }
 {
     let mut story = Story::new(alloc);

@@ -9,7 +9,7 @@ ghost use Rattle.dms_memcalls.specs.Outcomes.{WorldMayBeLeft, past_of, seen_now,
 ghost use Rattle.dms_memcalls.specs.Strikes.{Shows};
 ghost use Rattle.dms_memcalls.specs.Steady.{IsUpToOneMore, stays_now, fits_now, counts_since};
 
-use crate::crash::{begun, left_after};
+use crate::crash::{begin_story, left_after};
 use crate::event::CallEvent;
 use crate::listing::MemListing;
 use crate::story::Story;
@@ -71,10 +71,10 @@ impl MemCalls {
     }
 
     /// The text that was printed so far.
-    pub fn said(&self) -> &[u8]
+    pub fn text(&self) -> &[u8]
         ensures { result.now ≡ (world_now self.now.story.events.items).said }
     {
-        self.story.said()
+        self.story.text()
     }
 
     /// A fresh folder that a stop within a call may leave, the call's own work included. The call was made.
@@ -89,7 +89,7 @@ impl MemCalls {
             × Shows w (world_now s.story.events.items)) }
     {
         let left = left_after(alloc, &self.story.events, self.found + call, pick)?;
-        let story = begun(alloc, &left)?;
+        let story = begin_story(alloc, &left)?;
         let found = story.events.len();
         Ok(MemCalls {
             story,

@@ -52,7 +52,7 @@ impl Story {
     }
 
     /// The text that was printed.
-    pub fn said(&self) -> &[u8]
+    pub fn text(&self) -> &[u8]
         ensures { result.now ≡ (world_now self.now.events.items).said }
     {
         self.disk.files.said.as_slice()

@@ -13,7 +13,7 @@ use Rattle.dms_model.specs.declared.verb.Path.{Path}
 use Rattle.dms_model.specs.declared.verb.Setting.{Setting}
 use Rattle.dms_model.specs.declared.reply.Reply.{Reply}
 use Rattle.dms_model.specs.declared.spot.Spot.{Spot}
-use Rattle.dms_model.specs.Session.{Session, Outcome, StoreResult, Refused, Keeps, Filled, Misfit, Values', refuse, replies, done, shows, settle, keep, store_step, after_store, begin_step, after_begin, begun, end_step, after_end, abort_step, find_step, find_for, after_find, create_step, create_for, put_step, put_area, after_put, get_step, get_area, close_step, open_as, open_in, open_step, verb_step, step_at, answered, carried_out, waits_after, step, restart_of, someone_works, opens, new_program, place_of}
+use Rattle.dms_model.specs.Session.{Session, Outcome, StoreResult, Refused, Keeps, Filled, Misfit, Values', refuse, replies, succeeds, shows, settle, keep, store_step, after_store, begin_step, after_begin, begin_transaction, end_step, after_end, abort_step, find_step, find_for, after_find, create_step, create_for, put_step, put_area, after_put, get_step, get_area, close_step, open_as, open_in, open_step, verb_step, step_at, after_answer, carried_out, waits_after, step, restart_of, someone_works, opens, new_program, place_of}
 use Rattle.dms_model.specs.Session.{is_waits}
 use Rattle.dms_model.specs.Traits.{traits}
 
@@ -98,14 +98,14 @@ verb_keeps desc i p s (Create set) = create_for_keeps _ desc i p s set
 verb_keeps desc i p s (PutItems set settings) = put_keeps _ desc i p s set settings
 verb_keeps desc i p s (Get set items) = get_keeps _ desc i p s set items
 verb_keeps desc i p s (Store set) = if_keeps s p.in_transaction (after_store (keep desc p s.db set) i s) (refuse s AuditError p.name) (store_keeps s i (keep desc p s.db set)) (refuse_keeps s AuditError p.name)
-verb_keeps desc i p s (Begin audit) = if_keeps s p.in_transaction (refuse s AuditError p.name) (after_begin (begun desc p s audit) i s) (refuse_keeps s AuditError p.name) (after_begin_keeps s i (begun desc p s audit))
+verb_keeps desc i p s (Begin audit) = if_keeps s p.in_transaction (refuse s AuditError p.name) (after_begin (begin_transaction desc p s audit) i s) (refuse_keeps s AuditError p.name) (after_begin_keeps s i (begin_transaction desc p s audit))
 verb_keeps desc i p s (End audit sync) = if_keeps s p.in_transaction (after_end (ending desc p s audit) desc i s sync) (refuse s AuditError p.name) (end_keeps (ending desc p s audit) desc i s sync) (refuse_keeps s AuditError p.name)
 verb_keeps desc i p s Abort = if_keeps s p.in_transaction _ _ (shows_keeps s _ [] refl refl) (refuse_keeps s _ _)
 
 open_as_keeps : (desc : Described) (s : Session) (name : List ℕ) (mode : Mode) → KeepsWaits s (open_as desc s name mode)
 open_as_keeps desc s name mode =
     let opened : Session = record s { programs = s.programs ++ new_program desc name mode ∷ [] } in
-    if_keeps s (nat_le 64 (length s.programs)) (refuse s LimitError name) (done opened) (refuse_keeps s LimitError name) (shows_keeps s opened [] refl refl)
+    if_keeps s (nat_le 64 (length s.programs)) (refuse s LimitError name) (succeeds opened) (refuse_keeps s LimitError name) (shows_keeps s opened [] refl refl)
 
 open_in_keeps : (o : Option Mode) (desc : Described) (s : Session) (name : List ℕ) → KeepsWaits s (open_in o desc s name)
 open_in_keeps None desc s name = refuse_keeps s _ _
@@ -122,7 +122,7 @@ step_at_keeps desc (Some p) i s name v =
     (if_keeps s p.owes_abort _ _ (record { not_fallen = omega arith; high = omega arith; same = λ h. absurd (cc); kept = refl })
     (if_keeps s _ _ _ (refuse_keeps s _ _) (verb_keeps desc i p s v)))
 
-answered_small : (s : Session) (name : List ℕ) (o : Outcome) → KeepsWaits s o → IsSmallStep s (answered name o)
+answered_small : (s : Session) (name : List ℕ) (o : Outcome) → KeepsWaits s o → IsSmallStep s (after_answer name o)
 answered_small s name o c = record { not_fallen = c.not_fallen; high = c.high; waits = λ h. ap (λ (t : Session). record t { waits = waits_after name o.reply o.session.waits }) (c.same h) }
 
 pub step_small : (desc : Described) (s : Session) (name : List ℕ) (v : Verb) → IsSmallStep s (step desc s name v)

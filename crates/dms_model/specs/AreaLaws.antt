@@ -15,7 +15,7 @@ use Rattle.dms_model.specs.declared.verb.Setting.{Setting}
 use Rattle.dms_model.specs.Areas.{OfWorks, AreaFits, WorkFits, WorksFit, InitialsFit}
 use Rattle.dms_model.specs.Fitting.{AreFitting, IsNumber, SpotFits, is_number}
 use Rattle.dms_model.specs.FitLaws.{filled_fits, FilledFits, get_set_other}
-use Rattle.dms_model.specs.Session.{area_values, backed_out, filled, Filled, Values', found_program, is_lock, let_go, new_program, no_work, or_none, with_lock, with_values, with_work, work_of, created, owner_for, owner_in, area_of, current_of}
+use Rattle.dms_model.specs.Session.{area_values, backed_out, fill_values, Filled, Values', found_program, is_lock, let_go, new_program, no_work, or_none, with_lock, with_values, with_work, work_of, create_area, owner_for, owner_in, area_of, current_of}
 use Rattle.dms_model.specs.Spoken.{IsOuter, IsPlainLiteral}
 use Rattle.dms_desc_bytes.specs.Finding.{owner_in as owner_of}
 
@@ -84,8 +84,8 @@ pub none_fits : (shape : Shape) → WorkFits shape no_work
 none_fits shape = record { area = tt; current = tt }
 
 -- a number of a data set is one of a structure that is there
-numbered : (desc : Described) (set n : ℕ) (C : Type 0) → IsNumber desc set n → ((shape : Shape) → structure_of desc set ≡ Some shape → IsTrue (is_number (Some shape) n) → C) → C
-numbered desc set n C number with_shape = by (structure_of desc set) refl number
+shape_with_number : (desc : Described) (set n : ℕ) (C : Type 0) → IsNumber desc set n → ((shape : Shape) → structure_of desc set ≡ Some shape → IsTrue (is_number (Some shape) n) → C) → C
+shape_with_number desc set n C number with_shape = by (structure_of desc set) refl number
   where
     by : (o : Option Shape) → structure_of desc set ≡ o → IsTrue (is_number o n) → C
     by None here h = absurd (grind (arith, nat_tests, h))
@@ -98,7 +98,7 @@ values_of_set desc set shape values here fits = subst (λ (o : Option Shape). Ar
 pub current_works : (desc : Described) (p : Program) (set n : ℕ) (values : List Value) → IsNumber desc set n → AreFitting (items_of (structure_of desc set)) values → WorksFit desc p
     → WorksFit desc (with_work p set (record { current = Some n; area = Some (Old values) }))
 current_works desc p set n values number fits all =
-    numbered desc set n _ number (λ shape here is. works_with desc WorkFits p set shape (record { current = Some n; area = Some (Old values) }) here (record { area = values_of_set desc set shape values here fits; current = is }) none_fits all)
+    shape_with_number desc set n _ number (λ shape here is. works_with desc WorkFits p set shape (record { current = Some n; area = Some (Old values) }) here (record { area = values_of_set desc set shape values here fits; current = is }) none_fits all)
 
 pub stored_works : (desc : Described) (p : Program) (set n : ℕ) (values : List Value) → IsNumber desc set n → AreFitting (items_of (structure_of desc set)) values → WorksFit desc p
     → WorksFit desc (with_lock (with_work p set (record { current = Some n; area = Some (Old values) })) set n)
@@ -123,7 +123,7 @@ no_owner desc p x owner disjoint is =
     sym same
 
 -- a new area has the initial values
-pub created_works : (desc : Described) (p : Program) (set owner : ℕ) → InitialsFit desc → IsOuter (structure_of desc set) → owner ≡ 0 → WorksFit desc p → WorksFit desc (created desc p set owner)
+pub created_works : (desc : Described) (p : Program) (set owner : ℕ) → InitialsFit desc → IsOuter (structure_of desc set) → owner ≡ 0 → WorksFit desc p → WorksFit desc (create_area desc p set owner)
 created_works desc p set owner initials outer none all =
     let w : Work = record { current = None; area = Some (New (map (λ (t : Item). t.initial) (items_of (structure_of desc set))) owner) } in
     outer_shape desc set _ outer
@@ -145,13 +145,13 @@ filled_as items f values is h = subst (FilledFits items) is h
 
 -- an area has the values that a PUT leaves
 pub put_works : (desc : Described) (p : Program) (set : ℕ) (a : Area) (settings : List Setting) (values : List Value) → IsOuter (structure_of desc set) → AllByRecursion (λ t. IsPlainLiteral t.literal) settings
-    → area_of p set ≡ Some a → filled (items_of (structure_of desc set)) settings (area_values a) ≡ Values' values → WorksFit desc p
+    → area_of p set ≡ Some a → fill_values (items_of (structure_of desc set)) settings (area_values a) ≡ Values' values → WorksFit desc p
     → WorksFit desc (with_work p set (record { current = current_of p set; area = Some (with_values a values) }))
 put_works desc p set a settings values outer plain has made all =
     outer_shape desc set _ outer
     (λ shape here out.
     let mine = all set shape here in
     let old : AreaFits shape (Some a) = subst (AreaFits shape) has mine.area in
-    let made' : filled shape.items settings (area_values a) ≡ Values' values = ap (λ (o : Option Shape). filled (items_of o) settings (area_values a)) (sym here) ∙ made in
-    let fits = filled_as shape.items (filled shape.items settings (area_values a)) values made' (filled_fits shape.items settings (area_values a) plain (values_fit shape a old)) in
+    let made' : fill_values shape.items settings (area_values a) ≡ Values' values = ap (λ (o : Option Shape). fill_values (items_of o) settings (area_values a)) (sym here) ∙ made in
+    let fits = filled_as shape.items (fill_values shape.items settings (area_values a)) values made' (filled_fits shape.items settings (area_values a) plain (values_fit shape a old)) in
     works_with desc WorkFits p set shape (record { current = current_of p set; area = Some (with_values a values) }) here (record { area = with_new shape a values old fits; current = mine.current }) none_fits all)

@@ -20,7 +20,7 @@ use Rattle.dms_model.specs.declared.spot.Spot.{Spot}
 use Rattle.dms_model.specs.Db.{Db, Place, Records}
 use Rattle.dms_desc.specs.Keys.{key_of}
 use Rattle.dms_desc.specs.Lookups.{items_of, structure_of, parts_of, set_of}
-use Rattle.dms_model.specs.Session.{missing_from, verified}
+use Rattle.dms_model.specs.Session.{missing_from, meets_verify}
 use Rattle.dms_model.specs.Stores.{put_answer, put_after}
 use Rattle.dms_model.specs.Valid.{OfItems, is_data_set, owner_stands}
 use Rattle.dms_desc_bytes.specs.Finding.{owner_in as owner_of}
@@ -107,7 +107,7 @@ pub record MayPut (desc : Described) (db : Db) (set : ℕ) (number : Option ℕ)
   pub owner : number ≡ None → IsTrue (owner_stands db.records (owner_of (structure_of desc set)) rec.owner)
   pub replaced : IfSome number (HasRecord db set)
   pub required : missing_from 0 (items_of (structure_of desc set)) rec.values ≡ None
-  pub verified : verified (structure_of desc set) rec.values ≡ true
+  pub verified : meets_verify (structure_of desc set) rec.values ≡ true
 
 -- ---- what is answered
 

@@ -26,14 +26,14 @@ places_same a b h =
     let q = nat_cmp-IsAntisymmetric a.1 b.1 parts.1 in
     λ i. (p i, q i)
 
-pub tied : (o : Ordering) → is_eq o ≡ true → o ≡ Equal
-tied Less e = absurd (cc)
-tied Equal e = refl
-tied Greater e = absurd (cc)
+pub equal_of_tie : (o : Ordering) → is_eq o ≡ true → o ≡ Equal
+equal_of_tie Less e = absurd (cc)
+equal_of_tie Equal e = refl
+equal_of_tie Greater e = absurd (cc)
 
 -- places that tie are one
 pub place_is : (a b : Place) → eq_by_cmp place_cmp a b ≡ true → a ≡ b
-place_is a b h = places_same a b (tied (place_cmp a b) h)
+place_is a b h = places_same a b (equal_of_tie (place_cmp a b) h)
 
 other_at : (m : Records) (k q : Place) (v : Record) (t : Bool) → eq_by_cmp place_cmp q k ≡ t → (q ≡ k → ⊥) → cond t (Some v) (get m q) ≡ get m q
 other_at m k q v true e apart = absurd (apart (place_is q k e))

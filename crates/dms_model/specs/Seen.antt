@@ -6,7 +6,7 @@ use Rattle.std.specs.declared.result.Result.{Result}
 use Rattle.dms_moments.specs.Moments.{Clock, Now}
 use Rattle.dms_block.specs.declared.block_fault.BlockFault.{BlockFault}
 use Rattle.dms_block.specs.Counts.{Faults, CausedBy}
-use Rattle.dms_block.specs.Held.{IsUpToOne, one_more}
+use Rattle.dms_block.specs.Held.{AuditPace, IsUpToOne, one_more}
 use Rattle.dms_desc.specs.Shape.{Described}
 use Rattle.dms_model.specs.Db.{Db}
 use Rattle.dms_model.specs.Points.{StopFiles, Point, Stop, LeavesPrefix, StopTextIs, StoreLeaves, StoreLeavesText, PointsStayDurable, IsUnder}
@@ -63,8 +63,8 @@ pub record Seen : Type 1 where
   -- what stops may leave, and what holds of the files in each of them
   pub clock : Clock Stop
   pub whole : StopFiles → Type 0
-  -- the audit file that Full names where something is changed
-  pub last : ℕ
+  -- the audit file that Full names where something is changed, and how many syncs go before each control point
+  pub pace : AuditPace
   -- how often calls failed
   pub faults : Faults
   -- how many blocks were read, and what else it did on its disk
@@ -79,7 +79,7 @@ IfPointsTold s P = s.tells → s.next + 1 < 2 ^ 64 → P
 pub record HasStoreCauses {T : Type 0} (result : Result T BlockFault) (old new : Seen) : Type 0 where
   pub tells : old.tells → new.tells
   pub desc : new.desc ≡ old.desc
-  pub last : new.last ≡ old.last
+  pub pace : new.pace ≡ old.pace
   pub whole : (files : StopFiles) → new.whole files → old.whole files
   pub whole_on : (files : StopFiles) → old.whole files → new.whole files
   pub cause : CausedBy result old.faults new.faults

@@ -71,8 +71,8 @@ first_held (r ∷ rs) = if r.0 then Some r.1 else first_held rs
 abbrev pub shows : Session → List ℕ → Outcome
 shows s text = record { session = s; reply = Done text; sync = None; quiets = [] }
 
-abbrev pub done : Session → Outcome
-done s = shows s []
+abbrev pub succeeds : Session → Outcome
+succeeds s = shows s []
 
 -- Programs
 
@@ -85,8 +85,8 @@ abbrev pub with_program : Session → ℕ → Program → Session
 with_program s i p = record s { programs = slice_set s.programs i p }
 
 -- a verb of this program was carried out, and left it so
-abbrev pub carried : Program → Program
-carried p = record p { active = true }
+abbrev pub activate : Program → Program
+activate p = record p { active = true }
 
 abbrev pub no_work : Work
 no_work = record { current = None; area = None }
@@ -154,7 +154,7 @@ idle p = record p { active = false }
 -- cleared, and a syncpoint that is pending is taken
 unfoldable pub settle : Session → Outcome
 settle s =
-    if someone_works s.programs then done s
+    if someone_works s.programs then succeeds s
     else (if s.pending
     then record { session = record s { mark = s.db; next = s.next + 1; programs = map idle s.programs; pending = false; since = 0 }; reply = Done []; sync = Some s.next; quiets = (s.next, s.db) ∷ [] }
     else record { session = record s { mark = s.db; next = s.next + 1; programs = map idle s.programs }; reply = Done []; sync = None; quiets = (s.next, s.db) ∷ [] })
@@ -181,9 +181,9 @@ abbrev pub missing_from : ℕ → List Item → List Value → Option (List ℕ)
 missing_from k [] values = None
 missing_from k (i ∷ is) values = if i.required && is_null (or_null (slice_get values k)) then Some i.name else missing_from (k + 1) is values
 
-abbrev pub verified : Option Shape → List Value → Bool
-verified None values = true
-verified (Some s) values = meets s.cond values
+abbrev pub meets_verify : Option Shape → List Value → Bool
+meets_verify None values = true
+meets_verify (Some s) values = meets s.cond values
 
 abbrev pub area_values : Area → List Value
 area_values (New values owner) = values
@@ -261,7 +261,7 @@ abbrev pub area_refusals : Area → Put → Described → Program → ℕ → Li
 area_refusals a answer desc p set =
     (not (is_free a p set (current_of p set)), Exception NotLocked (name_of (structure_of desc set)))
     ∷ (is_some (missing_from 0 (items_of (structure_of desc set)) (area_values a)), Exception DataError (or_unknown (missing_from 0 (items_of (structure_of desc set)) (area_values a))))
-    ∷ (not (verified (structure_of desc set) (area_values a)), Exception DataError (name_of (structure_of desc set)))
+    ∷ (not (meets_verify (structure_of desc set) (area_values a)), Exception DataError (name_of (structure_of desc set)))
     ∷ (is_duplicate answer, Exception Duplicates (name_of (structure_of desc (duplicate_of answer))))
     ∷ (is_full_answer answer, Exception LimitError (name_of (structure_of desc set)))
     ∷ []
@@ -283,7 +283,7 @@ keep desc p db set = kept_with (area_of p set) (area_answer desc p db set) desc 
 
 abbrev pub after_store : StoreResult → ℕ → Session → Outcome
 after_store (Refused reply) i s = replies s reply
-after_store (Keeps p db) i s = done (record s { db = db; programs = slice_set s.programs i (carried p) })
+after_store (Keeps p db) i s = succeeds (record s { db = db; programs = slice_set s.programs i (activate p) })
 
 unfoldable pub store_step : Described → ℕ → Program → Session → ℕ → Outcome
 store_step desc i p s set = if p.in_transaction then after_store (keep desc p s.db set) i s else refuse s AuditError p.name
@@ -298,16 +298,16 @@ restart_in (s ∷ ss) = if s.kind == 2 then s.number else restart_in ss
 abbrev pub restart_of : Described → ℕ
 restart_of desc = restart_in desc.structures
 
-abbrev pub entered : Program → Program
-entered p = carried (record p { in_transaction = true })
+abbrev pub enter_transaction : Program → Program
+enter_transaction p = activate (record p { in_transaction = true })
 
 abbrev pub after_begin : StoreResult → ℕ → Session → Outcome
 after_begin (Refused reply) i s = replies s reply
-after_begin (Keeps p db) i s = done (record s { db = db; programs = slice_set s.programs i (entered p) })
+after_begin (Keeps p db) i s = succeeds (record s { db = db; programs = slice_set s.programs i (enter_transaction p) })
 
 -- for whom a BEGIN-TRANSACTION waits: while a syncpoint is pending, for all programs in transaction state
-abbrev pub awaited : Session → List (List ℕ)
-awaited s = if s.pending then workers s.programs else []
+abbrev pub begin_blockers : Session → List (List ℕ)
+begin_blockers s = if s.pending then workers s.programs else []
 
 abbrev pub has_some : List (List ℕ) → Bool
 has_some [] = false
@@ -321,20 +321,20 @@ begin_refusals false who o answer desc p restart = (has_some who, Waits who) ∷
 abbrev pub begun_with : Bool → List (List ℕ) → Option Area → Put → Described → Program → Db → ℕ → StoreResult
 begun_with audit who o answer desc p db restart = unless (first_held (begin_refusals audit who o answer desc p restart)) (if audit then storing (or_no_area o) answer desc p db restart else Keeps p db)
 
-unfoldable pub begun : Described → Program → Session → Bool → StoreResult
-begun desc p s audit = begun_with audit (awaited s) (area_of p (restart_of desc)) (area_answer desc p s.db (restart_of desc)) desc p s.db (restart_of desc)
+unfoldable pub begin_transaction : Described → Program → Session → Bool → StoreResult
+begin_transaction desc p s audit = begun_with audit (begin_blockers s) (area_of p (restart_of desc)) (area_answer desc p s.db (restart_of desc)) desc p s.db (restart_of desc)
 
 unfoldable pub begin_step : Described → ℕ → Program → Session → Bool → Outcome
-begin_step desc i p s audit = if p.in_transaction then refuse s AuditError p.name else after_begin (begun desc p s audit) i s
+begin_step desc i p s audit = if p.in_transaction then refuse s AuditError p.name else after_begin (begin_transaction desc p s audit) i s
 
 -- transaction state is left, and all locks are freed
-abbrev pub left : Program → Program
-left p = carried (record p { in_transaction = false; locks = [] })
+abbrev pub leave_transaction : Program → Program
+leave_transaction p = activate (record p { in_transaction = false; locks = [] })
 
 abbrev pub after_end : StoreResult → Described → ℕ → Session → Bool → Outcome
 after_end (Refused reply) desc i s sync = replies s reply
 after_end (Keeps p db) desc i s sync =
-    settle (record s { db = db; programs = slice_set s.programs i (left p); pending = s.pending || sync || nat_le desc.syncpoint (one_more s.since); since = one_more s.since })
+    settle (record s { db = db; programs = slice_set s.programs i (leave_transaction p); pending = s.pending || sync || nat_le desc.syncpoint (one_more s.since); since = one_more s.since })
 
 -- a syncpoint becomes pending by SYNC, and by the n-th END-TRANSACTION since the last one
 unfoldable pub end_step : Described → ℕ → Program → Session → Bool → Bool → Outcome
@@ -354,15 +354,15 @@ backed_out name p =
 unfoldable pub abort_step : ℕ → Program → Session → Outcome
 abort_step i p s =
     if p.in_transaction
-    then done (record s { db = s.mark; programs = map (backed_out p.name) s.programs; pending = false; since = 0 })
+    then succeeds (record s { db = s.mark; programs = map (backed_out p.name) s.programs; pending = false; since = 0 })
     else refuse s AuditError p.name
 
 -- Finding
 
 -- the value that a literal spells for an item; none where it doesn't fit
-abbrev pub fitted : Option Item → Literal → Option Value
-fitted None l = None
-fitted (Some i) l = value_for i.kind l
+abbrev pub fit_literal : Option Item → Literal → Option Value
+fit_literal None l = None
+fit_literal (Some i) l = value_for i.kind l
 
 abbrev pub onto : Option Value → Option (List Value) → Option (List Value)
 onto None vs = None
@@ -373,7 +373,7 @@ onto (Some v) (Some vs) = Some (v ∷ vs)
 abbrev pub key_values : List KeyPart → List Item → List Literal → Option (List Value)
 key_values parts items [] = Some []
 key_values [] items (l ∷ ls) = None
-key_values (p ∷ ps) items (l ∷ ls) = onto (fitted (slice_get items (p.item - 1)) l) (key_values ps items ls)
+key_values (p ∷ ps) items (l ∷ ls) = onto (fit_literal (slice_get items (p.item - 1)) l) (key_values ps items ls)
 
 abbrev pub at_values : Option (List Value) → Described → Db → ℕ → ℕ → Option Spot
 at_values None desc db x owner = None
@@ -396,7 +396,7 @@ found_program p set r = let_go (with_work p set (record { current = Some r.numbe
 
 abbrev pub after_find : Option Spot → Described → ℕ → Program → Session → ℕ → Outcome
 after_find None desc i p s x = refuse s NotFound (name_of (structure_of desc x))
-after_find (Some r) desc i p s x = done (with_program s i (carried (found_program p (set_of desc x) r)))
+after_find (Some r) desc i p s x = succeeds (with_program s i (activate (found_program p (set_of desc x) r)))
 
 abbrev pub find_for : Option ℕ → Described → ℕ → Program → Session → Path → Outcome
 find_for None desc i p s path = refuse_unowned desc s (path_of path)
@@ -408,12 +408,12 @@ find_step desc i p s path = find_for (owner_for desc p (path_of path)) desc i p 
 -- Areas
 
 -- no current record, and a new area of this owner with the initial values; links are null there
-abbrev pub created : Described → Program → ℕ → ℕ → Program
-created desc p set owner = let_go (with_work p set (record { current = None; area = Some (New (map (λ (t : Item). t.initial) (items_of (structure_of desc set))) owner) })) set
+abbrev pub create_area : Described → Program → ℕ → ℕ → Program
+create_area desc p set owner = let_go (with_work p set (record { current = None; area = Some (New (map (λ (t : Item). t.initial) (items_of (structure_of desc set))) owner) })) set
 
 abbrev pub create_for : Option ℕ → Described → ℕ → Program → Session → ℕ → Outcome
 create_for None desc i p s set = refuse_unowned desc s set
-create_for (Some owner) desc i p s set = done (with_program s i (carried (created desc p set owner)))
+create_for (Some owner) desc i p s set = succeeds (with_program s i (activate (create_area desc p set owner)))
 
 unfoldable pub create_step : Described → ℕ → Program → Session → ℕ → Outcome
 create_step desc i p s set = create_for (owner_for desc p set) desc i p s set
@@ -428,12 +428,12 @@ item_name None = unknown_name
 item_name (Some t) = t.name
 
 abbrev pub setting_value : List Item → Setting → Option Value
-setting_value items t = fitted (slice_get items (t.item - 1)) t.literal
+setting_value items t = fit_literal (slice_get items (t.item - 1)) t.literal
 
-abbrev pub filled : List Item → List Setting → List Value → Filled
-filled items [] values = Values' values
-filled items (t ∷ ts) values =
-    if is_some (setting_value items t) then filled items ts (slice_set values (t.item - 1) (or_null (setting_value items t)))
+abbrev pub fill_values : List Item → List Setting → List Value → Filled
+fill_values items [] values = Values' values
+fill_values items (t ∷ ts) values =
+    if is_some (setting_value items t) then fill_values items ts (slice_set values (t.item - 1) (or_null (setting_value items t)))
     else Misfit (item_name (slice_get items (t.item - 1)))
 
 abbrev pub with_values : Area → List Value → Area
@@ -442,11 +442,11 @@ with_values (Old values) new = Old new
 
 abbrev pub after_put : Filled → ℕ → Program → Session → ℕ → Area → Outcome
 after_put (Misfit item) i p s set a = refuse s DataError item
-after_put (Values' values) i p s set a = done (with_program s i (carried (with_work p set (record { current = current_of p set; area = Some (with_values a values) }))))
+after_put (Values' values) i p s set a = succeeds (with_program s i (activate (with_work p set (record { current = current_of p set; area = Some (with_values a values) }))))
 
 abbrev pub put_area : Option Area → Described → ℕ → Program → Session → ℕ → List Setting → Outcome
 put_area None desc i p s set settings = refuse s NoRecord (name_of (structure_of desc set))
-put_area (Some a) desc i p s set settings = after_put (filled (items_of (structure_of desc set)) settings (area_values a)) i p s set a
+put_area (Some a) desc i p s set settings = after_put (fill_values (items_of (structure_of desc set)) settings (area_values a)) i p s set a
 
 unfoldable pub put_step : Described → ℕ → Program → Session → ℕ → List Setting → Outcome
 put_step desc i p s set settings = put_area (area_of p set) desc i p s set settings
@@ -467,7 +467,7 @@ get_text items (n ∷ ns) values = item_text (slice_get items (n - 1)) (item_of 
 
 abbrev pub get_area : Option Area → Described → ℕ → Program → Session → ℕ → List ℕ → Outcome
 get_area None desc i p s set numbers = refuse s NoRecord (name_of (structure_of desc set))
-get_area (Some a) desc i p s set numbers = shows (with_program s i (carried p)) (get_text (items_of (structure_of desc set)) numbers (area_values a))
+get_area (Some a) desc i p s set numbers = shows (with_program s i (activate p)) (get_text (items_of (structure_of desc set)) numbers (area_values a))
 
 unfoldable pub get_step : Described → ℕ → Program → Session → ℕ → List ℕ → Outcome
 get_step desc i p s set numbers = get_area (area_of p set) desc i p s set numbers
@@ -481,7 +481,7 @@ without zero (p ∷ ps) = ps
 without (suc i) (p ∷ ps) = p ∷ without i ps
 
 unfoldable pub close_step : ℕ → Program → Session → Outcome
-close_step i p s = if p.in_transaction then refuse s AuditError p.name else done (record s { programs = without i s.programs })
+close_step i p s = if p.in_transaction then refuse s AuditError p.name else succeeds (record s { programs = without i s.programs })
 
 abbrev pub new_program : Described → List ℕ → Mode → Program
 new_program desc name mode = record { name = name; mode = mode; in_transaction = false; owes_abort = false; active = true; works = replicate (length desc.structures) no_work; locks = [] }
@@ -489,7 +489,7 @@ new_program desc name mode = record { name = name; mode = mode; in_transaction =
 abbrev pub open_as : Described → Session → List ℕ → Mode → Outcome
 open_as desc s name mode =
     if nat_le 64 (length s.programs) then refuse s LimitError name
-    else done (record s { programs = s.programs ++ new_program desc name mode ∷ [] })
+    else succeeds (record s { programs = s.programs ++ new_program desc name mode ∷ [] })
 
 -- what opens the database for a program that isn't open, and all else is refused
 abbrev pub open_in : Option Mode → Described → Session → List ℕ → Outcome
@@ -554,16 +554,16 @@ waits_after name (Exception category item) ws = filter (is_of_other name) ws
 waits_after name (Waits who) ws = filter (is_of_other name) ws ++ record { program = name; who = who } ∷ []
 
 -- an outcome, once its program is answered
-abbrev pub answered : List ℕ → Outcome → Outcome
-answered name o = record o { session = record o.session { waits = waits_after name o.reply o.session.waits } }
+abbrev pub after_answer : List ℕ → Outcome → Outcome
+after_answer name o = record o { session = record o.session { waits = waits_after name o.reply o.session.waits } }
 
 -- one step of a program: its verb is carried out, and it is answered
 unfoldable pub step : Described → Session → List ℕ → Verb → Outcome
-step desc s name verb = answered name (carried_out desc s name verb)
+step desc s name verb = after_answer name (carried_out desc s name verb)
 
 -- the silent back-out at the end, where a program is in transaction state
-abbrev pub ended : Session → Session
-ended s = if someone_works s.programs then record s { db = s.mark } else s
+abbrev pub end_session : Session → Session
+end_session s = if someone_works s.programs then record s { db = s.mark } else s
 
 -- a session without programs over a database
 abbrev pub fresh_session : Db → ℕ → Session

@@ -1,5 +1,5 @@
 -- What holds where nothing of a list of refusals does: of storing, and of BEGIN.
-use Rattle.std.proofs.Common.{◌≡◌, ℕ, List, [], ◌∷◌, Bool, true, false, cond, Some, None, refl, sym, not, length}
+use Rattle.std.proofs.Common.{◌≡◌, ℕ, List, [], ◌∷◌, Bool, true, false, cond, Some, None, refl, sym, length}
 use Rattle.std.specs.Prelude.{is_some}
 use Rattle.std.specs.List.{AllByRecursion}
 use Rattle.std.specs.declared.option.Option.{Option}
@@ -12,8 +12,8 @@ use Rattle.dms_model.specs.declared.put.Put.{Put}
 use Rattle.dms_model.specs.declared.put.Put.TheVariants.{Stored, Duplicate, Full}
 use Rattle.dms_model.specs.declared.reply.Reply.{Reply}
 use Rattle.dms_model.specs.Db.{Db, fresh, records_of}
-use Rattle.dms_model.specs.Session.{StoreResult, Refused, Keeps, area_answer, area_of, area_refusals, area_values, awaited, begin_refusals, begun, begun_with, current_of, first_held, is_free, keep, lacks_area, missing_from, or_no_area, put_of, record_of, restart_of, stored_program, storing, unless, verified, Session}
-use Rattle.dms_model.specs.Stores.{clash, is_full, put_after, put_answer, put_unless, stored}
+use Rattle.dms_model.specs.Session.{StoreResult, Refused, Keeps, area_answer, area_of, area_refusals, area_values, begin_blockers, begin_refusals, begin_transaction, begun_with, current_of, first_held, is_free, keep, lacks_area, missing_from, or_no_area, put_of, record_of, restart_of, stored_program, storing, unless, meets_verify, Session}
+use Rattle.dms_model.specs.Stores.{clash, is_full, put_after, put_answer, put_unless, record_to_store}
 
 -- the answers of a list, and what follows where none of its conditions holds
 abbrev pub AllAnswers : (Reply → Type 0) → List (Bool × Reply) → Type 0
@@ -39,7 +39,7 @@ pub record IsStorable (desc : Described) (p : Program) (db : Db) (set : ℕ) (a 
   pub area : area_of p set ≡ Some a
   pub free : is_free a p set (current_of p set) ≡ true
   pub required : missing_from 0 (items_of (structure_of desc set)) (area_values a) ≡ None
-  pub verified : verified (structure_of desc set) (area_values a) ≡ true
+  pub verified : meets_verify (structure_of desc set) (area_values a) ≡ true
   pub answer : put_of desc db set a (current_of p set) ≡ Stored n
 
 none_off : (o : Option (List ℕ)) → is_some o ≡ false → o ≡ None
@@ -75,22 +75,22 @@ begun_at P false who o answer desc p db set area is made same all = held_by P (b
 
 pub begun_by : (P : StoreResult → Type 0) (desc : Described) (p : Program) (s : Session) (audit : Bool)
     → (audit ≡ true → (a : Area) (n : ℕ) → IsStorable desc p s.db (restart_of desc) a n → P (Keeps (stored_program p (restart_of desc) n a) (put_after (Stored n) desc s.db (restart_of desc) (record_of a)))) → P (Keeps p s.db)
-    → AllAnswers (λ r. P (Refused r)) (begin_refusals audit (awaited s) (area_of p (restart_of desc)) (area_answer desc p s.db (restart_of desc)) desc p (restart_of desc)) → P (begun desc p s audit)
-unfolding begun
-begun_by P desc p s audit made same all = begun_at P audit (awaited s) (area_of p (restart_of desc)) (area_answer desc p s.db (restart_of desc)) desc p s.db (restart_of desc) refl refl made same all
+    → AllAnswers (λ r. P (Refused r)) (begin_refusals audit (begin_blockers s) (area_of p (restart_of desc)) (area_answer desc p s.db (restart_of desc)) desc p (restart_of desc)) → P (begin_transaction desc p s audit)
+unfolding begin_transaction
+begun_by P desc p s audit made same all = begun_at P audit (begin_blockers s) (area_of p (restart_of desc)) (area_answer desc p s.db (restart_of desc)) desc p s.db (restart_of desc) refl refl made same all
 
 pub begun_any : (P : StoreResult → Type 0) (desc : Described) (p : Program) (s : Session) (audit : Bool)
     → (audit ≡ true → (a : Area) (n : ℕ) → IsStorable desc p s.db (restart_of desc) a n → P (Keeps (stored_program p (restart_of desc) n a) (put_after (Stored n) desc s.db (restart_of desc) (record_of a)))) → P (Keeps p s.db)
-    → ((r : Reply) → P (Refused r)) → P (begun desc p s audit)
+    → ((r : Reply) → P (Refused r)) → P (begin_transaction desc p s audit)
 begun_any P desc p s audit made same any =
-    begun_by P desc p s audit made same (any_answers (λ r. P (Refused r)) any (begin_refusals audit (awaited s) (area_of p (restart_of desc)) (area_answer desc p s.db (restart_of desc)) desc p (restart_of desc)))
+    begun_by P desc p s audit made same (any_answers (λ r. P (Refused r)) any (begin_refusals audit (begin_blockers s) (area_of p (restart_of desc)) (area_answer desc p s.db (restart_of desc)) desc p (restart_of desc)))
 
 -- ---- numbers
 
 -- a record that is replaced keeps its number, and clashes with none
 pub record KeepsNumber (desc : Described) (db : Db) (set m n : ℕ) (rec : Record) : Type 0 where
   pub number : m ≡ n
-  pub clear : clash desc.structures db set (Some m) (stored desc db set (Some m) rec) ≡ None
+  pub clear : clash desc.structures db set (Some m) (record_to_store desc db set (Some m) rec) ≡ None
 
 old_at : (c : Option ℕ) (m n : ℕ) → put_unless c (Stored m) ≡ Stored n → (m ≡ n) × (c ≡ None)
 old_at None m n is = ((let same : m ≡ n = cc in same), refl)
@@ -98,13 +98,13 @@ old_at (Some d) m n is = absurd (cc)
 
 pub old_stored : (desc : Described) (db : Db) (set m n : ℕ) (rec : Record) → put_answer desc db set (Some m) rec ≡ Stored n → KeepsNumber desc db set m n rec
 unfolding put_answer
-old_stored desc db set m n rec is = let both = old_at (clash desc.structures db set (Some m) (stored desc db set (Some m) rec)) m n is in record { number = both.0; clear = both.1 }
+old_stored desc db set m n rec is = let both = old_at (clash desc.structures db set (Some m) (record_to_store desc db set (Some m) rec)) m n is in record { number = both.0; clear = both.1 }
 
 -- a new record has the least free number, there is room for it, and it clashes with none
 pub record HasNewNumber (desc : Described) (db : Db) (set n : ℕ) (rec : Record) : Type 0 where
   pub number : fresh db.records set ≡ n
   pub room : is_full (structure_of desc set) (length (records_of db.records set)) ≡ false
-  pub clear : clash desc.structures db set None (stored desc db set None rec) ≡ None
+  pub clear : clash desc.structures db set None (record_to_store desc db set None rec) ≡ None
 
 new_at : (c : Option ℕ) (b : Bool) (m n : ℕ) → put_unless c (cond b Full (Stored m)) ≡ Stored n → (m ≡ n) × ((b ≡ false) × (c ≡ None))
 new_at None true m n is = absurd (cc)
@@ -114,5 +114,5 @@ new_at (Some d) b m n is = absurd (cc)
 pub new_stored : (desc : Described) (db : Db) (set n : ℕ) (rec : Record) → put_answer desc db set None rec ≡ Stored n → HasNewNumber desc db set n rec
 unfolding put_answer
 new_stored desc db set n rec is =
-    let all = new_at (clash desc.structures db set None (stored desc db set None rec)) (is_full (structure_of desc set) (length (records_of db.records set))) (fresh db.records set) n is in
+    let all = new_at (clash desc.structures db set None (record_to_store desc db set None rec)) (is_full (structure_of desc set) (length (records_of db.records set))) (fresh db.records set) n is in
     record { number = all.0; room = all.1.0; clear = all.1.1 }

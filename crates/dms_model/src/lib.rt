@@ -21,7 +21,7 @@ pub use dms_desc::{Bound, Record, Values};
 pub use fitting::{has_structure, is_data_set, is_numbered, record_fits, see_all_plain};
 pub use item_numbers::ItemNumbers;
 pub use keys::{item_at, key_of, part_order, value_at};
-pub use linking::linked;
+pub use linking::with_links_of;
 pub use literals::Literals;
 pub use locks::Locks;
 pub use program::{Area, AreaKind, Lock, Mode, Program, Wait, Work};

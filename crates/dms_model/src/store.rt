@@ -1,8 +1,9 @@
-ghost use Rattle.std.specs.Prelude.{◌≡◌, ◌<◌, ◌+◌, ◌*◌, ◌^◌, length, ◌++◌, [], ◌∷◌, Some, IfOk, IfSome, OnOk, IsErrOf, IsOkUnless};
+ghost use Rattle.std.specs.Prelude.{◌≡◌, ◌<◌, ◌+◌, ◌*◌, ◌^◌, length, ◌++◌, [], ◌∷◌, true, Some, IfOk, IfSome, OnOk, IsErrOf, IsOkUnless};
 ghost use Rattle.std.specs.FinMap.{get};
 ghost use Rattle.dms_model.specs.Db.{Db};
 ghost use Rattle.dms_model.specs.Members.{first_member, last_member};
 ghost use Rattle.dms_model.specs.Points.{StoreLeaves};
+ghost use Rattle.dms_block.specs.Held.{is_due};
 ghost use Rattle.dms_block.specs.Texts.{Prints};
 ghost use Rattle.dms_model.specs.Seen.{Seen, StoreAgrees, GoesBack, HasStoreCauses, IfPointsTold, IsMute, IsSilent, Keeps, KeepsPoints, QuietMade, PointsDurable, SaysPart, Spends, Syncs};
 ghost use Rattle.dms_model.specs.Stores.{Tells};
@@ -110,11 +111,12 @@ pub trait Store {
         ensures effort { Spends (64 * length (seen self.old).desc.structures) (seen self.old).effort (seen self.new).effort }
         ensures undamaged { (d : Db) → (seen self.old).db ≡ Some d → Undamaged result }
         ensures mute_fault { IsErrOf result BlockFault.Say → ⊥ }
-        ensures full { IfFull result (λ f. f ≡ (seen self.old).last) }
+        ensures full { IfFull result (λ f. f ≡ (seen self.old).pace.last) }
         ensures stored { FullWhereStored (seen self.old).db (seen self.old).desc set number rec.now result }
         ensures causes { HasStoreCauses result (seen self.old) (seen self.new) };
 
     /// Makes a quiet point, and answers its number. Takes no memory. Where the next number is 2^64 - 1 it stays so.
+    /// Where the audit has no room no stop leaves the new point.
     fn quiet(&mut self) -> Result<u64, BlockFault>
         requires { (seen self.old).sound }
         ensures number { (seen self.old).next + 1 < 2 ^ 64 → IfOk result (λ n. n ≡ (seen self.old).next) }
@@ -126,10 +128,11 @@ pub trait Store {
         ensures effort { (seen self.new).effort ≡ (seen self.old).effort }
         ensures undamaged { (d : Db) → (seen self.old).db ≡ Some d → Undamaged result }
         ensures mute_fault { IsErrOf result BlockFault.Say → ⊥ }
-        ensures full { IfFull result (λ f. f ≡ (seen self.old).last) }
+        ensures full { IfFull result (λ f. f ≡ (seen self.old).pace.last) }
+        ensures no_point { let s = seen self.old in IfFull result (λ f. IfPointsTold s (StoreLeaves s.whole s.clock (seen self.new).clock s.durable s.points s.next s.said)) }
         ensures causes { HasStoreCauses result (seen self.old) (seen self.new) };
 
-    /// Makes all quiet points so far durable. Takes no memory.
+    /// Makes all quiet points so far durable. Takes no memory. The audit may have no room only where a control point is due.
     fn sync(&mut self) -> Result<(), BlockFault>
         requires { (seen self.old).sound }
         ensures made { OnOk result (PointsDurable (seen self.old) (seen self.new)) }
@@ -139,7 +142,8 @@ pub trait Store {
         ensures effort { Syncs result (seen self.old).effort (seen self.new).effort }
         ensures undamaged { (d : Db) → (seen self.old).db ≡ Some d → Undamaged result }
         ensures mute_fault { IsErrOf result BlockFault.Say → ⊥ }
-        ensures full { IfFull result (λ f. f ≡ (seen self.old).last) }
+        ensures full { IfFull result (λ f. f ≡ (seen self.old).pace.last) }
+        ensures due { IfFull result (λ f. is_due (seen self.old).pace.every (seen self.old).effort.syncs ≡ true) }
         ensures causes { HasStoreCauses result (seen self.old) (seen self.new) };
 
     /// Goes back to the last quiet point, or to the database that it began with. Full names file 9,999.

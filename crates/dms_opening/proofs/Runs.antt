@@ -13,7 +13,7 @@ use Rattle.dms_restore.specs.Views.{view_of}
 use Rattle.dms_restore.specs.Counts.{count_of}
 use Rattle.dms_wal.specs.declared.running.Running.{Running}
 use Rattle.dms_wal.specs.declared.running.Start.{Start}
-use Rattle.dms_wal.specs.Database.{held}
+use Rattle.dms_wal.specs.Database.{running_held}
 use Rattle.dms_wal.specs.Lifting.{AreCounts, block_point}
 use Rattle.dms_wal.specs.Marks.{IsDescription, IsMarkOf}
 use Rattle.dms_wal.specs.Starting.{IsInBounds, StartsFrom}
@@ -36,7 +36,7 @@ pub in_bounds : (s : Start) → IsDescription s.schema.items → AreCounts s.cou
 in_bounds s described table same = record { described = described; marked = record { table = subst AreCounts (sym same) table; as_many = ap length same } }
 
 module _ {S : Type 0} (g : Ghosts S) (r : Running S) (e : AuditEnd) (alike : EndsAlike r.log.end e) where
-  tells_here : (files : Files) (point : ℕ) (schema counts : List ℕ) → RunsFrom files point r.next schema counts (view_of g r.log) → r.syncs ≡ 0 → TellsOpened (telling (view_of g r.log)) files r.next (held g (reaching g r e alike))
+  tells_here : (files : Files) (point : ℕ) (schema counts : List ℕ) → RunsFrom files point r.next schema counts (view_of g r.log) → r.syncs ≡ 0 → TellsOpened (telling (view_of g r.log)) files r.next (running_held g (reaching g r e alike))
   tells_here files point schema counts f none = subst (λ (h : Held). TellsOpened (telling (view_of g r.log)) files r.next h) (held_alike g r e alike) (record {
     points_are = ap (λ (ps : List DescribedPoint). map block_point ps) f.points_same;
     all_durable = f.all_durable ∙ sym (length-map (points (view_of g r.log)) block_point);
@@ -46,8 +46,8 @@ module _ {S : Type 0} (g : Ghosts S) (r : Running S) (e : AuditEnd) (alike : End
   })
 
   pub tells_at : (files : Files) (point next : ℕ) (counts said : List ℕ) (log : Log S) → r.log ≡ log → r.next ≡ next → r.syncs ≡ 0 → RunsFrom files point next said counts (view_of g log)
-      → TellsOpened (telling (view_of g log)) files next (held g (reaching g r e alike))
+      → TellsOpened (telling (view_of g log)) files next (running_held g (reaching g r e alike))
   tells_at files point next counts said log one three none f =
-      subst (λ (l : Log S). TellsOpened (telling (view_of g l)) files next (held g (reaching g r e alike))) one
-      (subst (λ n. TellsOpened (telling (view_of g r.log)) files n (held g (reaching g r e alike))) three
+      subst (λ (l : Log S). TellsOpened (telling (view_of g l)) files next (running_held g (reaching g r e alike))) one
+      (subst (λ n. TellsOpened (telling (view_of g r.log)) files n (running_held g (reaching g r e alike))) three
       (tells_here files point said counts (subst (λ n. RunsFrom files point n said counts (view_of g r.log)) (sym three) (subst (λ (l : Log S). RunsFrom files point next said counts (view_of g l)) (sym one) f)) none))

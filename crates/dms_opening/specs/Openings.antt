@@ -163,7 +163,7 @@ module _ {S : Type 0} (g : Ghosts S) where
     pub few : (total first : ℕ) → IsTrailFound total first (g.files old) → IsWhole (telling_of total first) (g.files old) → SealsFew total first (g.files old) (g.files new)
 
 -- Why the audit has no room: each file of the trail of these files, up to file 9,999, is full now.
-pub record IsFullIn (files now : Files) : Type 0 where
+pub record HasFullTrail (files now : Files) : Type 0 where
   pub total : ℕ
   pub first : ℕ
   pub trail : IsTrailFound total first files

@@ -6,10 +6,10 @@ ghost use Rattle.dms_site.specs.Files.{Files, Same};
 ghost use Rattle.dms_audfile.specs.Counting.{CountedAt};
 ghost use Rattle.dms_restore.specs.Logging.{telling_of, waits};
 ghost use Rattle.dms_restore.specs.Views.{view_of};
-ghost use Rattle.dms_wal.specs.Database.{IsRunningUsable, held};
+ghost use Rattle.dms_wal.specs.Database.{IsRunningUsable, running_held};
 ghost use Rattle.dms_wal.specs.Lifting.{AreCounts};
 ghost use Rattle.dms_wal.specs.Marks.{IsDescription};
-ghost use Rattle.dms_opening.specs.Openings.{NamesStructures, OpensAt, RunsFrom, RunsWhere, OpenedRuns, ReopensSince, TellsOpened, RefusesFiles, IsFullFault, IsFullIn, OpeningGrows, CanOpen, StaysUnopened, MayHaveWritten, IsOpenable, IsNoRefusal};
+ghost use Rattle.dms_opening.specs.Openings.{NamesStructures, OpensAt, RunsFrom, RunsWhere, OpenedRuns, ReopensSince, TellsOpened, RefusesFiles, IsFullFault, HasFullTrail, OpeningGrows, CanOpen, StaysUnopened, MayHaveWritten, IsOpenable, IsNoRefusal};
 
 use crate::carrying::{carry_out, site_of};
 use crate::looking::look;
@@ -48,7 +48,7 @@ pub fn open<S: Site>(alloc: Global, found: Found<S>) -> Result<Opened<S>, (OpenF
     ensures moments { IfOk result (λ o. IsTrue S.tells → ReopensSince S.Site found.site o.log.site) }
     ensures stopped { IfErr result (λ e. IsTrue S.tells → ReopensSince S.Site found.site e.1) }
     ensures refused { IfErr result (λ e. IsTrue S.tells → RefusesFiles (S.files found.site) e.0) }
-    ensures full { IfErr result (λ e. IsTrue S.tells → IsFullFault e.0 → IsFullIn (S.files found.site) (S.files e.1)) }
+    ensures full { IfErr result (λ e. IsTrue S.tells → IsFullFault e.0 → HasFullTrail (S.files found.site) (S.files e.1)) }
     ensures grows { IfOk result (λ o. IsTrue S.tells → OpeningGrows S.Site found.site o.log.site) }
     ensures grows_then { IfErr result (λ e. IsTrue S.tells → OpeningGrows S.Site found.site e.1) }
     ensures begun { IfErr result (λ e. IsTrue S.tells → CanOpen (S.files found.site) ⊎ StaysUnopened S.Site found.site e.1 e.0) }
@@ -85,7 +85,7 @@ impl<S: Site> Opened<S> {
         requires table { AreCounts self.counts.items }
         ensures usable { IfOk result (λ r. (IsTrue S.tells → OpenedRuns S.Site self) → IsRunningUsable S.Site r) }
         ensures tells { IfOk result (λ r. (files : Files) → RunsFrom files self.point self.next self.schema.items self.counts.items (view_of S.Site self.log)
-            → TellsOpened (telling_of self.log.end.total self.log.first) files self.next (held S.Site r)) }
+            → TellsOpened (telling_of self.log.end.total self.log.first) files self.next (running_held S.Site r)) }
         ensures log { IfOk result (λ r. (r.log.site ≡ self.log.site) × (r.log.first ≡ self.log.first) × (r.log.end.total ≡ self.log.end.total) × (r.log.end.limit ≡ limit)) }
         ensures kept { IfOk result (λ r. (r.schema ≡ self.schema) × (r.counts ≡ self.counts) × (r.next ≡ self.next) × (r.point ≡ self.point)
             × (r.every ≡ every) × (r.changed ≡ false) × (r.syncs ≡ 0) × (r.spent ≡ 0) × (r.outs ≡ 0)) }

@@ -59,7 +59,7 @@ fn judge_last(history: &TrailHistory) -> Option<(u64, PointFault)>
 {
     match last_point(history) {
         None => Some((0, PointFault::AuditMissing)),
-        Some(point) => numbered(point, judge(history, point)),
+        Some(point) => with_number(point, judge(history, point)),
     }
 }
 
@@ -82,7 +82,7 @@ pub(crate) fn judge_opening(
 }
 
 /// A refusal with the number of its point.
-fn numbered(point: u64, fault: Option<PointFault>) -> Option<(u64, PointFault)>
+fn with_number(point: u64, fault: Option<PointFault>) -> Option<(u64, PointFault)>
     ensures { refusal_at result ≡ at_point point (refusal_seen fault) }
 {
     match fault {

@@ -73,8 +73,8 @@ rises_second (x ∷ xs) ys r = rises_second xs ys r.1
 
 -- a rising list is the keys of a map
 
-abbrev paired : List (List ℕ) → List (List ℕ × Unit {0})
-paired xs = map (λ x. (x, tt)) xs
+abbrev with_units : List (List ℕ) → List (List ℕ × Unit {0})
+with_units xs = map (λ x. (x, tt)) xs
 
 true_both : (a b : Bool) → T a → T b → T (a && b)
 true_both true b p q = q
@@ -85,30 +85,30 @@ true_lt Less h = tt
 true_lt Equal h = absurd (cc h)
 true_lt Greater h = absurd (cc h)
 
-below_of : (x : List ℕ) (xs : List (List ℕ)) → AreAllAbove x xs → T (below_all bytes_cmp x (paired xs))
+below_of : (x : List ℕ) (xs : List (List ℕ)) → AreAllAbove x xs → T (below_all bytes_cmp x (with_units xs))
 below_of x [] all = tt
 below_of x (y ∷ ys) all = true_both _ _ (true_lt (bytes_cmp x y) all.0) (below_of x ys all.1)
 
-sorted_of : (xs : List (List ℕ)) → AreInByteOrder xs → T (is_sorted bytes_cmp (paired xs))
+sorted_of : (xs : List (List ℕ)) → AreInByteOrder xs → T (is_sorted bytes_cmp (with_units xs))
 sorted_of [] r = tt
 sorted_of (x ∷ xs) r = true_both _ _ (below_of x xs r.0) (sorted_of xs r.1)
 
-firsts_paired : (xs : List (List ℕ)) → map (λ e. e.0) (paired xs) ≡ xs
+firsts_paired : (xs : List (List ℕ)) → map (λ e. e.0) (with_units xs) ≡ xs
 firsts_paired [] = refl
 firsts_paired (x ∷ xs) = ap (λ (l : List (List ℕ)). x ∷ l) (firsts_paired xs)
 
-keyed : List (List ℕ) → ByteSet
-keyed xs = from_sorted (paired xs)
+set_of_keys : List (List ℕ) → ByteSet
+set_of_keys xs = from_sorted (with_units xs)
 
-keys_keyed : (xs : List (List ℕ)) → AreInByteOrder xs → keys (keyed xs) ≡ xs
-unfolding keyed
-keys_keyed xs r = ap (λ (l : List (List ℕ × Unit {0})). map (λ e. e.0) l) (entries-from_sorted bytes_cmp (paired xs) (sorted_of xs r)) ∙ firsts_paired xs
+keys_keyed : (xs : List (List ℕ)) → AreInByteOrder xs → keys (set_of_keys xs) ≡ xs
+unfolding set_of_keys
+keys_keyed xs r = ap (λ (l : List (List ℕ × Unit {0})). map (λ e. e.0) l) (entries-from_sorted bytes_cmp (with_units xs) (sorted_of xs r)) ∙ firsts_paired xs
 
 pub rises_with : (x : List ℕ) (xs : List (List ℕ)) → AreInByteOrder xs → AreInByteOrder (with_entry x xs)
-rises_with x xs r = subst AreInByteOrder (keys_with x (keyed xs) ∙ ap (with_entry x) (keys_keyed xs r)) (keys_rise (insert (keyed xs) x tt))
+rises_with x xs r = subst AreInByteOrder (keys_with x (set_of_keys xs) ∙ ap (with_entry x) (keys_keyed xs r)) (keys_rise (insert (set_of_keys xs) x tt))
 
 pub rises_without : (x : List ℕ) (xs : List (List ℕ)) → AreInByteOrder xs → AreInByteOrder (without x xs)
-rises_without x xs r = subst AreInByteOrder (keys_without x (keyed xs) ∙ ap (without x) (keys_keyed xs r)) (keys_rise (remove (keyed xs) x))
+rises_without x xs r = subst AreInByteOrder (keys_without x (set_of_keys xs) ∙ ap (without x) (keys_keyed xs r)) (keys_rise (remove (set_of_keys xs) x))
 
 -- what stands where a byte string belongs
 

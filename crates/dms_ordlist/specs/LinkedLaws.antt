@@ -3,7 +3,7 @@ use Rattle.std.proofs.Common.{◌≡◌, ℕ, zero, suc, ◌+◌, ◌≤◌, Lis
 use Rattle.std.specs.declared.option.Option.{Option}
 use Rattle.std.specs.Option.{option_map}
 use Rattle.std.proofs.lemmas.Bool.Decides.{nat_tests}
-use Rattle.dms_ordlist.specs.Linked.{BlockChain, front, linked, numbers, put, said_by, times, walk}
+use Rattle.dms_ordlist.specs.Linked.{BlockChain, front, chain_step, numbers, put, said_by, times, walk}
 
 pub times_append : (n : ℕ) (xs ys : List ℕ) → times n (xs ++ ys) ≡ times n xs + times n ys
 times_append n [] ys = omega arith
@@ -78,8 +78,8 @@ module _ {A : Type 0} where
     walk_is look (suc n) [] le c = refl
     walk_is look zero (x ∷ xs) le c = absurd (omega (arith, le))
     walk_is look (suc n) (x ∷ xs) le c =
-        some_if x.0 (Some []) (linked x.0 (said_by reads (look x.0)) (λ k. walk n reads look k)) c.0
-        ∙ ap (λ o. linked x.0 o (λ k. walk n reads look k)) c.1
+        some_if x.0 (Some []) (chain_step x.0 (said_by reads (look x.0)) (λ k. walk n reads look k)) c.0
+        ∙ ap (λ o. chain_step x.0 o (λ k. walk n reads look k)) c.1
         ∙ ap (λ o. option_map (λ ls. (x.0, x.1) ∷ ls) o) (walk_is look n xs (omega (arith, le)) c.2)
 
     -- and finds nothing but chains
@@ -98,7 +98,7 @@ module _ {A : Type 0} where
         let whole : (b, x.1) ∷ ys ≡ xs = cc is in
         subst (Found look b) whole (record { chain = (some, said ∙ ap (λ k. Some (k, x.1)) (sym rest.first), rest.chain); first = refl })
 
-    found_on : (look : ℕ → Option (List ℕ)) (b : ℕ) (o : Option (ℕ × A)) (rest : ℕ → Option (List (ℕ × A))) (xs : List (ℕ × A)) → said_by reads (look b) ≡ o → (b ≡ 0 → ⊥) → ((k : ℕ) (ys : List (ℕ × A)) → rest k ≡ Some ys → Found look k ys) → linked b o rest ≡ Some xs → Found look b xs
+    found_on : (look : ℕ → Option (List ℕ)) (b : ℕ) (o : Option (ℕ × A)) (rest : ℕ → Option (List (ℕ × A))) (xs : List (ℕ × A)) → said_by reads (look b) ≡ o → (b ≡ 0 → ⊥) → ((k : ℕ) (ys : List (ℕ × A)) → rest k ≡ Some ys → Found look k ys) → chain_step b o rest ≡ Some xs → Found look b xs
     found_on look b None rest xs said some onward is = absurd (cc is)
     found_on look b (Some x) rest xs said some onward is = found_more look b x (rest x.0) xs said some (onward x.0) is
 
@@ -109,5 +109,5 @@ module _ {A : Type 0} where
     pub walk_finds : (look : ℕ → Option (List ℕ)) (n b : ℕ) (xs : List (ℕ × A)) → walk n reads look b ≡ Some xs → Found look b xs
     walk_finds look zero b xs is = found_if look b None xs (λ some e. absurd (cc e)) is
     walk_finds look (suc n) b xs is =
-        found_if look b (linked b (said_by reads (look b)) (λ k. walk n reads look k)) xs
+        found_if look b (chain_step b (said_by reads (look b)) (λ k. walk n reads look k)) xs
         (λ some e. found_on look b (said_by reads (look b)) (λ k. walk n reads look k) xs refl some (λ k ys h. walk_finds look n k ys h) e) is

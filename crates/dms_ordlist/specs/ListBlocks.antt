@@ -7,8 +7,8 @@ use Rattle.std.specs.Str.{bytes_eq}
 use Rattle.dms_ordlist.specs.Lists.{bytes_cmp}
 
 -- zeros up to the end of a block
-unfoldable pub filled : List ℕ → List ℕ
-filled bytes = bytes ++ replicate (1024 - length bytes) 0
+unfoldable pub fill_block : List ℕ → List ℕ
+fill_block bytes = bytes ++ replicate (1024 - length bytes) 0
 
 -- entries one after another
 abbrev pub flat : List (List ℕ) → List ℕ
@@ -16,9 +16,9 @@ flat [] = []
 flat (x ∷ xs) = x ++ flat xs
 
 -- so many entries of one width, from the first byte on
-abbrev pub cut : ℕ → ℕ → List ℕ → List (List ℕ)
-cut width zero bytes = []
-cut width (suc k) bytes = take width bytes ∷ cut width k (drop width bytes)
+abbrev pub entry_chunks : ℕ → ℕ → List ℕ → List (List ℕ)
+entry_chunks width zero bytes = []
+entry_chunks width (suc k) bytes = take width bytes ∷ entry_chunks width k (drop width bytes)
 
 abbrev pub before_first : List ℕ → List (List ℕ) → Bool
 before_first x [] = true
@@ -31,15 +31,15 @@ is_rising (x ∷ xs) = before_first x xs && is_rising xs
 
 -- the head: kind 3, form 2, the number of the first block, that of the first free one
 unfoldable pub head_bytes : ℕ → ℕ → List ℕ
-head_bytes first free = filled (3 ∷ 2 ∷ (to_be_bytes w32 first ++ to_be_bytes w32 free))
+head_bytes first free = fill_block (3 ∷ 2 ∷ (to_be_bytes w32 first ++ to_be_bytes w32 free))
 
 -- a free block: kind 0, the number of the next one
 unfoldable pub free_bytes : ℕ → List ℕ
-free_bytes next = filled (0 ∷ to_be_bytes w32 next)
+free_bytes next = fill_block (0 ∷ to_be_bytes w32 next)
 
 -- a block of entries: kind 1, how many, the number of the next one, the entries
 unfoldable pub leaf_bytes : ℕ → List (List ℕ) → List ℕ
-leaf_bytes next entries = filled (1 ∷ (to_be_bytes w16 (length entries) ++ (to_be_bytes w32 next ++ flat entries)))
+leaf_bytes next entries = fill_block (1 ∷ (to_be_bytes w16 (length entries) ++ (to_be_bytes w32 next ++ flat entries)))
 
 -- a block holds at least one entry, as many as fit at most, and they rise
 abbrev pub may_hold : ℕ → List (List ℕ) → Bool
@@ -71,4 +71,4 @@ abbrev pub leaf_as : ℕ → ℕ → List (List ℕ) → List ℕ → Option (�
 leaf_as width next entries b = leaf_if (may_hold width entries && bytes_eq b (leaf_bytes next entries)) next entries
 
 unfoldable pub leaf_in : ℕ → List ℕ → Option (ℕ × List (List ℕ))
-leaf_in width b = leaf_as width (from_be_bytes w32 (take 4 (drop 3 b))) (cut width (from_be_bytes w16 (take 2 (drop 1 b))) (drop 7 b)) b
+leaf_in width b = leaf_as width (from_be_bytes w32 (take 4 (drop 3 b))) (entry_chunks width (from_be_bytes w16 (take 2 (drop 1 b))) (drop 7 b)) b

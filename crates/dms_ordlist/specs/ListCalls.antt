@@ -2,8 +2,8 @@
 use Rattle.std.specs.Prelude.{ℕ, ◌≡◌, ◌≢◌, ◌/◌, IsTrue, List, [], Some, length, take, drop}
 use Rattle.dms_block.specs.declared.blocks.Blocks.{Ghosts}
 use Rattle.dms_block.specs.declared.overlay.Overlay.{Overlay}
-use Rattle.dms_block.specs.Content.{Content, laid, with_block}
-use Rattle.dms_block.specs.View.{seen, under}
+use Rattle.dms_block.specs.Content.{Content, put_block, with_block}
+use Rattle.dms_block.specs.View.{overlay_content, under}
 use Rattle.dms_ordlist.specs.Linked.{front}
 use Rattle.dms_ordlist.specs.ListBlocks.{head_bytes, leaf_bytes}
 use Rattle.dms_ordlist.specs.ListIn.{Leaf, Spare, list_in}
@@ -16,11 +16,11 @@ with_head file first free c = with_block c file 0 (head_bytes first free)
 
 -- the blocks of a file with another head of its list
 abbrev pub laid_head : ℕ → ℕ → List (List ℕ) → List (List ℕ)
-laid_head first free bs = laid 0 (head_bytes first free) bs
+laid_head first free bs = put_block 0 (head_bytes first free) bs
 
 -- blocks in which entries stand half in their block and half in a fresh one behind it
 abbrev pub with_halves : (number fresh next : ℕ) → List (List ℕ) → List (List ℕ) → List (List ℕ)
-with_halves number fresh next es bs = laid number (leaf_bytes fresh (take (length es / 2) es)) (laid fresh (leaf_bytes next (drop (length es / 2) es)) bs)
+with_halves number fresh next es bs = put_block number (leaf_bytes fresh (take (length es / 2) es)) (put_block fresh (leaf_bytes next (drop (length es / 2) es)) bs)
 
 module _ {B : Type 0} {g : Ghosts B} where
   -- it holds where the content is told, and what stands below is sound
@@ -29,16 +29,16 @@ module _ {B : Type 0} {g : Ghosts B} where
 
   -- a block is taken from a file's list whose first free one is this, and another becomes the first free one
   abbrev pub TakesBlock : ℕ → ℕ → Overlay B g → ℕ → ℕ → Type 0
-  TakesBlock file free o taken next = IsTrue (under o).told → (w : ℕ) (ls : List Leaf) (fs : List Spare) → ListOr w (seen o file) ls fs → free ≡ front fs 0 → Taken w (seen o file) (front ls 0) ls taken next
+  TakesBlock file free o taken next = IsTrue (under o).told → (w : ℕ) (ls : List Leaf) (fs : List Spare) → ListOr w (overlay_content o file) ls fs → free ≡ front fs 0 → Taken w (overlay_content o file) (front ls 0) ls taken next
 
   -- it holds where a file has an empty list whose first free block is this, and its content is told
   abbrev pub IfEmpty : ℕ → ℕ → ℕ → Overlay B g → Type 0 → Type 0
-  IfEmpty file width free o P = IsTrue (under o).told → (fs : List Spare) → ListOr width (seen o file) [] fs → free ≡ front fs 0 → P
+  IfEmpty file width free o P = IsTrue (under o).told → (fs : List Spare) → ListOr width (overlay_content o file) [] fs → free ≡ front fs 0 → P
 
   -- a file's list becomes another
   abbrev pub BecomesList : ℕ → ℕ → Overlay B g → Overlay B g → List (List ℕ) → List (List ℕ) → Type 0
-  BecomesList file width a b xs ys = list_in width (seen a file) ≡ Some xs → list_in width (seen b file) ≡ Some ys
+  BecomesList file width a b xs ys = list_in width (overlay_content a file) ≡ Some xs → list_in width (overlay_content b file) ≡ Some ys
 
   -- all other files stay as they were, where the content is told
   abbrev pub LeavesOthers : ℕ → Overlay B g → Overlay B g → Type 0
-  LeavesOthers file a b = IsTrue (under a).told → (other : ℕ) → other ≢ file → seen b other ≡ seen a other
+  LeavesOthers file a b = IsTrue (under a).told → (other : ℕ) → other ≢ file → overlay_content b other ≡ overlay_content a other

@@ -3,7 +3,7 @@ use Rattle.std.proofs.Common.{ℕ, zero, suc, ◌+◌, ◌*◌, ◌^◌, ◌≤�
 use Rattle.std.specs.declared.option.Option.{Option}
 use Rattle.std.specs.Prelude.{IfSome}
 use Rattle.std.proofs.lemmas.List.{take-append-drop}
-use Rattle.dms_block.specs.Content.{laid}
+use Rattle.dms_block.specs.Content.{put_block}
 use Rattle.dms_ordlist.specs.declared.place.Look.{Look}
 use Rattle.dms_ordlist.specs.declared.place.ListPlace.{ListPlace}
 use Rattle.dms_ordlist.specs.Leads.{at_is, lead, rises_first, rises_second, rises_with, rising_is}
@@ -14,7 +14,7 @@ use Rattle.dms_ordlist.specs.ListIn.{IsList, Leaf, Spare, entries_of, list_in}
 use Rattle.dms_ordlist.specs.Lists.{AreInByteOrder, has_entry, with_entry, without}
 use Rattle.dms_ordlist.specs.ListWrites.{Taken, begun_written, here_written, split_written}
 use Rattle.dms_ordlist.specs.Located.{located_has, located_missing, located_stands, located_with}
-use Rattle.dms_ordlist.specs.Looks.{IsLook, ListOr, located, look_at, look_rises, parts_of}
+use Rattle.dms_ordlist.specs.Looks.{IsLook, ListOr, locates, look_at, look_rises, parts_of}
 use Rattle.dms_ordlist.specs.Places.{IsPlace, PlaceHolds, entries_append, link_of}
 use Rattle.dms_ordlist.specs.Seen.{IsListWidth}
 use Rattle.dms_ordlist.specs.SpellLaws.{AllWide, leaf_again, leaf_is}
@@ -45,7 +45,7 @@ free_low width bs first ls f free t =
 
 -- the first entry of a list
 pub begun_list : (width : ℕ) (bs : List (List ℕ)) (first f free : ℕ) (entry : List ℕ) → IsListWidth width → Taken width bs first [] f free → length bs ≤ 1048576 → length entry ≡ width
-    → list_in width (laid f (leaf_bytes 0 (entry ∷ [])) (laid 0 (head_bytes f free) bs)) ≡ Some (entry ∷ [])
+    → list_in width (put_block f (leaf_bytes 0 (entry ∷ [])) (put_block 0 (head_bytes f free) bs)) ≡ Some (entry ∷ [])
 begun_list width bs first f free entry w t room wide =
     let es = entry ∷ [] in
     begun_written width bs first f free es (leaf_bytes 0 es) t (omega (arith, t.near, room)) (omega (arith, t.near, room, free_low width bs first [] f free t))
@@ -110,8 +110,8 @@ module _ (c : List ℕ) (width count : ℕ) (bs : List (List ℕ)) (xs : List (L
   abbrev found : ListParts c width bs xs r p
   found = parts c width bs xs r p l place
 
-  pub held : PlaceHolds width count p
-  held = subst (λ o. IfSome o (PlaceHolds width count)) is holds
+  pub place_holds : PlaceHolds width count p
+  place_holds = subst (λ o. IfSome o (PlaceHolds width count)) is holds
 
   pub rising : AreInByteOrder xs
   rising = subst AreInByteOrder l.entries (look_rises c width bs xs r l)
@@ -121,33 +121,33 @@ module _ (c : List ℕ) (width count : ℕ) (bs : List (List ℕ)) (xs : List (L
   stands_has on =
       let at = place in
       ap (has_entry c) (sym l.entries ∙ parts_of c l.leaves p at)
-      ∙ located_has c (entries_of at.ahead) es (entries_of at.behind) (located c l.leaves p at) (subst AreInByteOrder (parts_of c l.leaves p at) (look_rises c width bs xs r l)) ∙ on
+      ∙ located_has c (entries_of at.ahead) es (entries_of at.behind) (locates c l.leaves p at) (subst AreInByteOrder (parts_of c l.leaves p at) (look_rises c width bs xs r l)) ∙ on
 
   pub missing_has : at_is c (slice_get es (lead c es)) ≡ false → has_entry c xs ≡ false
   missing_has off =
       let at = place in
       ap (has_entry c) (sym l.entries ∙ parts_of c l.leaves p at)
-      ∙ located_has c (entries_of at.ahead) es (entries_of at.behind) (located c l.leaves p at) (subst AreInByteOrder (parts_of c l.leaves p at) (look_rises c width bs xs r l)) ∙ off
+      ∙ located_has c (entries_of at.ahead) es (entries_of at.behind) (locates c l.leaves p at) (subst AreInByteOrder (parts_of c l.leaves p at) (look_rises c width bs xs r l)) ∙ off
 
   pub stands_with : at_is c (slice_get es (lead c es)) ≡ true → with_entry c xs ≡ xs
   stands_with on =
       let at = place in
       let whole = sym l.entries ∙ parts_of c l.leaves p at in
-      ap (with_entry c) whole ∙ located_stands c (entries_of at.ahead) es (entries_of at.behind) (located c l.leaves p at) on ∙ sym whole
+      ap (with_entry c) whole ∙ located_stands c (entries_of at.ahead) es (entries_of at.behind) (locates c l.leaves p at) on ∙ sym whole
 
   pub missing_without : at_is c (slice_get es (lead c es)) ≡ false → without c xs ≡ xs
   missing_without off =
       let at = place in
       let whole = sym l.entries ∙ parts_of c l.leaves p at in
-      ap (without c) whole ∙ located_missing c (entries_of at.ahead) es (entries_of at.behind) (located c l.leaves p at) (subst AreInByteOrder (parts_of c l.leaves p at) (look_rises c width bs xs r l)) off ∙ sym whole
+      ap (without c) whole ∙ located_missing c (entries_of at.ahead) es (entries_of at.behind) (locates c l.leaves p at) (subst AreInByteOrder (parts_of c l.leaves p at) (look_rises c width bs xs r l)) off ∙ sym whole
 
   with_parts : at_is c (slice_get es (lead c es)) ≡ false → with_entry c xs ≡ entries_of place.ahead ++ (with_at_place c es ++ entries_of place.behind)
   with_parts off =
       let at = place in
-      ap (with_entry c) (sym l.entries ∙ parts_of c l.leaves p at) ∙ located_with c (entries_of at.ahead) es (entries_of at.behind) (located c l.leaves p at) off
+      ap (with_entry c) (sym l.entries ∙ parts_of c l.leaves p at) ∙ located_with c (entries_of at.ahead) es (entries_of at.behind) (locates c l.leaves p at) off
 
   new_wide : length c ≡ width → AllWide width (with_at_place c es)
-  new_wide wide = wide_append width (take (lead c es) es) (c ∷ drop (lead c es) es) (wide_take width (lead c es) es held.here.leaf.wide) (wide, wide_drop width (lead c es) es held.here.leaf.wide)
+  new_wide wide = wide_append width (take (lead c es) es) (c ∷ drop (lead c es) es) (wide_take width (lead c es) es place_holds.here.leaf.wide) (wide, wide_drop width (lead c es) es place_holds.here.leaf.wide)
 
   new_rises : at_is c (slice_get es (lead c es)) ≡ false → AreInByteOrder (with_at_place c es ++ entries_of place.behind)
   new_rises off = rises_second (entries_of place.ahead) (with_at_place c es ++ entries_of place.behind) (subst AreInByteOrder (with_parts off) (rises_with c xs rising))
@@ -158,7 +158,7 @@ module _ (c : List ℕ) (width count : ℕ) (bs : List (List ℕ)) (xs : List (L
 
   -- the entry comes into its block
   pub here_list : length c ≡ width → length bs ≤ 1048576 → count ≡ length bs → at_is c (slice_get es (lead c es)) ≡ false → length (with_at_place c es) * width ≤ 1017
-      → list_in width (laid p.here.number (leaf_bytes p.here.leaf.next (with_at_place c es)) bs) ≡ Some (with_entry c xs)
+      → list_in width (put_block p.here.number (leaf_bytes p.here.leaf.next (with_at_place c es)) bs) ≡ Some (with_entry c xs)
   here_list wide room size off fits =
       let at = place in
       let new = with_at_place c es in
@@ -168,12 +168,12 @@ module _ (c : List ℕ) (width count : ℕ) (bs : List (List ℕ)) (xs : List (L
       let some : 0 < length new = omega (arith, length-append (take (lead c es) es) (c ∷ drop (lead c es) es)) in
       let reads = leaf_again width p.here.leaf.next new (omega (arith, w.low)) low (new_wide wide) (record { some = some; room = fits; rising = rising_is new rise }) ∙ ap (λ n. Some (n, new)) at.next in
       let whole : entries_of (at.ahead ++ (p.here.number, new) ∷ at.behind) ≡ with_entry c xs = entries_append at.ahead ((p.here.number, new) ∷ at.behind) ∙ sym (with_parts off) in
-      here_written width bs at.ahead at.behind p.here.number es new l.spares (leaf_bytes p.here.leaf.next new) list (omega (arith, held.here.there, size)) reads (subst AreInByteOrder (sym whole) (rises_with c xs rising)) ∙ ap Some whole
+      here_written width bs at.ahead at.behind p.here.number es new l.spares (leaf_bytes p.here.leaf.next new) list (omega (arith, place_holds.here.there, size)) reads (subst AreInByteOrder (sym whole) (rises_with c xs rising)) ∙ ap Some whole
 
   -- its block is parted
   pub split_list : (m f free : ℕ) → length c ≡ width → length bs ≤ 1048576 → count ≡ length bs → at_is c (slice_get es (lead c es)) ≡ false → 0 < m → m < length (with_at_place c es)
       → length (take m (with_at_place c es)) * width ≤ 1017 → length (drop m (with_at_place c es)) * width ≤ 1017 → 0 < length (take m (with_at_place c es)) → 0 < length (drop m (with_at_place c es)) → Taken width bs (front l.leaves 0) l.leaves f free
-      → list_in width (laid p.here.number (leaf_bytes f (take m (with_at_place c es))) (laid f (leaf_bytes p.here.leaf.next (drop m (with_at_place c es))) (laid 0 (head_bytes r.head.first free) bs))) ≡ Some (with_entry c xs)
+      → list_in width (put_block p.here.number (leaf_bytes f (take m (with_at_place c es))) (put_block f (leaf_bytes p.here.leaf.next (drop m (with_at_place c es))) (put_block 0 (head_bytes r.head.first free) bs))) ≡ Some (with_entry c xs)
   split_list m f free wide room size off some below fits fits' some' some'' t =
       let at = place in
       let new = with_at_place c es in
@@ -190,7 +190,7 @@ module _ (c : List ℕ) (width count : ℕ) (bs : List (List ℕ)) (xs : List (L
       let whole : entries_of (at.ahead ++ (p.here.number, less) ∷ ((f, more) ∷ at.behind)) ≡ with_entry c xs =
       entries_append at.ahead ((p.here.number, less) ∷ ((f, more) ∷ at.behind)) ∙ ap (λ (k : List (List ℕ)). entries_of at.ahead ++ k) halves ∙ sym (with_parts off) in
       let t' = subst (λ ls. Taken width bs r.head.first ls f free) at.is (subst (λ n. Taken width bs n l.leaves f free) (sym l.first) t) in
-      split_written width bs r.head.first f free at.ahead at.behind p.here.number es less more (leaf_bytes f less) (leaf_bytes p.here.leaf.next more) t' (omega (arith, held.here.there, size)) low_first (omega (arith, t.near, room, free_low width bs (front l.leaves 0) l.leaves f free t)) upper lower
+      split_written width bs r.head.first f free at.ahead at.behind p.here.number es less more (leaf_bytes f less) (leaf_bytes p.here.leaf.next more) t' (omega (arith, place_holds.here.there, size)) low_first (omega (arith, t.near, room, free_low width bs (front l.leaves 0) l.leaves f free t)) upper lower
       (subst AreInByteOrder (sym whole) (rises_with c xs rising)) ∙ ap Some whole
 
 -- parts of a block that has one entry too many

@@ -3,19 +3,19 @@ use Rattle.std.proofs.Common.{ℕ, zero, suc, ◌+◌, ◌*◌, ◌^◌, ◌≤�
 use Rattle.std.specs.declared.option.Option.{Option}
 use Rattle.std.specs.Prelude.{IfSome}
 use Rattle.std.proofs.lemmas.Bool.Decides.{nat_tests}
-use Rattle.dms_block.specs.Content.{laid}
+use Rattle.dms_block.specs.Content.{put_block}
 use Rattle.dms_ordlist.specs.declared.place.Look.{Look}
 use Rattle.dms_ordlist.specs.declared.place.ListPlace.{ListPlace}
 use Rattle.dms_ordlist.specs.declared.place.NumberedLeaf.{NumberedLeaf}
 use Rattle.dms_ordlist.specs.Leads.{at_is, lead, rises_first, rises_second, rises_without, rising_is}
 use Rattle.dms_ordlist.specs.Linked.{front}
 use Rattle.dms_ordlist.specs.ListBlocks.{flat, free_bytes, head_bytes, leaf_bytes}
-use Rattle.dms_ordlist.specs.ListChanges.{front_low, held, list_at, low_next, more_times, place, rising, whole_low, wide_append, wide_drop, wide_take}
+use Rattle.dms_ordlist.specs.ListChanges.{front_low, place_holds, list_at, low_next, more_times, place, rising, whole_low, wide_append, wide_drop, wide_take}
 use Rattle.dms_ordlist.specs.ListIn.{IsList, Leaf, Spare, entries_of, list_in}
 use Rattle.dms_ordlist.specs.Lists.{AreInByteOrder, without}
 use Rattle.dms_ordlist.specs.ListWrites.{first_freed, here_written, later_freed}
 use Rattle.dms_ordlist.specs.Located.{lead_le, located_without}
-use Rattle.dms_ordlist.specs.Looks.{IsLook, located, look_rises, parts_of}
+use Rattle.dms_ordlist.specs.Looks.{IsLook, locates, look_rises, parts_of}
 use Rattle.dms_ordlist.specs.Places.{Before, PlaceHolds, SpotHolds, entries_append, link_of}
 use Rattle.dms_ordlist.specs.Seen.{IsListWidth}
 use Rattle.dms_ordlist.specs.SpellLaws.{AllWide, few_enough, free_again, leaf_again, wide_room}
@@ -25,9 +25,9 @@ abbrev pub without_at_place : List ℕ → List (List ℕ) → List (List ℕ)
 without_at_place c es = take (lead c es) es ++ drop (suc (lead c es)) es
 
 -- the blocks after one became the first free one: the head, or the block before it, leads to the next one
-abbrev pub released : Option NumberedLeaf → ℕ → ℕ → ℕ → ℕ → List (List ℕ) → List (List ℕ)
-released None first free b next bs = laid b (free_bytes free) (laid 0 (head_bytes next b) bs)
-released (Some s) first free b next bs = laid b (free_bytes free) (laid s.number (leaf_bytes next s.leaf.entries.items) (laid 0 (head_bytes first b) bs))
+abbrev pub release_block : Option NumberedLeaf → ℕ → ℕ → ℕ → ℕ → List (List ℕ) → List (List ℕ)
+release_block None first free b next bs = put_block b (free_bytes free) (put_block 0 (head_bytes next b) bs)
+release_block (Some s) first free b next bs = put_block b (free_bytes free) (put_block s.number (leaf_bytes next s.leaf.entries.items) (put_block 0 (head_bytes first b) bs))
 
 -- a block whose entries fit, at a number of the file
 pub record LeafSpotFits (count : ℕ) (s : NumberedLeaf) : Type 0 where
@@ -49,13 +49,13 @@ spare_low width count look ls fs is = front_low fs count (omega (arith, is.count
 -- the block of the last entry leaves the chain
 released_list : (width count : ℕ) (bs : List (List ℕ)) (before : Option NumberedLeaf) (ahead behind : List Leaf) (b : ℕ) (es : List (List ℕ)) (fs : List Spare) (first free next : ℕ) → IsListWidth width → Before before ahead → IfSome before (SpotHolds width count)
     → IsList width (length bs) (slice_get bs) (ahead ++ (b, es) ∷ behind) fs → first ≡ front (ahead ++ (b, es) ∷ behind) 0 → free ≡ front fs 0 → next ≡ front behind 0 → b < count → count ≡ length bs → length bs ≤ 1048576 → AreInByteOrder (entries_of ahead ++ entries_of behind)
-    → list_in width (released before first free b next bs) ≡ Some (entries_of ahead ++ entries_of behind)
+    → list_in width (release_block before first free b next bs) ≡ Some (entries_of ahead ++ entries_of behind)
 released_list width count bs None ahead behind b es fs first free next w at holds is head_is free_is next_is there size room rises =
     let list = subst (λ (a : List Leaf). IsList width (length bs) (slice_get bs) (a ++ (b, es) ∷ behind) fs) at is in
     let rest : entries_of ahead ++ entries_of behind ≡ entries_of behind = ap (λ (a : List Leaf). entries_of a ++ entries_of behind) at in
     let low : front behind 0 < length bs = low_next width (length bs) (slice_get bs) ahead behind (b, es) fs is in
     let spare = spare_low width (length bs) (slice_get bs) (ahead ++ (b, es) ∷ behind) fs is in
-    ap (λ n. list_in width (laid b (free_bytes free) (laid 0 (head_bytes n b) bs))) next_is
+    ap (λ n. list_in width (put_block b (free_bytes free) (put_block 0 (head_bytes n b) bs))) next_is
     ∙ first_freed width bs behind b es fs (free_bytes free) list (omega (arith, there, size)) (omega (arith, there, size, room)) (omega (arith, room, low))
     (free_again free (omega (arith, free_is, room, spare)) ∙ ap (λ n. Some (n, tt)) free_is) (subst AreInByteOrder rest rises)
     ∙ ap Some (sym rest)
@@ -111,14 +111,14 @@ module _ (c : List ℕ) (width count : ℕ) (bs : List (List ℕ)) (xs : List (L
   without_parts on =
       let at = place c width count bs xs r p w l is holds in
       ap (without c) (sym l.entries ∙ parts_of c l.leaves p at)
-      ∙ located_without c (entries_of at.ahead) es (entries_of at.behind) (located c l.leaves p at) (subst AreInByteOrder (parts_of c l.leaves p at) (look_rises c width bs xs r l)) on
+      ∙ located_without c (entries_of at.ahead) es (entries_of at.behind) (locates c l.leaves p at) (subst AreInByteOrder (parts_of c l.leaves p at) (look_rises c width bs xs r l)) on
 
   -- the entry leaves its block
   pub here_removed : length bs ≤ 1048576 → count ≡ length bs → at_is c (slice_get es (lead c es)) ≡ true → 0 < length (without_at_place c es)
-      → list_in width (laid p.here.number (leaf_bytes p.here.leaf.next (without_at_place c es)) bs) ≡ Some (without c xs)
+      → list_in width (put_block p.here.number (leaf_bytes p.here.leaf.next (without_at_place c es)) bs) ≡ Some (without c xs)
   here_removed room size on some =
       let at = place c width count bs xs r p w l is holds in
-      let h = held c width count bs xs r p w l is holds in
+      let h = place_holds c width count bs xs r p w l is holds in
       let new = without_at_place c es in
       let rises = rises_without c xs (rising c width count bs xs r p w l is holds) in
       let list = list_at c width count bs xs r p w l is holds l.leaves l.list at.is in
@@ -130,10 +130,10 @@ module _ (c : List ℕ) (width count : ℕ) (bs : List (List ℕ)) (xs : List (L
 
   -- the last entry of its block leaves, and the block with it
   pub last_removed : length bs ≤ 1048576 → count ≡ length bs → at_is c (slice_get es (lead c es)) ≡ true → length (without_at_place c es) ≡ 0
-      → list_in width (released p.before r.head.first r.head.free p.here.number p.here.leaf.next bs) ≡ Some (without c xs)
+      → list_in width (release_block p.before r.head.first r.head.free p.here.number p.here.leaf.next bs) ≡ Some (without c xs)
   last_removed room size on none =
       let at = place c width count bs xs r p w l is holds in
-      let h = held c width count bs xs r p w l is holds in
+      let h = place_holds c width count bs xs r p w l is holds in
       let rises = rises_without c xs (rising c width count bs xs r p w l is holds) in
       let list = list_at c width count bs xs r p w l is holds l.leaves l.list at.is in
       let whole : without c xs ≡ entries_of at.ahead ++ entries_of at.behind = without_parts on ∙ ap (λ (k : List (List ℕ)). entries_of at.ahead ++ (k ++ entries_of at.behind)) (nil_of (without_at_place c es) none) in

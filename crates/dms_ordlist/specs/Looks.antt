@@ -4,7 +4,7 @@ use Rattle.std.specs.Prelude.{IfSome, IsTrue, MatchOption}
 use Rattle.std.specs.declared.option.Option.{Option}
 use Rattle.dms_block.specs.declared.blocks.Blocks.{Ghosts}
 use Rattle.dms_block.specs.declared.overlay.Overlay.{Overlay}
-use Rattle.dms_block.specs.View.{seen, under}
+use Rattle.dms_block.specs.View.{overlay_content, under}
 use Rattle.dms_ordlist.specs.declared.place.NumberedLeaf.{NumberedLeaf}
 use Rattle.dms_ordlist.specs.declared.place.ListPlace.{ListPlace}
 use Rattle.dms_ordlist.specs.declared.place.Look.{Look}
@@ -34,7 +34,7 @@ pub record IsLook (c : List ℕ) (width : ℕ) (bs : List (List ℕ)) (xs : List
 module _ {B : Type 0} {g : Ghosts B} where
   -- what holds of the list of a file, where the content is told and this is a look at it
   abbrev pub IfLook : Overlay B g → ℕ → List ℕ → Look → (List (List ℕ) → Type 0) → Type 0
-  IfLook o file c r P = IsTrue (under o).told → (xs : List (List ℕ)) → IsLook c (length c) (seen o file) xs r → P xs
+  IfLook o file c r P = IsTrue (under o).told → (xs : List (List ℕ)) → IsLook c (length c) (overlay_content o file) xs r → P xs
 
 abbrev fst_of : Option (ℕ × ℕ) → ℕ
 fst_of None = 0
@@ -142,15 +142,15 @@ place_last c p = or_else (last_of (take (lead c p.here.leaf.entries.items) p.her
 pub parts_of : (c : List ℕ) (ls : List Leaf) (p : ListPlace) (at : IsPlace c ls p) → entries_of ls ≡ entries_of at.ahead ++ (p.here.leaf.entries.items ++ entries_of at.behind)
 parts_of c ls p at = ap entries_of at.is ∙ entries_append at.ahead (link_of p.here ∷ at.behind)
 
-pub located : (c : List ℕ) (ls : List Leaf) (p : ListPlace) (at : IsPlace c ls p) → Located c (entries_of at.ahead) p.here.leaf.entries.items (entries_of at.behind)
-located c ls p at = record { low = at.low; stop = stops at.stop }
+pub locates : (c : List ℕ) (ls : List Leaf) (p : ListPlace) (at : IsPlace c ls p) → Located c (entries_of at.ahead) p.here.leaf.entries.items (entries_of at.behind)
+locates c ls p at = record { low = at.low; stop = stops at.stop }
   where
     stops : {P : Type 0} {behind : List Leaf} → P ⊎ (behind ≡ []) → P ⊎ (entries_of behind ≡ [])
     stops (inl h) = inl h
     stops (inr h) = inr (ap entries_of h)
 
 pub place_firsts : (c : List ℕ) (ls : List Leaf) (p : ListPlace) → IsPlace c ls p → first_from (Some c) (entries_of ls) ≡ place_first c p
-place_firsts c ls p at = ap (first_from (Some c)) (parts_of c ls p at) ∙ located_first c (entries_of at.ahead) p.here.leaf.entries.items (entries_of at.behind) (located c ls p at)
+place_firsts c ls p at = ap (first_from (Some c)) (parts_of c ls p at) ∙ located_first c (entries_of at.ahead) p.here.leaf.entries.items (entries_of at.behind) (locates c ls p at)
 
 last_some : (es : List (List ℕ)) (o : Option (List ℕ)) → 0 < length es → or_else (last_of es) o ≡ last_of es
 last_some [] o some = absurd (omega arith)
@@ -169,7 +169,7 @@ last_ahead width count (Some s) ahead holds is =
 pub place_lasts : (c : List ℕ) (width count : ℕ) (ls : List Leaf) (p : ListPlace) → PlaceHolds width count p → AreInByteOrder (entries_of ls) → IsPlace c ls p → last_to (Some c) (entries_of ls) ≡ place_last c p
 place_lasts c width count ls p holds rises at =
     let es = p.here.leaf.entries.items in
-    ap (last_to (Some c)) (parts_of c ls p at) ∙ located_last c (entries_of at.ahead) es (entries_of at.behind) (located c ls p at) (subst AreInByteOrder (parts_of c ls p at) rises)
+    ap (last_to (Some c)) (parts_of c ls p at) ∙ located_last c (entries_of at.ahead) es (entries_of at.behind) (locates c ls p at) (subst AreInByteOrder (parts_of c ls p at) rises)
     ∙ ap (or_else (last_of (take (lead c es) es))) (last_ahead width count p.before at.ahead holds.before at.before)
 
 -- a list that was looked at

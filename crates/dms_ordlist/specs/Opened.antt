@@ -18,8 +18,8 @@ pub record IsOpenAt (width count : ℕ) (look : ℕ → Option (List ℕ)) (firs
   pub low : (n : ℕ) → 0 < times n (numbers ls) + times n (numbers fs) + times n loose → n < count
   pub some : times 0 loose ≡ 0
 
-pub opened : (width count : ℕ) (look : ℕ → Option (List ℕ)) (ls : List Leaf) (fs : List Spare) → IsList width count look ls fs → IsOpenAt width count look (front ls 0) (front fs 0) ls fs []
-opened width count look ls fs is = record {
+pub opens_list : (width count : ℕ) (look : ℕ → Option (List ℕ)) (ls : List Leaf) (fs : List Spare) → IsList width count look ls fs → IsOpenAt width count look (front ls 0) (front fs 0) ls fs []
+opens_list width count look ls fs is = record {
   first_is = refl;
   free_is = refl;
   chain = is.chain;
@@ -30,8 +30,8 @@ opened width count look ls fs is = record {
   some = refl;
 }
 
-pub closed : (width count : ℕ) (look : ℕ → Option (List ℕ)) (first free : ℕ) (ls : List Leaf) (fs : List Spare) → IsOpenAt width count look first free ls fs [] → AreInByteOrder (entries_of ls) → said_by head_in (look 0) ≡ Some (first, free) → IsList width count look ls fs
-closed width count look first free ls fs o rises head = record {
+pub closes_list : (width count : ℕ) (look : ℕ → Option (List ℕ)) (first free : ℕ) (ls : List Leaf) (fs : List Spare) → IsOpenAt width count look first free ls fs [] → AreInByteOrder (entries_of ls) → said_by head_in (look 0) ≡ Some (first, free) → IsList width count look ls fs
+closes_list width count look first free ls fs o rises head = record {
   head = head ∙ (λ i. Some (sym o.first_is i, sym o.free_is i));
   chain = o.chain;
   free = o.spare;
@@ -42,8 +42,8 @@ closed width count look first free ls fs o rises head = record {
 }
 
 -- the first free block is taken
-pub taken : (width count : ℕ) (look : ℕ → Option (List ℕ)) (first free f : ℕ) (u : Unit {0}) (ls : List Leaf) (fs : List Spare) → IsOpenAt width count look first free ls ((f, u) ∷ fs) [] → IsOpenAt width count look first (front fs 0) ls fs (f ∷ [])
-taken width count look first free f u ls fs o = record {
+pub takes_spare : (width count : ℕ) (look : ℕ → Option (List ℕ)) (first free f : ℕ) (u : Unit {0}) (ls : List Leaf) (fs : List Spare) → IsOpenAt width count look first free ls ((f, u) ∷ fs) [] → IsOpenAt width count look first (front fs 0) ls fs (f ∷ [])
+takes_spare width count look first free f u ls fs o = record {
   first_is = o.first_is;
   free_is = refl;
   chain = o.chain;
@@ -59,8 +59,8 @@ none_past n count zero e h = refl
 none_past n count (suc t) e h = absurd (omega (arith, e, h (omega arith)))
 
 -- a block at the file's end is taken
-pub lengthened : (width count : ℕ) (look : ℕ → Option (List ℕ)) (first free : ℕ) (ls : List Leaf) → IsOpenAt width count look first free ls [] [] → IsOpenAt width (count + 1) look first 0 ls [] (count ∷ [])
-lengthened width count look first free ls o = record {
+pub lengthens_list : (width count : ℕ) (look : ℕ → Option (List ℕ)) (first free : ℕ) (ls : List Leaf) → IsOpenAt width count look first free ls [] [] → IsOpenAt width (count + 1) look first 0 ls [] (count ∷ [])
+lengthens_list width count look first free ls o = record {
   first_is = o.first_is;
   free_is = refl;
   chain = o.chain;
@@ -88,8 +88,8 @@ not_zero reads look [] n c = refl
 not_zero reads look (x ∷ xs) n c = omega (arith, times_other 0 x.0 c.0, not_zero reads look xs n c.2)
 
 -- the head is written
-pub headed : (width count : ℕ) (look : ℕ → Option (List ℕ)) (first free : ℕ) (ls : List Leaf) (fs : List Spare) (loose : List ℕ) (bytes : List ℕ) → IsOpenAt width count look first free ls fs loose → IsOpenAt width count (put look 0 bytes) first free ls fs loose
-headed width count look first free ls fs loose bytes o = record {
+pub heads_list : (width count : ℕ) (look : ℕ → Option (List ℕ)) (first free : ℕ) (ls : List Leaf) (fs : List Spare) (loose : List ℕ) (bytes : List ℕ) → IsOpenAt width count look first free ls fs loose → IsOpenAt width count (put look 0 bytes) first free ls fs loose
+heads_list width count look first free ls fs loose bytes o = record {
   first_is = o.first_is;
   free_is = o.free_is;
   chain = chain_still (leaf_in width) look 0 bytes ls 0 (not_zero (leaf_in width) look ls 0 o.chain) o.chain;
@@ -112,9 +112,9 @@ module _ (p s : List Leaf) (b : ℕ) where
   fronts es = front_append p ((b, es) ∷ s) 0
 
 -- a block gets other entries
-pub changed : (width count : ℕ) (look : ℕ → Option (List ℕ)) (first free : ℕ) (p s : List Leaf) (b : ℕ) (es es' : List (List ℕ)) (fs : List Spare) (bytes : List ℕ) → IsOpenAt width count look first free (p ++ (b, es) ∷ s) fs [] → leaf_in width bytes ≡ Some (front s 0, es')
+pub changes_leaf : (width count : ℕ) (look : ℕ → Option (List ℕ)) (first free : ℕ) (p s : List Leaf) (b : ℕ) (es es' : List (List ℕ)) (fs : List Spare) (bytes : List ℕ) → IsOpenAt width count look first free (p ++ (b, es) ∷ s) fs [] → leaf_in width bytes ≡ Some (front s 0, es')
     → IsOpenAt width count (put look b bytes) first free (p ++ (b, es') ∷ s) fs []
-changed width count look first free p s b es es' fs bytes o is =
+changes_leaf width count look first free p s b es es' fs bytes o is =
     let whole = p ++ (b, es) ∷ s in
     let own = times_own b in
     let here = nums p s b b es in
@@ -136,10 +136,10 @@ changed width count look first free p s b es es' fs bytes o is =
     }
 
 -- a block is parted in two
-pub parted : (width count : ℕ) (look : ℕ → Option (List ℕ)) (first free : ℕ) (p s : List Leaf) (b f : ℕ) (es less more : List (List ℕ)) (fs : List Spare) (bytes others : List ℕ) → IsOpenAt width count look first free (p ++ (b, es) ∷ s) fs (f ∷ [])
+pub parts_leaf : (width count : ℕ) (look : ℕ → Option (List ℕ)) (first free : ℕ) (p s : List Leaf) (b f : ℕ) (es less more : List (List ℕ)) (fs : List Spare) (bytes others : List ℕ) → IsOpenAt width count look first free (p ++ (b, es) ∷ s) fs (f ∷ [])
     → leaf_in width others ≡ Some (front s 0, more) → leaf_in width bytes ≡ Some (f, less)
     → IsOpenAt width count (put (put look f others) b bytes) first free (p ++ (b, less) ∷ ((f, more) ∷ s)) fs []
-parted width count look first free p s b f es less more fs bytes others o upper lower =
+parts_leaf width count look first free p s b f es less more fs bytes others o upper lower =
     let later = put look f others in
     let own = times_own b in
     let here = nums p s b b es in
@@ -173,9 +173,9 @@ parted width count look first free p s b f es less more fs bytes others o upper 
     }
 
 -- the first block of a list
-pub begun : (width count : ℕ) (look : ℕ → Option (List ℕ)) (first free f : ℕ) (es : List (List ℕ)) (fs : List Spare) (bytes : List ℕ) → IsOpenAt width count look first free [] fs (f ∷ []) → leaf_in width bytes ≡ Some (0, es)
+pub begins_leaf : (width count : ℕ) (look : ℕ → Option (List ℕ)) (first free f : ℕ) (es : List (List ℕ)) (fs : List Spare) (bytes : List ℕ) → IsOpenAt width count look first free [] fs (f ∷ []) → leaf_in width bytes ≡ Some (0, es)
     → IsOpenAt width count (put look f bytes) f free ((f, es) ∷ []) fs []
-begun width count look first free f es fs bytes o is =
+begins_leaf width count look first free f es fs bytes o is =
     let own = times_own f in
     let at = o.once f in
     let no_f : times f (numbers fs) ≡ 0 = omega (arith, own, at) in
@@ -205,9 +205,9 @@ unlinked_first width count look first free s b es fs o = record {
 }
 
 -- a later block leaves the chain
-pub unlinked : (width count : ℕ) (look : ℕ → Option (List ℕ)) (first free : ℕ) (q s : List Leaf) (a b : ℕ) (ds es : List (List ℕ)) (fs : List Spare) (bytes : List ℕ) → IsOpenAt width count look first free (q ++ (a, ds) ∷ ((b, es) ∷ s)) fs [] → leaf_in width bytes ≡ Some (front s 0, ds)
+pub unlinks_leaf : (width count : ℕ) (look : ℕ → Option (List ℕ)) (first free : ℕ) (q s : List Leaf) (a b : ℕ) (ds es : List (List ℕ)) (fs : List Spare) (bytes : List ℕ) → IsOpenAt width count look first free (q ++ (a, ds) ∷ ((b, es) ∷ s)) fs [] → leaf_in width bytes ≡ Some (front s 0, ds)
     → IsOpenAt width count (put look a bytes) first free (q ++ (a, ds) ∷ s) fs (b ∷ [])
-unlinked width count look first free q s a b ds es fs bytes o is =
+unlinks_leaf width count look first free q s a b ds es fs bytes o is =
     let old : (n : ℕ) → times n (numbers (q ++ (a, ds) ∷ ((b, es) ∷ s))) ≡ times n (numbers q) + (times n (a ∷ []) + (times n (b ∷ []) + times n (numbers s))) = λ n. omega (arith, nums q ((b, es) ∷ s) a n ds) in
     let own = times_own a in
     let here = old a in
@@ -229,9 +229,9 @@ unlinked width count look first free q s a b ds es fs bytes o is =
     }
 
 -- a block that is in no chain becomes the first free one
-pub freed : (width count : ℕ) (look : ℕ → Option (List ℕ)) (first free b : ℕ) (ls : List Leaf) (fs : List Spare) (bytes : List ℕ) → IsOpenAt width count look first free ls fs (b ∷ []) → free_in bytes ≡ Some (free, tt)
+pub frees_block : (width count : ℕ) (look : ℕ → Option (List ℕ)) (first free b : ℕ) (ls : List Leaf) (fs : List Spare) (bytes : List ℕ) → IsOpenAt width count look first free ls fs (b ∷ []) → free_in bytes ≡ Some (free, tt)
     → IsOpenAt width count (put look b bytes) first b ls ((b, tt) ∷ fs) []
-freed width count look first free b ls fs bytes o is =
+frees_block width count look first free b ls fs bytes o is =
     let own = times_own b in
     let at = o.once b in
     let no_l : times b (numbers ls) ≡ 0 = omega (arith, own, at) in

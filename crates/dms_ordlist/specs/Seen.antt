@@ -3,7 +3,7 @@ use Rattle.std.specs.Prelude.{ℕ, ◌≡◌, ◌<◌, ◌≤◌, IsTrue, List, 
 use Rattle.std.specs.declared.option.Option.{Option}
 use Rattle.dms_block.specs.declared.blocks.Blocks.{Ghosts}
 use Rattle.dms_block.specs.declared.overlay.Overlay.{Overlay}
-use Rattle.dms_block.specs.View.{seen, seen_counts, under}
+use Rattle.dms_block.specs.View.{overlay_content, seen_counts, under}
 use Rattle.dms_ordlist.specs.Linked.{BlockChain, front, said_by}
 use Rattle.dms_ordlist.specs.ListBlocks.{leaf_in}
 use Rattle.dms_ordlist.specs.ListIn.{Leaf, list_in}
@@ -15,7 +15,7 @@ pub record IsListWidth (width : ℕ) : Type 0 where
 
 module _ {B : Type 0} {g : Ghosts B} where
   abbrev pub look : Overlay B g → ℕ → ℕ → Option (List ℕ)
-  look o file b = slice_get (seen o file) b
+  look o file b = slice_get (overlay_content o file) b
 
   -- what a change of a file's list asks for: who changes it may write to the file, there is room for blocks, and entries
   -- have the list's width
@@ -27,7 +27,7 @@ module _ {B : Type 0} {g : Ghosts B} where
 
   -- what holds of the list of a file, where the content is told and the file's blocks are one
   abbrev pub IfList : Overlay B g → ℕ → ℕ → (List (List ℕ) → Type 0) → Type 0
-  IfList o file width P = IsTrue (under o).told → (xs : List (List ℕ)) → list_in width (seen o file) ≡ Some xs → P xs
+  IfList o file width P = IsTrue (under o).told → (xs : List (List ℕ)) → list_in width (overlay_content o file) ≡ Some xs → P xs
 
   -- a block of the file, where a block of this kind doesn't stand at a number
   abbrev pub NotAt : {A : Type 0} → (List ℕ → Option (ℕ × A)) → Overlay B g → ℕ → ℕ → ℕ → ℕ → Type 0
@@ -40,4 +40,4 @@ module _ {B : Type 0} {g : Ghosts B} where
 
   -- a block of a file whose blocks are no list
   abbrev pub NoList : Overlay B g → ℕ → ℕ → ℕ → ℕ → Type 0
-  NoList o file width f b = (f ≡ file) × (b < seen_counts o file) × (IsTrue (under o).told → list_in width (seen o file) ≡ None)
+  NoList o file width f b = (f ≡ file) × (b < seen_counts o file) × (IsTrue (under o).told → list_in width (overlay_content o file) ≡ None)

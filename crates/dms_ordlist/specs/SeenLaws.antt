@@ -8,10 +8,10 @@ use Rattle.dms_block.specs.declared.block_fault.BlockFault.{BlockFault}
 use Rattle.dms_block.specs.declared.block_fault.BlockFault.TheVariants.{Disk, Memory, Full, Damaged, Say}
 use Rattle.dms_block.specs.declared.blocks.Blocks.{Ghosts}
 use Rattle.dms_block.specs.declared.overlay.Overlay.{Overlay}
-use Rattle.dms_block.specs.Content.{Content, grown}
+use Rattle.dms_block.specs.Content.{Content, counts_after}
 use Rattle.dms_block.specs.Held.{HasCausesOr, Held}
 use Rattle.dms_block.specs.HeldLaws.{causes_or_on, told_after}
-use Rattle.dms_block.specs.View.{ReadsOverlay, seen, seen_counts, under}
+use Rattle.dms_block.specs.View.{ReadsOverlay, overlay_content, seen_counts, under}
 use Rattle.dms_block.specs.ViewLaws.{seen_still}
 use Rattle.dms_ordlist.specs.Linked.{said_by}
 use Rattle.dms_ordlist.specs.Seen.{NotAt}
@@ -27,9 +27,9 @@ causes_err T U P Q Say a b w h = h
 
 module _ {B : Type 0} {g : Ghosts B} where
   pub counts_still : {T : Type 0} {n : ℕ} {x : T} {old new : Overlay B g} → ReadsOverlay n (Ok x) old new → seen_counts new ≡ seen_counts old
-  counts_still {old = old} {new = new} reads = λ i. grown (reads.written_still i) (reads.looks.counts i)
+  counts_still {old = old} {new = new} reads = λ i. counts_after (reads.written_still i) (reads.looks.counts i)
 
-  pub file_still : {T : Type 0} {n : ℕ} {x : T} {old new : Overlay B g} (file : ℕ) → ReadsOverlay n (Ok x) old new → IsTrue (under old).told → seen new file ≡ seen old file
+  pub file_still : {T : Type 0} {n : ℕ} {x : T} {old new : Overlay B g} (file : ℕ) → ReadsOverlay n (Ok x) old new → IsTrue (under old).told → overlay_content new file ≡ overlay_content old file
   file_still file reads told = ap (λ (c : Content). c file) (seen_still reads told)
 
   -- a fault after reads that went well

@@ -10,7 +10,7 @@ use Rattle.std.proofs.Math.Nat as nat
 use Rattle.std.proofs.lemmas.Nat.{from_be_bytes-to_be_bytes_2, from_be_bytes-to_be_bytes_4}
 use Rattle.std.proofs.lemmas.Slice.Eq.{bytes_eq-Decides}
 use Rattle.std.proofs.lemmas.Bool.{and_parts, and_from, and_right, and_left}
-use Rattle.dms_ordlist.specs.ListBlocks.{cut, filled, flat, free_as, free_bytes, free_if, free_in, head_as, head_bytes, head_if, head_in, is_rising, leaf_as, leaf_bytes, leaf_if, leaf_in, may_hold}
+use Rattle.dms_ordlist.specs.ListBlocks.{entry_chunks, fill_block, flat, free_as, free_bytes, free_if, free_in, head_as, head_bytes, head_if, head_in, is_rising, leaf_as, leaf_bytes, leaf_if, leaf_in, may_hold}
 use Rattle.dms_ordlist.specs.ListInLaws.{true_lt, lt_true}
 
 -- all entries have one width
@@ -22,7 +22,7 @@ same_bytes : (bytes : List ℕ) → bytes_eq bytes bytes ≡ true
 same_bytes bytes = (bytes_eq-Decides bytes bytes).1 refl
 
 head_parts : (first free : ℕ) → (take 4 (drop 2 (head_bytes first free)) ≡ to_be_bytes w32 first) × (take 4 (drop 6 (head_bytes first free)) ≡ to_be_bytes w32 free)
-unfolding head_bytes filled
+unfolding head_bytes fill_block
 head_parts first free = (refl, refl)
 
 pub head_again : (first free : ℕ) → first < 2 ^ 32 → free < 2 ^ 32 → head_in (head_bytes first free) ≡ Some (first, free)
@@ -34,7 +34,7 @@ head_again first free low low' =
     (λ i. head_as (one i) (two i) (head_bytes first free)) ∙ ap (λ b. head_if b first free) (same_bytes (head_bytes first free))
 
 free_part : (next : ℕ) → take 4 (drop 1 (free_bytes next)) ≡ to_be_bytes w32 next
-unfolding free_bytes filled
+unfolding free_bytes fill_block
 free_part next = refl
 
 pub free_again : (next : ℕ) → next < 2 ^ 32 → free_in (free_bytes next) ≡ Some (next, tt)
@@ -45,15 +45,15 @@ free_again next low =
 leaf_parts : (next : ℕ) (es : List (List ℕ))
     → (take 2 (drop 1 (leaf_bytes next es)) ≡ to_be_bytes w16 (length es)) × (take 4 (drop 3 (leaf_bytes next es)) ≡ to_be_bytes w32 next)
     × (drop 7 (leaf_bytes next es) ≡ flat es ++ replicate (1024 - length (1 ∷ (to_be_bytes w16 (length es) ++ (to_be_bytes w32 next ++ flat es)))) 0)
-unfolding leaf_bytes filled
+unfolding leaf_bytes fill_block
 leaf_parts next es = (refl, refl, refl)
 
-cut_again : (width : ℕ) (es : List (List ℕ)) (rest : List ℕ) → AllWide width es → cut width (length es) (flat es ++ rest) ≡ es
+cut_again : (width : ℕ) (es : List (List ℕ)) (rest : List ℕ) → AllWide width es → entry_chunks width (length es) (flat es ++ rest) ≡ es
 cut_again width [] rest all = refl
 cut_again width (x ∷ es) rest all =
     let whole = append_assoc x (flat es) rest in
-    (λ i. take width (whole i) ∷ cut width (length es) (drop width (whole i)))
-    ∙ (λ i. take_at x (flat es ++ rest) width all.0 i ∷ cut width (length es) (drop_at x (flat es ++ rest) width all.0 i))
+    (λ i. take width (whole i) ∷ entry_chunks width (length es) (drop width (whole i)))
+    ∙ (λ i. take_at x (flat es ++ rest) width all.0 i ∷ entry_chunks width (length es) (drop_at x (flat es ++ rest) width all.0 i))
     ∙ ap (λ (l : List (List ℕ)). x ∷ l) (cut_again width es rest all.1)
 
 -- how many entries there are, by how many fit
@@ -90,23 +90,23 @@ leaf_again width next es some low wide holds =
     let parts = leaf_parts next es in
     let count : from_be_bytes w16 (take 2 (drop 1 (leaf_bytes next es))) ≡ length es = ap (from_be_bytes w16) parts.0 ∙ from_be_bytes-to_be_bytes_2 (length es) (count_low width es some holds.room) in
     let number : from_be_bytes w32 (take 4 (drop 3 (leaf_bytes next es))) ≡ next = ap (from_be_bytes w32) parts.1 ∙ from_be_bytes-to_be_bytes_4 next low in
-    let again : cut width (from_be_bytes w16 (take 2 (drop 1 (leaf_bytes next es)))) (drop 7 (leaf_bytes next es)) ≡ es = (λ i. cut width (count i) (parts.2 i)) ∙ cut_again width es _ wide in
+    let again : entry_chunks width (from_be_bytes w16 (take 2 (drop 1 (leaf_bytes next es)))) (drop 7 (leaf_bytes next es)) ≡ es = (λ i. entry_chunks width (count i) (parts.2 i)) ∙ cut_again width es _ wide in
     (λ i. leaf_as width (number i) (again i) (leaf_bytes next es)) ∙ ap (λ b. leaf_if b next es) (and_from (may_hold width es) (bytes_eq (leaf_bytes next es) (leaf_bytes next es)) (holds_may width es holds) (same_bytes (leaf_bytes next es)))
 
 -- what a block of entries says
 
-pub cut_length : (width k : ℕ) (bytes : List ℕ) → length (cut width k bytes) ≡ k
+pub cut_length : (width k : ℕ) (bytes : List ℕ) → length (entry_chunks width k bytes) ≡ k
 cut_length width zero bytes = refl
 cut_length width (suc k) bytes = ap suc (cut_length width k (drop width bytes))
 
-cut_wide : (width k : ℕ) (bytes : List ℕ) → k * width ≤ length bytes → AllWide width (cut width k bytes)
+cut_wide : (width k : ℕ) (bytes : List ℕ) → k * width ≤ length bytes → AllWide width (entry_chunks width k bytes)
 cut_wide width zero bytes room = tt
 cut_wide width (suc k) bytes room =
     let whole = nat.suc-mul k width in
     (length-take-le width bytes (omega (arith, room, whole)), cut_wide width k (drop width bytes) (omega (arith, room, whole, length-drop width bytes)))
 
-filled_long : (bytes : List ℕ) → 1024 ≤ length (filled bytes)
-unfolding filled
+filled_long : (bytes : List ℕ) → 1024 ≤ length (fill_block bytes)
+unfolding fill_block
 filled_long bytes = omega (arith, length-append bytes (replicate (1024 - length bytes) 0), length-replicate {A = ℕ} (1024 - length bytes) 0)
 
 leaf_long : (next : ℕ) (es : List (List ℕ)) → 1024 ≤ length (leaf_bytes next es)
@@ -117,19 +117,19 @@ pub record IsLeaf (width next : ℕ) (es : List (List ℕ)) : Type 0 where
   pub wide : AllWide width es
   pub holds : HoldsEntries width es
 
-leaf_by : (width k next : ℕ) (b : List ℕ) → may_hold width (cut width k (drop 7 b)) ≡ true → b ≡ leaf_bytes next (cut width k (drop 7 b)) → IsLeaf width next (cut width k (drop 7 b))
+leaf_by : (width k next : ℕ) (b : List ℕ) → may_hold width (entry_chunks width k (drop 7 b)) ≡ true → b ≡ leaf_bytes next (entry_chunks width k (drop 7 b)) → IsLeaf width next (entry_chunks width k (drop 7 b))
 leaf_by width k next b may is =
-    let holds = may_holds width (cut width k (drop 7 b)) may in
-    let long : 1024 ≤ length b = omega (arith, leaf_long next (cut width k (drop 7 b)), ap length is) in
+    let holds = may_holds width (entry_chunks width k (drop 7 b)) may in
+    let long : 1024 ≤ length b = omega (arith, leaf_long next (entry_chunks width k (drop 7 b)), ap length is) in
     let room : k * width ≤ 1017 = subst (λ n. n * width ≤ 1017) (cut_length width k (drop 7 b)) holds.room in
     record { wide = cut_wide width k (drop 7 b) (omega (arith, room, length-drop 7 b, long)); holds = holds }
 
-leaf_where : (width k n : ℕ) (b : List ℕ) (t : Bool) (next : ℕ) (es : List (List ℕ)) → (may_hold width (cut width k (drop 7 b)) && bytes_eq b (leaf_bytes n (cut width k (drop 7 b)))) ≡ t → leaf_if t n (cut width k (drop 7 b)) ≡ Some (next, es) → IsLeaf width next es
+leaf_where : (width k n : ℕ) (b : List ℕ) (t : Bool) (next : ℕ) (es : List (List ℕ)) → (may_hold width (entry_chunks width k (drop 7 b)) && bytes_eq b (leaf_bytes n (entry_chunks width k (drop 7 b)))) ≡ t → leaf_if t n (entry_chunks width k (drop 7 b)) ≡ Some (next, es) → IsLeaf width next es
 leaf_where width k n b false next es tested is = absurd (cc is)
 leaf_where width k n b true next es tested is =
-    let parts = and_parts (may_hold width (cut width k (drop 7 b))) (bytes_eq b (leaf_bytes n (cut width k (drop 7 b)))) tested in
-    let here = leaf_by width k n b parts.0 ((bytes_eq-Decides b (leaf_bytes n (cut width k (drop 7 b)))).0 parts.1) in
-    let held : cut width k (drop 7 b) ≡ es = ap entries is in
+    let parts = and_parts (may_hold width (entry_chunks width k (drop 7 b))) (bytes_eq b (leaf_bytes n (entry_chunks width k (drop 7 b)))) tested in
+    let here = leaf_by width k n b parts.0 ((bytes_eq-Decides b (leaf_bytes n (entry_chunks width k (drop 7 b)))).0 parts.1) in
+    let held : entry_chunks width k (drop 7 b) ≡ es = ap entries is in
     subst (IsLeaf width next) held (record { wide = here.wide; holds = here.holds })
   where
     entries : Option (ℕ × List (List ℕ)) → List (List ℕ)
@@ -160,12 +160,12 @@ pub free_read : (b spelled : List ℕ) (next : ℕ) (t : Bool) → next ≡ from
 unfolding free_in
 free_read b spelled next t one is tested = ap (λ x. free_if x next) (sym tested ∙ ap (bytes_eq b) is) ∙ (λ i. free_as (one i) b)
 
-pub leaf_read : (width : ℕ) (b spelled : List ℕ) (count next : ℕ) (es : List (List ℕ)) (t : Bool) → count ≡ from_be_bytes w16 (take 2 (drop 1 b)) → next ≡ from_be_bytes w32 (take 4 (drop 3 b)) → es ≡ cut width count (drop 7 b)
+pub leaf_read : (width : ℕ) (b spelled : List ℕ) (count next : ℕ) (es : List (List ℕ)) (t : Bool) → count ≡ from_be_bytes w16 (take 2 (drop 1 b)) → next ≡ from_be_bytes w32 (take 4 (drop 3 b)) → es ≡ entry_chunks width count (drop 7 b)
     → spelled ≡ leaf_bytes next es → (may_hold width es && bytes_eq b spelled) ≡ t → leaf_if t next es ≡ leaf_in width b
 unfolding leaf_in
 leaf_read width b spelled count next es t one two three is tested =
     ap (λ x. leaf_if x next es) (sym tested ∙ ap (λ l. may_hold width es && bytes_eq b l) is)
-    ∙ (λ i. leaf_as width (two i) ((three ∙ ap (λ n. cut width n (drop 7 b)) one) i) b)
+    ∙ (λ i. leaf_as width (two i) ((three ∙ ap (λ n. entry_chunks width n (drop 7 b)) one) i) b)
 
 -- it is no block of entries: it has none, too many, some that don't rise, or other bytes
 pub few_may : (width : ℕ) (es : List (List ℕ)) → length es ≡ 0 → may_hold width es ≡ false
@@ -181,10 +181,10 @@ many_may width es h = and_left _ _ (and_right _ _ (many_le (length es * width) 1
 pub mixed_may : (width : ℕ) (es : List (List ℕ)) → is_rising es ≡ false → may_hold width es ≡ false
 mixed_may width es h = and_right _ _ h
 
-pub none_read : (width : ℕ) (b : List ℕ) (count : ℕ) → count ≡ from_be_bytes w16 (take 2 (drop 1 b)) → may_hold width (cut width count (drop 7 b)) ≡ false → leaf_in width b ≡ None
+pub none_read : (width : ℕ) (b : List ℕ) (count : ℕ) → count ≡ from_be_bytes w16 (take 2 (drop 1 b)) → may_hold width (entry_chunks width count (drop 7 b)) ≡ false → leaf_in width b ≡ None
 none_read width b count one h =
     let next = from_be_bytes w32 (take 4 (drop 3 b)) in
-    let es = cut width count (drop 7 b) in
+    let es = entry_chunks width count (drop 7 b) in
     sym (leaf_read width b (leaf_bytes next es) count next es false one refl refl refl (and_left _ _ h))
 
 flat_wide : (width : ℕ) (es : List (List ℕ)) → AllWide width es → length (flat es) ≡ length es * width
@@ -195,9 +195,9 @@ flat_wide width (x ∷ es) all = omega (arith, length-append x (flat es), all.0,
 pub wide_room : (width : ℕ) (es : List (List ℕ)) → AllWide width es → length es * width ≤ 1017 → length (flat es) ≤ 1017
 wide_room width es all room = omega (arith, room, flat_wide width es all)
 
-pub cut_room : (width count : ℕ) (bytes : List ℕ) → count * width ≤ 1017 → 1017 ≤ length bytes → length (flat (cut width count bytes)) ≤ 1017
+pub cut_room : (width count : ℕ) (bytes : List ℕ) → count * width ≤ 1017 → 1017 ≤ length bytes → length (flat (entry_chunks width count bytes)) ≤ 1017
 cut_room width count bytes room long =
-    wide_room width (cut width count bytes) (cut_wide width count bytes (omega (arith, room, long))) (subst (λ n. n * width ≤ 1017) (sym (cut_length width count bytes)) room)
+    wide_room width (entry_chunks width count bytes) (cut_wide width count bytes (omega (arith, room, long))) (subst (λ n. n * width ≤ 1017) (sym (cut_length width count bytes)) room)
 
 fewer : (width n : ℕ) → 0 < width → n * width ≤ 1017 → n ≤ 1017
 fewer zero n some room = absurd (omega arith)

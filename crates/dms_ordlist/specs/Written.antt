@@ -1,25 +1,25 @@
 -- The blocks of a file after some of them were written, and how many there are.
 use Rattle.std.proofs.Common.{ℕ, ◌+◌, ◌≤◌, ◌<◌, ◌≡◌, ◌≢◌, ◌∙◌, max, List, ap, subst, arith}
 use Rattle.std.proofs.lemmas.Bool.Decides.{nat_tests}
-use Rattle.dms_block.specs.Content.{Content, laid, raised, with_block}
+use Rattle.dms_block.specs.Content.{Content, put_block, raise_count, with_block}
 use Rattle.dms_block.specs.ContentLaws.{in_file, in_others}
 
 module _ (c d : Content) (f : ℕ) where
-  pub one_in : (n : ℕ) (x : List ℕ) → d ≡ with_block c f n x → d f ≡ laid n x (c f)
+  pub one_in : (n : ℕ) (x : List ℕ) → d ≡ with_block c f n x → d f ≡ put_block n x (c f)
   one_in n x is = ap (λ (k : Content). k f) is ∙ in_file c f n x
 
   pub one_off : (n : ℕ) (x : List ℕ) (g : ℕ) → g ≢ f → d ≡ with_block c f n x → d g ≡ c g
   one_off n x g off is = ap (λ (k : Content). k g) is ∙ in_others c f n x g off
 
-  pub two_in : (h : List ℕ) (n : ℕ) (x : List ℕ) → d ≡ with_block (with_block c f 0 h) f n x → d f ≡ laid n x (laid 0 h (c f))
-  two_in h n x is = ap (λ (k : Content). k f) is ∙ in_file (with_block c f 0 h) f n x ∙ ap (laid n x) (in_file c f 0 h)
+  pub two_in : (h : List ℕ) (n : ℕ) (x : List ℕ) → d ≡ with_block (with_block c f 0 h) f n x → d f ≡ put_block n x (put_block 0 h (c f))
+  two_in h n x is = ap (λ (k : Content). k f) is ∙ in_file (with_block c f 0 h) f n x ∙ ap (put_block n x) (in_file c f 0 h)
 
   pub two_off : (h : List ℕ) (n : ℕ) (x : List ℕ) (g : ℕ) → g ≢ f → d ≡ with_block (with_block c f 0 h) f n x → d g ≡ c g
   two_off h n x g off is = ap (λ (k : Content). k g) is ∙ in_others (with_block c f 0 h) f n x g off ∙ in_others c f 0 h g off
 
-  pub three_in : (h : List ℕ) (n : ℕ) (x : List ℕ) (m : ℕ) (y : List ℕ) → d ≡ with_block (with_block (with_block c f 0 h) f n x) f m y → d f ≡ laid m y (laid n x (laid 0 h (c f)))
+  pub three_in : (h : List ℕ) (n : ℕ) (x : List ℕ) (m : ℕ) (y : List ℕ) → d ≡ with_block (with_block (with_block c f 0 h) f n x) f m y → d f ≡ put_block m y (put_block n x (put_block 0 h (c f)))
   three_in h n x m y is =
-      ap (λ (k : Content). k f) is ∙ in_file (with_block (with_block c f 0 h) f n x) f m y ∙ ap (laid m y) (in_file (with_block c f 0 h) f n x ∙ ap (laid n x) (in_file c f 0 h))
+      ap (λ (k : Content). k f) is ∙ in_file (with_block (with_block c f 0 h) f n x) f m y ∙ ap (put_block m y) (in_file (with_block c f 0 h) f n x ∙ ap (put_block n x) (in_file c f 0 h))
 
   pub three_off : (h : List ℕ) (n : ℕ) (x : List ℕ) (m : ℕ) (y : List ℕ) (g : ℕ) → g ≢ f → d ≡ with_block (with_block (with_block c f 0 h) f n x) f m y → d g ≡ c g
   three_off h n x m y g off is =
@@ -31,10 +31,10 @@ pub record CountGrown (file : ℕ) (a b : ℕ → ℕ) : Type 0 where
   pub kept : a file ≤ b file
   pub more : b file ≤ a file + 2
 
-raised_at : (c : ℕ → ℕ) (f n : ℕ) → raised c f n f ≡ max (c f) (n + 1)
+raised_at : (c : ℕ → ℕ) (f n : ℕ) → raise_count c f n f ≡ max (c f) (n + 1)
 raised_at c f n = grind (arith, nat_tests)
 
-raised_off : (c : ℕ → ℕ) (f n g : ℕ) → g ≢ f → raised c f n g ≡ c g
+raised_off : (c : ℕ → ℕ) (f n g : ℕ) → g ≢ f → raise_count c f n g ≡ c g
 raised_off c f n g off = grind (arith, nat_tests)
 
 module _ (c d : ℕ → ℕ) (f : ℕ) where
@@ -43,22 +43,22 @@ module _ (c d : ℕ → ℕ) (f : ℕ) where
       let here : d f ≡ c f = ap (λ (k : ℕ → ℕ). k f) is in
       record { others = λ g off. ap (λ (k : ℕ → ℕ). k g) is; kept = omega (arith, here); more = omega (arith, here) }
 
-  pub two_count : (n : ℕ) → d ≡ raised (raised c f 0) f n → d f ≡ max (max (c f) 1) (n + 1)
-  two_count n is = omega (arith, ap (λ (k : ℕ → ℕ). k f) is, raised_at (raised c f 0) f n, raised_at c f 0)
+  pub two_count : (n : ℕ) → d ≡ raise_count (raise_count c f 0) f n → d f ≡ max (max (c f) 1) (n + 1)
+  two_count n is = omega (arith, ap (λ (k : ℕ → ℕ). k f) is, raised_at (raise_count c f 0) f n, raised_at c f 0)
 
-  pub two_grown : (n : ℕ) → n ≤ max (c f) 1 → d ≡ raised (raised c f 0) f n → CountGrown f c d
+  pub two_grown : (n : ℕ) → n ≤ max (c f) 1 → d ≡ raise_count (raise_count c f 0) f n → CountGrown f c d
   two_grown n near is = record {
-    others = λ g off. ap (λ (k : ℕ → ℕ). k g) is ∙ raised_off (raised c f 0) f n g off ∙ raised_off c f 0 g off;
+    others = λ g off. ap (λ (k : ℕ → ℕ). k g) is ∙ raised_off (raise_count c f 0) f n g off ∙ raised_off c f 0 g off;
     kept = omega (arith, two_count n is);
     more = omega (arith, two_count n is, near);
   }
 
-  pub three_count : (n m : ℕ) → m < c f → d ≡ raised (raised (raised c f 0) f n) f m → d f ≡ max (c f) (n + 1)
-  three_count n m low is = omega (arith, low, ap (λ (k : ℕ → ℕ). k f) is, raised_at (raised (raised c f 0) f n) f m, raised_at (raised c f 0) f n, raised_at c f 0)
+  pub three_count : (n m : ℕ) → m < c f → d ≡ raise_count (raise_count (raise_count c f 0) f n) f m → d f ≡ max (c f) (n + 1)
+  three_count n m low is = omega (arith, low, ap (λ (k : ℕ → ℕ). k f) is, raised_at (raise_count (raise_count c f 0) f n) f m, raised_at (raise_count c f 0) f n, raised_at c f 0)
 
-  pub three_grown : (n m : ℕ) → n ≤ max (c f) 1 → m < c f → d ≡ raised (raised (raised c f 0) f n) f m → CountGrown f c d
+  pub three_grown : (n m : ℕ) → n ≤ max (c f) 1 → m < c f → d ≡ raise_count (raise_count (raise_count c f 0) f n) f m → CountGrown f c d
   three_grown n m near low is = record {
-    others = λ g off. ap (λ (k : ℕ → ℕ). k g) is ∙ raised_off (raised (raised c f 0) f n) f m g off ∙ raised_off (raised c f 0) f n g off ∙ raised_off c f 0 g off;
+    others = λ g off. ap (λ (k : ℕ → ℕ). k g) is ∙ raised_off (raise_count (raise_count c f 0) f n) f m g off ∙ raised_off (raise_count c f 0) f n g off ∙ raised_off c f 0 g off;
     kept = omega (arith, three_count n m low is);
     more = omega (arith, three_count n m low is, near, low);
   }

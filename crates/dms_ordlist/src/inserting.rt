@@ -1,6 +1,6 @@
 ghost use Rattle.std.specs.Prelude.{◌≡◌, ◌+◌, ◌*◌, ◌/◌, ◌≤◌, ◌<◌, ℕ, [], ◌∷◌, IfOk, IfSome, OnOk, IsErrOf, IsTrue, Some, false, length, not, max};
 ghost use Rattle.dms_block.specs.Held.{HasCausesOr};
-ghost use Rattle.dms_block.specs.View.{WritesOverlay, seen, seen_counts, under, written};
+ghost use Rattle.dms_block.specs.View.{WritesOverlay, overlay_content, seen_counts, under, overlay_changes};
 ghost use Rattle.dms_ordlist.specs.ListBlocks.{free_in};
 ghost use Rattle.dms_ordlist.specs.ListCalls.{BecomesList, IfEmpty, LeavesOthers, TakesBlock, laid_head, with_halves};
 ghost use Rattle.dms_ordlist.specs.ListIn.{list_in};
@@ -26,7 +26,7 @@ fn leaf_with(alloc: Global, entry: &[u8]) -> Result<LeafBlock, Memory>
     ensures entries { IfOk result (λ leaf. leaf.entries.items ≡ entry.now ∷ []) }
 {
     let mut entries = Vec::new(alloc);
-    entries.push(Bytes::copied(alloc, entry)?)?;
+    entries.push(Bytes::copy_of(alloc, entry)?)?;
     Ok(LeafBlock { next: 0, entries })
 }
 
@@ -42,12 +42,12 @@ fn begin<B: Blocks>(
     requires owned { IsTrue ((under over.old).owns file) }
     requires room { seen_counts over.old file ≤ 1048576 }
     requires width { IsListWidth (length entry.now) }
-    ensures list { OnOk result (IfEmpty file (length entry.now) head.free over.old (list_in (length entry.now) (seen over.new file) ≡ Some (entry.now ∷ []))) }
+    ensures list { OnOk result (IfEmpty file (length entry.now) head.free over.old (list_in (length entry.now) (overlay_content over.new file) ≡ Some (entry.now ∷ []))) }
     ensures others { OnOk result (LeavesOthers file over.old over.new) }
     ensures grows { OnOk result (CountGrown file (seen_counts over.old) (seen_counts over.new)) }
     ensures room { OnOk result (IfEmpty file (length entry.now) head.free over.old (seen_counts over.new file ≤ max (seen_counts over.old file) 2)) }
     ensures writes { WritesOverlay 1 2 result over.old over.new }
-    ensures idle { (f b : ℕ) → IsErrOf result (BlockFault.Damaged f b) → written over.new ≡ written over.old }
+    ensures idle { (f b : ℕ) → IsErrOf result (BlockFault.Damaged f b) → overlay_changes over.new ≡ overlay_changes over.old }
     ensures causes { HasCausesOr (λ f b. (head.free ≡ 0 → ⊥) × NotAt free_in over.old file head.free f b) result (under over.old) (under over.new) }
 {
     let leaf = leaf_with(alloc, entry)?;
@@ -77,13 +77,13 @@ fn split<B: Blocks>(
     requires wide { AllWide width leaf.entries.items }
     requires almost { length leaf.entries.items * width ≤ 1017 + width }
     requires there { number < seen_counts over.old file }
-    ensures seen { IfOk result (λ t. IsTrue (under over.old).told → seen over.new file ≡ with_halves number t.0 leaf.next leaf.entries.items (laid_head head.first t.1 (seen over.old file))) }
+    ensures seen { IfOk result (λ t. IsTrue (under over.old).told → overlay_content over.new file ≡ with_halves number t.0 leaf.next leaf.entries.items (laid_head head.first t.1 (overlay_content over.old file))) }
     ensures taken { IfOk result (λ t. TakesBlock file head.free over.old t.0 t.1) }
     ensures others { OnOk result (LeavesOthers file over.old over.new) }
     ensures grows { OnOk result (CountGrown file (seen_counts over.old) (seen_counts over.new)) }
     ensures count { IfOk result (λ t. seen_counts over.new file ≡ max (seen_counts over.old file) (t.0 + 1)) }
     ensures writes { WritesOverlay 1 3 result over.old over.new }
-    ensures idle { (f b : ℕ) → IsErrOf result (BlockFault.Damaged f b) → written over.new ≡ written over.old }
+    ensures idle { (f b : ℕ) → IsErrOf result (BlockFault.Damaged f b) → overlay_changes over.new ≡ overlay_changes over.old }
     ensures causes { HasCausesOr (λ f b. (head.free ≡ 0 → ⊥) × NotAt free_in over.old file head.free f b) result (under over.old) (under over.new) }
 {
     let (fresh, free) = next_free(over, alloc, file, head)?;
@@ -121,12 +121,12 @@ fn insert_in<B: Blocks>(
     requires holds { IfSome found.place (PlaceHolds (length entry.now) (seen_counts over.old file)) }
     ensures list { OnOk result (IfLook over.old file entry.now found (λ xs. BecomesList file (length entry.now) over.old over.new xs (with_entry entry.now xs))) }
     ensures answer { IfOk result (λ new. IfLook over.old file entry.now found (λ xs. new ≡ not (has_entry entry.now xs))) }
-    ensures still { IfOk result (λ new. new ≡ false → written over.new ≡ written over.old) }
+    ensures still { IfOk result (λ new. new ≡ false → overlay_changes over.new ≡ overlay_changes over.old) }
     ensures others { OnOk result (LeavesOthers file over.old over.new) }
     ensures grows { OnOk result (CountGrown file (seen_counts over.old) (seen_counts over.new)) }
     ensures room { OnOk result (IfLook over.old file entry.now found (λ xs. seen_counts over.new file ≤ max (seen_counts over.old file) (2 + length xs))) }
     ensures writes { WritesOverlay 1 3 result over.old over.new }
-    ensures idle { (f b : ℕ) → IsErrOf result (BlockFault.Damaged f b) → written over.new ≡ written over.old }
+    ensures idle { (f b : ℕ) → IsErrOf result (BlockFault.Damaged f b) → overlay_changes over.new ≡ overlay_changes over.old }
     ensures causes { HasCausesOr (λ f b. (found.head.free ≡ 0 → ⊥) × NotAt free_in over.old file found.head.free f b) result (under over.old) (under over.new) }
 {
     let Look { head, place } = found;
@@ -147,7 +147,7 @@ fn insert_in<B: Blocks>(
     if stands_at(&leaf.entries, i, entry) {
         return Ok(false);
     }
-    leaf.entries.insert(i, Bytes::copied(alloc, entry)?)?;
+    leaf.entries.insert(i, Bytes::copy_of(alloc, entry)?)?;
     if leaf.entries.len() * entry.len() <= 1017 {
         let block = BlockId {
             file,
@@ -169,14 +169,14 @@ pub fn insert<B: Blocks>(
     entry: &[u8],
 ) -> Result<bool, BlockFault>
     requires may { MayChange over.old file (length entry.now) }
-    ensures list { OnOk result (IfList over.old file (length entry.now) (λ xs. list_in (length entry.now) (seen over.new file) ≡ Some (with_entry entry.now xs))) }
+    ensures list { OnOk result (IfList over.old file (length entry.now) (λ xs. list_in (length entry.now) (overlay_content over.new file) ≡ Some (with_entry entry.now xs))) }
     ensures answer { IfOk result (λ new. IfList over.old file (length entry.now) (λ xs. new ≡ not (has_entry entry.now xs))) }
-    ensures still { IfOk result (λ new. new ≡ false → written over.new ≡ written over.old) }
+    ensures still { IfOk result (λ new. new ≡ false → overlay_changes over.new ≡ overlay_changes over.old) }
     ensures others { OnOk result (LeavesOthers file over.old over.new) }
     ensures grows { OnOk result (CountGrown file (seen_counts over.old) (seen_counts over.new)) }
     ensures room { OnOk result (IfList over.old file (length entry.now) (λ xs. seen_counts over.new file ≤ max (seen_counts over.old file) (2 + length xs))) }
     ensures writes { WritesOverlay (2 + seen_counts over.old file) 3 result over.old over.new }
-    ensures idle { (f b : ℕ) → IsErrOf result (BlockFault.Damaged f b) → written over.new ≡ written over.old }
+    ensures idle { (f b : ℕ) → IsErrOf result (BlockFault.Damaged f b) → overlay_changes over.new ≡ overlay_changes over.old }
     ensures causes { HasCausesOr (NoList over.old file (length entry.now)) result (under over.old) (under over.new) }
 {
     let found = look(over, alloc, file, entry)?;

@@ -1,6 +1,6 @@
 ghost use Rattle.std.specs.Prelude.{◌+◌, IfOk, IfSome, length};
 ghost use Rattle.dms_block.specs.Held.{HasCausesOr};
-ghost use Rattle.dms_block.specs.View.{ReadsOverlay, seen, seen_counts, under};
+ghost use Rattle.dms_block.specs.View.{ReadsOverlay, overlay_content, seen_counts, under};
 ghost use Rattle.dms_ordlist.specs.Looks.{IsLook};
 ghost use Rattle.dms_ordlist.specs.Places.{PlaceHolds};
 ghost use Rattle.dms_ordlist.specs.Seen.{IfList, IsListWidth, NoList};
@@ -21,7 +21,7 @@ pub fn look<B: Blocks>(
 ) -> Result<Look, BlockFault>
     requires sound { (under over.old).sound }
     requires width { IsListWidth (length bytes.now) }
-    ensures look { IfOk result (λ r. IfList over.old file (length bytes.now) (λ xs. IsLook bytes.now (length bytes.now) (seen over.old file) xs r)) }
+    ensures look { IfOk result (λ r. IfList over.old file (length bytes.now) (λ xs. IsLook bytes.now (length bytes.now) (overlay_content over.old file) xs r)) }
     ensures holds { IfOk result (λ r. IfSome r.place (PlaceHolds (length bytes.now) (seen_counts over.old file))) }
     ensures reads { ReadsOverlay (1 + seen_counts over.old file) result over.old over.new }
     ensures causes { HasCausesOr (NoList over.old file (length bytes.now)) result (under over.old) (under over.new) }

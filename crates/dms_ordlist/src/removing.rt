@@ -1,9 +1,9 @@
 ghost use Rattle.std.specs.Prelude.{◌≡◌, ◌+◌, ◌≤◌, ◌<◌, ℕ, IfOk, IfSome, OnOk, IsErrOf, IsTrue, Some, false, length};
 ghost use Rattle.dms_block.specs.Held.{HasCausesOr};
-ghost use Rattle.dms_block.specs.View.{WritesOverlay, seen, seen_counts, under, written};
+ghost use Rattle.dms_block.specs.View.{WritesOverlay, overlay_content, seen_counts, under, overlay_changes};
 ghost use Rattle.dms_ordlist.specs.ListCalls.{BecomesList, LeavesOthers};
 ghost use Rattle.dms_ordlist.specs.ListIn.{list_in};
-ghost use Rattle.dms_ordlist.specs.ListRemoves.{LeafSpotFits, released};
+ghost use Rattle.dms_ordlist.specs.ListRemoves.{LeafSpotFits, release_block};
 ghost use Rattle.dms_ordlist.specs.Lists.{has_entry, without};
 ghost use Rattle.dms_ordlist.specs.Looks.{IfLook};
 ghost use Rattle.dms_ordlist.specs.Places.{PlaceHolds};
@@ -31,11 +31,11 @@ fn release<B: Blocks>(
     requires room { seen_counts over.old file ≤ 1048576 }
     requires there { number < seen_counts over.old file }
     requires fits { IfSome before (LeafSpotFits (seen_counts over.old file)) }
-    ensures seen { OnOk result (IsTrue (under over.old).told → seen over.new file ≡ released before head.first head.free number next (seen over.old file)) }
+    ensures seen { OnOk result (IsTrue (under over.old).told → overlay_content over.new file ≡ release_block before head.first head.free number next (overlay_content over.old file)) }
     ensures others { OnOk result (LeavesOthers file over.old over.new) }
     ensures counts { OnOk result (seen_counts over.new ≡ seen_counts over.old) }
     ensures writes { WritesOverlay 0 3 result over.old over.new }
-    ensures idle { (f b : ℕ) → IsErrOf result (BlockFault.Damaged f b) → written over.new ≡ written over.old }
+    ensures idle { (f b : ℕ) → IsErrOf result (BlockFault.Damaged f b) → overlay_changes over.new ≡ overlay_changes over.old }
     ensures causes { HasCausesOr (λ f b. ⊥) result (under over.old) (under over.new) }
 {
     let freed = free_block(head.free);
@@ -75,11 +75,11 @@ fn remove_in<B: Blocks>(
     requires holds { IfSome found.place (PlaceHolds (length entry.now) (seen_counts over.old file)) }
     ensures list { OnOk result (IfLook over.old file entry.now found (λ xs. BecomesList file (length entry.now) over.old over.new xs (without entry.now xs))) }
     ensures answer { IfOk result (λ was. IfLook over.old file entry.now found (λ xs. was ≡ has_entry entry.now xs)) }
-    ensures still { IfOk result (λ was. was ≡ false → written over.new ≡ written over.old) }
+    ensures still { IfOk result (λ was. was ≡ false → overlay_changes over.new ≡ overlay_changes over.old) }
     ensures others { OnOk result (LeavesOthers file over.old over.new) }
     ensures counts { OnOk result (seen_counts over.new ≡ seen_counts over.old) }
     ensures writes { WritesOverlay 0 3 result over.old over.new }
-    ensures idle { (f b : ℕ) → IsErrOf result (BlockFault.Damaged f b) → written over.new ≡ written over.old }
+    ensures idle { (f b : ℕ) → IsErrOf result (BlockFault.Damaged f b) → overlay_changes over.new ≡ overlay_changes over.old }
     ensures causes { HasCausesOr (λ f b. ⊥) result (under over.old) (under over.new) }
 {
     let Look { head, place } = found;
@@ -114,13 +114,13 @@ pub fn remove<B: Blocks>(
     entry: &[u8],
 ) -> Result<bool, BlockFault>
     requires may { MayChange over.old file (length entry.now) }
-    ensures list { OnOk result (IfList over.old file (length entry.now) (λ xs. list_in (length entry.now) (seen over.new file) ≡ Some (without entry.now xs))) }
+    ensures list { OnOk result (IfList over.old file (length entry.now) (λ xs. list_in (length entry.now) (overlay_content over.new file) ≡ Some (without entry.now xs))) }
     ensures answer { IfOk result (λ was. IfList over.old file (length entry.now) (λ xs. was ≡ has_entry entry.now xs)) }
-    ensures still { IfOk result (λ was. was ≡ false → written over.new ≡ written over.old) }
+    ensures still { IfOk result (λ was. was ≡ false → overlay_changes over.new ≡ overlay_changes over.old) }
     ensures others { OnOk result (LeavesOthers file over.old over.new) }
     ensures counts { OnOk result (seen_counts over.new ≡ seen_counts over.old) }
     ensures writes { WritesOverlay (1 + seen_counts over.old file) 3 result over.old over.new }
-    ensures idle { (f b : ℕ) → IsErrOf result (BlockFault.Damaged f b) → written over.new ≡ written over.old }
+    ensures idle { (f b : ℕ) → IsErrOf result (BlockFault.Damaged f b) → overlay_changes over.new ≡ overlay_changes over.old }
     ensures causes { HasCausesOr (NoList over.old file (length entry.now)) result (under over.old) (under over.new) }
 {
     let found = look(over, alloc, file, entry)?;

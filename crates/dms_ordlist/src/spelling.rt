@@ -1,6 +1,6 @@
 ghost use Rattle.std.specs.Prelude.{◌≡◌, ◌+◌, ◌*◌, ◌≤◌, IfOk, length, take, drop, option_map, Some};
 ghost use Rattle.std.specs.Int.{w16, w32, from_be_bytes};
-ghost use Rattle.dms_ordlist.specs.ListBlocks.{cut, flat, free_bytes, free_in, head_bytes, head_in, leaf_bytes, leaf_in};
+ghost use Rattle.dms_ordlist.specs.ListBlocks.{entry_chunks, flat, free_bytes, free_in, head_bytes, head_in, leaf_bytes, leaf_in};
 ghost use Rattle.dms_ordlist.specs.Spelled.{leaf_opt};
 
 use crate::order::is_rising;
@@ -116,13 +116,13 @@ fn entries_in(block: &Block) -> &[u8]
 /// So many entries of one width, from the first byte on.
 fn cut(alloc: Global, width: usize, count: usize, bytes: &[u8]) -> Result<Vec<Bytes>, Memory>
     requires { count * width ≤ length bytes.now }
-    ensures { IfOk result (λ entries. entries.items ≡ cut width count bytes.now) }
+    ensures { IfOk result (λ entries. entries.items ≡ entry_chunks width count bytes.now) }
 {
     let mut entries = Vec::new(alloc);
     let mut rest = bytes;
     for _turn in 0..count {
         let (entry, behind) = rest.split_at(width);
-        entries.push(Bytes::copied(alloc, entry)?)?;
+        entries.push(Bytes::copy_of(alloc, entry)?)?;
         rest = behind;
     }
     Ok(entries)

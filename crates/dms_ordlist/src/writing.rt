@@ -1,7 +1,7 @@
 ghost use Rattle.std.specs.Prelude.{◌≡◌, ◌+◌, ◌≤◌, ◌<◌, IfOk, OnErr, OnOk, IsErrOf, IsTrue, length, max};
-ghost use Rattle.dms_block.specs.Content.{limit, raised, with_block};
+ghost use Rattle.dms_block.specs.Content.{limit, raise_count, with_block};
 ghost use Rattle.dms_block.specs.Held.{HasCausesOr};
-ghost use Rattle.dms_block.specs.View.{ReadsOverlay, seen, seen_counts, under, written};
+ghost use Rattle.dms_block.specs.View.{ReadsOverlay, overlay_content, seen_counts, under, overlay_changes};
 ghost use Rattle.dms_ordlist.specs.ListBlocks.{free_in};
 ghost use Rattle.dms_ordlist.specs.ListCalls.{IfSeen, TakesBlock, with_head};
 ghost use Rattle.dms_ordlist.specs.Seen.{NotAt};
@@ -49,9 +49,9 @@ pub fn write_two<B: Blocks>(
     requires low { number < limit }
     requires near { number ≤ max (seen_counts over.old file) 1 }
     ensures below { over.new.below ≡ over.old.below }
-    ensures seen { OnOk result (IfSeen over.old (seen over.new ≡ with_block (with_head file head.first head.free (seen over.old)) file number block.now.0)) }
-    ensures counts { OnOk result (seen_counts over.new ≡ raised (raised (seen_counts over.old) file 0) file number) }
-    ensures more { length (written over.new) ≤ length (written over.old) + 2 }
+    ensures seen { OnOk result (IfSeen over.old (overlay_content over.new ≡ with_block (with_head file head.first head.free (overlay_content over.old)) file number block.now.0)) }
+    ensures counts { OnOk result (seen_counts over.new ≡ raise_count (raise_count (seen_counts over.old) file 0) file number) }
+    ensures more { length (overlay_changes over.new) ≤ length (overlay_changes over.old) + 2 }
     ensures memory { OnErr result (IsErrOf result BlockFault.Memory) }
 {
     over.write(BlockId { file, block: 0 }, &head_block(head))?;
@@ -80,9 +80,9 @@ pub fn write_three<B: Blocks>(
     requires other_low { other < limit }
     requires other_there { other < seen_counts over.old file }
     ensures below { over.new.below ≡ over.old.below }
-    ensures seen { OnOk result (IfSeen over.old (seen over.new ≡ with_block (with_block (with_head file head.first head.free (seen over.old)) file number block.now.0) file other changed.now.0)) }
-    ensures counts { OnOk result (seen_counts over.new ≡ raised (raised (raised (seen_counts over.old) file 0) file number) file other) }
-    ensures more { length (written over.new) ≤ length (written over.old) + 3 }
+    ensures seen { OnOk result (IfSeen over.old (overlay_content over.new ≡ with_block (with_block (with_head file head.first head.free (overlay_content over.old)) file number block.now.0) file other changed.now.0)) }
+    ensures counts { OnOk result (seen_counts over.new ≡ raise_count (raise_count (raise_count (seen_counts over.old) file 0) file number) file other) }
+    ensures more { length (overlay_changes over.new) ≤ length (overlay_changes over.old) + 3 }
     ensures memory { OnErr result (IsErrOf result BlockFault.Memory) }
 {
     write_two(over, file, head, number, block)?;

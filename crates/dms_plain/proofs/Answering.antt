@@ -6,7 +6,7 @@ use Rattle.std.specs.FinMap.{entries}
 use Rattle.dms_desc.specs.declared.record.Record.{Record}
 use Rattle.dms_desc.specs.Shape.{Shape, Described}
 use Rattle.dms_model.specs.Db.{Records, Place}
-use Rattle.dms_model.specs.Stores.{clash, is_closed, has_equal, judged, put_number, put_unless}
+use Rattle.dms_model.specs.Stores.{clash, is_closed, has_equal, judge_put, put_number, put_unless}
 use Rattle.dms_plain.specs.declared.rows.RecordRow.{RecordRow}
 use Rattle.dms_plain.specs.Rows.{entries_of, records_in, db_of, IsInOrder}
 use Rattle.dms_plain.specs.Clashes.{clash_in, number_in, put_in}
@@ -20,9 +20,9 @@ number_same : (desc : Described) (records : Records) (set : ℕ) (number : Optio
 number_same desc records set None = refl
 number_same desc records set (Some n) = refl
 
-put_same : (desc : Described) (records : Records) (set : ℕ) (number : Option ℕ) (rec : Record) → put_in desc (entries records) set number rec ≡ judged desc (db_of records) set number rec
+put_same : (desc : Described) (records : Records) (set : ℕ) (number : Option ℕ) (rec : Record) → put_in desc (entries records) set number rec ≡ judge_put desc (db_of records) set number rec
 put_same desc records set number rec = λ i. put_unless (clash_same desc.structures records set number rec i) (number_same desc records set number i)
 
-pub put_in_rows : (desc : Described) (rows : List RecordRow) (set : ℕ) (number : Option ℕ) (rec : Record) → IsInOrder rows → put_in desc (entries_of rows) set number rec ≡ judged desc (db_of (records_in rows)) set number rec
+pub put_in_rows : (desc : Described) (rows : List RecordRow) (set : ℕ) (number : Option ℕ) (rec : Record) → IsInOrder rows → put_in desc (entries_of rows) set number rec ≡ judge_put desc (db_of (records_in rows)) set number rec
 put_in_rows desc rows set number rec order =
     ap (λ (es : List (Place × Record)). put_in desc es set number rec) (sym (db_entries rows order)) ∙ put_same desc (records_in rows) set number rec

@@ -16,7 +16,7 @@ use Rattle.dms_model.specs.Stores.{put_after, put_answer}
 use Rattle.dms_plain.specs.declared.rows.RecordRow.{RecordRow}
 use Rattle.dms_plain.specs.declared.rows.Undo.{Undo}
 use Rattle.dms_plain.proofs.Maps.{no_rows}
-use Rattle.dms_plain.specs.Rows.{RowsFit, db_of, records_in, undone}
+use Rattle.dms_plain.specs.Rows.{RowsFit, db_of, records_in, undo_all}
 
 got_at : (desc : Described) (records : Records) (set n : ℕ) (o : Option Record) → get records (set, n) ≡ o → RecordsFit desc records → IfSome o (RecordFits desc set)
 got_at desc records set n None at fit = tt
@@ -26,7 +26,7 @@ pub got_fits : (desc : Described) (records : Records) (set n : ℕ) → RecordsF
 got_fits desc records set n fit = got_at desc records set n (get records (set, n)) refl fit
 
 pub put_all_fit : (desc : Described) (rows new : List RecordRow) (undo undo' : List Undo) (set : ℕ) (rec : Record) (a : Put) → RowsFit desc rows undo → RecordFits desc set rec → PutFits desc set a
-    → db_of (records_in new) ≡ put_after a desc (db_of (records_in rows)) set rec → undone undo' (records_in new) ≡ undone undo (records_in rows) → RowsFit desc new undo'
+    → db_of (records_in new) ≡ put_after a desc (db_of (records_in rows)) set rec → undo_all undo' (records_in new) ≡ undo_all undo (records_in rows) → RowsFit desc new undo'
 put_all_fit desc rows new undo undo' set rec a all own number db mark = record {
   records = subst (λ (d : Db). RecordsFit desc d.records) (sym db) (after_fits a desc (db_of (records_in rows)) set rec number all.records own);
   mark = subst (RecordsFit desc) (sym mark) all.mark;
@@ -34,7 +34,7 @@ put_all_fit desc rows new undo undo' set rec a all own number db mark = record {
 
 pub put_keeps : (desc : Described) (rows new : List RecordRow) (undo undo' : List Undo) (set : ℕ) (number : Option ℕ) (rec : Record) (r : Result Put Memory) → RowsFit desc rows undo → RecordFits desc set rec → IfSome number (IsNumber desc set)
     → IfOk r (λ a. a ≡ put_answer desc (db_of (records_in rows)) set number rec) → IfOk r (λ a. db_of (records_in new) ≡ put_after a desc (db_of (records_in rows)) set rec)
-    → OnOk r (undone undo' (records_in new) ≡ undone undo (records_in rows)) → OnErr r (new ≡ rows) → OnErr r (undo' ≡ undo) → RowsFit desc new undo'
+    → OnOk r (undo_all undo' (records_in new) ≡ undo_all undo (records_in rows)) → OnErr r (new ≡ rows) → OnErr r (undo' ≡ undo) → RowsFit desc new undo'
 put_keeps desc rows new undo undo' set number rec (Ok a) all own named answer db mark same_rows same_undo =
     put_all_fit desc rows new undo undo' set rec a all own (subst (PutFits desc set) (sym answer) (answer_fits desc (db_of (records_in rows)) set number rec named)) db mark
 put_keeps desc rows new undo undo' set number rec (Err e) all own named answer db mark same_rows same_undo =
@@ -43,7 +43,7 @@ put_keeps desc rows new undo undo' set number rec (Err e) all own named answer d
 pub forgotten : (desc : Described) (rows : List RecordRow) (undo undo' : List Undo) → undo' ≡ [] → RowsFit desc rows undo → RowsFit desc rows undo'
 forgotten desc rows undo undo' none all = subst (RowsFit desc rows) (sym none) (record { records = all.records; mark = all.records })
 
-pub taken_back : (desc : Described) (rows new : List RecordRow) (undo undo' : List Undo) → records_in new ≡ undone undo (records_in rows) → undo' ≡ [] → RowsFit desc rows undo → RowsFit desc new undo'
+pub taken_back : (desc : Described) (rows new : List RecordRow) (undo undo' : List Undo) → records_in new ≡ undo_all undo (records_in rows) → undo' ≡ [] → RowsFit desc rows undo → RowsFit desc new undo'
 taken_back desc rows new undo undo' back none all =
     let now = subst (RecordsFit desc) (sym back) all.mark in
     subst (RowsFit desc new) (sym none) (record { records = now; mark = now })
@@ -57,5 +57,5 @@ none_fit desc records none place r at = nothing (PlaceFits desc place r) records
 pub nothing_fits : (desc : Described) (rows : List RecordRow) (undo : List Undo) → rows ≡ [] → undo ≡ [] → RowsFit desc rows undo
 nothing_fits desc rows undo no_rows_are none = record {
   records = none_fit desc (records_in rows) (ap records_in no_rows_are ∙ no_rows);
-  mark = none_fit desc (undone undo (records_in rows)) ((λ i. undone (none i) (records_in (no_rows_are i))) ∙ no_rows);
+  mark = none_fit desc (undo_all undo (records_in rows)) ((λ i. undo_all (none i) (records_in (no_rows_are i))) ∙ no_rows);
 }

@@ -9,10 +9,10 @@ use Rattle.std.specs.FinMap.Entries.{is_sorted-where_key, find-where_key}
 use Rattle.std.proofs.lemmas.Cmp.{alike_right, eq_by_cmp_equiv}
 use Rattle.dms_desc.specs.declared.record.Record.{Record}
 use Rattle.dms_model.specs.Db.{Records, Place, place_cmp}
-use Rattle.dms_model.specs.Places.{places_same, places_total, tied}
+use Rattle.dms_model.specs.Places.{places_same, places_total, equal_of_tie}
 use Rattle.dms_plain.specs.declared.rows.RecordRow.{RecordRow}
 use Rattle.dms_plain.specs.declared.rows.Undo.{Undo}
-use Rattle.dms_plain.specs.Rows.{entries_of, records_in, IsInOrder, restore, undone}
+use Rattle.dms_plain.specs.Rows.{entries_of, records_in, IsInOrder, restore, undo_all}
 
 -- the entries of the database of rows in order are theirs
 pub db_entries : (rows : List RecordRow) → IsInOrder rows → entries (records_in rows) ≡ entries_of rows
@@ -58,11 +58,11 @@ db_left rows new k order is =
     ∙ sym (get-remove places_total (records_in rows) k q))
 
 removed_at : (m : Records) (k q : Place) (v : Record) (t : Bool) → eq_by_cmp place_cmp q k ≡ t → get m k ≡ None → cond t None (cond t (Some v) (get m q)) ≡ get m q
-removed_at m k q v true e none = sym none ∙ get_tied places_total m q k (tied (place_cmp q k) e)
+removed_at m k q v true e none = sym none ∙ get_tied places_total m q k (equal_of_tie (place_cmp q k) e)
 removed_at m k q v false e none = refl
 
 put_back_at : (m : Records) (k q : Place) (v old : Record) (t : Bool) → eq_by_cmp place_cmp q k ≡ t → get m k ≡ Some old → cond t (Some old) (cond t (Some v) (get m q)) ≡ get m q
-put_back_at m k q v old true e was = sym was ∙ get_tied places_total m q k (tied (place_cmp q k) e)
+put_back_at m k q v old true e was = sym was ∙ get_tied places_total m q k (equal_of_tie (place_cmp q k) e)
 put_back_at m k q v old false e was = refl
 
 -- a change of a place that is taken back leaves the database as it was
@@ -79,7 +79,7 @@ restore-insert m k v (Some old) was =
     ∙ put_back_at m k q v old (eq_by_cmp place_cmp q k) refl was)
 
 -- the newest change is taken back first
-pub undone-push : (us : List Undo) (u : Undo) (db : Records) → undone (us ++ u ∷ []) db ≡ undone us (restore (u.set, u.number) u.old db)
+pub undone-push : (us : List Undo) (u : Undo) (db : Records) → undo_all (us ++ u ∷ []) db ≡ undo_all us (restore (u.set, u.number) u.old db)
 undone-push [] u db = refl
 undone-push (w ∷ us) u db = ap (restore (w.set, w.number) w.old) (undone-push us u db)
 

@@ -1,7 +1,7 @@
 -- The first and the last that pass in a sorted list are the least and the greatest that pass.
 use Rattle.std.proofs.Common.{◌≡◌, List, [], ◌∷◌, Bool, true, false, cond, Some, None, refl, sym, ap, ◌∙◌}
 use Rattle.std.specs.declared.option.Option.{Option}
-use Rattle.dms_desc.specs.Sorted.{place_in, sorted, first, last, or_else, NoneLess, InOrder, InOrder-sorted}
+use Rattle.dms_desc.specs.Sorted.{place_in, sort, first, last, or_else, NoneLess, InOrder, InOrder-sorted}
 use Rattle.dms_plain.specs.Scans.{lesser, least, greater, greatest}
 
 module _ {A : Type 0} (less : A → A → Bool)
@@ -42,10 +42,10 @@ module _ {A : Type 0} (less : A → A → Bool)
     first-place_in x (y ∷ ys) order = by_test (less x y) x y ys refl order.0 (first-place_in x ys order.1)
 
     -- the first that passes in a sorted list is the least that passes
-    pub first-sorted : (xs : List A) → first p (sorted less xs) ≡ least less p xs
+    pub first-sorted : (xs : List A) → first p (sort less xs) ≡ least less p xs
     first-sorted [] = refl
     first-sorted (x ∷ xs) =
-        first-place_in x (sorted less xs) (InOrder-sorted less through one_way xs) ∙ ap (λ (o : Option A). cond (p x) (lesser less x o) o) (first-sorted xs)
+        first-place_in x (sort less xs) (InOrder-sorted less through one_way xs) ∙ ap (λ (o : Option A). cond (p x) (lesser less x o) o) (first-sorted xs)
 
     or_none : (o : Option A) → or_else o None ≡ o
     or_none None = refl
@@ -97,7 +97,7 @@ module _ {A : Type 0} (less : A → A → Bool)
     last-place_in x (y ∷ ys) order = last_by_test (less x y) x y ys refl order.0 (last-place_in x ys order.1)
 
     -- the last that passes in a sorted list is the greatest that passes
-    pub last-sorted : (xs : List A) → last p (sorted less xs) ≡ greatest less p xs
+    pub last-sorted : (xs : List A) → last p (sort less xs) ≡ greatest less p xs
     last-sorted [] = refl
     last-sorted (x ∷ xs) =
-        last-place_in x (sorted less xs) (InOrder-sorted less through one_way xs) ∙ ap (λ (o : Option A). cond (p x) (greater less x o) o) (last-sorted xs)
+        last-place_in x (sort less xs) (InOrder-sorted less through one_way xs) ∙ ap (λ (o : Option A). cond (p x) (greater less x o) o) (last-sorted xs)

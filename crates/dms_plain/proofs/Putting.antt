@@ -8,7 +8,7 @@ use Rattle.dms_model.specs.Db.{Db, fresh, records_of}
 use Rattle.dms_model.specs.Fresh.{fresh_free}
 use Rattle.dms_desc.specs.Lookups.{items_of, structure_of}
 use Rattle.dms_model.specs.declared.put.Put.TheVariants.{Stored, Full}
-use Rattle.dms_model.specs.Stores.{clash, is_full, judged, linked, old_of, put_answer, put_number, put_unless, stored}
+use Rattle.dms_model.specs.Stores.{clash, is_full, judge_put, with_links_of, old_of, put_answer, put_number, put_unless, record_to_store}
 
 fresh_at : (b : Bool) (desc : Described) (db : Db) (set n : ℕ) → cond b Full (Stored (fresh db.records set)) ≡ Stored n → old_of db set None ≡ get db.records (set, n)
 fresh_at true desc db set n is = absurd (cc)
@@ -27,13 +27,13 @@ unless_at None desc db set n number is = number_at desc db set n number is
 unless_at (Some s) desc db set n number is = absurd (cc)
 
 -- where a record is stored stands the one that was named, or none
-pub replaced : (desc : Described) (db : Db) (set n : ℕ) (number : Option ℕ) (made : Record) → judged desc db set number made ≡ Stored n → old_of db set number ≡ get db.records (set, n)
+pub replaced : (desc : Described) (db : Db) (set n : ℕ) (number : Option ℕ) (made : Record) → judge_put desc db set number made ≡ Stored n → old_of db set number ≡ get db.records (set, n)
 replaced desc db set n number made is = unless_at (clash desc.structures db set number made) desc db set n number is
 
 -- what is stored is what was judged
-pub answers : (desc : Described) (db : Db) (set : ℕ) (number : Option ℕ) (rec made : Record) → made ≡ stored desc db set number rec → judged desc db set number made ≡ put_answer desc db set number rec
+pub answers : (desc : Described) (db : Db) (set : ℕ) (number : Option ℕ) (rec made : Record) → made ≡ record_to_store desc db set number rec → judge_put desc db set number made ≡ put_answer desc db set number rec
 unfolding put_answer
-answers desc db set number rec made is = ap (λ (r : Record). judged desc db set number r) is
+answers desc db set number rec made is = ap (λ (r : Record). judge_put desc db set number r) is
 
-pub made_is : (desc : Described) (db : Db) (set n : ℕ) (number : Option ℕ) (rec made : Record) → made ≡ stored desc db set number rec → judged desc db set number made ≡ Stored n → made ≡ stored desc db set (Some n) rec
-made_is desc db set n number rec made is at = is ∙ ap (λ (o : Option Record). linked (items_of (structure_of desc set)) o rec) (replaced desc db set n number made at)
+pub made_is : (desc : Described) (db : Db) (set n : ℕ) (number : Option ℕ) (rec made : Record) → made ≡ record_to_store desc db set number rec → judge_put desc db set number made ≡ Stored n → made ≡ record_to_store desc db set (Some n) rec
+made_is desc db set n number rec made is at = is ∙ ap (λ (o : Option Record). with_links_of (items_of (structure_of desc set)) o rec) (replaced desc db set n number made at)

@@ -8,12 +8,12 @@ use Rattle.std.proofs.lemmas.Option.{slice_get-map, get_or_from_slice_get}
 use Rattle.dms_base.specs.declared.value.Value.{Value}
 use Rattle.dms_desc.specs.declared.structure.KeyPart.{KeyPart}
 use Rattle.dms_base.specs.Orders.{value_cmp}
-use Rattle.dms_desc.specs.Keys.{key_cmp_from, key_cmp, key_of, turned}
+use Rattle.dms_desc.specs.Keys.{key_cmp_from, key_cmp, key_of, reverse_if}
 use Rattle.dms_desc.specs.Conds.{item_of, or_null}
 
 -- what the i-th part says
 abbrev pub part_cmp : ℕ → KeyPart → List Value → List Value → Ordering
-part_cmp i p a b = turned p.descending (value_cmp (or_null (slice_get a i)) (or_null (slice_get b i)))
+part_cmp i p a b = reverse_if p.descending (value_cmp (or_null (slice_get a i)) (or_null (slice_get b i)))
 
 key_turn : (i : ℕ) (ps : List KeyPart) (p : KeyPart) (a b : List Value) → i < length ps → slice_get ps i ≡ Some p → key_cmp_from i (drop i ps) a b ≡ ordering_then (part_cmp i p a b) (key_cmp_from (i + 1) (drop (i + 1) ps) a b)
 key_turn i ps p a b lt is =
@@ -39,8 +39,8 @@ key_more i ps p a b o lt is same ties so =
 pub key_at : (ps : List KeyPart) (i : ℕ) (p : KeyPart) (values : List Value) → slice_get ps i ≡ Some p → item_of values p.item ≡ or_null (slice_get (key_of ps values) i)
 key_at ps i p values is = sym (ap or_null (slice_get-map (λ (q : KeyPart). item_of values q.item) ps i ∙ ap (option_map (λ (q : KeyPart). item_of values q.item)) is))
 
-pub part_same : (p : KeyPart) (x x' y y' : Value) (o : Ordering) → o ≡ turned p.descending (value_cmp x y) → x ≡ x' → y ≡ y' → o ≡ turned p.descending (value_cmp x' y')
-part_same p x x' y y' o h e f = h ∙ (λ j. turned p.descending (value_cmp (e j) (f j)))
+pub part_same : (p : KeyPart) (x x' y y' : Value) (o : Ordering) → o ≡ reverse_if p.descending (value_cmp x y) → x ≡ x' → y ≡ y' → o ≡ reverse_if p.descending (value_cmp x' y')
+part_same p x x' y y' o h e f = h ∙ (λ j. reverse_if p.descending (value_cmp (e j) (f j)))
 
 pub front_cmp : (parts front : List KeyPart) (values vs key k2 : List Value) (o : Ordering) → front ≡ take (length key) parts → vs ≡ values → k2 ≡ key → o ≡ key_cmp front (key_of front vs) k2
     → ordering_then o Greater ≡ ordering_then (key_cmp (take (length key) parts) (take (length key) (key_of parts values)) key) Greater

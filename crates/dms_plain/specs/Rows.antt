@@ -32,9 +32,9 @@ restore place None records = remove records place
 restore place (Some rec) records = insert records place rec
 
 -- the records before what was done, oldest first
-abbrev pub undone : List Undo → Records → Records
-undone [] records = records
-undone (u ∷ us) records = restore (u.set, u.number) u.old (undone us records)
+abbrev pub undo_all : List Undo → Records → Records
+undo_all [] records = records
+undo_all (u ∷ us) records = restore (u.set, u.number) u.old (undo_all us records)
 
 -- the database of these records; no manual subset has an entry
 abbrev pub db_of : Records → Db
@@ -48,4 +48,4 @@ IsWhere k es (BeforeRow i) = (i ≤ length es) × ((v : Record) → put place_cm
 -- the records fit their data sets, and so do those before what was done
 pub record RowsFit (desc : Described) (rows : List RecordRow) (undo : List Undo) : Type 0 where
   pub records : RecordsFit desc (records_in rows)
-  pub mark : RecordsFit desc (undone undo (records_in rows))
+  pub mark : RecordsFit desc (undo_all undo (records_in rows))

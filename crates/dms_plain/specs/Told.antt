@@ -8,9 +8,9 @@ use Rattle.dms_model.specs.Db.{Db}
 use Rattle.dms_model.specs.Points.{Point, Stop}
 
 -- the text, where the site tells it
-abbrev pub told : Bool → List ℕ → Option (List ℕ)
-told true text = Some text
-told false text = None
+abbrev pub text_if : Bool → List ℕ → Option (List ℕ)
+text_if true text = Some text
+text_if false text = None
 
 -- a point without blocks: nothing stands on a disk
 abbrev pub point_of : ℕ → Described → Db → Point

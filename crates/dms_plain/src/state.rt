@@ -1,11 +1,11 @@
 ghost use Rattle.std.specs.Prelude.{◌≡◌, [], IfOk, OnOk, OnErr};
 ghost use Rattle.std.specs.Option.{option_copied, option_map};
 ghost use Rattle.std.specs.FinMap.{insert, get};
-ghost use Rattle.dms_desc.specs.Shape.{shape_of, described};
+ghost use Rattle.dms_desc.specs.Shape.{shape_of, as_described};
 ghost use Rattle.dms_desc.specs.Lookups.{structure_of, items_of};
 ghost use Rattle.dms_model.specs.Members.{first_member, last_member};
-ghost use Rattle.dms_model.specs.Stores.{is_full, kept_owner, linked, old_of, put_after, put_answer, values_of};
-ghost use Rattle.dms_plain.specs.Rows.{entries_of, records_in, db_of, IsInOrder, restore, undone};
+ghost use Rattle.dms_model.specs.Stores.{is_full, kept_owner, with_links_of, old_of, put_after, put_answer, values_of};
+ghost use Rattle.dms_plain.specs.Rows.{entries_of, records_in, db_of, IsInOrder, restore, undo_all};
 ghost use Rattle.dms_plain.specs.Clashes.{put_in};
 ghost use Rattle.dms_plain.specs.Scans.{spot_at, soonest, latest};
 
@@ -14,7 +14,7 @@ use crate::rows::{self, RecordRow, Undo};
 use crate::scan;
 use dms_base::{Memory, Value};
 use dms_desc::{Bound, Description, Record, Structure};
-use dms_model::{Put, Spot, key_of, linked};
+use dms_model::{Put, Spot, key_of, with_links_of};
 use std::alloc::Global;
 
 /// The record at a place of the database.
@@ -47,7 +47,7 @@ fn put_in(
     number: Option<u64>,
     made: &Record,
 ) -> Put
-    ensures { result ≡ put_in (described desc.now) (entries_of rows.now) set number made.now }
+    ensures { result ≡ put_in (as_described desc.now) (entries_of rows.now) set number made.now }
 {
     if let Some(s) = clash(desc.structures.as_slice(), rows, set, number, made) {
         return Put::Duplicate(s);
@@ -90,12 +90,12 @@ fn linked_record(
     old: &Option<Record>,
     rec: &Record,
 ) -> Result<Record, Memory>
-    ensures { IfOk result (λ r. r ≡ linked (items_of (structure_of (described desc.now) set)) old.now rec.now) }
+    ensures { IfOk result (λ r. r ≡ with_links_of (items_of (structure_of (as_described desc.now) set)) old.now rec.now) }
 {
     let items = desc.items_of(set);
     Ok(Record {
         owner: kept_owner(old, rec.owner),
-        values: linked(alloc, items, values_of(old), rec.values.as_slice())?,
+        values: with_links_of(alloc, items, values_of(old), rec.values.as_slice())?,
     })
 }
 
@@ -110,7 +110,7 @@ pub fn store_row(
     requires old { old ≡ get (records_in rows.old.items) (row.set, row.number) }
     ensures in_order { IsInOrder rows.new.items }
     ensures db { OnOk result (records_in rows.new.items ≡ insert (records_in rows.old.items) (row.set, row.number) row.rec) }
-    ensures mark { OnOk result (undone undo.new.items (records_in rows.new.items) ≡ undone undo.old.items (records_in rows.old.items)) }
+    ensures mark { OnOk result (undo_all undo.new.items (records_in rows.new.items) ≡ undo_all undo.old.items (records_in rows.old.items)) }
     ensures err_rows { OnErr result (rows.new.items ≡ rows.old.items) }
     ensures err_undo { OnErr result (undo.new.items ≡ undo.old.items) }
 {
@@ -156,9 +156,9 @@ pub fn put(
 ) -> Result<Put, Memory>
     requires { IsInOrder rows.old.items }
     ensures in_order { IsInOrder rows.new.items }
-    ensures answer { IfOk result (λ a. a ≡ put_answer (described desc.now) (db_of (records_in rows.old.items)) set number rec.now) }
-    ensures db { IfOk result (λ a. db_of (records_in rows.new.items) ≡ put_after a (described desc.now) (db_of (records_in rows.old.items)) set rec.now) }
-    ensures mark { OnOk result (undone undo.new.items (records_in rows.new.items) ≡ undone undo.old.items (records_in rows.old.items)) }
+    ensures answer { IfOk result (λ a. a ≡ put_answer (as_described desc.now) (db_of (records_in rows.old.items)) set number rec.now) }
+    ensures db { IfOk result (λ a. db_of (records_in rows.new.items) ≡ put_after a (as_described desc.now) (db_of (records_in rows.old.items)) set rec.now) }
+    ensures mark { OnOk result (undo_all undo.new.items (records_in rows.new.items) ≡ undo_all undo.old.items (records_in rows.old.items)) }
     ensures err_rows { OnErr result (rows.new.items ≡ rows.old.items) }
     ensures err_undo { OnErr result (undo.new.items ≡ undo.old.items) }
 {
@@ -202,7 +202,7 @@ fn restore_row(rows: &mut Vec<RecordRow>, undo: Undo) -> Result<(), Memory>
 pub fn take_back(rows: &mut Vec<RecordRow>, undo: &mut Vec<Undo>) -> Result<(), Memory>
     requires { IsInOrder rows.old.items }
     ensures in_order { IsInOrder rows.new.items }
-    ensures db { OnOk result (records_in rows.new.items ≡ undone undo.old.items (records_in rows.old.items)) }
+    ensures db { OnOk result (records_in rows.new.items ≡ undo_all undo.old.items (records_in rows.old.items)) }
     ensures undo { OnOk result (undo.new.items ≡ []) }
 {
     for _turn in 0..undo.len() {
@@ -262,7 +262,7 @@ pub fn first_member(
     from: &Bound,
 ) -> Result<Option<Spot>, Memory>
     requires { IsInOrder rows.now }
-    ensures { IfOk result (λ r. r ≡ first_member (described desc.now) (db_of (records_in rows.now)) path owner from.now) }
+    ensures { IfOk result (λ r. r ≡ first_member (as_described desc.now) (db_of (records_in rows.now)) path owner from.now) }
 {
     match desc.structure(path) {
         None => Ok(None),
@@ -280,7 +280,7 @@ pub fn last_member(
     upto: &Bound,
 ) -> Result<Option<Spot>, Memory>
     requires { IsInOrder rows.now }
-    ensures { IfOk result (λ r. r ≡ last_member (described desc.now) (db_of (records_in rows.now)) path owner upto.now) }
+    ensures { IfOk result (λ r. r ≡ last_member (as_described desc.now) (db_of (records_in rows.now)) path owner upto.now) }
 {
     match desc.structure(path) {
         None => Ok(None),

@@ -1,13 +1,13 @@
 ghost use Rattle.std.specs.Prelude.{◌≡◌, ⊤, IfErr, IfOk, IsTrue, Some, [], refl};
 ghost use Rattle.std.proofs.Common.{◌∙◌};
-ghost use Rattle.dms_desc.specs.Shape.{described};
+ghost use Rattle.dms_desc.specs.Shape.{as_described};
 ghost use Rattle.dms_model.specs.Db.{empty_db};
 ghost use Rattle.dms_model.specs.Seen.{Starts};
 ghost use Rattle.std.proofs.Props.{props};
 ghost use Rattle.dms_plain.specs.Props.{RowsFit-prop};
-ghost use Rattle.dms_plain.specs.Rows.{RowsFit, db_of, records_in, undone, IsInOrder};
+ghost use Rattle.dms_plain.specs.Rows.{RowsFit, db_of, records_in, undo_all, IsInOrder};
 ghost use Rattle.dms_plain.specs.Speaking.{OnlySpeaks, only_none, only_on};
-ghost use Rattle.dms_plain.specs.Told.{told, point_of, no_clock};
+ghost use Rattle.dms_plain.specs.Told.{text_if, point_of, no_clock};
 
 use crate::rows::{RecordRow, Undo};
 use crate::state;
@@ -33,15 +33,15 @@ pub struct PlainStore<S> {
     outs: u64,
     site: S,
     ghost in_order: { IsInOrder rows.items },
-    ghost fit: { RowsFit (described desc) rows.items undo.items } by { Prim.hlevel (props, RowsFit-prop) },
+    ghost fit: { RowsFit (as_described desc) rows.items undo.items } by { Prim.hlevel (props, RowsFit-prop) },
 }
 
 impl<S: Site> PlainStore<S> {
     /// A database without a record, under a copy of the description, whose next quiet point has the number 1. Where memory
     /// is refused the site comes back.
     pub fn new(alloc: Global, desc: &Description, site: S) -> Result<PlainStore<S>, (Memory, S)>
-        ensures starts { IfOk result (λ s. Starts (described desc.now) 1 empty_db (⟦<PlainStore<S> as Store>⟧.seen s)) }
-        ensures said { IfOk result (λ s. (⟦<PlainStore<S> as Store>⟧.seen s).said ≡ told S.tells_said (S.said site)) }
+        ensures starts { IfOk result (λ s. Starts (as_described desc.now) 1 empty_db (⟦<PlainStore<S> as Store>⟧.seen s)) }
+        ensures said { IfOk result (λ s. (⟦<PlainStore<S> as Store>⟧.seen s).said ≡ text_if S.tells_said (S.said site)) }
         ensures disk_faults { IfOk result (λ s. (⟦<PlainStore<S> as Store>⟧.seen s).faults.disk ≡ S.disk_faults site) }
         ensures say_faults { IfOk result (λ s. (⟦<PlainStore<S> as Store>⟧.seen s).faults.say ≡ S.say_faults site) }
         ensures site { IfOk result (λ s. s.site ≡ site) }
@@ -80,17 +80,17 @@ impl<S: Site> Store for PlainStore<S> {
     ghost seen = { λ s. record {
       tells = ⊥;
       sound = ⊤;
-      desc = described s.desc;
+      desc = as_described s.desc;
       db = Some (db_of (records_in s.rows.items));
-      mark = Some (db_of (undone s.undo.items (records_in s.rows.items)));
+      mark = Some (db_of (undo_all s.undo.items (records_in s.rows.items)));
       next = s.next;
-      said = told S.tells_said (S.said s.site);
+      said = text_if S.tells_said (S.said s.site);
       points = [];
       durable = 0;
-      here = point_of s.next (described s.desc) (db_of (records_in s.rows.items));
+      here = point_of s.next (as_described s.desc) (db_of (records_in s.rows.items));
       clock = no_clock;
       whole = λ files. ⊤;
-      last = 9999;
+      pace = record { last = 9999; every = 0 };
       faults = record { disk = S.disk_faults s.site; say = S.say_faults s.site; full = 0; damaged = 0 };
       reads = 0;
       effort = record { spent = 0; syncs = s.syncs; outs = s.outs };

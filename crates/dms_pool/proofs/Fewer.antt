@@ -10,7 +10,7 @@ use Rattle.dms_pool.specs.declared.frame.BufferFrame.{BufferFrame}
 use Rattle.dms_pool.specs.declared.pool.Pool.{Pool}
 use Rattle.dms_pool.specs.Calls.{Cleans}
 use Rattle.dms_pool.specs.Entries.{is_id}
-use Rattle.dms_pool.specs.Held.{frame_of, is_dirty, order, to_write, washed}
+use Rattle.dms_pool.specs.Held.{frame_of, is_dirty, order, to_write, clean_frame}
 use Rattle.dms_pool.proofs.Callers.{order_held}
 use Rattle.dms_pool.proofs.Lasts.{self}
 use Rattle.dms_pool.proofs.Same.{same_id}
@@ -50,7 +50,7 @@ module _ (P Q : BlockId → Bool) (sub : (x : BlockId) → Q x ≡ true → P x 
 
 -- ---- a pool
 
-washed_clean : (o : Option BufferFrame) → option_map_or (λ f. f.dirty) (option_map washed o) false ≡ false
+washed_clean : (o : Option BufferFrame) → option_map_or (λ f. f.dirty) (option_map clean_frame o) false ≡ false
 washed_clean None = refl
 washed_clean (Some f) = refl
 
@@ -61,14 +61,14 @@ held_dirty (Some f) on = refl
 module _ (id : BlockId) (old new : Pool) (c : Cleans id old new) where
   -- the block isn't to be written, and the others are as they were
   now_clean : (x : BlockId) → is_id x id ≡ true → is_dirty x new ≡ false
-  now_clean x same = ap (λ (o : Option BufferFrame). option_map_or (λ f. f.dirty) o false) (c.holds x ∙ ap (λ t. cond t (option_map washed (frame_of x old)) (frame_of x old)) same) ∙ washed_clean (frame_of x old)
+  now_clean x same = ap (λ (o : Option BufferFrame). option_map_or (λ f. f.dirty) o false) (c.holds x ∙ ap (λ t. cond t (option_map clean_frame (frame_of x old)) (frame_of x old)) same) ∙ washed_clean (frame_of x old)
 
   still_dirty : (x : BlockId) → is_dirty x new ≡ true → is_dirty x old ≡ true
   still_dirty x on = turn (is_id x id) refl
     where
       turn : (t : Bool) → is_id x id ≡ t → is_dirty x old ≡ true
       turn true same = absurd (true≢false (sym on ∙ now_clean x same))
-      turn false off = sym (ap (λ (o : Option BufferFrame). option_map_or (λ f. f.dirty) o false) (c.holds x ∙ ap (λ t. cond t (option_map washed (frame_of x old)) (frame_of x old)) off)) ∙ on
+      turn false off = sym (ap (λ (o : Option BufferFrame). option_map_or (λ f. f.dirty) o false) (c.holds x ∙ ap (λ t. cond t (option_map clean_frame (frame_of x old)) (frame_of x old)) off)) ∙ on
 
   -- so fewer are to be written
   pub cleans_fewer : is_dirty id old ≡ true → to_write new < to_write old

@@ -10,7 +10,7 @@ use Rattle.dms_pool.specs.declared.frame.FrameKey.{FrameKey}
 use Rattle.dms_pool.specs.declared.pool.Pool.{Pool}
 use Rattle.dms_pool.specs.Entries.{Entries, id_of, ids_of, is_key, key_of, same_key}
 use Rattle.dms_pool.specs.Calls.{IsEmpty, Cleans, GivesUp, HasFrameFor, FrameUsed, PutsFrame}
-use Rattle.dms_pool.specs.Held.{washed}
+use Rattle.dms_pool.specs.Held.{clean_frame}
 use Rattle.dms_pool.proofs.Lasts.{IsLastFrame, is_last}
 use Rattle.dms_pool.proofs.Same.{after, after_lookup, after_order, front, front_lookup, front_order, promoted_same, put_same}
 use Rattle.dms_pool.proofs.Washed.{set_clean, set_ids}
@@ -60,12 +60,12 @@ gives_up key f old new last is =
       bound = ap (λ c. c.cap) is;
     }
 
-pub cleans : (id : BlockId) (f : BufferFrame) (old new : Pool) → lookup (is_key id) old.frames.entries ≡ Some f → new.frames ≡ lru_cache (set_value (is_key id) old.frames.entries (washed f)) old.frames.cap → Cleans id old new
+pub cleans : (id : BlockId) (f : BufferFrame) (old new : Pool) → lookup (is_key id) old.frames.entries ≡ Some f → new.frames ≡ lru_cache (set_value (is_key id) old.frames.entries (clean_frame f)) old.frames.cap → Cleans id old new
 cleans id f old new found is =
     let es = old.frames.entries in
-    let all : new.frames.entries ≡ set_value (is_key id) es (washed f) = ap (λ c. c.entries) is in
+    let all : new.frames.entries ≡ set_value (is_key id) es (clean_frame f) = ap (λ c. c.entries) is in
     record {
       holds = λ x. ap (lookup (is_key x)) all ∙ set_clean x id es f found;
-      uses = ap (λ (l : Entries). reverse (ids_of l)) all ∙ ap reverse (set_ids id es (washed f));
+      uses = ap (λ (l : Entries). reverse (ids_of l)) all ∙ ap reverse (set_ids id es (clean_frame f));
       bound = ap (λ c. c.cap) is;
     }

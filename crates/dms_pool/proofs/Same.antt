@@ -14,7 +14,7 @@ use Rattle.dms_block.specs.declared.block.BlockId.{BlockId}
 use Rattle.dms_pool.specs.declared.frame.BufferFrame.{BufferFrame}
 use Rattle.dms_pool.specs.declared.frame.FrameKey.{FrameKey}
 use Rattle.dms_pool.specs.Entries.{Entries, id_of, ids_of, is_id, is_key, key_of, same_key}
-use Rattle.dms_pool.specs.Held.{used}
+use Rattle.dms_pool.specs.Held.{move_to_last}
 
 pub same_id : (a b : BlockId) → is_id a b ≡ true → b ≡ a
 same_id a b h =
@@ -79,7 +79,7 @@ filter_reverse : {X : Type 0} (p : X → Bool) (xs : List X) → filter p (rever
 filter_reverse p [] = refl
 filter_reverse p (x ∷ xs) = ap (filter p) (reverse_front x xs) ∙ filter-append p (reverse xs) (x ∷ []) ∙ reverse_turn (p x) x (filter p (reverse xs)) (filter p xs) (filter_reverse p xs)
 
-pub front_order : (id : BlockId) (v : BufferFrame) (es : Entries) → IsDistinct same_key (keys_of es) → reverse (ids_of (front id v es)) ≡ used id (reverse (ids_of es))
+pub front_order : (id : BlockId) (v : BufferFrame) (es : Entries) → IsDistinct same_key (keys_of es) → reverse (ids_of (front id v es)) ≡ move_to_last id (reverse (ids_of es))
 front_order id v es distinct =
     reverse_front id (ids_of (remove_entry (is_key id) es))
     ∙ ap (λ (l : List BlockId). l ++ id ∷ []) (ap reverse (ids_removed id es distinct) ∙ sym (filter_reverse (λ x. not (is_id id x)) (ids_of es)))
@@ -115,7 +115,7 @@ pub after_lookup : (o : Option BufferFrame) (k id : BlockId) (es : Entries) → 
 after_lookup None k id es is = refl
 after_lookup (Some f) k id es is = front_lookup k id f es ∙ still_turn (is_id k id) k id es f refl is
 
-pub after_order : (o : Option BufferFrame) (id : BlockId) (es : Entries) → IsDistinct same_key (keys_of es) → reverse (ids_of (after o id es)) ≡ (if is_some o then used id (reverse (ids_of es)) else reverse (ids_of es))
+pub after_order : (o : Option BufferFrame) (id : BlockId) (es : Entries) → IsDistinct same_key (keys_of es) → reverse (ids_of (after o id es)) ≡ (if is_some o then move_to_last id (reverse (ids_of es)) else reverse (ids_of es))
 after_order None id es distinct = refl
 after_order (Some f) id es distinct = front_order id f es distinct
 

@@ -11,7 +11,7 @@ use Rattle.dms_block.specs.declared.block.BlockId.{BlockId}
 use Rattle.dms_pool.specs.declared.frame.BufferFrame.{BufferFrame}
 use Rattle.dms_pool.specs.declared.frame.FrameKey.{FrameKey}
 use Rattle.dms_pool.specs.Entries.{Entries, id_of, ids_of, is_id, is_key, same_key}
-use Rattle.dms_pool.specs.Held.{washed}
+use Rattle.dms_pool.specs.Held.{clean_frame}
 use Rattle.dms_pool.proofs.Same.{same_id, apart_on}
 use Rattle.dms_pool.proofs.Lasts.{flip, self}
 
@@ -44,15 +44,15 @@ set_ids id [] w = refl
 set_ids id (e ∷ es) w = ids_turn (is_key id e.0) e es (set_value (is_key id) es w) w (set_ids id es w)
 
 clean_turn : (t : Bool) (k id : BlockId) (es : Entries) (f : BufferFrame) → is_id k id ≡ t → lookup (is_key id) es ≡ Some f
-    → lookup (is_key k) (set_value (is_key id) es (washed f)) ≡ (if t then option_map washed (lookup (is_key k) es) else lookup (is_key k) es)
+    → lookup (is_key k) (set_value (is_key id) es (clean_frame f)) ≡ (if t then option_map clean_frame (lookup (is_key k) es) else lookup (is_key k) es)
 clean_turn true k id es f on is =
     let same : id ≡ k = same_id k id on in
-    sym (ap (λ (x : BlockId). lookup (is_key x) (set_value (is_key id) es (washed f))) same) ∙ set_here id es f (washed f) is
-    ∙ sym (ap (option_map washed) is) ∙ ap (λ (x : BlockId). option_map washed (lookup (is_key x) es)) same
-clean_turn false k id es f off is = set_other k id es (washed f) off
+    sym (ap (λ (x : BlockId). lookup (is_key x) (set_value (is_key id) es (clean_frame f))) same) ∙ set_here id es f (clean_frame f) is
+    ∙ sym (ap (option_map clean_frame) is) ∙ ap (λ (x : BlockId). option_map clean_frame (lookup (is_key x) es)) same
+clean_turn false k id es f off is = set_other k id es (clean_frame f) off
 
 pub set_clean : (k id : BlockId) (es : Entries) (f : BufferFrame) → lookup (is_key id) es ≡ Some f
-    → lookup (is_key k) (set_value (is_key id) es (washed f)) ≡ (if is_id k id then option_map washed (lookup (is_key k) es) else lookup (is_key k) es)
+    → lookup (is_key k) (set_value (is_key id) es (clean_frame f)) ≡ (if is_id k id then option_map clean_frame (lookup (is_key k) es) else lookup (is_key k) es)
 set_clean k id es f is = clean_turn (is_id k id) k id es f refl is
 
 -- the frames that are to be written

@@ -4,7 +4,7 @@ use Rattle.dms_block.specs.declared.block.BlockId.{BlockId}
 use Rattle.dms_pool.specs.declared.frame.BufferFrame.{BufferFrame}
 use Rattle.dms_pool.specs.declared.pool.Pool.{Pool}
 use Rattle.dms_pool.specs.Entries.{is_id}
-use Rattle.dms_pool.specs.Held.{frame_of, most, order, used, washed}
+use Rattle.dms_pool.specs.Held.{frame_of, most, order, move_to_last, clean_frame}
 
 -- one more block can be held, or this one is
 abbrev pub HasFrameFor : BlockId → Pool → Type 0
@@ -23,13 +23,13 @@ pub record IsEmpty (n : ℕ) (pool : Pool) : Type 0 where
 -- a block was asked for: where it is held, this was a use of it
 pub record FrameUsed (id : BlockId) (old new : Pool) : Type 0 where
   pub holds : (x : BlockId) → frame_of x new ≡ frame_of x old
-  pub uses : order new ≡ (if is_some (frame_of id old) then used id (order old) else order old)
+  pub uses : order new ≡ (if is_some (frame_of id old) then move_to_last id (order old) else order old)
   pub bound : most new ≡ most old
 
 -- this block has this frame now, and was used
 pub record PutsFrame (id : BlockId) (f : BufferFrame) (old new : Pool) : Type 0 where
   pub holds : (x : BlockId) → frame_of x new ≡ (if is_id x id then Some f else frame_of x old)
-  pub uses : order new ≡ used id (order old)
+  pub uses : order new ≡ move_to_last id (order old)
   pub bound : most new ≡ most old
 
 -- the least recently used block, which had this frame, is given up
@@ -41,6 +41,6 @@ pub record GivesUp (id : BlockId) (f : BufferFrame) (old new : Pool) : Type 0 wh
 
 -- this block, if it is held, isn't to be written any more
 pub record Cleans (id : BlockId) (old new : Pool) : Type 0 where
-  pub holds : (x : BlockId) → frame_of x new ≡ (if is_id x id then option_map washed (frame_of x old) else frame_of x old)
+  pub holds : (x : BlockId) → frame_of x new ≡ (if is_id x id then option_map clean_frame (frame_of x old) else frame_of x old)
   pub uses : order new ≡ order old
   pub bound : most new ≡ most old

@@ -22,8 +22,8 @@ abbrev pub most : Pool → ℕ
 most pool = pool.frames.cap
 
 -- the order after a block was used: it stands last
-abbrev pub used : BlockId → List BlockId → List BlockId
-used id ids = filter (λ x. not (is_id id x)) ids ++ id ∷ []
+abbrev pub move_to_last : BlockId → List BlockId → List BlockId
+move_to_last id ids = filter (λ x. not (is_id id x)) ids ++ id ∷ []
 
 -- the block is held, and is to be written
 abbrev pub is_dirty : BlockId → Pool → Bool
@@ -33,9 +33,9 @@ is_dirty id pool = option_map_or (λ f. f.dirty) (frame_of id pool) false
 abbrev pub to_write : Pool → ℕ
 to_write pool = length (filter (λ id. is_dirty id pool) (order pool))
 
-abbrev pub framed : Block → Bool → BufferFrame
-framed block dirty = record { block = block; dirty = dirty }
+abbrev pub as_frame : Block → Bool → BufferFrame
+as_frame block dirty = record { block = block; dirty = dirty }
 
 -- a frame that was written
-abbrev pub washed : BufferFrame → BufferFrame
-washed f = framed f.block false
+abbrev pub clean_frame : BufferFrame → BufferFrame
+clean_frame f = as_frame f.block false

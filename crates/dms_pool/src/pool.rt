@@ -19,7 +19,7 @@ pub struct Pool {
 impl Pool {
     ghost use Rattle.std.specs.Prelude.{◌≡◌, ◌<◌, [], IfNone, IfOk, IfSome, IsOk, IsSome, OnErr, OnOk, false, find, length, nat_lt, option_map, reverse, true};
     ghost use Rattle.dms_pool.specs.Calls.{Cleans, GivesUp, HasFrameFor, IsEmpty, FrameUsed, PutsFrame, SamePool};
-    ghost use Rattle.dms_pool.specs.Held.{frame_of, framed, is_dirty, most, order};
+    ghost use Rattle.dms_pool.specs.Held.{frame_of, as_frame, is_dirty, most, order};
 
     /// A pool for so many blocks, of which none is held yet. The table takes its memory here, and a frame when its block
     /// is put.
@@ -57,7 +57,7 @@ impl Pool {
     /// wasn't held, and then changes nothing. Want of memory is its only error.
     pub fn put(&mut self, id: BlockId, block: &Block, dirty: bool) -> Result<(), Memory>
         requires { HasFrameFor id self.old }
-        ensures ok { OnOk result (PutsFrame id (framed block.now dirty) self.old self.new) }
+        ensures ok { OnOk result (PutsFrame id (as_frame block.now dirty) self.old self.new) }
         ensures err { OnErr result (SamePool self.old self.new) }
         ensures again { IsSome (frame_of id self.old) → IsOk result }
     {
@@ -71,7 +71,7 @@ impl Pool {
 
     /// Gives up the least recently used block, and says whether it is still to be written.
     pub fn evict(&mut self) -> Option<(BlockId, Block, bool)>
-        ensures gives { IfSome result (λ e. GivesUp e.0 (framed e.1 e.2) self.old self.new) }
+        ensures gives { IfSome result (λ e. GivesUp e.0 (as_frame e.1 e.2) self.old self.new) }
         ensures none { IfNone result ((order self.old ≡ []) × SamePool self.old self.new) }
     {
         let (key, frame) = self.frames.pop_lru()?;

@@ -13,7 +13,7 @@ use Rattle.dms_history.specs.Entries.{Entry, schema_part, image, byte_range, qui
 use Rattle.dms_audrec.specs.declared.entry.Entry.TheVariants.{Image}
 use Rattle.dms_audrec.specs.Seen.{entry_seen}
 use Rattle.dms_audfile.specs.declared.audit_end.AuditEnd.{AuditEnd}
-use Rattle.dms_audfile.specs.Gates.{sealed, is_full}
+use Rattle.dms_audfile.specs.Gates.{sealed_blocks, is_full}
 use Rattle.dms_audfile.specs.Blocks.{block_entries}
 use Rattle.dms_audfile.specs.BlockLaws.{spellings, AreNoBegins, IsAlone}
 use Rattle.dms_audfile.specs.Unsealed.{block_with}
@@ -45,7 +45,7 @@ pub trail_low : (n total f : ℕ) (x y : Files) → ((g : ℕ) → f ≤ g → g
 trail_low zero total f x y same = refl
 trail_low (suc n) total f x y same =
     let here : x f ≡ y f = same f (omega arith) (omega arith) in
-    λ i. cond (is_full total (here i)) (sealed total (here i) ++ trail_low n total (f + 1) x y (λ g from upto. same g (omega (arith, from)) (omega (arith, upto))) i) (sealed total (here i))
+    λ i. cond (is_full total (here i)) (sealed_blocks total (here i) ++ trail_low n total (f + 1) x y (λ g from upto. same g (omega (arith, from)) (omega (arith, upto))) i) (sealed_blocks total (here i))
 
 pub trail_entries_low : (total first : ℕ) → first ≤ 20000 → (x y : Files) → ((g : ℕ) → g ≤ 30000 → x g ≡ y g) → trail_entries total first x ≡ trail_entries total first y
 unfolding trail_entries

@@ -15,7 +15,7 @@ use Rattle.dms_audfile.specs.Header.{tag_said}
 use Rattle.dms_audfile.specs.Unsealed.{block_with}
 use Rattle.dms_audfile.specs.TrailEntries.{entries_of, trail_entries}
 use Rattle.dms_audfile.specs.BlockLaws.{AreNoBegins}
-use Rattle.dms_audfile.specs.Ends.{unsealed, EndsAt, Grown}
+use Rattle.dms_audfile.specs.Ends.{unsealed_bytes, EndsAt, Grown}
 use Rattle.dms_running.specs.Telling.{Telling}
 use Rattle.dms_running.specs.Points.{DescribedPoint}
 use Rattle.dms_running.specs.Running.{State, entries_now, next_now, points_now, durable_now, here_now, content_now, IsRunning, IsChanged, LeavesPoints}
@@ -28,7 +28,7 @@ telling_of total first = record { first = first == 10001; entries = trail_entrie
 
 -- the entries that wait: those of the block that is sealed next
 unfoldable pub waits : AuditEnd → List Entry
-waits end = entries_of (block_entries (block_with (unsealed end)))
+waits end = entries_of (block_entries (block_with (unsealed_bytes end)))
 
 -- the end of a trail, its first file, what a read of the site gives, and what a stop leaves
 pub record LogView : Type 1 where

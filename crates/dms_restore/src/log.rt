@@ -4,7 +4,7 @@ ghost use Rattle.std.specs.Prelude.{◌≡◌, ◌⊎◌, ◌+◌, ◌*◌, ◌^
 ghost use Rattle.std.specs.Option.{option_copied};
 ghost use Rattle.dms_base.specs.Causes.{HasCause};
 ghost use Rattle.dms_moments.specs.Moments.{Steps};
-ghost use Rattle.dms_site.specs.Files.{with_file, overlaid};
+ghost use Rattle.dms_site.specs.Files.{with_file, overlay_bytes};
 ghost use Rattle.dms_history.specs.Replay.{TellsBefore};
 ghost use Rattle.dms_history.specs.Entries.{image, quiet_point};
 ghost use Rattle.dms_audrec.specs.Spelling.{spelling};
@@ -70,6 +70,7 @@ impl<S: Site> Log<S> {
         ensures runs { OnOk result (IsTrue S.tells → LogRuns (view_of S.Site self.new)) }
         ensures logs { OnOk result (IsTrue S.tells → LogsQuiet (view_of S.Site self.old) (view_of S.Site self.new)) }
         ensures moments { IsTrue S.tells → let a = view_of S.Site self.old in LogLeaves a (view_of S.Site self.new) (points a ++ here a ∷ []) (next a + 1) }
+        ensures no_point { IsErrOf result (AudFault.Full self.old.end.limit) → IsTrue S.tells → let a = view_of S.Site self.old in LogLeaves a (view_of S.Site self.new) (points a) (next a) }
         ensures grown { IsTrue S.tells → LogGrows 1 (view_of S.Site self.old) (view_of S.Site self.new) }
         ensures silent { IsTrue S.tells → StaysSilent S.Site self.old.site self.new.site }
         ensures kind { IsSameTrail self.old self.new }
@@ -117,7 +118,7 @@ impl<S: Site> Log<S> {
         requires sealed { IsTrue S.tells → IsNewestSealed (view_of S.Site self.old) file block bytes.now }
         ensures runs { IsTrue S.tells → LogRuns (view_of S.Site self.new) }
         ensures same { IsTrue S.tells → LogsWrite (view_of S.Site self.old) (view_of S.Site self.new) }
-        ensures written { OnOk result (IsTrue S.tells → S.files self.new.site ≡ with_file (S.files self.old.site) file (overlaid (1024 * block) bytes.now (S.files self.old.site file))) }
+        ensures written { OnOk result (IsTrue S.tells → S.files self.new.site ≡ with_file (S.files self.old.site) file (overlay_bytes (1024 * block) bytes.now (S.files self.old.site file))) }
         ensures moments { IsTrue S.tells → let a = view_of S.Site self.old in LogLeaves a (view_of S.Site self.new) (points a) (next a) }
         ensures grown { IsTrue S.tells → LogGrows 0 (view_of S.Site self.old) (view_of S.Site self.new) }
         ensures silent { IsTrue S.tells → StaysSilent S.Site self.old.site self.new.site }

@@ -5,7 +5,7 @@ use Rattle.std.specs.declared.option.Option.{Option}
 use Rattle.std.specs.declared.result.Result.{Result}
 use Rattle.std.specs.declared.result.Result.TheVariants.{Ok, Err}
 use Rattle.std.proofs.lemmas.List.{append_assoc, append-nil}
-use Rattle.dms_desc.specs.Shape.{Described, described}
+use Rattle.dms_desc.specs.Shape.{Described, as_described}
 use Rattle.dms_feed.specs.Lines.{raw_lines}
 use Rattle.dms_model.specs.Db.{Db}
 use Rattle.dms_model.specs.declared.store.Store.{Ghosts}
@@ -18,7 +18,7 @@ use Rattle.dms_runner.specs.Running.{AnswersWhole}
 use Rattle.dms_runner.specs.Starting.{AtStart}
 use Rattle.dms_runner.proofs.Happening.{text_on, quiets_on, durable_on}
 use Rattle.dms_storeverbs.specs.declared.engine.Engine.{Engine}
-use Rattle.dms_storeverbs.specs.View.{PointsGrow, seen}
+use Rattle.dms_storeverbs.specs.View.{PointsGrow, engine_view}
 use Rattle.dms_run.specs.Starting.{OfScript}
 use Rattle.dms_run.specs.States.{EndsWith}
 use Rattle.dms_run.specs.Ending.{EndsLeave, KeepsLimits}
@@ -73,25 +73,25 @@ module _ (b a : Seen) (es : List RunEvent) (works : Bool) (stop : Stop) where
 
 -- so it is of a run that ended well
 module _ {St : Type 0} {g : Ghosts St} (old new : Engine St g) where
-  stop_of_run : (n : ℕ) (db : Db) (first : ℕ) (lines : List (List ℕ)) → EndsWith (seen old).points n db → (seen old).tells → (seen old).durable ≡ length (seen old).points → (seen old).next ≡ first
-      → Performs (seen old) (seen new) (script_events (described old.desc) db first lines) → EndsLeave old new n db first (script_events (described old.desc) db first lines)
+  stop_of_run : (n : ℕ) (db : Db) (first : ℕ) (lines : List (List ℕ)) → EndsWith (engine_view old).points n db → (engine_view old).tells → (engine_view old).durable ≡ length (engine_view old).points → (engine_view old).next ≡ first
+      → Performs (engine_view old) (engine_view new) (script_events (as_described old.desc) db first lines) → EndsLeave old new n db first (script_events (as_described old.desc) db first lines)
   stop_of_run n db first lines state tells durable next did stop front text =
-      let d = described old.desc in
-      let b = seen old in
+      let d = as_described old.desc in
+      let b = engine_view old in
       let es = before_last d db first lines in
       let works = works_at_end d db first lines in
-      let whole : Performs b (seen new) (es ++ goes_back works ∷ []) = subst (λ (x : List RunEvent). Performs b (seen new) x) (sym (last_event d db first lines)) did in
+      let whole : Performs b (engine_view new) (es ++ goes_back works ∷ []) = subst (λ (x : List RunEvent). Performs b (engine_view new) x) (sym (last_event d db first lines)) did in
       let within : CrashesWithin b.whole b.said b.points b.durable b.next (script_events d db first lines) stop =
-      subst (λ (x : List RunEvent). CrashesWithin b.whole b.said b.points b.durable b.next x stop) (last_event d db first lines) (closes b (seen new) es works stop tells whole front text) in
+      subst (λ (x : List RunEvent). CrashesWithin b.whole b.said b.points b.durable b.next x stop) (last_event d db first lines) (closes b (engine_view new) es works stop tells whole front text) in
       stop_leaves b.whole b.said b.points n db first (script_events d db first lines) stop state
       (subst (λ (k : ℕ). CrashesWithin b.whole b.said b.points (length b.points) k (script_events d db first lines) stop) next
       (subst (λ (k : ℕ). CrashesWithin b.whole b.said b.points k b.next (script_events d db first lines) stop) durable within))
 
 module _ {St : Type 0} {g : Ghosts St} {T E : Type 0} (old new : Engine St g) (feed : List ℕ) (left : Option (List ℕ)) where
-  pub closes_run : (r : Result T E) → OnOk r (AtStart old feed left (λ db first all. Performs (seen old) (seen new) (script_events (described old.desc) db first (raw_lines all)))) → OnOk r (OfScript old feed left (EndsLeave old new))
+  pub closes_run : (r : Result T E) → OnOk r (AtStart old feed left (λ db first all. Performs (engine_view old) (engine_view new) (script_events (as_described old.desc) db first (raw_lines all)))) → OnOk r (OfScript old feed left (EndsLeave old new))
   closes_run (Ok x) ran = λ n db first all begins remains. stop_of_run old new n db first (raw_lines all) begins.state begins.tells begins.durable begins.stands.next (ran db first all begins.stands begins.room remains)
   closes_run (Err e) ran = tt
 
-  pub keeps_limits : (r : Result T E) → OnOk r (AtStart old feed left (λ db first all. AnswersWhole (described old.desc) db first (raw_lines all) (seen old).said (seen new).said)) → OnOk r (AtStart old feed left (λ db first all. KeepsLimits (described old.desc) db first (raw_lines all)))
+  pub keeps_limits : (r : Result T E) → OnOk r (AtStart old feed left (λ db first all. AnswersWhole (as_described old.desc) db first (raw_lines all) (engine_view old).said (engine_view new).said)) → OnOk r (AtStart old feed left (λ db first all. KeepsLimits (as_described old.desc) db first (raw_lines all)))
   keeps_limits (Ok x) answers = λ db first all stands room remains. let a = answers db first all stands room remains in record { few = a.few; short = a.short; room = a.room }
   keeps_limits (Err e) answers = tt

@@ -4,7 +4,7 @@ use Rattle.std.specs.List.{AllByRecursion}
 use Rattle.std.proofs.lemmas.List.{append_assoc, take-append-drop, length-append, length-take-le, length-map}
 use Rattle.std.proofs.Math.Seq.{take-append-add}
 use Rattle.dms_model.specs.Db.{Db}
-use Rattle.dms_model.specs.Points.{StopFiles, Point, Quiet, Stop, told as told_point, known}
+use Rattle.dms_model.specs.Points.{StopFiles, Point, Quiet, Stop, told_point, known_point}
 use Rattle.dms_runner.specs.Answers.{last_quiet}
 use Rattle.dms_runner.specs.EventLaws.{any}
 use Rattle.dms_runner.specs.Events.{RunEvent, text_of, quiets_of, durable_after, durable_by, CrashesWithin}
@@ -18,22 +18,22 @@ use Rattle.dms_run.specs.Laws.{StopsLaw, EndsLaw}
 
 -- the last of the points behind those of entry
 pub ends_behind : (points front : List Point) (n : ℕ) (db : Db) (p : Point) (more : List Point) (made : List Quiet)
-    → points ≡ front ++ p ∷ more → told_point p ≡ known (n, db) → map told_point more ≡ map known made → EndsWith points (last_quiet_number n made) (last_quiet db made)
+    → points ≡ front ++ p ∷ more → told_point p ≡ known_point (n, db) → map told_point more ≡ map known_point made → EndsWith points (last_quiet_number n made) (last_quiet db made)
 ends_behind points front n db p [] [] are is same = record { before = front; point = p; are = are; is = is }
 ends_behind points front n db p [] (q ∷ qs) are is same = absurd (cc)
 ends_behind points front n db p (c ∷ cs) [] are is same = absurd (cc)
 ends_behind points front n db p (c ∷ cs) (q ∷ qs) are is same =
-    let head : told_point c ≡ known q = cc in
-    let tail : map told_point cs ≡ map known qs = cc in
+    let head : told_point c ≡ known_point q = cc in
+    let tail : map told_point cs ≡ map known_point qs = cc in
     ends_behind points (front ++ p ∷ []) q.0 q.1 c cs qs (are ∙ sym (append_assoc front (p ∷ []) (c ∷ cs))) head tail
 
 -- each of them
-each_behind : (points front more : List Point) (made : List Quiet) → points ≡ front ++ more → map told_point more ≡ map known made → AllByRecursion (HasState points) made
+each_behind : (points front more : List Point) (made : List Quiet) → points ≡ front ++ more → map told_point more ≡ map known_point made → AllByRecursion (HasState points) made
 each_behind points front more [] are same = tt
 each_behind points front [] (q ∷ qs) are same = absurd (cc)
 each_behind points front (c ∷ cs) (q ∷ qs) are same =
-    let head : told_point c ≡ known q = cc in
-    let tail : map told_point cs ≡ map known qs = cc in
+    let head : told_point c ≡ known_point q = cc in
+    let tail : map told_point cs ≡ map known_point qs = cc in
     (record { before = front; point = c; after = cs; are = are; is = head }, each_behind points (front ++ c ∷ []) cs qs (are ∙ sym (append_assoc front (c ∷ []) cs)) tail)
 
 -- ---- how many are left
@@ -45,7 +45,7 @@ record QuietsLeft (whole : StopFiles → Type 0) (points : List Point) (durable 
   more : List Point
   front_of : made ++ rest ≡ quiets
   is : stop.points ≡ points ++ more
-  spells : map told_point more ≡ map known made
+  spells : map told_point more ≡ map known_point made
   enough : durable ≤ length points + length made
   next_is : next + length made ≤ stop.next
   files : whole stop.files
@@ -60,7 +60,7 @@ cut_of whole points durable next quiets stop le left =
     let g = left.grew in
     let f = left.front in
     let k = f.count - length points in
-    let lens : length g.more ≡ length left.made = sym (length-map g.more told_point) ∙ ap length g.spells ∙ length-map left.made known in
+    let lens : length g.more ≡ length left.made = sym (length-map g.more told_point) ∙ ap length g.spells ∙ length-map left.made known_point in
     let all : length left.all ≡ length points + length g.more = ap length g.is ∙ length-append points g.more in
     let low : k ≤ length left.made = omega (arith, f.within, lens, all, f.enough, le) in
     let count : f.count ≡ length points + k = omega (arith, f.enough, le) in
@@ -73,7 +73,7 @@ cut_of whole points durable next quiets stop le left =
       more = take k g.more;
       front_of = sym (append_assoc (take k left.made) (drop k left.made) left.rest) ∙ ap (λ (l : List Quiet). l ++ left.rest) (take-append-drop k left.made) ∙ left.front_of;
       is = taken;
-      spells = map_take told_point k g.more ∙ ap (λ (l : List (ℕ × Option Db)). take k l) g.spells ∙ sym (map_take known k left.made);
+      spells = map_take told_point k g.more ∙ ap (λ (l : List (ℕ × Option Db)). take k l) g.spells ∙ sym (map_take known_point k left.made);
       enough = omega (arith, f.enough, count, len);
       next_is = omega (arith, f.not_fallen, all, lens, count, low, len);
       files = f.files;

@@ -5,7 +5,7 @@ use Rattle.std.proofs.lemmas.List.{length-map}
 use Rattle.dms_desc.specs.Shape.{Described}
 use Rattle.dms_desc_bytes.specs.Spelling.{spelling}
 use Rattle.dms_model.specs.Db.{Db}
-use Rattle.dms_model.specs.Points.{Point, Quiet, Stop, told}
+use Rattle.dms_model.specs.Points.{Point, Quiet, Stop, told_point}
 use Rattle.dms_moments.specs.Moments.{Runs}
 use Rattle.dms_moments.specs.MomentLaws.{runs_weaken}
 use Rattle.dms_runner.specs.Events.{RunEvent, CrashesWithin}
@@ -14,15 +14,15 @@ use Rattle.dms_running.specs.Standing.{IsWhole}
 use Rattle.dms_running.specs.Points.{DescribedPoint, points_of}
 use Rattle.dms_site.specs.declared.site.Site.{Ghosts}
 use Rattle.dms_site.specs.Files.{Left}
-use Rattle.dms_store.specs.Lifted.{point_of, db_of, lifted, stop_of as store_stop}
+use Rattle.dms_store.specs.Lifted.{point_of, db_of, lift_stops, stop_of as store_stop}
 use Rattle.dms_store.specs.LiftedLaws as stores
-use Rattle.dms_store.specs.Spelled.{spelled}
+use Rattle.dms_store.specs.Spelled.{database_in}
 use Rattle.dms_block.specs.Content.{Content}
 use Rattle.std.specs.Str.{bytes_eq}
 use Rattle.dms_restore.specs.Logging.{telling_of, telling, trail_of}
 use Rattle.dms_restore.specs.Views.{view_of}
 use Rattle.dms_wal.specs.declared.running.Running.{Running}
-use Rattle.dms_wal.specs.Database.{held}
+use Rattle.dms_wal.specs.Database.{running_held}
 use Rattle.dms_wal.specs.Lifting as wal
 use Rattle.dms_wal.specs.Lifting.{block_point}
 use Rattle.dms_wal.proofs.Lifts as walks
@@ -67,7 +67,7 @@ found desc (x ∷ xs) (b ∷ bs) after p e =
 has_live : (desc : Described) (ps : List DescribedPoint) (q : Quiet) → HasState (points_seen desc ps) q → HasLive desc ps q
 has_live desc ps q s =
     let f = found desc ps s.before s.after s.point s.are in
-    let h = point_spells desc (block_point f.point) q (ap told f.is ∙ s.is) in
+    let h = point_spells desc (block_point f.point) q (ap told_point f.is ∙ s.is) in
     record { before = f.front; point = f.point; after = f.after; are = f.are; number = h.0; schema = h.1.0; spells = h.1.1 }
 
 all_live : (desc : Described) (ps : List DescribedPoint) (made : List Quiet) → AllByRecursion (HasState (points_seen desc ps)) made → AllByRecursion (HasLive desc ps) made
@@ -82,14 +82,14 @@ same_behind : (xs ys zs : List Point) → xs ++ ys ≡ xs ++ zs → ys ≡ zs
 same_behind [] ys zs e = e
 same_behind (x ∷ xs) ys zs e = let tails : xs ++ ys ≡ xs ++ zs = cc in same_behind xs ys zs tails
 
-told_one : (desc : Described) (b : Bool) (c : Content) → db_of desc b c ≡ cond b (spelled desc c) None
+told_one : (desc : Described) (b : Bool) (c : Content) → db_of desc b c ≡ cond b (database_in desc c) None
 told_one desc true c = refl
 told_one desc false c = refl
 
-seen_told : (desc : Described) (ps : List DescribedPoint) → map told (points_seen desc ps) ≡ map (told_live desc) ps
+seen_told : (desc : Described) (ps : List DescribedPoint) → map told_point (points_seen desc ps) ≡ map (told_live desc) ps
 seen_told desc [] = refl
 seen_told desc (p ∷ ps) =
-    ap (λ (o : Option Db). (p.number, o) ∷ map told (points_seen desc ps)) (told_one desc (bytes_eq p.schema (spelling desc)) p.blocks)
+    ap (λ (o : Option Db). (p.number, o) ∷ map told_point (points_seen desc ps)) (told_one desc (bytes_eq p.schema (spelling desc)) p.blocks)
     ∙ ap (λ (l : List (ℕ × Option Db)). told_live desc p ∷ l) (seen_told desc ps)
 
 -- what a run leaves of the store is what it leaves of the files
@@ -108,7 +108,7 @@ leaves_files t desc entry ps n db next events x r =
       state = lives_are desc now _ _ (blocks_are desc (map block_point now) _ _ r.state);
       more = map bare r.more;
       kept = kept;
-      are = sym (seen_told desc (map bare r.more)) ∙ ap (map told) (sym back) ∙ r.are;
+      are = sym (seen_told desc (map bare r.more)) ∙ ap (map told_point) (sym back) ∙ r.are;
       each = all_live desc now r.made r.each;
       next_is = r.next_is;
       text = r.text;
@@ -130,15 +130,15 @@ files total first = leaves_law (telling_of total first)
 
 -- What stops leave of a store on a running database, over its site: no two outcomes are seen as one.
 module _ {S : Type 0} (g : Ghosts S) (desc : Described) (r r' : Running S) (same : trail_of (view_of g r'.log) ≡ trail_of (view_of g r.log)) where
-  pub site_left : {Q : Stop → Type 0} → Runs (lifted desc (held g r).clock) (lifted desc (held g r').clock) Q → Runs (g.clock r.log.site) (g.clock r'.log.site) (λ x. Q (stop_seen (telling (view_of g r.log)) desc x))
+  pub site_left : {Q : Stop → Type 0} → Runs (lift_stops desc (running_held g r).clock) (lift_stops desc (running_held g r').clock) Q → Runs (g.clock r.log.site) (g.clock r'.log.site) (λ x. Q (stop_seen (telling (view_of g r.log)) desc x))
   site_left {Q} run =
-      let below : Runs (held g r).clock (held g r').clock (λ y. Q (store_stop desc y)) = stores.lowered desc (held g r) (held g r') run in
-      walks.lowered (telling (view_of g r.log)) (g.clock r.log.site) (g.clock r'.log.site)
-      (subst (λ (t : Telling). Runs (held g r).clock (wal.lifted t (g.clock r'.log.site)) (λ y. Q (store_stop desc y))) (walks.told_same same) below)
+      let below : Runs (running_held g r).clock (running_held g r').clock (λ y. Q (store_stop desc y)) = stores.lower_runs desc (running_held g r) (running_held g r') run in
+      walks.lower_runs (telling (view_of g r.log)) (g.clock r.log.site) (g.clock r'.log.site)
+      (subst (λ (t : Telling). Runs (running_held g r).clock (wal.lift_clock t (g.clock r'.log.site)) (λ y. Q (store_stop desc y))) (walks.told_same same) below)
 
   -- what a run leaves of the store, told of the site
   pub files_left : (entry : Option (List ℕ)) (ps : List DescribedPoint) (n : ℕ) (db : Db) (next : ℕ) (events : List RunEvent)
-      → Runs (lifted desc (held g r).clock) (lifted desc (held g r').clock) (RunLeaves (IsWhole (telling (view_of g r.log))) entry (points_seen desc ps) n db next events)
+      → Runs (lift_stops desc (running_held g r).clock) (lift_stops desc (running_held g r').clock) (RunLeaves (IsWhole (telling (view_of g r.log))) entry (points_seen desc ps) n db next events)
       → Runs (g.clock r.log.site) (g.clock r'.log.site) (RunLeavesFiles (telling (view_of g r.log)) desc entry ps n db next events)
   files_left entry ps n db next events run = runs_weaken (site_left run) (λ x l. leaves_files (telling (view_of g r.log)) desc entry ps n db next events x l)
 

@@ -7,12 +7,12 @@ use Rattle.dms_model.specs.Db.{Db}
 use Rattle.dms_model.specs.Seen.{Seen}
 use Rattle.dms_moments.specs.Moments.{Runs}
 use Rattle.dms_moments.specs.MomentLaws.{runs_weaken}
-use Rattle.dms_desc.specs.Shape.{described}
+use Rattle.dms_desc.specs.Shape.{as_described}
 use Rattle.dms_feed.specs.Lines.{raw_lines}
 use Rattle.std.specs.declared.option.Option.{Option}
 use Rattle.dms_model.specs.declared.store.Store.{Ghosts}
 use Rattle.dms_storeverbs.specs.declared.engine.Engine.{Engine}
-use Rattle.dms_storeverbs.specs.View.{seen}
+use Rattle.dms_storeverbs.specs.View.{engine_view}
 use Rattle.dms_runner.specs.Running.{AnswersWhole}
 use Rattle.dms_runner.specs.Starting.{AtStart, EffortWithin, UsesNumbers, events_at}
 use Rattle.dms_run.specs.Starting.{OfScript, ReachesEnd, SaysAll}
@@ -34,18 +34,18 @@ module _ {b a : Seen} (db : Db) (first : ℕ) (events : List RunEvent) (n : ℕ)
 
 -- what follows at success
 module _ {St : Type 0} {g : Ghosts St} {T E : Type 0} (old new : Engine St g) (feed : List ℕ) (left : Option (List ℕ)) where
-  pub reaches : (r : Result T E) → OnOk r (AtStart old feed left (λ db first all. Performs (seen old) (seen new) (script_events (described old.desc) db first (raw_lines all)))) → OnOk r (OfScript old feed left (ReachesEnd new))
-  reaches (Ok x) ran = λ n db first all begins remains. ends_of db first (script_events (described old.desc) db first (raw_lines all)) n begins.state begins.tells (ran db first all begins.stands begins.room remains)
+  pub reaches : (r : Result T E) → OnOk r (AtStart old feed left (λ db first all. Performs (engine_view old) (engine_view new) (script_events (as_described old.desc) db first (raw_lines all)))) → OnOk r (OfScript old feed left (ReachesEnd new))
+  reaches (Ok x) ran = λ n db first all begins remains. ends_of db first (script_events (as_described old.desc) db first (raw_lines all)) n begins.state begins.tells (ran db first all begins.stands begins.room remains)
   reaches (Err e) ran = tt
 
-  pub says_all : (r : Result T E) → OnOk r (AtStart old feed left (λ db first all. AnswersWhole (described old.desc) db first (raw_lines all) (seen old).said (seen new).said)) → OnOk r (AtStart old feed left (SaysAll old new))
+  pub says_all : (r : Result T E) → OnOk r (AtStart old feed left (λ db first all. AnswersWhole (as_described old.desc) db first (raw_lines all) (engine_view old).said (engine_view new).said)) → OnOk r (AtStart old feed left (SaysAll old new))
   says_all (Ok x) answers = λ db first all stands room remains. (answers db first all stands room remains).text
   says_all (Err e) answers = tt
 
-  pub takes_all : (r : Result T E) → OnOk r (AtStart old feed left (λ db first all. Performs (seen old) (seen new) (events_at old db first all))) → OnOk r (AtStart old feed left (EffortWithin old new))
+  pub takes_all : (r : Result T E) → OnOk r (AtStart old feed left (λ db first all. Performs (engine_view old) (engine_view new) (events_at old db first all))) → OnOk r (AtStart old feed left (EffortWithin old new))
   takes_all (Ok x) ran = λ db first all stands room remains. (ran db first all stands room remains).effort
   takes_all (Err e) ran = tt
 
-  pub uses_numbers : (r : Result T E) → OnOk r (AtStart old feed left (λ db first all. Performs (seen old) (seen new) (events_at old db first all))) → OnOk r (AtStart old feed left (UsesNumbers old new))
+  pub uses_numbers : (r : Result T E) → OnOk r (AtStart old feed left (λ db first all. Performs (engine_view old) (engine_view new) (events_at old db first all))) → OnOk r (AtStart old feed left (UsesNumbers old new))
   uses_numbers (Ok x) ran = λ db first all stands room remains. let did = ran db first all stands room remains in omega (arith, did.next, did.next_high)
   uses_numbers (Err e) ran = tt

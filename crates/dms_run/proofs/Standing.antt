@@ -22,7 +22,7 @@ use Rattle.dms_running.specs.Points.{DescribedPoint, described_in, points_of}
 use Rattle.dms_running.proofs.Described.{schema_there}
 use Rattle.dms_running.proofs.Wholes.{whole_agrees}
 use Rattle.dms_site.specs.Files.{Files, stored_of}
-use Rattle.dms_store.specs.Spelled.{spelled}
+use Rattle.dms_store.specs.Spelled.{database_in}
 use Rattle.dms_audfile.specs.TrailEntries.{trail_entries}
 use Rattle.dms_restore.specs.Dumped.{dumps_of}
 use Rattle.dms_restore.specs.Logging.{telling_of}
@@ -104,13 +104,13 @@ module _ (total first : ℕ) (files : Files) (desc : Described) (well : IsWellFo
 
   -- what the entries tell at a point
   abbrev pub TellsAt : ℕ → Db → Type 0
-  TellsAt n db = IsLive live n × (schema_at entries n ≡ Some (spelling desc)) × (spelled desc (blocks_at live counted n) ≡ Some db)
+  TellsAt n db = IsLive live n × (schema_at entries n ≡ Some (spelling desc)) × (database_in desc (blocks_at live counted n) ≡ Some db)
 
   abbrev state_by : (n : ℕ) (db : Db) → TellsAt n db → StateAt files n desc db
   state_by n db t = record { entries = entries; finds = w.found.finds; agrees = agrees; no_dump = w.no_dump; lives = t.0; described = t.1; well_formed = well; spells = t.2 }
 
   module _ (front after : List DescribedPoint) (p : DescribedPoint) (n : ℕ) (db : Db) (are : points_of (telling_of total first) files ≡ front ++ p ∷ after) (number : p.number ≡ n) (schema : p.schema ≡ spelling desc)
-      (spells : spelled desc p.blocks ≡ Some db) where
+      (spells : database_in desc p.blocks ≡ Some db) where
     abbrev bare_one : Bare entries bare_points front p after
     bare_one = bare_of entries bare_points front p after are
 
@@ -124,7 +124,7 @@ module _ (total first : ℕ) (files : Files) (desc : Described) (well : IsWellFo
     tells_at = subst (λ (k : ℕ). TellsAt k db) same_number_there (
       has_point.lives,
       schema_there entries bare_one.point.number has_point.lives ∙ ap (λ (l : List ℕ). Some l) (ap (λ (q : DescribedPoint). q.schema) bare_one.is ∙ schema),
-      ap (spelled desc) (has_point.same ∙ ap (λ (q : DescribedPoint). q.blocks) bare_one.is) ∙ spells,
+      ap (database_in desc) (has_point.same ∙ ap (λ (q : DescribedPoint). q.blocks) bare_one.is) ∙ spells,
     )
 
     -- the last of them is the last point

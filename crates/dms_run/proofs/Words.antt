@@ -9,11 +9,11 @@ use Rattle.dms_block.specs.Held.{BlockPoint}
 use Rattle.dms_desc.specs.Shape.{Described}
 use Rattle.dms_desc_bytes.specs.Spelling.{spelling}
 use Rattle.dms_model.specs.Db.{Db}
-use Rattle.dms_model.specs.Points.{Point, Quiet, told, known}
+use Rattle.dms_model.specs.Points.{Point, Quiet, told_point, known_point}
 use Rattle.dms_runner.specs.Answers.{last_quiet}
 use Rattle.dms_running.specs.Points.{DescribedPoint}
 use Rattle.dms_store.specs.Lifted.{point_of, db_of}
-use Rattle.dms_store.specs.Spelled.{spelled}
+use Rattle.dms_store.specs.Spelled.{database_in}
 use Rattle.dms_wal.specs.Lifting.{block_point}
 use Rattle.dms_run.specs.States.{EndsWith, BlocksEndWith, LivesEndWith}
 use Rattle.dms_run.specs.Stops.{last_quiet_number, IsOneOf}
@@ -56,12 +56,12 @@ ends_same (a ∷ xs) (b ∷ ys) x y e = let tails : xs ++ x ∷ [] ≡ ys ++ y �
 pub one_state : OneStateLaw
 one_state points n m a b s t =
     let point : s.point ≡ t.point = ends_same s.before t.before s.point t.point (sym s.are ∙ t.are) in
-    let same : known (n, a) ≡ known (m, b) = sym s.is ∙ ap told point ∙ t.is in
+    let same : known_point (n, a) ≡ known_point (m, b) = sym s.is ∙ ap told_point point ∙ t.is in
     (ap (λ (x : ℕ × Option Db). x.0) same, same_Some a b (ap (λ (x : ℕ × Option Db). x.1) same))
 
 -- ---- points of blocks
 
-told_here : (desc : Described) (b : Bool) (c : Content) (db : Db) → db_of desc b c ≡ Some db → (b ≡ true) × (spelled desc c ≡ Some db)
+told_here : (desc : Described) (b : Bool) (c : Content) (db : Db) → db_of desc b c ≡ Some db → (b ≡ true) × (database_in desc c ≡ Some db)
 told_here desc true c db e = (refl, e)
 told_here desc false c db e = absurd (cc)
 
@@ -89,14 +89,14 @@ last_of f (x ∷ xs) (b ∷ bs) y e =
     record { front = x ∷ r.front; last = r.last; are = ap (λ (l : List _). x ∷ l) r.are; is = r.is }
 
 -- a point has a quiet point's number and database exactly where it stands under the description and its blocks spell the database
-pub point_spells : (desc : Described) (p : BlockPoint) (q : Quiet) → told (point_of desc p) ≡ known q → (p.number ≡ q.0) × ((p.schema ≡ spelling desc) × (spelled desc p.blocks ≡ Some q.1))
+pub point_spells : (desc : Described) (p : BlockPoint) (q : Quiet) → told_point (point_of desc p) ≡ known_point q → (p.number ≡ q.0) × ((p.schema ≡ spelling desc) × (database_in desc p.blocks ≡ Some q.1))
 point_spells desc p q is =
     let h = told_here desc (bytes_eq p.schema (spelling desc)) p.blocks q.1 (ap (λ (x : ℕ × Option Db). x.1) is) in
     (ap (λ (x : ℕ × Option Db). x.0) is, (same_bytes p.schema (spelling desc) h.0, h.1))
 
-point_told : (desc : Described) (p : BlockPoint) (n : ℕ) (db : Db) → p.number ≡ n → p.schema ≡ spelling desc → spelled desc p.blocks ≡ Some db → told (point_of desc p) ≡ known (n, db)
+point_told : (desc : Described) (p : BlockPoint) (n : ℕ) (db : Db) → p.number ≡ n → p.schema ≡ spelling desc → database_in desc p.blocks ≡ Some db → told_point (point_of desc p) ≡ known_point (n, db)
 point_told desc p n db number schema spells =
-    ap (λ (b : Bool). (p.number, db_of desc b p.blocks)) (as_bytes p.schema (spelling desc) schema) ∙ ap (λ (o : Option Db). (p.number, o)) spells ∙ ap (λ (k : ℕ). known (k, db)) number
+    ap (λ (b : Bool). (p.number, db_of desc b p.blocks)) (as_bytes p.schema (spelling desc) schema) ∙ ap (λ (o : Option Db). (p.number, o)) spells ∙ ap (λ (k : ℕ). known_point (k, db)) number
 
 pub blocks_seen : (desc : Described) (points : List BlockPoint) (n : ℕ) (db : Db) → BlocksEndWith desc points n db → EndsWith (map (point_of desc) points) n db
 blocks_seen desc points n db s = record {
@@ -109,7 +109,7 @@ blocks_seen desc points n db s = record {
 pub blocks_are : (desc : Described) (points : List BlockPoint) (n : ℕ) (db : Db) → EndsWith (map (point_of desc) points) n db → BlocksEndWith desc points n db
 blocks_are desc points n db s =
     let l = last_of (point_of desc) points s.before s.point s.are in
-    let h = point_spells desc l.last (n, db) (ap told l.is ∙ s.is) in
+    let h = point_spells desc l.last (n, db) (ap told_point l.is ∙ s.is) in
     record { before = l.front; point = l.last; are = l.are; number = h.0; schema = h.1.0; spells = h.1.1 }
 
 pub blocks : BlocksLaw
@@ -136,7 +136,7 @@ lives_are desc points n db s =
       are = l.are;
       number = ap (λ (p : BlockPoint). p.number) l.is ∙ s.number;
       schema = ap (λ (p : BlockPoint). p.schema) l.is ∙ s.schema;
-      spells = ap (λ (p : BlockPoint). spelled desc p.blocks) l.is ∙ s.spells;
+      spells = ap (λ (p : BlockPoint). database_in desc p.blocks) l.is ∙ s.spells;
     }
 
 pub lives : LivesLaw

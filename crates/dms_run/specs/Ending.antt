@@ -8,14 +8,14 @@ use Rattle.dms_runner.specs.Answers.{script_run}
 use Rattle.dms_runner.specs.Events.{RunEvent}
 use Rattle.dms_runner.specs.Running.{bytes_of}
 use Rattle.dms_storeverbs.specs.declared.engine.Engine.{Engine}
-use Rattle.dms_storeverbs.specs.View.{seen}
+use Rattle.dms_storeverbs.specs.View.{engine_view}
 use Rattle.dms_run.specs.Stops.{RunLeaves}
 
 -- A stop that leaves the first so many of the points of the end, at least the durable ones, and the whole text leaves what a run leaves: so
 -- it does behind the last line too, while nothing is said and no point is made.
 abbrev pub EndsLeave : {St : Type 0} {g : Ghosts St} → Engine St g → Engine St g → ℕ → Db → ℕ → List RunEvent → Type 0
-EndsLeave old new n db first events = (stop : Stop) → LeavesPrefix (seen new).whole (seen new).durable (seen new).points (seen new).next stop → StopTextIs (seen new).said stop
-    → RunLeaves (seen old).whole (seen old).said (seen old).points n db first events stop
+EndsLeave old new n db first events = (stop : Stop) → LeavesPrefix (engine_view new).whole (engine_view new).durable (engine_view new).points (engine_view new).next stop → StopTextIs (engine_view new).said stop
+    → RunLeaves (engine_view old).whole (engine_view old).said (engine_view old).points n db first events stop
 
 -- The script keeps the limits: 1,000,000 lines, 2,147,483,648 bytes, and no line is one too many to hold.
 pub record KeepsLimits (desc : Described) (db : Db) (first : ℕ) (lines : List (List ℕ)) : Type 0 where

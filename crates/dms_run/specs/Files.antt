@@ -5,7 +5,7 @@ use Rattle.std.specs.declared.option.Option.{Option}
 use Rattle.dms_desc.specs.Shape.{Described}
 use Rattle.dms_desc_bytes.specs.WellFormed.{IsWellFormed}
 use Rattle.dms_model.specs.Db.{Db}
-use Rattle.dms_model.specs.Points.{Point, Quiet, Stop, known}
+use Rattle.dms_model.specs.Points.{Point, Quiet, Stop, known_point}
 use Rattle.dms_runner.specs.Answers.{last_quiet}
 use Rattle.dms_runner.specs.Events.{RunEvent, quiets_of, CrashesWithin}
 use Rattle.dms_running.specs.Telling.{Telling}
@@ -14,12 +14,12 @@ use Rattle.dms_running.specs.Points.{DescribedPoint, points_of, next_in}
 use Rattle.dms_moments.specs.Moments.{Runs}
 use Rattle.dms_site.specs.declared.site.Site.{Ghosts}
 use Rattle.dms_site.specs.Files.{Files, Left}
-use Rattle.dms_store.specs.Lifted.{point_of, stop_of, lifted}
+use Rattle.dms_store.specs.Lifted.{point_of, stop_of, lift_stops}
 use Rattle.dms_wal.specs.Lifting as wal
 use Rattle.dms_restore.specs.Logging.{telling_of, telling, trail_of}
 use Rattle.dms_restore.specs.Views.{view_of}
 use Rattle.dms_wal.specs.declared.running.Running.{Running}
-use Rattle.dms_wal.specs.Database.{held}
+use Rattle.dms_wal.specs.Database.{running_held}
 use Rattle.dms_wal.specs.Lifting.{block_point}
 use Rattle.dms_run.specs.States.{LivesEndWith, HasLive, told_live}
 use Rattle.dms_run.specs.State.{StateAt, StateOf, HasNext}
@@ -42,7 +42,7 @@ pub record RunLeavesFiles (t : Telling) (desc : Described) (entry : Option (List
   pub state : LivesEndWith desc (points_of t x.files) (last_quiet_number n made) (last_quiet db made)
   pub more : List DescribedPoint
   pub kept : points_of t x.files ≡ points ++ more
-  pub are : map (told_live desc) more ≡ map known made
+  pub are : map (told_live desc) more ≡ map known_point made
   pub each : AllByRecursion (HasLive desc (points_of t x.files)) made
   pub next_is : next + length made ≤ next_in t x.files
   pub text : (b : List ℕ) → entry ≡ Some b → PrintedUpTo b events (length made) x.said
@@ -58,7 +58,7 @@ module _ {S : Type 0} (g : Ghosts S) where
   -- What stops leave of a store on the blocks of a running database they leave of the files of its site.
   abbrev pub FilesLeft : Running S → Running S → Type 0
   FilesLeft a b = trail_of (view_of g b.log) ≡ trail_of (view_of g a.log) → (desc : Described) (entry : Option (List ℕ)) (points : List DescribedPoint) (n : ℕ) (db : Db) (next : ℕ) (events : List RunEvent)
-      → Runs (lifted desc (held g a).clock) (lifted desc (held g b).clock) (RunLeaves (IsWhole (telling (view_of g a.log))) entry (points_seen desc points) n db next events)
+      → Runs (lift_stops desc (running_held g a).clock) (lift_stops desc (running_held g b).clock) (RunLeaves (IsWhole (telling (view_of g a.log))) entry (points_seen desc points) n db next events)
       → Runs (g.clock a.log.site) (g.clock b.log.site) (RunLeavesFiles (telling (view_of g a.log)) desc entry points n db next events)
 
 -- The points that files hold are states that they stand for: scanning finds their entries, and each point has its Schema.

@@ -3,7 +3,7 @@ use Rattle.std.specs.Prelude.{ℕ, ◌≡◌, ◌<◌, ◌+◌, ◌^◌, List, l
 use Rattle.std.specs.declared.option.Option.{Option}
 use Rattle.std.specs.declared.result.Result.{Result}
 use Rattle.dms_block.specs.Texts.{Prints}
-use Rattle.dms_desc.specs.Shape.{described}
+use Rattle.dms_desc.specs.Shape.{as_described}
 use Rattle.dms_feed.specs.Feeds.{Remains}
 use Rattle.dms_feed.specs.Lines.{raw_lines}
 use Rattle.dms_model.specs.declared.store.Store.{Ghosts}
@@ -15,7 +15,7 @@ use Rattle.dms_runner.specs.Events.{RunEvent, quiets_of}
 use Rattle.dms_runner.specs.Starting.{CarriesOut}
 use Rattle.dms_runner.specs.declared.run.RunFault.{RunFault}
 use Rattle.dms_storeverbs.specs.declared.engine.Engine.{Engine}
-use Rattle.dms_storeverbs.specs.View.{StandsFor, seen, view}
+use Rattle.dms_storeverbs.specs.View.{StandsFor, engine_view, view}
 use Rattle.dms_run.specs.States.{EndsWith}
 use Rattle.dms_run.specs.Stops.{last_quiet_number, RunLeaves}
 
@@ -25,9 +25,9 @@ module _ {St : Type 0} {g : Ghosts St} where
   pub record BeginsWith (e : Engine St g) (n : ℕ) (db : Db) (first : ℕ) : Type 0 where
     pub stands : StandsFor (view e) (fresh_session db first)
     pub room : first + 1000003 < 2 ^ 64
-    pub tells : (seen e).tells
-    pub state : EndsWith (seen e).points n db
-    pub durable : (seen e).durable ≡ length (seen e).points
+    pub tells : (engine_view e).tells
+    pub state : EndsWith (engine_view e).points n db
+    pub durable : (engine_view e).durable ≡ length (engine_view e).points
 
   -- It holds of the point, the database, the first number and the input that a run begins with.
   abbrev pub AtBegin : Engine St g → List ℕ → Option (List ℕ) → (ℕ → Db → ℕ → List ℕ → Type 0) → Type 0
@@ -36,11 +36,11 @@ module _ {St : Type 0} {g : Ghosts St} where
   -- It holds of the point and the database that a run begins with, and of the events of its script.
   abbrev pub OfScript : Engine St g → List ℕ → Option (List ℕ) → (ℕ → Db → ℕ → List RunEvent → Type 0) → Type 0
   OfScript e feed left P = (n : ℕ) (db : Db) (first : ℕ) (all : List ℕ) → BeginsWith e n db first → Remains feed left all
-      → P n db first (script_events (described e.desc) db first (raw_lines all))
+      → P n db first (script_events (as_described e.desc) db first (raw_lines all))
 
   -- a stop on the way left what a run leaves
   abbrev pub StopsLeave : Engine St g → Engine St g → ℕ → Db → ℕ → List RunEvent → Type 0
-  StopsLeave old new n db first events = Runs (seen old).clock (seen new).clock (RunLeaves (seen old).whole (seen old).said (seen old).points n db first events)
+  StopsLeave old new n db first events = Runs (engine_view old).clock (engine_view new).clock (RunLeaves (engine_view old).whole (engine_view old).said (engine_view old).points n db first events)
 
   -- So much of its script was carried out, and a stop on the way left what a run of that leaves.
   pub record RunsCarried {T : Type 0} (result : Result T RunFault) (left : Option (List ℕ)) (old new : Engine St g) (n : ℕ) (db : Db) (first : ℕ) (all : List ℕ) : Type 0 where
@@ -49,8 +49,8 @@ module _ {St : Type 0} {g : Ghosts St} where
 
   -- the points end with the last quiet point, or with that of entry
   abbrev pub ReachesEnd : Engine St g → ℕ → Db → ℕ → List RunEvent → Type 0
-  ReachesEnd new n db first events = EndsWith (seen new).points (last_quiet_number n (quiets_of events)) (last_quiet db (quiets_of events))
+  ReachesEnd new n db first events = EndsWith (engine_view new).points (last_quiet_number n (quiets_of events)) (last_quiet db (quiets_of events))
 
   -- the answers were printed
   abbrev pub SaysAll : Engine St g → Engine St g → Db → ℕ → List ℕ → Type 0
-  SaysAll old new db first all = Prints (seen old).said (seen new).said (answers_text (described old.desc) db first (raw_lines all))
+  SaysAll old new db first all = Prints (engine_view old).said (engine_view new).said (answers_text (as_described old.desc) db first (raw_lines all))

@@ -5,7 +5,7 @@ use Rattle.dms_desc_bytes.specs.Spelling.{spelling}
 use Rattle.dms_desc_bytes.specs.WellFormed.{IsWellFormed}
 use Rattle.dms_site.specs.Files.{Files, stored_of}
 use Rattle.dms_model.specs.Db.{Db}
-use Rattle.dms_store.specs.Spelled.{spelled}
+use Rattle.dms_store.specs.Spelled.{database_in}
 use Rattle.dms_history.specs.Entries.{Entry}
 use Rattle.dms_history.specs.EntryEvents.{history_of, live_of, next_of, Agrees}
 use Rattle.dms_history.specs.History.{last_point}
@@ -29,7 +29,7 @@ pub record StateAt (files : Files) (n : ℕ) (desc : Described) (db : Db) : Type
   pub lives : IsLive (live_of entries) n
   pub described : schema_at entries n ≡ Some (spelling desc)
   pub well_formed : IsWellFormed desc
-  pub spells : spelled desc (blocks_at (live_of entries) (here (dumps_of files) (history_of entries) (stored_of files)) n) ≡ Some db
+  pub spells : database_in desc (blocks_at (live_of entries) (here (dumps_of files) (history_of entries) (stored_of files)) n) ≡ Some db
 
 -- The files stand for the database at their last point.
 pub record StateOf (files : Files) (n : ℕ) (desc : Described) (db : Db) : Type 0 where

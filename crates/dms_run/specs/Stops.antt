@@ -3,7 +3,7 @@ use Rattle.std.specs.Prelude.{ℕ, ◌≡◌, ◌≤◌, ◌+◌, ◌⊎◌, Lis
 use Rattle.std.specs.List.{AllByRecursion}
 use Rattle.std.specs.declared.option.Option.{Option}
 use Rattle.dms_model.specs.Db.{Db}
-use Rattle.dms_model.specs.Points.{StopFiles, Point, Quiet, Stop, told, known}
+use Rattle.dms_model.specs.Points.{StopFiles, Point, Quiet, Stop, told_point, known_point}
 use Rattle.dms_runner.specs.Answers.{last_quiet}
 use Rattle.dms_runner.specs.Events.{RunEvent, text_of, quiets_of, durable_after}
 use Rattle.dms_run.specs.States.{EndsWith, HasState}
@@ -37,7 +37,7 @@ pub record RunLeaves (whole : StopFiles → Type 0) (entry : Option (List ℕ)) 
   pub state : EndsWith stop.points (last_quiet_number n made) (last_quiet db made)
   pub more : List Point
   pub kept : stop.points ≡ points ++ more
-  pub are : map told more ≡ map known made
+  pub are : map told_point more ≡ map known_point made
   pub each : AllByRecursion (HasState stop.points) made
   pub next_is : next + length made ≤ stop.next
   pub text : (t : List ℕ) → entry ≡ Some t → PrintedUpTo t events (length made) stop.said

@@ -1,12 +1,12 @@
 ghost use Rattle.std.specs.Prelude.{◌≡◌, ◌≤◌, ◌+◌, [], ℕ, List, OnOk, IsErrOf};
 ghost use Rattle.dms_base.specs.Causes.{Rose};
-ghost use Rattle.dms_desc.specs.Shape.{described};
+ghost use Rattle.dms_desc.specs.Shape.{as_described};
 ghost use Rattle.dms_feed.specs.Feeds.{Remains};
 ghost use Rattle.dms_feed.specs.Lines.{raw_lines};
 ghost use Rattle.dms_runner.specs.Blaming.{LastsRun};
 ghost use Rattle.dms_runner.specs.Starting.{AtStart, CarriesOut, EffortWithin, OnInput, StandsAtEnd, UsesNumbers};
 ghost use Rattle.dms_runner.specs.Running.{FitsScript, HasTooManyBytes, HasTooManyLines, InputBreaks};
-ghost use Rattle.dms_storeverbs.specs.View.{seen};
+ghost use Rattle.dms_storeverbs.specs.View.{engine_view};
 ghost use Rattle.dms_run.specs.Ending.{EndsLeave, KeepsLimits};
 ghost use Rattle.dms_run.specs.Starting.{AtBegin, OfScript, ReachesEnd, RunsCarried, SaysAll};
 
@@ -25,14 +25,14 @@ pub fn run_script<St: Store, I: Source>(
     feed: &mut Feed,
     source: &mut I,
 ) -> Result<(), RunFault>
-    requires sound { (seen engine.old).sound }
+    requires sound { (engine_view engine.old).sound }
     ensures every_moment { AtBegin engine.old feed.old (I.left source.old) (RunsCarried result (I.left source.new) engine.old engine.new) }
     ensures carried { AtStart engine.old feed.old (I.left source.old) (CarriesOut result (I.left source.new) engine.old engine.new) }
     ensures at_ok { OnOk result (OfScript engine.old feed.old (I.left source.old) (ReachesEnd engine.new)) }
     ensures closes { OnOk result (OfScript engine.old feed.old (I.left source.old) (EndsLeave engine.old engine.new)) }
     ensures effort { OnOk result (AtStart engine.old feed.old (I.left source.old) (EffortWithin engine.old engine.new)) }
     ensures numbers { OnOk result (AtStart engine.old feed.old (I.left source.old) (UsesNumbers engine.old engine.new)) }
-    ensures within { OnOk result (AtStart engine.old feed.old (I.left source.old) (λ db first all. KeepsLimits (described engine.old.desc) db first (raw_lines all))) }
+    ensures within { OnOk result (AtStart engine.old feed.old (I.left source.old) (λ db first all. KeepsLimits (as_described engine.old.desc) db first (raw_lines all))) }
     ensures prints { OnOk result (AtStart engine.old feed.old (I.left source.old) (SaysAll engine.old engine.new)) }
     ensures ended { OnOk result (AtStart engine.old feed.old (I.left source.old) (StandsAtEnd engine.old engine.new)) }
     ensures fits { OnOk result (OnInput feed.old (I.left source.old) FitsScript) }

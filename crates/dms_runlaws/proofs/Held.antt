@@ -5,7 +5,7 @@ use Rattle.dms_desc.specs.Shape.{Described}
 use Rattle.dms_desc_bytes.specs.Spelling.{spelling}
 use Rattle.dms_site.specs.Files.{Files, stored_of}
 use Rattle.dms_model.specs.Db.{Db}
-use Rattle.dms_store.specs.Spelled.{is_spelled, db_in, some_if, spelled}
+use Rattle.dms_store.specs.Spelled.{is_spelled, db_in, some_if, database_in}
 use Rattle.dms_store.specs.Files.{whole_at}
 use Rattle.dms_history.specs.Events.{AllBlocks, Stored, Event}
 use Rattle.dms_history.specs.Lists.{until_first, after_first}
@@ -97,8 +97,8 @@ module _ (files : Files) (n : ℕ) (desc : Described) (db : Db) (s : StateOf fil
   described : schema_at all n ≡ Some (spelling desc)
   described = subst (λ (es : List Entry). schema_at es n ≡ Some (spelling desc)) same s.at_point.described
 
-  spells : spelled desc (blocks_at live counted n) ≡ Some db
-  spells = subst (λ (es : List Entry). spelled desc (blocks_at (live_of es) (here (dumps_of files) (history_of es) (stored_of files)) n) ≡ Some db) same s.at_point.spells
+  spells : database_in desc (blocks_at live counted n) ≡ Some db
+  spells = subst (λ (es : List Entry). database_in desc (blocks_at (live_of es) (here (dumps_of files) (history_of es) (stored_of files)) n) ≡ Some db) same s.at_point.spells
 
   last : last_point (history_of all) ≡ Some n
   last = ap (λ (es : List Entry). last_point (history_of es)) (sym same) ∙ s.last

@@ -7,7 +7,7 @@ use Rattle.dms_desc.specs.Shape.{Described}
 use Rattle.dms_desc_bytes.specs.Spelling.{spelling}
 use Rattle.dms_site.specs.Files.{Files, stored_of}
 use Rattle.dms_model.specs.Db.{Db}
-use Rattle.dms_store.specs.Spelled.{spelled}
+use Rattle.dms_store.specs.Spelled.{database_in}
 use Rattle.dms_history.specs.Events.{Stored, Event}
 use Rattle.dms_history.specs.Lists.{has}
 use Rattle.dms_history.specs.Places.{IsLive}
@@ -98,7 +98,7 @@ module _ (total first : ℕ) (files : Files) (w : IsWhole (telling_of total firs
   listed : ListsPoints live counted bare
   listed = points_listed live (next_of all) counted w.stands.kept.numbered
 
-  module _ (n : ℕ) (desc : Described) (db : Db) (lives : IsLive live n) (described : schema_at all n ≡ Some (spelling desc)) (spells : spelled desc (blocks_at live counted n) ≡ Some db) where
+  module _ (n : ℕ) (desc : Described) (db : Db) (lives : IsLive live n) (described : schema_at all n ≡ Some (spelling desc)) (spells : database_in desc (blocks_at live counted n) ≡ Some db) where
     at : AtNumber bare n
     at = at_number bare n (listed.all n lives)
 
@@ -108,8 +108,8 @@ module _ (total first : ℕ) (files : Files) (w : IsWhole (telling_of total firs
     schema_there : schema_bytes (schema_at all at.point.number) ≡ spelling desc
     schema_there = ap (λ (k : ℕ). schema_bytes (schema_at all k)) at.number ∙ ap schema_bytes described
 
-    spells_there : spelled desc at.point.blocks ≡ Some db
-    spells_there = ap (spelled desc) (sym (live_one live counted at.front at.point at.behind all_live).same ∙ ap (λ (k : ℕ). blocks_at live counted k) at.number) ∙ spells
+    spells_there : database_in desc at.point.blocks ≡ Some db
+    spells_there = ap (database_in desc) (sym (live_one live counted at.front at.point at.behind all_live).same ∙ ap (λ (k : ℕ). blocks_at live counted k) at.number) ∙ spells
 
     -- it is one of those that they hold
     pub has_live : HasLive desc (points_of (telling_of total first) files) (n, db)
@@ -143,4 +143,4 @@ module _ (total first : ℕ) (files : Files) (w : IsWhole (telling_of total firs
       let same : a.entries ≡ all = one_found files a.entries all a.finds w.found.finds in
       has_live m desc db (subst (λ (es : List Entry). IsLive (live_of es) m) same a.lives)
       (subst (λ (es : List Entry). schema_at es m ≡ Some (spelling desc)) same a.described)
-      (subst (λ (es : List Entry). spelled desc (blocks_at (live_of es) (here (dumps_of files) (history_of es) (stored_of files)) m) ≡ Some db) same a.spells)
+      (subst (λ (es : List Entry). database_in desc (blocks_at (live_of es) (here (dumps_of files) (history_of es) (stored_of files)) m) ≡ Some db) same a.spells)

@@ -5,7 +5,7 @@ use Rattle.dms_desc.specs.Shape.{Described}
 use Rattle.dms_desc_bytes.specs.WellFormed.{IsWellFormed}
 use Rattle.dms_model.specs.Db.{Db}
 use Rattle.dms_model.specs.Points.{Quiet}
-use Rattle.dms_model.specs.Session.{ended}
+use Rattle.dms_model.specs.Session.{end_session}
 use Rattle.dms_runner.specs.Answers.{answers_quiets, last_quiet, left_by, script_events, script_run}
 use Rattle.dms_running.specs.Standing.{IsWhole}
 use Rattle.dms_running.specs.Points.{points_of, next_in}
@@ -46,7 +46,7 @@ pub record LastStands (files : Files) (desc : Described) (n : ℕ) (db : Db) (ne
 abbrev pub EndsStand : Type 0
 EndsStand = (total first : ℕ) (files : Files) (desc : Described) → IsWellFormed desc → (n : ℕ) (db : Db) → IsStart desc db → (next : ℕ) (lines : List (List ℕ)) → IsWhole (telling_of total first) files
     → LivesEndWith desc (points_of (telling_of total first) files) (last_quiet_number n (answers_quiets desc db next lines)) (left_by desc db next lines)
-    → next_in (telling_of total first) files ≡ (ended (script_run desc db next lines).going.session).next → LastStands files desc n db next (answers_quiets desc db next lines)
+    → next_in (telling_of total first) files ≡ (end_session (script_run desc db next lines).going.session).next → LastStands files desc n db next (answers_quiets desc db next lines)
 
 -- So it is of the files that a stop within the run of a script leaves, which began with files that stand for this state and have this next number.
 abbrev pub StopsStand : Type 0

@@ -5,6 +5,7 @@ use Rattle.std.specs.declared.result.Result.TheVariants.{Ok, Err}
 use Rattle.dms_block.specs.declared.block_fault.BlockFault.{BlockFault}
 use Rattle.dms_block.specs.declared.block_fault.BlockFault.TheVariants.{Disk, Memory, Full, Damaged, Say}
 use Rattle.dms_block.specs.Counts.{Faults, CausedBy}
+use Rattle.dms_block.specs.Held.{AuditPace, is_due}
 use Rattle.dms_block.specs.Faults.{IfFull, NotFull, Undamaged}
 use Rattle.dms_model.specs.Programs.{Program, Wait}
 use Rattle.dms_model.specs.BackOut.{asks_back_out}
@@ -17,19 +18,21 @@ use Rattle.std.proofs.lemmas.List.{append-nil, map-append, length-map, take-appe
 use Rattle.std.proofs.lemmas.Option.{slice_get_within}
 use Rattle.std.proofs.Math.Seq.{take-append-add}
 use Rattle.std.proofs.lemmas.Bool.Decides.{nat_tests}
+use Rattle.dms_moments.specs.Moments.{Runs}
 use Rattle.dms_moments.specs.MomentLaws.{runs_none, runs_on, runs_weaken}
 use Rattle.dms_model.specs.declared.reply.Answer.{Answer}
 use Rattle.dms_model.specs.Db.{Db}
-use Rattle.dms_model.specs.Points.{StopFiles, Point, Quiet, Stop, LeavesPrefix, StopTextIs, StopTextGrows, told, known}
+use Rattle.dms_model.specs.Points.{StopFiles, Point, Quiet, Stop, LeavesPrefix, StopTextIs, StopTextGrows, told_point, known_point}
 use Rattle.dms_block.specs.Texts.{Prints, PrintsPrefix}
 use Rattle.dms_desc.specs.Shape.{Described}
 use Rattle.dms_model.specs.declared.verb.Verb.{Verb}
-use Rattle.dms_model.specs.Session.{Session, Outcome, ended, is_waits, step}
+use Rattle.dms_model.specs.Session.{Session, Outcome, end_session, is_waits, step}
 use Rattle.dms_storeverbs.specs.Laws.{MakesWhereQuiet}
 use Rattle.dms_storeverbs.proofs.Quiet.{quiet_rule}
+use Rattle.dms_storeverbs.specs.Rooms.{LeavesNoPoint}
 use Rattle.dms_storeverbs.specs.View.{View, PerformsCall, PointsGrow, LeavesQuiets, StandsFor, view_of}
 use Rattle.dms_storeverbs.proofs.Calls.{lower, stays}
-use Rattle.dms_runner.specs.Events.{IsTold, RunEvent, calls, says, goes_back, text_of, quiets_of, durable_by, durable_after, CrashesFrom, IsCutShort, Fate, fate_of, IsDue, IsFullIn, IsFullOf, SaidWhole, Performs, PerformsPrefix, SaidAtLeast, TakesEvents, TookAll, TookOneMore, TookPart, EndsAnswered, blocks_of, syncs_of, backs_of, may_store, one_if}
+use Rattle.dms_runner.specs.Events.{IsTold, RunEvent, calls, says, pause, goes_back, text_of, quiets_of, durable_by, durable_after, CrashesFrom, IsCutShort, Fate, fate_of, IsDueOver, IsFullIn, IsFullOf, SaidWhole, Performs, PerformsPrefix, SaidAtLeast, TakesEvents, TookAll, TookOneMore, TookPart, EndsAnswered, blocks_of, syncs_of, syncs_after, backs_of, may_store, one_if}
 use Rattle.dms_runner.specs.Blaming.{IsFullRun, run_fate}
 use Rattle.dms_runner.specs.declared.run.RunFault.TheVariants.{Block}
 use Rattle.dms_runner.proofs.Texts.{prints_none, prints_on, front_none, front_all, front_of_first, front_on}
@@ -57,6 +60,11 @@ syncs_on (e ∷ x) y = omega (arith, syncs_on x y)
 pub backs_on : (x y : List RunEvent) → backs_of (x ++ y) ≡ backs_of x + backs_of y
 backs_on [] y = omega arith
 backs_on (e ∷ x) y = omega (arith, backs_on x y)
+
+-- how many syncs there were behind events that come behind others
+syncs_behind : (n : ℕ) (x y : List RunEvent) → syncs_after n (x ++ y) ≡ syncs_after (syncs_after n x) y
+syncs_behind n [] y = refl
+syncs_behind n (e ∷ x) y = syncs_behind (up_if (is_some e.sync) n) x y
 
 -- nothing was done
 pub takes_still : (desc : Described) (x : List RunEvent) {a b : Effort} → b ≡ a → TakesEvents desc x a b
@@ -95,11 +103,11 @@ pub grew_on : {a b c : List Point} {q r : List Quiet} → PointsGrow a q b → P
 grew_on {a} {q = q} {r = r} x y = record {
   more = x.more ++ y.more;
   is = y.is ∙ ap (λ (l : List Point). l ++ y.more) x.is ∙ append_assoc a x.more y.more;
-  spells = map-append told x.more y.more ∙ ap (λ (l : List (ℕ × Option Db)). l ++ map told y.more) x.spells ∙ ap (λ (l : List (ℕ × Option Db)). map known q ++ l) y.spells ∙ sym (map-append known q r);
+  spells = map-append told_point x.more y.more ∙ ap (λ (l : List (ℕ × Option Db)). l ++ map told_point y.more) x.spells ∙ ap (λ (l : List (ℕ × Option Db)). map known_point q ++ l) y.spells ∙ sym (map-append known_point q r);
 }
 
 pub length_grew : {a b : List Point} {q : List Quiet} → PointsGrow a q b → length b ≡ length a + length q
-length_grew {a} {b} {q} x = omega (arith, ap length x.is, length-append a x.more, length-map x.more told, ap length x.spells, length-map q known)
+length_grew {a} {b} {q} x = omega (arith, ap length x.is, length-append a x.more, length-map x.more told_point, ap length x.spells, length-map q known_point)
 
 -- what is left of later points is left of all
 pub left_on : {V W : StopFiles → Type 0} {a b : List Point} {q r : List Quiet} {low high m n : ℕ} {stop : Stop} → ((files : StopFiles) → V files → W files) → PointsGrow a q b → low ≤ high → m + length q ≤ n → LeavesQuiets V high b n r stop → LeavesQuiets W low a m (q ++ r) stop
@@ -125,7 +133,7 @@ pub undamaged_by : {T : Type 0} (a b : Seen) (r : Result T BlockFault) → ((d :
 undamaged_by a b r u p t = damaged_same r a.faults b.faults (u t.db t.db_is) p
 
 pub ran_none : (a : Seen) → Performs a a []
-ran_none a = record { text = prints_none a.said a.said refl; tells = λ t. t; whole = λ files w. w; told = λ t. t; undamaged = λ t. refl; next = omega arith; next_high = omega arith; grew = λ t. grew_none a.points; durable = λ t. omega arith; moments = λ t. runs_none a.clock (CrashesFrom a []); desc = refl; last = refl; effort = takes_still a.desc [] refl }
+ran_none a = record { text = prints_none a.said a.said refl; tells = λ t. t; whole = λ files w. w; told = λ t. t; undamaged = λ t. refl; next = omega arith; next_high = omega arith; grew = λ t. grew_none a.points; durable = λ t. omega arith; moments = λ t. runs_none a.clock (CrashesFrom a []); desc = refl; pace = refl; effort = takes_still a.desc [] refl; synced = refl }
 
 -- a stop within the first events
 pub stopped_first : (a : Seen) (x y : List RunEvent) (stop : Stop) → CrashesFrom a x stop → CrashesFrom a (x ++ y) stop
@@ -162,8 +170,9 @@ ran_on a b c x y first next = record {
   durable = λ t. omega (arith, durable_on (length a.points) a.durable x y, ap (λ (n : ℕ). durable_after n (durable_after (length a.points) a.durable x) y) (length_grew (first.grew t)), durable_low_at (length b.points) (durable_after (length a.points) a.durable x) b.durable y (first.durable t), next.durable (told_on first t));
   moments = λ t. runs_on (runs_weaken (first.moments t) (stopped_first a x y)) (next.moments (told_on first t)) (λ stop s. stopped_on a b x y stop t first s);
   desc = next.desc ∙ first.desc;
-  last = next.last ∙ first.last;
+  pace = next.pace ∙ first.pace;
   effort = takes_on a.desc x y first.effort (subst (λ (d : Described). TakesEvents d y b.effort c.effort) first.desc next.effort);
+  synced = next.synced ∙ ap (λ (n : ℕ). syncs_after n y) first.synced ∙ sym (syncs_behind a.effort.syncs x y);
 }
 
 -- whole events
@@ -338,29 +347,49 @@ get_behind : (x y : List RunEvent) (k : ℕ) → slice_get (x ++ y) (length x + 
 get_behind [] y k = let e : 0 + k ≡ k = omega arith in ap (slice_get y) e
 get_behind (f ∷ x) y k = let e : suc (length x) + k ≡ suc (length x + k) = omega arith in ap (slice_get (f ∷ (x ++ y))) e ∙ get_behind x y k
 
+-- behind these events a stop leaves nothing of the next one, or a control point was due at the sync that it takes
+abbrev LeavesOrDue : Seen → Seen → RunEvent → List RunEvent → Type 0
+LeavesOrDue a b at events =
+    (a.tells → Runs a.clock b.clock (CrashesFrom a (events ++ pause ∷ []))) ⊎ ((is_some at.sync ≡ true) × (is_due a.pace.every (syncs_after a.effort.syncs events) ≡ true))
+
 -- what is due in the first events is due in all
-pub due_front : (last f : ℕ) (a b : Option (List ℕ)) (x y : List RunEvent) → IsDue last f a b x → IsDue last f a b (x ++ y)
-due_front last f a b x y d = record {
-  k = d.k;
-  at = d.at;
-  is = get_front x y d.k d.at d.is;
-  full = d.full;
-  text = subst (λ (e : List RunEvent). Prints a b (text_of e)) (sym (take-append-le d.k x y (omega (arith, slice_get_within x d.k d.at d.is)))) d.text;
-}
+due_front : (f : ℕ) (a b : Seen) (x y : List RunEvent) → IsDueOver f a b x → IsDueOver f a b (x ++ y)
+due_front f a b x y d =
+    let front : take d.k (x ++ y) ≡ take d.k x = take-append-le d.k x y (omega (arith, slice_get_within x d.k d.at d.is)) in
+    record {
+      k = d.k;
+      at = d.at;
+      is = get_front x y d.k d.at d.is;
+      full = d.full;
+      text = subst (λ (e : List RunEvent). Prints a.said b.said (text_of e)) (sym front) d.text;
+      made = subst (λ (e : List RunEvent). LeavesOrDue a b d.at e) (sym front) d.made;
+    }
+
+-- what holds behind later events holds behind all
+leaves_on : (a b c : Seen) (at : RunEvent) (x y : List RunEvent) → Performs a b x → LeavesOrDue b c at y → LeavesOrDue a c at (x ++ y)
+leaves_on a b c at x y first (inl left) = inl (λ t. subst (λ (e : List RunEvent). Runs a.clock c.clock (CrashesFrom a e)) (sym (append_assoc x y (pause ∷ [])))
+    (runs_on (runs_weaken (first.moments t) (stopped_first a x (y ++ pause ∷ []))) (left (told_on first t)) (λ stop s. stopped_on a b x (y ++ pause ∷ []) stop t first s)))
+leaves_on a b c at x y first (inr due) = inr (
+  due.0,
+  ap (λ (p : AuditPace). is_due p.every (syncs_after a.effort.syncs (x ++ y))) (sym first.pace) ∙ ap (is_due b.pace.every) (syncs_behind a.effort.syncs x y ∙ ap (λ (n : ℕ). syncs_after n y) (sym first.synced)) ∙ due.1,
+)
 
 -- what is due behind events is due in all
-pub due_on : (last f : ℕ) (a b c : Option (List ℕ)) (x y : List RunEvent) → Prints a b (text_of x) → IsDue last f b c y → IsDue last f a c (x ++ y)
-due_on last f a b c x y first d = record {
-  k = length x + d.k;
-  at = d.at;
-  is = get_behind x y d.k ∙ d.is;
-  full = d.full;
-  text = subst (λ (t : List ℕ). Prints a c t) (sym (ap text_of (take-append-add x y d.k) ∙ text_on x (take d.k y))) (prints_on a b c (text_of x) (text_of (take d.k y)) first d.text);
-}
+due_on : (f : ℕ) (a b c : Seen) (x y : List RunEvent) → Performs a b x → IsDueOver f b c y → IsDueOver f a c (x ++ y)
+due_on f a b c x y first d =
+    let front : take (length x + d.k) (x ++ y) ≡ x ++ take d.k y = take-append-add x y d.k in
+    record {
+      k = length x + d.k;
+      at = d.at;
+      is = get_behind x y d.k ∙ d.is;
+      full = subst (λ (p : AuditPace). IsFullIn p.last d.at f) first.pace d.full;
+      text = subst (λ (t : List ℕ). Prints a.said c.said t) (sym (ap text_of front ∙ text_on x (take d.k y))) (prints_on a.said b.said c.said (text_of x) (text_of (take d.k y)) first.text d.text);
+      made = subst (λ (e : List RunEvent). LeavesOrDue a c d.at e) (sym front) (leaves_on a b c d.at x (take d.k y) first d.made);
+    }
 
 -- nothing was said, and the only event had no room
-due_first : (last f : ℕ) (a b : Option (List ℕ)) (e : RunEvent) → b ≡ a → IsFullIn last e f → IsDue last f a b (e ∷ [])
-due_first last f a b e same full = record { k = 0; at = e; is = refl; full = full; text = prints_none a b same }
+due_first : (f : ℕ) (a b : Seen) (e : RunEvent) → b.said ≡ a.said → IsFullIn a.pace.last e f → LeavesOrDue a b e [] → IsDueOver f a b (e ∷ [])
+due_first f a b e same full made = record { k = 0; at = e; is = refl; full = full; text = prints_none a.said b.said same; made = made }
 
 -- no event of them happened
 pub part_none : {fate : Fate} → ((f : ℕ) → fate.full f → ⊥) → (a : Seen) (x : List RunEvent) → PerformsPrefix fate a a x
@@ -375,7 +404,7 @@ pub part_of_first : {fate : Fate} (a b : Seen) (x y : List RunEvent) → Perform
 part_of_first a b x y part = record {
   text = subst (λ (t : List ℕ). PrintsPrefix a.said b.said t) (sym (text_on x y)) (front_of_first a.said b.said (text_of x) (text_of y) part.text);
   said_whole = λ uncut. whole_of_first a.said b.said x y (part.said_whole uncut);
-  due = λ f full. due_front a.last f a.said b.said x y (part.due f full);
+  due = λ f full. due_front f a b x y (part.due f full);
   undamaged = part.undamaged;
   moments = λ t. runs_weaken (part.moments t) (stopped_first a x y);
   took = took_of_first a b x y part.took;
@@ -385,7 +414,7 @@ part_behind : {fate : Fate} (a b c : Seen) (x y : List RunEvent) → Performs a 
 part_behind a b c x y first next took = record {
   text = subst (λ (t : List ℕ). PrintsPrefix a.said c.said t) (sym (text_on x y)) (front_on a.said b.said c.said (text_of x) (text_of y) first.text next.text);
   said_whole = λ uncut. whole_on a.said b.said c.said x y first.text (next.said_whole uncut);
-  due = λ f full. due_on a.last f a.said b.said c.said x y first.text (subst (λ (n : ℕ). IsDue n f b.said c.said y) first.last (next.due f full));
+  due = λ f full. due_on f a b c x y first (next.due f full);
   undamaged = λ t. next.undamaged (first.told t) ∙ first.undamaged t;
   moments = λ t. runs_on (runs_weaken (first.moments t) (stopped_first a x y)) (next.moments (told_on first t)) (λ stop s. stopped_on a b x y stop t first s);
   took = took;
@@ -496,8 +525,8 @@ stopped_says a x stop p = record {
   text = λ t is. let n = p.1 t is in (n.0, n.1 ∙ ap (λ (l : List ℕ). l ++ take n.0 x) (sym (append-nil t)));
 }
 
-pub ran_says : (a b : Seen) (x y : List ℕ) → x ≡ y → (a.tells → b.tells) → ((files : StopFiles) → b.whole files → a.whole files) → b.desc ≡ a.desc → b.last ≡ a.last → b.effort ≡ a.effort → FindsNoDamage a b → Prints a.said b.said x → SaysPart a b x → Keeps a b → a.next + 1 < 2 ^ 64 → Performs a b (says y ∷ [])
-ran_says a b x y is tells whole desc last same undamaged text part keeps room = record {
+pub ran_says : (a b : Seen) (x y : List ℕ) → x ≡ y → (a.tells → b.tells) → ((files : StopFiles) → b.whole files → a.whole files) → b.desc ≡ a.desc → b.pace ≡ a.pace → b.effort ≡ a.effort → FindsNoDamage a b → Prints a.said b.said x → SaysPart a b x → Keeps a b → a.next + 1 < 2 ^ 64 → Performs a b (says y ∷ [])
+ran_says a b x y is tells whole desc pace same undamaged text part keeps room = record {
   text = subst (λ (t : List ℕ). Prints a.said b.said t) (is ∙ sym (append-nil y)) text;
   tells = tells;
   whole = whole;
@@ -509,8 +538,9 @@ ran_says a b x y is tells whole desc last same undamaged text part keeps room = 
   durable = λ t. (keeps.points t room).1;
   moments = λ t. runs_weaken (part.leaves t room) (λ stop p. subst (λ (z : List ℕ). CrashesFrom a (says z ∷ []) stop) is (stopped_says a x stop p));
   desc = desc;
-  last = last;
+  pace = pace;
   effort = takes_still a.desc (says y ∷ []) same;
+  synced = ap (λ (e : Effort). e.syncs) same;
 }
 
 -- a text that may have been cut off
@@ -539,7 +569,18 @@ part_says fits a b x y is same undamaged part whole room = record {
 
 -- nothing to say
 pub ran_silent : (a : Seen) (x : List ℕ) → x ≡ [] → Performs a a (says x ∷ [])
-ran_silent a x is = subst (λ (t : List ℕ). Performs a a (says t ∷ [])) (sym is) (record { text = prints_none a.said a.said refl; tells = λ t. t; whole = λ files w. w; told = λ t. t; undamaged = λ t. refl; next = omega arith; next_high = omega arith; grew = λ t. grew_none a.points; durable = λ t. omega arith; moments = λ t. runs_none a.clock (CrashesFrom a (says [] ∷ [])); desc = refl; last = refl; effort = takes_still a.desc (says [] ∷ []) refl })
+ran_silent a x is = subst (λ (t : List ℕ). Performs a a (says t ∷ [])) (sym is) (record { text = prints_none a.said a.said refl; tells = λ t. t; whole = λ files w. w; told = λ t. t; undamaged = λ t. refl; next = omega arith; next_high = omega arith; grew = λ t. grew_none a.points; durable = λ t. omega arith; moments = λ t. runs_none a.clock (CrashesFrom a (says [] ∷ [])); desc = refl; pace = refl; effort = takes_still a.desc (says [] ∷ []) refl; synced = refl })
+
+-- nothing of an event was done yet
+stopped_before : (a : Seen) (e : RunEvent) (stop : Stop) → LeavesPrefix a.whole a.durable a.points a.next stop × StopTextIs a.said stop → CrashesFrom a (e ∷ []) stop
+stopped_before a e stop p = record {
+  before = [];
+  at = e;
+  rest = [];
+  all = refl;
+  left = stays e.quiets p.0;
+  text = λ t is. (0, p.1 t is ∙ sym (append-nil t) ∙ sym (append-nil (t ++ [])));
+}
 
 -- calls
 
@@ -609,9 +650,9 @@ took_call a b verb call result mute costs = record {
   });
 }
 
-pub ran_calls : (a b : Seen) {programs : List Program} {pending : Bool} {since : ℕ} {waits : List Wait} (verb : Verb) (o : Outcome) (answer : Answer) → (a.tells → b.tells) → ((files : StopFiles) → b.whole files → a.whole files) → b.desc ≡ a.desc → b.last ≡ a.last → Costs (block_limit a.desc verb) (asks_back_out verb) (Ok answer) a.effort b.effort → (is_waits answer.reply ≡ true → b.effort.spent ≤ a.effort.spent)
+pub ran_calls : (a b : Seen) {programs : List Program} {pending : Bool} {since : ℕ} {waits : List Wait} (verb : Verb) (o : Outcome) (answer : Answer) → (a.tells → b.tells) → ((files : StopFiles) → b.whole files → a.whole files) → b.desc ≡ a.desc → b.pace ≡ a.pace → Costs (block_limit a.desc verb) (asks_back_out verb) (Ok answer) a.effort b.effort → (is_waits answer.reply ≡ true → b.effort.spent ≤ a.effort.spent)
     → b.faults ≡ a.faults → IsMute a b → b.next ≡ a.next + length o.quiets → PerformsCall o a b (view_of b.db b.mark b.next programs pending since waits) (Ok answer) → Performs a b (calls verb o ∷ [])
-ran_calls a b verb o answer tells whole desc last costs idle same mute next did = record {
+ran_calls a b verb o answer tells whole desc pace costs idle same mute next did = record {
   text = prints_none a.said b.said mute.said;
   tells = tells;
   whole = whole;
@@ -623,13 +664,19 @@ ran_calls a b verb o answer tells whole desc last costs idle same mute next did 
   durable = λ t. covered_made o.sync a.durable (length a.points + length o.quiets) b.durable (did.made t).later (λ n is. (did.made t).synced n (did.answers.sync ∙ is) ∙ length_grew (did.made t).grew);
   moments = λ t. runs_weaken (did.leaves t) (stopped_calls a verb o);
   desc = desc;
-  last = last;
+  pace = pace;
   effort = call_takes a.desc verb o answer did.answers.reply did.answers.sync costs idle;
+  synced = costs.syncs ∙ ap (λ (s : Option ℕ). up_if (is_some s) a.effort.syncs) did.answers.sync;
 }
 
-pub part_calls : {fate : Fate} (a b : Seen) (v : View) (verb : Verb) (o : Outcome) {result : Result Answer BlockFault} → ((f : ℕ) → fate.full f → IsFullFor a.last verb o f) → Costs (block_limit a.desc verb) (asks_back_out verb) result a.effort b.effort → CausedBy result a.faults b.faults → IsMute a b → PerformsCall o a b v result → PerformsPrefix fate a b (calls verb o ∷ [])
-part_calls a b v verb o {result} changed costs cause mute did = record {
-  due = λ f full. due_first a.last f a.said b.said (calls verb o) mute.said (changed f full);
+-- a call whose quiet point no stop leaves, or at whose sync a control point was due
+leaves_call : (a b : Seen) (verb : Verb) (o : Outcome) → LeavesNoPoint a b o → LeavesOrDue a b (calls verb o) []
+leaves_call a b verb o (inl left) = inl (λ t. runs_weaken (left t) (stopped_before a pause))
+leaves_call a b verb o (inr due) = inr due
+
+pub part_calls : {fate : Fate} (a b : Seen) (v : View) (verb : Verb) (o : Outcome) {result : Result Answer BlockFault} → ((f : ℕ) → fate.full f → IsFullFor a.pace.last verb o f) → ((f : ℕ) → fate.full f → LeavesNoPoint a b o) → Costs (block_limit a.desc verb) (asks_back_out verb) result a.effort b.effort → CausedBy result a.faults b.faults → IsMute a b → PerformsCall o a b v result → PerformsPrefix fate a b (calls verb o ∷ [])
+part_calls a b v verb o {result} changed leaves costs cause mute did = record {
+  due = λ f full. due_first f a b (calls verb o) mute.said (changed f full) (leaves_call a b verb o (leaves f full));
   said_whole = λ uncut. whole_none a.said b.said (calls verb o ∷ []) mute.said;
   took = took_call a b verb (calls verb o) result mute costs;
   undamaged = λ t. damaged_same result a.faults b.faults did.undamaged cause;
@@ -639,36 +686,32 @@ part_calls a b v verb o {result} changed costs cause mute did = record {
 
 -- the way back
 
-stopped_back : (works : Bool) (a : Seen) (stop : Stop) → LeavesPrefix a.whole a.durable a.points a.next stop × StopTextIs a.said stop → CrashesFrom a (goes_back works ∷ []) stop
-stopped_back works a stop p = record {
-  before = [];
-  at = goes_back works;
-  rest = [];
-  all = refl;
-  left = stays [] p.0;
-  text = λ t is. (0, p.1 t is ∙ sym (append-nil t) ∙ sym (append-nil (t ++ [])));
-}
-
 -- where nobody works nothing is done
 pub back_takes : {T : Type 0} (r : Result T BlockFault) (works : Bool) (desc : Described) {a b : Effort} → (works ≡ true → GoesBack r a b) → (works ≡ false → b ≡ a) → TakesEvents desc (goes_back works ∷ []) a b
 back_takes r true desc back stays = let p = back refl in record { spent = omega (arith, p.spent); syncs = omega (arith, p.syncs); outs = omega (arith, p.few.1) }
 back_takes r false desc back stays = takes_still desc (goes_back false ∷ []) (stays refl)
 
-pub ran_back : (works : Bool) (a b : Seen) → (a.tells → b.tells) → ((files : StopFiles) → b.whole files → a.whole files) → b.desc ≡ a.desc → b.last ≡ a.last → TakesEvents a.desc (goes_back works ∷ []) a.effort b.effort → (IsTold a → IsTold b) → FindsNoDamage a b → IsSilent a b → StaysDurable a b → a.next + 1 < 2 ^ 64 → Performs a b (goes_back works ∷ [])
-ran_back works a b tells whole desc last takes told undamaged silent points room = record {
+-- no way back takes a syncpoint
+pub back_syncs : {T : Type 0} (r : Result T BlockFault) (works : Bool) {a b : Effort} → (works ≡ true → GoesBack r a b) → (works ≡ false → b ≡ a) → b.syncs ≡ a.syncs
+back_syncs r true back stays = (back refl).syncs
+back_syncs r false back stays = ap (λ (e : Effort). e.syncs) (stays refl)
+
+pub ran_back : (works : Bool) (a b : Seen) → (a.tells → b.tells) → ((files : StopFiles) → b.whole files → a.whole files) → b.desc ≡ a.desc → b.pace ≡ a.pace → TakesEvents a.desc (goes_back works ∷ []) a.effort b.effort → b.effort.syncs ≡ a.effort.syncs → (IsTold a → IsTold b) → FindsNoDamage a b → IsSilent a b → StaysDurable a b → a.next + 1 < 2 ^ 64 → Performs a b (goes_back works ∷ [])
+ran_back works a b tells whole desc pace takes synced told_point undamaged silent points room = record {
   text = prints_none a.said b.said silent.said;
   tells = tells;
   whole = whole;
-  told = told;
+  told = told_point;
   undamaged = undamaged;
   next = omega (arith, silent.next);
   next_high = omega (arith, silent.next);
   grew = λ t. record { more = []; is = (points t room).0 ∙ sym (append-nil a.points); spells = refl };
   durable = λ t. (points t room).1;
-  moments = λ t. runs_weaken (silent.leaves t room) (stopped_back works a);
+  moments = λ t. runs_weaken (silent.leaves t room) (stopped_before a (goes_back works));
   desc = desc;
-  last = last;
+  pace = pace;
   effort = takes;
+  synced = synced;
 }
 
 -- it may be done in part
@@ -677,18 +720,18 @@ took_back works a b takes silent = took_by a b (goes_back works ∷ []) 1 (omega
 
 pub part_back : {fate : Fate} (works : Bool) (a b : Seen) → ((f : ℕ) → fate.full f → (works ≡ true) × (f ≡ 9999)) → TakesEvents a.desc (goes_back works ∷ []) a.effort b.effort → FindsNoDamage a b → IsSilent a b → a.next + 1 < 2 ^ 64 → PerformsPrefix fate a b (goes_back works ∷ [])
 part_back works a b backs takes undamaged silent room = record {
-  due = λ f full. due_first a.last f a.said b.said (goes_back works) silent.said (inr (backs f full));
+  due = λ f full. due_first f a b (goes_back works) silent.said (inr (backs f full)) (inl (λ t. runs_weaken (silent.leaves t room) (stopped_before a pause)));
   took = took_back works a b takes silent;
   said_whole = λ uncut. whole_none a.said b.said (goes_back works ∷ []) silent.said;
   undamaged = undamaged;
   text = front_none a.said b.said [] silent.said;
-  moments = λ t. runs_weaken (silent.leaves t room) (stopped_back works a);
+  moments = λ t. runs_weaken (silent.leaves t room) (stopped_before a (goes_back works));
 }
 
 -- the end of a run leaves the databases told
 pub told_ended : {a b : Seen} {programs programs' : List Program} {pending pending' : Bool} {since since' : ℕ} {waits waits' : List Wait}
-    → ((s : Session) → StandsFor (view_of a.db a.mark a.next programs pending since waits) s → StandsFor (view_of b.db b.mark b.next programs' pending' since' waits') (ended s)) → IsTold a → IsTold b
+    → ((s : Session) → StandsFor (view_of a.db a.mark a.next programs pending since waits) s → StandsFor (view_of b.db b.mark b.next programs' pending' since' waits') (end_session s)) → IsTold a → IsTold b
 told_ended {a} {programs = programs} {pending = pending} {since = since} {waits = waits} f t =
     let s : Session = record { db = t.db; mark = t.mark; next = a.next; programs = programs; pending = pending; since = since; waits = waits } in
     let st = f s (record { db = t.db_is; mark = t.mark_is; next = refl; programs = refl; pending = refl; since = refl; waits = refl }) in
-    record { db = (ended s).db; mark = (ended s).mark; db_is = st.db; mark_is = st.mark }
+    record { db = (end_session s).db; mark = (end_session s).mark; db_is = st.db; mark_is = st.mark }

@@ -6,7 +6,7 @@ use Rattle.dms_feed.specs.Lines.{line_text}
 use Rattle.dms_model.specs.declared.verb.Verb.{Verb}
 use Rattle.dms_model.specs.Db.{Db}
 use Rattle.dms_model.specs.Points.{Quiet}
-use Rattle.dms_model.specs.Session.{Session, Outcome, step, someone_works, ended, is_waits}
+use Rattle.dms_model.specs.Session.{Session, Outcome, step, someone_works, end_session, is_waits}
 use Rattle.dms_script.specs.declared.line.Line.{Line}
 use Rattle.dms_script.specs.declared.line.Line.TheVariants.{Empty, Verb as Spoken, Bad}
 use Rattle.dms_script.specs.Lines.{line_of}
@@ -135,7 +135,7 @@ unanswered_quiets : (waiting : List WaitingLine) → quiets_of (unanswered_event
 unanswered_quiets [] = refl
 unanswered_quiets (h ∷ hs) = unanswered_quiets hs
 
-ended_db : (s : Session) (b : Bool) → someone_works s.programs ≡ b → Rests s → (ended s).db ≡ s.mark
+ended_db : (s : Session) (b : Bool) → someone_works s.programs ≡ b → Rests s → (end_session s).db ≡ s.mark
 ended_db s true works rests = rw works refl
 ended_db s false works rests = rw works (rests works)
 

@@ -5,7 +5,7 @@ use Rattle.std.specs.declared.option.Option.{Option}
 use Rattle.std.proofs.lemmas.List.{take_all}
 use Rattle.dms_block.specs.declared.block_fault.BlockFault.{BlockFault}
 use Rattle.dms_desc.specs.declared.description.Description.{Description}
-use Rattle.dms_desc.specs.Shape.{Described, described}
+use Rattle.dms_desc.specs.Shape.{Described, as_described}
 use Rattle.dms_feed.specs.Lines.{first_line, after_line, raw_lines}
 use Rattle.dms_feed.specs.Raws.{CutLine, IsUnended}
 use Rattle.dms_model.specs.declared.store.Store.{Ghosts}
@@ -13,7 +13,7 @@ use Rattle.dms_model.specs.Db.{Db}
 use Rattle.dms_model.specs.Programs.{Program}
 use Rattle.dms_model.specs.Session.{someone_works}
 use Rattle.dms_storeverbs.specs.declared.engine.Engine.{Engine}
-use Rattle.dms_storeverbs.specs.View.{seen, view}
+use Rattle.dms_storeverbs.specs.View.{engine_view, view}
 use Rattle.dms_runner.specs.declared.run.RunFault.{RunFault}
 use Rattle.dms_runner.specs.declared.run.RunFault.TheVariants.{Block, Input, Lines, Bytes, Held, Memory}
 use Rattle.dms_runner.specs.declared.waiting.WaitingLine.{WaitingLine}
@@ -30,10 +30,10 @@ use Rattle.dms_runner.proofs.Running.{RunsLines, going_on, nothing_after, read_f
 use Rattle.dms_runner.proofs.Texts.{prints_none}
 
 -- all lines were taken
-pub takes_whole : {St : Type 0} {g : Ghosts St} (old mid : Engine St g) (db : Db) (first : ℕ) (all : List ℕ) (i room : ℕ) (waiting : List WaitingLine) (feed : List ℕ) (left : Option (List ℕ)) (r : RunsLines (described old.desc) (first_state db first) i room all (view mid) waiting feed left (seen old) (seen mid))
+pub takes_whole : {St : Type 0} {g : Ghosts St} (old mid : Engine St g) (db : Db) (first : ℕ) (all : List ℕ) (i room : ℕ) (waiting : List WaitingLine) (feed : List ℕ) (left : Option (List ℕ)) (r : RunsLines (as_described old.desc) (first_state db first) i room all (view mid) waiting feed left (engine_view old) (engine_view mid))
     → i ≤ 1000000 → r.read.rest ≡ [] → first + 1000003 < 2 ^ 64 → TakesAll old mid waiting db first all
 takes_whole old mid db first all i room waiting feed left r few none small =
-    let desc = described old.desc in
+    let desc = as_described old.desc in
     let roomy = runs_roomy desc db first i room all _ waiting feed left _ _ r none in
     record {
       fits = read_fits r.read few none;
@@ -45,30 +45,30 @@ takes_whole old mid db first all i room waiting feed left r few none small =
       room = omega (arith, r.stands.next, runs_next desc db first i room all _ waiting feed left _ _ r few small);
     }
 
-module _ {St : Type 0} {g : Ghosts St} (old mid : Engine St g) (db : Db) (first : ℕ) (all : List ℕ) (i room : ℕ) (waiting : List WaitingLine) (feed : List ℕ) (left : Option (List ℕ)) (r : RunsLines (described old.desc) (first_state db first) i room all (view mid) waiting feed left (seen old) (seen mid)) where
+module _ {St : Type 0} {g : Ghosts St} (old mid : Engine St g) (db : Db) (first : ℕ) (all : List ℕ) (i room : ℕ) (waiting : List WaitingLine) (feed : List ℕ) (left : Option (List ℕ)) (r : RunsLines (as_described old.desc) (first_state db first) i room all (view mid) waiting feed left (engine_view old) (engine_view mid)) where
   abbrev desc : Described
-  desc = described old.desc
+  desc = as_described old.desc
 
   abbrev going : RunState
-  going = going_on desc db first i room all (view mid) waiting feed left (seen old) (seen mid) r
+  going = going_on desc db first i room all (view mid) waiting feed left (engine_view old) (engine_view mid) r
 
   abbrev front : ℕ → List RunEvent
   front n = front_events desc db first (raw_lines all) n
 
-  did : Performs (seen old) (seen mid) (front i)
-  did = runs_did desc db first i room all (view mid) waiting feed left (seen old) (seen mid) r
+  did : Performs (engine_view old) (engine_view mid) (front i)
+  did = runs_did desc db first i room all (view mid) waiting feed left (engine_view old) (engine_view mid) r
 
   -- it holds of how the run stands here, and of what is left of the input
   pub at_next : {P : RunState → List ℕ → Type 0} → AtInput mid waiting i feed left P → i < 1000000 → first + 1000003 < 2 ^ 64 → P going r.read.rest
   at_next {P} holds few small = holds going r.read.rest r.stands (sym r.waiting_is) r.line (runs_room desc db first i room all _ waiting feed left _ _ r few small) r.read.remains
 
   -- what the next line does is told of the same description
-  step_is : mid.desc ≡ old.desc → line_step (described mid.desc) going (first_line r.read.rest) ≡ line_step desc going (first_line r.read.rest)
-  step_is same = ap (λ (d : Description). line_step (described d) going (first_line r.read.rest)) same
+  step_is : mid.desc ≡ old.desc → line_step (as_described mid.desc) going (first_line r.read.rest) ≡ line_step desc going (first_line r.read.rest)
+  step_is same = ap (λ (d : Description). line_step (as_described d) going (first_line r.read.rest)) same
 
   -- one line more was taken
   pub takes_on : {room' : ℕ} {feed' : List ℕ} {left' : Option (List ℕ)} {next : List WaitingLine} (new : Engine St g) → mid.desc ≡ old.desc → TakesRawLine room room' feed' left' r.read.rest → LineOfInputTaken mid new next going r.read.rest
-      → (s : RunsLines desc (first_state db first) (i + 1) room' all (view new) next feed' left' (seen old) (seen new)) × (s.read.rest ≡ after_line r.read.rest)
+      → (s : RunsLines desc (first_state db first) (i + 1) room' all (view new) next feed' left' (engine_view old) (engine_view new)) × (s.read.rest ≡ after_line r.read.rest)
   takes_on new same taken goes = runs_on desc (first_state db first) i room _ all _ _ waiting _ feed _ left _ _ _ _ r taken (lined_as _ _ true _ _ _ _ (step_is same) goes)
 
   -- and it was the last one
@@ -139,7 +139,7 @@ module _ {St : Type 0} {g : Ghosts St} (old mid : Engine St g) (db : Db) (first 
         events = front (i + 1);
         front = read_keeps_more r.read p.some few p.fits;
         are = inl refl;
-        part = runs_part_more desc db first i room all (view mid) waiting feed left (seen old) (seen mid) r (seen new) p.some (part_as _ _ _ _ (ap (λ (l : LineEffect). l.events) (step_is same)) p.part);
+        part = runs_part_more desc db first i room all (view mid) waiting feed left (engine_view old) (engine_view mid) r (engine_view new) p.some (part_as _ _ _ _ (ap (λ (l : LineEffect). l.events) (step_is same)) p.part);
         whole = tt;
         lines = λ e. absurd (cc);
         bytes = λ e. absurd (cc);
@@ -148,7 +148,7 @@ module _ {St : Type 0} {g : Ghosts St} (old mid : Engine St g) (db : Db) (first 
       }
   stops_at Held left' new same few ended part untouched over held none cut =
       let h = held refl in
-      let done = runs_did_more desc db first i room all (view mid) waiting feed left (seen old) (seen mid) r (seen new) h.some (ran_as _ _ _ _ (ap (λ (l : LineEffect). l.events) (step_is same)) h.did) in
+      let done = runs_did_more desc db first i room all (view mid) waiting feed left (engine_view old) (engine_view mid) r (engine_view new) h.some (ran_as _ _ _ _ (ap (λ (l : LineEffect). l.events) (step_is same)) h.did) in
       record {
         n = i + 1;
         events = front (i + 1);
@@ -168,7 +168,7 @@ module _ {St : Type 0} {g : Ghosts St} (old mid : Engine St g) (db : Db) (first 
 -- where all lines were taken, the end of the script follows
 module _ {St : Type 0} {g : Ghosts St} (old mid new : Engine St g) (db : Db) (first : ℕ) (all : List ℕ) (waiting held : List WaitingLine) (same : held ≡ waiting) (t : TakesAll old mid waiting db first all) where
   abbrev whole : LineEffect
-  whole = script_run (described old.desc) db first (raw_lines all)
+  whole = script_run (as_described old.desc) db first (raw_lines all)
 
   abbrev ends : List RunEvent
   ends = end_events (someone_works mid.programs.items) held
@@ -177,14 +177,14 @@ module _ {St : Type 0} {g : Ghosts St} (old mid new : Engine St g) (db : Db) (fi
   ends_are : ends ≡ end_events (someone_works whole.going.session.programs) whole.going.waiting
   ends_are = ap (λ (ps : List Program). end_events (someone_works ps) held) t.stands.programs ∙ ap (end_events (someone_works whole.going.session.programs)) (same ∙ t.waiting_is)
 
-  pub ends_run : Performs (seen mid) (seen new) ends → Performs (seen old) (seen new) (events_at old db first all)
+  pub ends_run : Performs (engine_view mid) (engine_view new) ends → Performs (engine_view old) (engine_view new) (events_at old db first all)
   unfolding script_events
   ends_run last = ran_on _ _ _ _ _ t.ran (ran_as _ _ _ _ ends_are last)
 
-  pub ends_answers : Performs (seen mid) (seen new) ends → AnswersAll old new db first all
+  pub ends_answers : Performs (engine_view mid) (engine_view new) ends → AnswersAll old new db first all
   ends_answers last = record { few = t.fits.few; short = t.fits.short; room = t.roomy; text = (ends_run last).text }
 
-  ends_part : {fate : Fate} → PerformsPrefix fate (seen mid) (seen new) ends → PerformsPrefix fate (seen old) (seen new) (events_at old db first all)
+  ends_part : {fate : Fate} → PerformsPrefix fate (engine_view mid) (engine_view new) ends → PerformsPrefix fate (engine_view old) (engine_view new) (events_at old db first all)
   unfolding script_events
   ends_part last = part_on _ _ _ _ _ t.ran t.answered (part_as _ _ _ _ ends_are last)
 

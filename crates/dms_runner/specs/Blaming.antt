@@ -7,7 +7,7 @@ use Rattle.dms_block.specs.Counts.{Faults, Raised}
 use Rattle.dms_model.specs.declared.store.Store.{Ghosts}
 use Rattle.dms_model.specs.Points.{StopFiles}
 use Rattle.dms_storeverbs.specs.declared.engine.Engine.{Engine}
-use Rattle.dms_storeverbs.specs.View.{seen}
+use Rattle.dms_storeverbs.specs.View.{engine_view}
 use Rattle.dms_runner.specs.Events.{Fate, IsFullOf}
 use Rattle.dms_runner.specs.declared.run.RunFault.{RunFault}
 use Rattle.dms_runner.specs.declared.run.RunFault.TheVariants.{Block, Input, Lines, Bytes, Held, Memory}
@@ -45,13 +45,13 @@ run_fate result = record { cut = CutRun result; full = IsFullRun result }
 
 -- whatever a run does, its engine stays the same one, usable without a fault, and a fault of the store has a cause
 pub record LastsRun {St : Type 0} {g : Ghosts St} {T : Type 0} (result : Result T RunFault) (old new : Engine St g) : Type 0 where
-  pub sound : OnOk result (seen new).sound
+  pub sound : OnOk result (engine_view new).sound
   pub description : new.desc ≡ old.desc
   pub same : g.same_store old.store new.store
-  pub tells : (seen old).tells → (seen new).tells
-  pub desc : (seen new).desc ≡ (seen old).desc
-  pub last : (seen new).last ≡ (seen old).last
-  pub whole : (files : StopFiles) → (seen new).whole files → (seen old).whole files
-  pub whole_on : (files : StopFiles) → (seen old).whole files → (seen new).whole files
-  pub cause : IsBlamedOn result (seen old).faults (seen new).faults
-  pub reads : (seen old).reads ≤ (seen new).reads
+  pub tells : (engine_view old).tells → (engine_view new).tells
+  pub desc : (engine_view new).desc ≡ (engine_view old).desc
+  pub pace : (engine_view new).pace ≡ (engine_view old).pace
+  pub whole : (files : StopFiles) → (engine_view new).whole files → (engine_view old).whole files
+  pub whole_on : (files : StopFiles) → (engine_view old).whole files → (engine_view new).whole files
+  pub cause : IsBlamedOn result (engine_view old).faults (engine_view new).faults
+  pub reads : (engine_view old).reads ≤ (engine_view new).reads

@@ -5,7 +5,7 @@ use Rattle.dms_desc.specs.Shape.{Described}
 use Rattle.dms_desc_bytes.specs.WellFormed.{IsWellFormed}
 use Rattle.dms_model.specs.Db.{Db}
 use Rattle.dms_model.specs.Points.{StopFiles, Point, Stop}
-use Rattle.dms_model.specs.Session.{ended}
+use Rattle.dms_model.specs.Session.{end_session}
 use Rattle.dms_storeverbs.specs.Costs.{limit_if}
 use Rattle.dms_storeverbs.specs.View.{LeavesQuiets}
 use Rattle.dms_runner.specs.Answers.{script_events, script_run, left_by}
@@ -42,12 +42,12 @@ PointLaw = (said : Option (List ℕ)) (points : List Point) (durable next : ℕ)
 
 -- Each line makes one quiet point at most: the first number and the count of lines bound the next number at the end.
 abbrev pub NextLaw : Type 0
-NextLaw = (desc : Described) (db : Db) (first : ℕ) (lines : List (List ℕ)) → (ended (script_run desc db first lines).going.session).next ≤ first + length lines
+NextLaw = (desc : Described) (db : Db) (first : ℕ) (lines : List (List ℕ)) → (end_session (script_run desc db first lines).going.session).next ≤ first + length lines
 
 -- at the end of a script, where the database has gone back to the last quiet point if a program was in transaction state, it is
 -- the one that the script leaves
 abbrev pub LeftLaw : Type 0
-LeftLaw = (desc : Described) (db : Db) (first : ℕ) (lines : List (List ℕ)) → (ended (script_run desc db first lines).going.session).db ≡ left_by desc db first lines
+LeftLaw = (desc : Described) (db : Db) (first : ℕ) (lines : List (List ℕ)) → (end_session (script_run desc db first lines).going.session).db ≡ left_by desc db first lines
 
 -- What a script does begins with what is carried out of it.
 abbrev pub FrontLaw : Type 0

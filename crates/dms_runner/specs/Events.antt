@@ -7,6 +7,7 @@ use Rattle.dms_block.specs.declared.block_fault.BlockFault.{BlockFault}
 use Rattle.dms_block.specs.declared.block_fault.BlockFault.TheVariants.{Disk, Memory, Full, Damaged, Say}
 use Rattle.dms_moments.specs.Moments.{Runs}
 use Rattle.dms_model.specs.Points.{StopFiles, Point, Quiet, Stop}
+use Rattle.dms_block.specs.Held.{is_due}
 use Rattle.dms_block.specs.Texts.{Prints, PrintsPrefix}
 use Rattle.dms_model.specs.Db.{Db}
 use Rattle.dms_desc.specs.Shape.{Described}
@@ -15,7 +16,7 @@ use Rattle.dms_model.specs.declared.reply.Reply.{Reply}
 use Rattle.dms_model.specs.declared.verb.Verb.{Verb}
 use Rattle.dms_model.specs.Seen.{Effort, Seen}
 use Rattle.dms_model.specs.Session.{Outcome, is_waits}
-use Rattle.dms_storeverbs.specs.Costs.{appends, limit_if, stores}
+use Rattle.dms_storeverbs.specs.Costs.{appends, limit_if, stores, up_if}
 use Rattle.dms_storeverbs.specs.View.{PointsGrow, LeavesQuiets}
 use Rattle.dms_laws.specs.Exclusive.{is_done}
 
@@ -80,6 +81,11 @@ abbrev pub backs_of : List RunEvent → ℕ
 backs_of [] = 0
 backs_of (e ∷ es) = one_if e.backs + backs_of es
 
+-- how many syncs there were behind these events, where there were so many before them; the count stands still at 2^64 - 1
+abbrev pub syncs_after : ℕ → List RunEvent → ℕ
+syncs_after n [] = n
+syncs_after n (e ∷ es) = syncs_after (up_if (is_some e.sync) n) es
+
 -- No more was done than these events may take.
 pub record TakesEvents (desc : Described) (events : List RunEvent) (old new : Effort) : Type 0 where
   pub spent : new.spent ≤ old.spent + blocks_of desc events
@@ -133,8 +139,9 @@ pub record Performs (b a : Seen) (events : List RunEvent) : Type 0 where
   pub durable : b.tells → durable_after (length b.points) b.durable events ≤ a.durable
   pub moments : b.tells → Runs b.clock a.clock (CrashesFrom b events)
   pub desc : a.desc ≡ b.desc
-  pub last : a.last ≡ b.last
+  pub pace : a.pace ≡ b.pace
   pub effort : TakesEvents b.desc events b.effort a.effort
+  pub synced : a.effort.syncs ≡ syncs_after b.effort.syncs events
 
 -- the answer is a fault of printing: the last text may have been cut off
 abbrev pub IsCutShort : {T : Type 0} → Result T BlockFault → Type 0
@@ -212,20 +219,27 @@ pub record TookPart (cut : Type 0) (b a : Seen) (events : List RunEvent) : Type 
 abbrev pub IsFullIn : ℕ → RunEvent → ℕ → Type 0
 IsFullIn last e f = ((e.appends ≡ true) × (f ≡ last)) ⊎ ((e.backs ≡ true) × (f ≡ 9999))
 
--- Exactly the text of the first k of these events was said, and the next of them is such a one.
-pub record IsDue (last f : ℕ) (before after : Option (List ℕ)) (events : List RunEvent) : Type 0 where
+-- Exactly the text of the first k of these events was said, and the next of them is such a one. Stops on the way left what those first events leave,
+-- so no quiet point of the next one; or a control point was due at the sync of the syncpoint that the next one takes.
+pub record IsDue (last f : ℕ) (Leaves Due : List RunEvent → Type 0) (before after : Option (List ℕ)) (events : List RunEvent) : Type 0 where
   pub k : ℕ
   pub at : RunEvent
   pub is : slice_get events k ≡ Some at
   pub full : IsFullIn last at f
   pub text : Prints before after (text_of (take k events))
+  pub made : Leaves (take k events ++ pause ∷ []) ⊎ ((is_some at.sync ≡ true) × Due (take k events))
+
+-- so it is over a store that tells its stops, and counts its syncs
+abbrev pub IsDueOver : ℕ → Seen → Seen → List RunEvent → Type 0
+IsDueOver f b a events =
+    IsDue b.pace.last f (λ es. b.tells → Runs b.clock a.clock (CrashesFrom b es)) (λ es. is_due b.pace.every (syncs_after b.effort.syncs es) ≡ true) b.said a.said events
 
 -- a prefix of the text of these events was said, that of whole events where no text was cut off, and a stop on the way lies
 -- within them. No more was done than that prefix may take. Where the audit had no room, entries may have been due. Of what stands afterwards it says nothing else
 pub record PerformsPrefix (fate : Fate) (b a : Seen) (events : List RunEvent) : Type 0 where
   pub text : PrintsPrefix b.said a.said (text_of events)
   pub said_whole : (fate.cut → ⊥) → SaidWhole b.said a.said events
-  pub due : (f : ℕ) → fate.full f → IsDue b.last f b.said a.said events
+  pub due : (f : ℕ) → fate.full f → IsDueOver f b a events
   pub undamaged : IsTold b → a.faults.damaged ≡ b.faults.damaged
   pub moments : b.tells → Runs b.clock a.clock (CrashesFrom b events)
   pub took : TookPart fate.cut b a events

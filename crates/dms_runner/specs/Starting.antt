@@ -4,15 +4,15 @@ use Rattle.std.specs.declared.option.Option.{Option}
 use Rattle.std.specs.declared.result.Result.{Result}
 use Rattle.dms_block.specs.Texts.{Prints}
 use Rattle.dms_block.specs.declared.block_fault.BlockFault.{BlockFault}
-use Rattle.dms_desc.specs.Shape.{described}
+use Rattle.dms_desc.specs.Shape.{as_described}
 use Rattle.dms_feed.specs.Feeds.{Remains}
 use Rattle.dms_feed.specs.Lines.{first_line, raw_lines}
 use Rattle.dms_laws.specs.Exclusive.{IsExclusive}
 use Rattle.dms_model.specs.declared.store.Store.{Ghosts}
 use Rattle.dms_model.specs.Db.{Db}
-use Rattle.dms_model.specs.Session.{Session, Outcome, ended, fresh_session, step}
+use Rattle.dms_model.specs.Session.{Session, Outcome, end_session, fresh_session, step}
 use Rattle.dms_storeverbs.specs.declared.engine.Engine.{Engine}
-use Rattle.dms_storeverbs.specs.View.{StandsFor, MayStep, seen, view}
+use Rattle.dms_storeverbs.specs.View.{StandsFor, MayStep, engine_view, view}
 use Rattle.dms_script.specs.declared.line.Line.{Line}
 use Rattle.dms_runner.specs.declared.waiting.WaitingLine.{WaitingLine}
 use Rattle.dms_runner.specs.Answers.{RunState, LineEffect, MayTakeLine, line_effect, line_step, script_events, script_run}
@@ -63,34 +63,34 @@ module _ {St : Type 0} {g : Ghosts St} where
 
   -- what the try of a waiting line gives
   abbrev pub outcome_at : Engine St g → Session → WaitingLine → Outcome
-  outcome_at e s h = step (described e.desc) s h.program h.verb
+  outcome_at e s h = step (as_described e.desc) s h.program h.verb
 
   -- a line was tried, and answered or not
   abbrev pub LineTried : Engine St g → Engine St g → WaitingLine → Bool → Outcome → Type 0
-  LineTried old new h answered o = PerformsTry o h answered (view new) (seen old) (seen new)
+  LineTried old new h answered o = PerformsTry o h answered (view new) (engine_view old) (engine_view new)
 
   -- one retry was made, up to the line at a place that was answered
   abbrev pub RetryMade : Engine St g → Engine St g → List WaitingLine → Option ℕ → RetryEffect → Type 0
-  RetryMade old new waiting found effect = PerformsRetry effect (view new) waiting found (seen old) (seen new)
+  RetryMade old new waiting found effect = PerformsRetry effect (view new) waiting found (engine_view old) (engine_view new)
 
   -- what the retries of the waiting lines leave and do
   abbrev pub retries_at : Engine St g → Session → List WaitingLine → RetryEffect
-  retries_at e s waiting = retries (length waiting) (described e.desc) s waiting
+  retries_at e s waiting = retries (length waiting) (as_described e.desc) s waiting
 
   -- they were made
   abbrev pub RetriesMade : Engine St g → Engine St g → List WaitingLine → RetryEffect → Type 0
-  RetriesMade old new waiting effect = PerformsRetries effect (view new) waiting (seen old) (seen new)
+  RetriesMade old new waiting effect = PerformsRetries effect (view new) waiting (engine_view old) (engine_view new)
 
   -- a line was taken; on: whether there was room to hold it where it waits
   abbrev pub LineTaken : Engine St g → Engine St g → List WaitingLine → Bool → LineEffect → Type 0
-  LineTaken old new waiting on effect = MatchesLine effect on (view new) waiting (seen old) (seen new)
+  LineTaken old new waiting on effect = MatchesLine effect on (view new) waiting (engine_view old) (engine_view new)
 
   -- what a line leaves and does, by what it says or by its bytes
   abbrev pub effect_at : Engine St g → RunState → Line → LineEffect
-  effect_at e now line = line_effect (described e.desc) now line
+  effect_at e now line = line_effect (as_described e.desc) now line
 
   abbrev pub step_at : Engine St g → RunState → List ℕ → LineEffect
-  step_at e now raw = line_step (described e.desc) now raw
+  step_at e now raw = line_step (as_described e.desc) now raw
 
   -- the first line of the input was taken, and there was room to hold it where it waits
   abbrev pub LineOfInputTaken : Engine St g → Engine St g → List WaitingLine → RunState → List ℕ → Type 0
@@ -98,11 +98,11 @@ module _ {St : Type 0} {g : Ghosts St} where
 
   -- a prefix of these events happened
   abbrev pub PartHappened : {T : Type 0} → Result T BlockFault → Engine St g → Engine St g → List RunEvent → Type 0
-  PartHappened result old new events = PerformsPrefix (fate_of result) (seen old) (seen new) events
+  PartHappened result old new events = PerformsPrefix (fate_of result) (engine_view old) (engine_view new) events
 
   -- in a run
   abbrev pub RunPart : {T : Type 0} → Result T RunFault → Engine St g → Engine St g → List RunEvent → Type 0
-  RunPart result old new events = PerformsPrefix (run_fate result) (seen old) (seen new) events
+  RunPart result old new events = PerformsPrefix (run_fate result) (engine_view old) (engine_view new) events
 
   -- a prefix happened of what the first line of the input does, which keeps the limit of bytes
   pub record LinePart {T : Type 0} (result : Result T RunFault) (old new : Engine St g) (room : ℕ) (now : RunState) (all : List ℕ) : Type 0 where
@@ -112,41 +112,41 @@ module _ {St : Type 0} {g : Ghosts St} where
 
   -- nothing was said; the first line of the input would be one too many to hold, and keeps the limit of bytes, and only what its first try does was done
   pub record HeldTooMany (old new : Engine St g) (room : ℕ) (now : RunState) (all : List ℕ) : Type 0 where
-    pub said : Prints (seen old).said (seen new).said []
+    pub said : Prints (engine_view old).said (engine_view new).said []
     pub some : all ≢ []
     pub full : (step_at old now (first_line all)).full ≡ true
     pub fits : length (first_line all) ≤ room
-    pub did : Performs (seen old) (seen new) (step_at old now (first_line all)).events
+    pub did : Performs (engine_view old) (engine_view new) (step_at old now (first_line all)).events
 
   -- the answers of the whole script were said
   abbrev pub AnswersAll : Engine St g → Engine St g → Db → ℕ → List ℕ → Type 0
-  AnswersAll old new db first all = AnswersWhole (described old.desc) db first (raw_lines all) (seen old).said (seen new).said
+  AnswersAll old new db first all = AnswersWhole (as_described old.desc) db first (raw_lines all) (engine_view old).said (engine_view new).said
 
   -- what the script of an input does
   abbrev pub events_at : Engine St g → Db → ℕ → List ℕ → List RunEvent
-  events_at e db first all = script_events (described e.desc) db first (raw_lines all)
+  events_at e db first all = script_events (as_described e.desc) db first (raw_lines all)
 
   -- the engine stands for the session at the end of the script
   abbrev pub StandsAtEnd : Engine St g → Engine St g → Db → ℕ → List ℕ → Type 0
-  StandsAtEnd old new db first all = StandsFor (view new) (ended (script_run (described old.desc) db first (raw_lines all)).going.session)
+  StandsAtEnd old new db first all = StandsFor (view new) (end_session (script_run (as_described old.desc) db first (raw_lines all)).going.session)
 
   -- the script passes a limit, or its input fails, and what the whole lines before that place answer was printed
   abbrev pub StopsAtLines : Engine St g → Engine St g → Db → ℕ → List ℕ → Type 0
-  StopsAtLines old new db first all = PassesLines (described old.desc) db first (raw_lines all) (seen old).said (seen new).said
+  StopsAtLines old new db first all = PassesLines (as_described old.desc) db first (raw_lines all) (engine_view old).said (engine_view new).said
 
   abbrev pub StopsAtBytes : Engine St g → Engine St g → Db → ℕ → List ℕ → Type 0
-  StopsAtBytes old new db first all = PassesBytes (described old.desc) db first (raw_lines all) (seen old).said (seen new).said
+  StopsAtBytes old new db first all = PassesBytes (as_described old.desc) db first (raw_lines all) (engine_view old).said (engine_view new).said
 
   abbrev pub StopsAtWaiting : Engine St g → Engine St g → Db → ℕ → List ℕ → Type 0
-  StopsAtWaiting old new db first all = PassesWaiting (described old.desc) db first (raw_lines all) (seen old).said (seen new).said
+  StopsAtWaiting old new db first all = PassesWaiting (as_described old.desc) db first (raw_lines all) (engine_view old).said (engine_view new).said
 
   abbrev pub StopsAtInput : Option (List ℕ) → Engine St g → Engine St g → Db → ℕ → List ℕ → Type 0
-  StopsAtInput left old new db first all = CutInput (described old.desc) db first all left (seen old).said (seen new).said
+  StopsAtInput left old new db first all = CutInput (as_described old.desc) db first all left (engine_view old).said (engine_view new).said
 
   -- exactly what the first m lines do was done
   pub record DoesExactly (old new : Engine St g) (db : Db) (first : ℕ) (all : List ℕ) (n : ℕ) (events : List RunEvent) (m : ℕ) : Type 0 where
-    pub are : AreExactly (described old.desc) db first (raw_lines all) n events m
-    pub did : Performs (seen old) (seen new) events
+    pub are : AreExactly (as_described old.desc) db first (raw_lines all) n events m
+    pub did : Performs (engine_view old) (engine_view new) events
 
   -- So much of the script that an input has was carried out: a prefix of what its first n lines do, which keep its limits of lines and bytes, or, where
   -- they are all, of what it does to its end. Where the run stopped at a limit, or since the input failed, exactly what the lines before do was done; of
@@ -155,7 +155,7 @@ module _ {St : Type 0} {g : Ghosts St} where
     pub n : ℕ
     pub events : List RunEvent
     pub front : KeepsFront (raw_lines all) n
-    pub are : AreOfFront (described old.desc) db first (raw_lines all) n events
+    pub are : AreOfFront (as_described old.desc) db first (raw_lines all) n events
     pub part : RunPart result old new events
     pub whole : OnOk result (events ≡ events_at old db first all)
     pub lines : IsErrOf result Lines → StopsAtLines old new db first all × DoesExactly old new db first all n events 1000000
@@ -166,17 +166,17 @@ module _ {St : Type 0} {g : Ghosts St} where
   -- all lines of the script were taken, and it wasn't ended yet: these lines are held, and there is a number for one quiet point more
   pub record TakesAll (old new : Engine St g) (waiting : List WaitingLine) (db : Db) (first : ℕ) (all : List ℕ) : Type 0 where
     pub fits : FitsScript all
-    pub roomy : (script_run (described old.desc) db first (raw_lines all)).full ≡ false
-    pub stands : StandsFor (view new) (script_run (described old.desc) db first (raw_lines all)).going.session
-    pub waiting_is : waiting ≡ (script_run (described old.desc) db first (raw_lines all)).going.waiting
-    pub ran : Performs (seen old) (seen new) (script_run (described old.desc) db first (raw_lines all)).events
-    pub answered : EndsAnswered (script_run (described old.desc) db first (raw_lines all)).events
-    pub room : (seen new).next + 1 < 2 ^ 64
+    pub roomy : (script_run (as_described old.desc) db first (raw_lines all)).full ≡ false
+    pub stands : StandsFor (view new) (script_run (as_described old.desc) db first (raw_lines all)).going.session
+    pub waiting_is : waiting ≡ (script_run (as_described old.desc) db first (raw_lines all)).going.waiting
+    pub ran : Performs (engine_view old) (engine_view new) (script_run (as_described old.desc) db first (raw_lines all)).events
+    pub answered : EndsAnswered (script_run (as_described old.desc) db first (raw_lines all)).events
+    pub room : (engine_view new).next + 1 < 2 ^ 64
 
   -- no more was done than the events of the script may take
   abbrev pub EffortWithin : Engine St g → Engine St g → Db → ℕ → List ℕ → Type 0
-  EffortWithin old new db first all = TakesEvents (seen old).desc (events_at old db first all) (seen old).effort (seen new).effort
+  EffortWithin old new db first all = TakesEvents (engine_view old).desc (events_at old db first all) (engine_view old).effort (engine_view new).effort
 
   -- each quiet point of the script has used one number, and nothing else has
   abbrev pub UsesNumbers : Engine St g → Engine St g → Db → ℕ → List ℕ → Type 0
-  UsesNumbers old new db first all = (seen new).next ≡ (seen old).next + length (quiets_of (events_at old db first all))
+  UsesNumbers old new db first all = (engine_view new).next ≡ (engine_view old).next + length (quiets_of (events_at old db first all))

@@ -1,6 +1,6 @@
 ghost use Rattle.std.specs.Prelude.{true, false, IfOk, OnOk};
-ghost use Rattle.dms_desc.specs.Shape.{described};
-ghost use Rattle.dms_storeverbs.specs.View.{EngineLasts, seen};
+ghost use Rattle.dms_desc.specs.Shape.{as_described};
+ghost use Rattle.dms_storeverbs.specs.View.{EngineLasts, engine_view};
 ghost use Rattle.dms_script.specs.declared.line.Line.TheVariants.{Verb as Spoken, Bad};
 ghost use Rattle.dms_runner.specs.Answers.{tried_first};
 ghost use Rattle.dms_model.specs.Verbs.{IsVerbOf};
@@ -29,11 +29,11 @@ fn bad_line<St: Store>(
     line: u32,
     place: u32,
 ) -> Result<bool, BlockFault>
-    requires sound { (seen engine.old).sound }
-    requires verbs { AreVerbs (described engine.old.desc) waiting.old.items }
+    requires sound { (engine_view engine.old).sound }
+    requires verbs { AreVerbs (as_described engine.old.desc) waiting.old.items }
     ensures lined { IfOk result (λ on. AtRunState engine.old waiting.old.items line (λ g. LineTaken engine.old engine.new waiting.new.items on (effect_at engine.old g (Bad place)))) }
     ensures part { AtRunState engine.old waiting.old.items line (λ g. PartHappened result engine.old engine.new (effect_at engine.old g (Bad place)).events) }
-    ensures verbs { OnOk result (AreVerbs (described engine.old.desc) waiting.new.items) }
+    ensures verbs { OnOk result (AreVerbs (as_described engine.old.desc) waiting.new.items) }
     ensures lasts { EngineLasts result engine.old engine.new }
 {
     let text = bad_text(alloc, line, place)?;
@@ -51,12 +51,12 @@ fn first_try<St: Store>(
     name: Name,
     verb: Verb,
 ) -> Result<bool, BlockFault>
-    requires sound { (seen engine.old).sound }
-    requires verbs { AreVerbs (described engine.old.desc) waiting.old.items }
-    requires verb { IsVerbOf (described engine.old.desc) verb }
-    ensures lined { IfOk result (λ on. AtRunState engine.old waiting.old.items line (λ g. LineTaken engine.old engine.new waiting.new.items on (tried_first (described engine.old.desc) g name verb))) }
-    ensures part { AtRunState engine.old waiting.old.items line (λ g. PartHappened result engine.old engine.new (tried_first (described engine.old.desc) g name verb).events) }
-    ensures verbs { OnOk result (AreVerbs (described engine.old.desc) waiting.new.items) }
+    requires sound { (engine_view engine.old).sound }
+    requires verbs { AreVerbs (as_described engine.old.desc) waiting.old.items }
+    requires verb { IsVerbOf (as_described engine.old.desc) verb }
+    ensures lined { IfOk result (λ on. AtRunState engine.old waiting.old.items line (λ g. LineTaken engine.old engine.new waiting.new.items on (tried_first (as_described engine.old.desc) g name verb))) }
+    ensures part { AtRunState engine.old waiting.old.items line (λ g. PartHappened result engine.old engine.new (tried_first (as_described engine.old.desc) g name verb).events) }
+    ensures verbs { OnOk result (AreVerbs (as_described engine.old.desc) waiting.new.items) }
     ensures lasts { EngineLasts result engine.old engine.new }
 {
     let answer = engine.call(alloc, &name, &verb)?;
@@ -87,12 +87,12 @@ fn spoken_line<St: Store>(
     name: Name,
     verb: Verb,
 ) -> Result<bool, BlockFault>
-    requires sound { (seen engine.old).sound }
-    requires verbs { AreVerbs (described engine.old.desc) waiting.old.items }
-    requires verb { IsVerbOf (described engine.old.desc) verb }
+    requires sound { (engine_view engine.old).sound }
+    requires verbs { AreVerbs (as_described engine.old.desc) waiting.old.items }
+    requires verb { IsVerbOf (as_described engine.old.desc) verb }
     ensures lined { IfOk result (λ on. AtRunState engine.old waiting.old.items line (λ g. LineTaken engine.old engine.new waiting.new.items on (effect_at engine.old g (Spoken name verb)))) }
     ensures part { AtRunState engine.old waiting.old.items line (λ g. PartHappened result engine.old engine.new (effect_at engine.old g (Spoken name verb)).events) }
-    ensures verbs { OnOk result (AreVerbs (described engine.old.desc) waiting.new.items) }
+    ensures verbs { OnOk result (AreVerbs (as_described engine.old.desc) waiting.new.items) }
     ensures lasts { EngineLasts result engine.old engine.new }
 {
     if !has_line(waiting.as_slice(), &name) {
@@ -119,11 +119,11 @@ pub fn take_line<St: Store>(
     line: u32,
     raw: &[u8],
 ) -> Result<bool, BlockFault>
-    requires sound { (seen engine.old).sound }
-    requires verbs { AreVerbs (described engine.old.desc) waiting.old.items }
+    requires sound { (engine_view engine.old).sound }
+    requires verbs { AreVerbs (as_described engine.old.desc) waiting.old.items }
     ensures lined { IfOk result (λ on. AtRawLine engine.old waiting.old.items line raw.now (λ g whole. LineTaken engine.old engine.new waiting.new.items on (step_at engine.old g whole))) }
     ensures part { AtRawLine engine.old waiting.old.items line raw.now (λ g whole. PartHappened result engine.old engine.new (step_at engine.old g whole).events) }
-    ensures verbs { OnOk result (AreVerbs (described engine.old.desc) waiting.new.items) }
+    ensures verbs { OnOk result (AreVerbs (as_described engine.old.desc) waiting.new.items) }
     ensures lasts { EngineLasts result engine.old engine.new }
 {
     match read_line(alloc, engine.description(), line_text(raw))? {

@@ -1,6 +1,6 @@
 ghost use Rattle.std.specs.Prelude.{◌≡◌, ◌<◌, [], true, Some, None, IfOk, IfSome, OnOk, length};
-ghost use Rattle.dms_desc.specs.Shape.{described};
-ghost use Rattle.dms_storeverbs.specs.View.{EngineLasts, seen};
+ghost use Rattle.dms_desc.specs.Shape.{as_described};
+ghost use Rattle.dms_storeverbs.specs.View.{EngineLasts, engine_view};
 ghost use Rattle.std.specs.Prelude.{slice_get, take, slice_set};
 ghost use Rattle.dms_runner.specs.declared.waiting.WaitingLine.{WaitingLine as LineWaiting};
 ghost use Rattle.dms_runner.specs.Waiting.{AreVerbs, has_line, tries, said_to_wait, retry};
@@ -36,8 +36,8 @@ fn try_at<St: Store>(
     waiting: &[WaitingLine],
     i: usize,
 ) -> Result<bool, BlockFault>
-    requires sound { (seen engine.old).sound }
-    requires verbs { AreVerbs (described engine.old.desc) waiting.now }
+    requires sound { (engine_view engine.old).sound }
+    requires verbs { AreVerbs (as_described engine.old.desc) waiting.now }
     requires place { i < length waiting.now }
     ensures tried { IfOk result (λ answered. AtWaiting waiting.now i (λ h. AtSession engine.old (λ s. LineTried engine.old engine.new h answered (outcome_at engine.old s h)))) }
     ensures part { AtWaiting waiting.now i (λ h. AtSession engine.old (λ s. PartHappened result engine.old engine.new (tries h (outcome_at engine.old s h)))) }
@@ -61,13 +61,13 @@ fn pass<St: Store>(
     engine: &mut Engine<St>,
     waiting: &mut [WaitingLine],
 ) -> Result<Option<usize>, BlockFault>
-    requires sound { (seen engine.old).sound }
-    requires verbs { AreVerbs (described engine.old.desc) waiting.old }
+    requires sound { (engine_view engine.old).sound }
+    requires verbs { AreVerbs (as_described engine.old.desc) waiting.old }
     ensures place { IfOk result (λ found. IfSome found (λ i. i < length waiting.new)) }
     ensures long { length waiting.new ≡ length waiting.old }
-    ensures passes { IfOk result (λ found. AtSession engine.old (λ s. RetryMade engine.old engine.new waiting.new found (retry (described engine.old.desc) s [] waiting.old))) }
-    ensures part { AtSession engine.old (λ s. PartHappened result engine.old engine.new (retry (described engine.old.desc) s [] waiting.old).events) }
-    ensures verbs { OnOk result (AreVerbs (described engine.old.desc) waiting.new) }
+    ensures passes { IfOk result (λ found. AtSession engine.old (λ s. RetryMade engine.old engine.new waiting.new found (retry (as_described engine.old.desc) s [] waiting.old))) }
+    ensures part { AtSession engine.old (λ s. PartHappened result engine.old engine.new (retry (as_described engine.old.desc) s [] waiting.old).events) }
+    ensures verbs { OnOk result (AreVerbs (as_described engine.old.desc) waiting.new) }
     ensures lasts { EngineLasts result engine.old engine.new }
 {
     for i in 0..waiting.len() {
@@ -88,11 +88,11 @@ pub fn retry_all<St: Store>(
     engine: &mut Engine<St>,
     waiting: &mut Vec<WaitingLine>,
 ) -> Result<(), BlockFault>
-    requires sound { (seen engine.old).sound }
-    requires verbs { AreVerbs (described engine.old.desc) waiting.old.items }
+    requires sound { (engine_view engine.old).sound }
+    requires verbs { AreVerbs (as_described engine.old.desc) waiting.old.items }
     ensures retries { OnOk result (AtRetries engine.old waiting.old.items (λ s. RetriesMade engine.old engine.new waiting.new.items (retries_at engine.old s waiting.old.items))) }
     ensures part { AtRetries engine.old waiting.old.items (λ s. PartHappened result engine.old engine.new (retries_at engine.old s waiting.old.items).events) }
-    ensures verbs { OnOk result (AreVerbs (described engine.old.desc) waiting.new.items) }
+    ensures verbs { OnOk result (AreVerbs (as_described engine.old.desc) waiting.new.items) }
     ensures lasts { EngineLasts result engine.old engine.new }
 {
     for _turn in 0..waiting.len() {

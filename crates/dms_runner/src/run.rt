@@ -1,13 +1,13 @@
 ghost use Rattle.std.specs.Prelude.{◌≡◌, ◌≢◌, ◌≤◌, ◌<◌, ◌+◌, ◌^◌, ◌⊎◌, [], ℕ, List, true, IfOk, OnOk, IsErr, IsErrOf, length};
 ghost use Rattle.dms_block.specs.declared.block_fault.BlockFault.{BlockFault as Fault};
 ghost use Rattle.dms_base.specs.Causes.{Rose};
-ghost use Rattle.dms_desc.specs.Shape.{described};
+ghost use Rattle.dms_desc.specs.Shape.{as_described};
 ghost use Rattle.dms_feed.specs.Feeds.{Remains};
 ghost use Rattle.dms_feed.specs.Lines.{first_line};
 ghost use Rattle.dms_feed.specs.Raws.{CutLine, IsUnended, has_end};
 ghost use Rattle.dms_block.specs.Texts.{Prints, PrintsPrefix};
-ghost use Rattle.dms_model.specs.Session.{Session, ended, someone_works};
-ghost use Rattle.dms_storeverbs.specs.View.{EngineLasts, SameSession, StandsFor, seen, view};
+ghost use Rattle.dms_model.specs.Session.{Session, end_session, someone_works};
+ghost use Rattle.dms_storeverbs.specs.View.{EngineLasts, SameSession, StandsFor, engine_view, view};
 ghost use Rattle.dms_runner.specs.Events.{text_of, Performs, PerformsPrefix, fate_of};
 ghost use Rattle.dms_runner.specs.Answers.{unanswered_events, end_events};
 ghost use Rattle.dms_runner.specs.Waiting.{AreVerbs};
@@ -56,12 +56,12 @@ fn say_waiting<St: Store>(
     engine: &mut Engine<St>,
     waiting: &[WaitingLine],
 ) -> Result<(), BlockFault>
-    requires sound { (seen engine.old).sound }
-    ensures text { OnOk result (Prints (seen engine.old).said (seen engine.new).said (text_of (unanswered_events waiting.now))) }
-    ensures front { PrintsPrefix (seen engine.old).said (seen engine.new).said (text_of (unanswered_events waiting.now)) }
-    ensures ran { OnOk result ((seen engine.old).next + 1 < 2 ^ 64 → Performs (seen engine.old) (seen engine.new) (unanswered_events waiting.now)) }
-    ensures part { (seen engine.old).next + 1 < 2 ^ 64 → PerformsPrefix (fate_of result) (seen engine.old) (seen engine.new) (unanswered_events waiting.now) }
-    ensures number { (seen engine.new).next ≡ (seen engine.old).next }
+    requires sound { (engine_view engine.old).sound }
+    ensures text { OnOk result (Prints (engine_view engine.old).said (engine_view engine.new).said (text_of (unanswered_events waiting.now))) }
+    ensures front { PrintsPrefix (engine_view engine.old).said (engine_view engine.new).said (text_of (unanswered_events waiting.now)) }
+    ensures ran { OnOk result ((engine_view engine.old).next + 1 < 2 ^ 64 → Performs (engine_view engine.old) (engine_view engine.new) (unanswered_events waiting.now)) }
+    ensures part { (engine_view engine.old).next + 1 < 2 ^ 64 → PerformsPrefix (fate_of result) (engine_view engine.old) (engine_view engine.new) (unanswered_events waiting.now) }
+    ensures number { (engine_view engine.new).next ≡ (engine_view engine.old).next }
     ensures programs { engine.new.programs ≡ engine.old.programs }
     ensures stands { OnOk result (SameSession engine.old engine.new) }
     ensures lasts { EngineLasts result engine.old engine.new }
@@ -80,12 +80,12 @@ fn end_run<St: Store>(
     engine: &mut Engine<St>,
     waiting: &[WaitingLine],
 ) -> Result<(), RunFault>
-    requires sound { (seen engine.old).sound }
-    ensures text { OnOk result (Prints (seen engine.old).said (seen engine.new).said (text_of (unanswered_events waiting.now))) }
-    ensures front { PrintsPrefix (seen engine.old).said (seen engine.new).said (text_of (unanswered_events waiting.now)) }
-    ensures ran { OnOk result ((seen engine.old).next + 1 < 2 ^ 64 → Performs (seen engine.old) (seen engine.new) (end_events (someone_works engine.old.programs.items) waiting.now)) }
-    ensures part { (seen engine.old).next + 1 < 2 ^ 64 → PerformsPrefix (run_fate result) (seen engine.old) (seen engine.new) (end_events (someone_works engine.old.programs.items) waiting.now) }
-    ensures ended { OnOk result ((s : Session) → StandsFor (view engine.old) s → StandsFor (view engine.new) (ended s)) }
+    requires sound { (engine_view engine.old).sound }
+    ensures text { OnOk result (Prints (engine_view engine.old).said (engine_view engine.new).said (text_of (unanswered_events waiting.now))) }
+    ensures front { PrintsPrefix (engine_view engine.old).said (engine_view engine.new).said (text_of (unanswered_events waiting.now)) }
+    ensures ran { OnOk result ((engine_view engine.old).next + 1 < 2 ^ 64 → Performs (engine_view engine.old) (engine_view engine.new) (end_events (someone_works engine.old.programs.items) waiting.now)) }
+    ensures part { (engine_view engine.old).next + 1 < 2 ^ 64 → PerformsPrefix (run_fate result) (engine_view engine.old) (engine_view engine.new) (end_events (someone_works engine.old.programs.items) waiting.now) }
+    ensures ended { OnOk result ((s : Session) → StandsFor (view engine.old) s → StandsFor (view engine.new) (end_session s)) }
     ensures limits { (IsErrOf result RunFault.Lines → ⊥) × (IsErrOf result RunFault.Bytes → ⊥) × (IsErrOf result RunFault.Held → ⊥) }
     ensures lasts { LastsRun result engine.old engine.new }
     ensures input { IsErrOf result RunFault.Input → ⊥ }
@@ -117,8 +117,8 @@ fn one_line<St: Store, I: Source>(
     line: u32,
     room: &mut u64,
 ) -> Result<TakenLine, RunFault>
-    requires sound { (seen engine.old).sound }
-    requires verbs { AreVerbs (described engine.old.desc) waiting.old.items }
+    requires sound { (engine_view engine.old).sound }
+    requires verbs { AreVerbs (as_described engine.old.desc) waiting.old.items }
     requires room { room.old ≤ 2147483648 }
     requires line { line < 4294967295 }
     ensures read { IfOk result (λ t. t ≢ TakenLine.Nothing → OnInput feed.old (I.left source.old) (TakesRawLine room.old room.new feed.new (I.left source.new))) }
@@ -133,7 +133,7 @@ fn one_line<St: Store, I: Source>(
     ensures no_lines { IsErrOf result RunFault.Lines → ⊥ }
     ensures failed { IsErrOf result RunFault.Input → OnInput feed.old (I.left source.old) (CutLine room.old (I.left source.new)) }
     ensures rest { OnOk result ((all : List ℕ) → Remains feed.old (I.left source.old) all → (rest : List ℕ) × Remains feed.new (I.left source.new) rest) }
-    ensures verbs { OnOk result (AreVerbs (described engine.old.desc) waiting.new.items) }
+    ensures verbs { OnOk result (AreVerbs (as_described engine.old.desc) waiting.new.items) }
     ensures lasts { LastsRun result engine.old engine.new }
     ensures room { room.new ≤ room.old }
     ensures same_source { I.same_source source.old source.new }
@@ -195,7 +195,7 @@ fn take_lines<St: Store, I: Source>(
     source: &mut I,
     waiting: &mut Vec<WaitingLine>,
 ) -> Result<(), RunFault>
-    requires sound { (seen engine.old).sound }
+    requires sound { (engine_view engine.old).sound }
     requires none { waiting.old.items ≡ [] }
     ensures all { OnOk result (AtStart engine.old feed.old (I.left source.old) (TakesAll engine.old engine.new waiting.new.items)) }
     ensures stops { IsErr result → AtStart engine.old feed.old (I.left source.old) (CarriesOut result (I.left source.new) engine.old engine.new) }
@@ -233,9 +233,9 @@ pub fn run_lines<St: Store, I: Source>(
     feed: &mut Feed,
     source: &mut I,
 ) -> Result<(), RunFault>
-    requires sound { (seen engine.old).sound }
+    requires sound { (engine_view engine.old).sound }
     ensures answers { OnOk result (AtStart engine.old feed.old (I.left source.old) (AnswersAll engine.old engine.new)) }
-    ensures ran { OnOk result (AtStart engine.old feed.old (I.left source.old) (λ db first all. Performs (seen engine.old) (seen engine.new) (events_at engine.old db first all))) }
+    ensures ran { OnOk result (AtStart engine.old feed.old (I.left source.old) (λ db first all. Performs (engine_view engine.old) (engine_view engine.new) (events_at engine.old db first all))) }
     ensures ended { OnOk result (AtStart engine.old feed.old (I.left source.old) (StandsAtEnd engine.old engine.new)) }
     ensures carried { AtStart engine.old feed.old (I.left source.old) (CarriesOut result (I.left source.new) engine.old engine.new) }
     ensures fits { OnOk result (OnInput feed.old (I.left source.old) FitsScript) }

@@ -1,9 +1,9 @@
 ghost use Rattle.std.specs.Prelude.{◌≡◌, ◌<◌, ◌+◌, ◌^◌, ◌++◌, [], ◌∷◌, true, false, ◌&&◌, Some, None, IfOk, OnOk};
-ghost use Rattle.dms_desc.specs.Shape.{described};
+ghost use Rattle.dms_desc.specs.Shape.{as_described};
 ghost use Rattle.dms_block.specs.Texts.{Prints, PrintsPrefix};
 ghost use Rattle.dms_model.specs.Session.{is_waits};
 ghost use Rattle.dms_model.specs.Verbs.{IsVerbOf};
-ghost use Rattle.dms_storeverbs.specs.View.{EngineLasts, SameSession, seen};
+ghost use Rattle.dms_storeverbs.specs.View.{EngineLasts, SameSession, engine_view};
 ghost use Rattle.dms_runner.specs.Events.{says, Performs};
 ghost use Rattle.dms_runner.specs.Waiting.{answer_text, said_of, tries, sync_text};
 ghost use Rattle.dms_runner.specs.Starting.{AtSession, LineTried, PartHappened, outcome_at};
@@ -58,13 +58,13 @@ pub fn say_answer<St: Store>(
     program: &Name,
     answer: &Answer,
 ) -> Result<(), BlockFault>
-    requires sound { (seen engine.old).sound }
-    ensures text { OnOk result (Prints (seen engine.old).said (seen engine.new).said (answer_text line program.now answer.now.reply answer.now.sync)) }
-    ensures front { PrintsPrefix (seen engine.old).said (seen engine.new).said (answer_text line program.now answer.now.reply answer.now.sync) }
-    ensures ran { OnOk result ((seen engine.old).next + 1 < 2 ^ 64 → Performs (seen engine.old) (seen engine.new) (says (answer_text line program.now answer.now.reply answer.now.sync) ∷ [])) }
-    ensures part { (seen engine.old).next + 1 < 2 ^ 64 → PartHappened result engine.old engine.new (says (answer_text line program.now answer.now.reply answer.now.sync) ∷ []) }
-    ensures effort { (seen engine.new).effort ≡ (seen engine.old).effort }
-    ensures number { (seen engine.new).next ≡ (seen engine.old).next }
+    requires sound { (engine_view engine.old).sound }
+    ensures text { OnOk result (Prints (engine_view engine.old).said (engine_view engine.new).said (answer_text line program.now answer.now.reply answer.now.sync)) }
+    ensures front { PrintsPrefix (engine_view engine.old).said (engine_view engine.new).said (answer_text line program.now answer.now.reply answer.now.sync) }
+    ensures ran { OnOk result ((engine_view engine.old).next + 1 < 2 ^ 64 → Performs (engine_view engine.old) (engine_view engine.new) (says (answer_text line program.now answer.now.reply answer.now.sync) ∷ [])) }
+    ensures part { (engine_view engine.old).next + 1 < 2 ^ 64 → PartHappened result engine.old engine.new (says (answer_text line program.now answer.now.reply answer.now.sync) ∷ []) }
+    ensures effort { (engine_view engine.new).effort ≡ (engine_view engine.old).effort }
+    ensures number { (engine_view engine.new).next ≡ (engine_view engine.old).next }
     ensures stands { OnOk result (SameSession engine.old engine.new) }
     ensures lasts { EngineLasts result engine.old engine.new }
 {
@@ -79,13 +79,13 @@ fn say_tried<St: Store>(
     waiting: &WaitingLine,
     answer: &Answer,
 ) -> Result<(), BlockFault>
-    requires sound { (seen engine.old).sound }
-    ensures text { OnOk result (Prints (seen engine.old).said (seen engine.new).said (said_of waiting.now answer.now.reply answer.now.sync)) }
-    ensures front { PrintsPrefix (seen engine.old).said (seen engine.new).said (said_of waiting.now answer.now.reply answer.now.sync) }
-    ensures ran { OnOk result ((seen engine.old).next + 1 < 2 ^ 64 → Performs (seen engine.old) (seen engine.new) (says (said_of waiting.now answer.now.reply answer.now.sync) ∷ [])) }
-    ensures part { (seen engine.old).next + 1 < 2 ^ 64 → PartHappened result engine.old engine.new (says (said_of waiting.now answer.now.reply answer.now.sync) ∷ []) }
-    ensures effort { (seen engine.new).effort ≡ (seen engine.old).effort }
-    ensures number { (seen engine.new).next ≡ (seen engine.old).next }
+    requires sound { (engine_view engine.old).sound }
+    ensures text { OnOk result (Prints (engine_view engine.old).said (engine_view engine.new).said (said_of waiting.now answer.now.reply answer.now.sync)) }
+    ensures front { PrintsPrefix (engine_view engine.old).said (engine_view engine.new).said (said_of waiting.now answer.now.reply answer.now.sync) }
+    ensures ran { OnOk result ((engine_view engine.old).next + 1 < 2 ^ 64 → Performs (engine_view engine.old) (engine_view engine.new) (says (said_of waiting.now answer.now.reply answer.now.sync) ∷ [])) }
+    ensures part { (engine_view engine.old).next + 1 < 2 ^ 64 → PartHappened result engine.old engine.new (says (said_of waiting.now answer.now.reply answer.now.sync) ∷ []) }
+    ensures effort { (engine_view engine.new).effort ≡ (engine_view engine.old).effort }
+    ensures number { (engine_view engine.new).next ≡ (engine_view engine.old).next }
     ensures stands { OnOk result (SameSession engine.old engine.new) }
     ensures lasts { EngineLasts result engine.old engine.new }
 {
@@ -108,8 +108,8 @@ pub fn try_line<St: Store>(
     engine: &mut Engine<St>,
     waiting: &WaitingLine,
 ) -> Result<bool, BlockFault>
-    requires sound { (seen engine.old).sound }
-    requires verb { IsVerbOf (described engine.old.desc) waiting.now.verb }
+    requires sound { (engine_view engine.old).sound }
+    requires verb { IsVerbOf (as_described engine.old.desc) waiting.now.verb }
     ensures tried { IfOk result (λ answered. AtSession engine.old (λ s. LineTried engine.old engine.new waiting.now answered (outcome_at engine.old s waiting.now))) }
     ensures part { AtSession engine.old (λ s. PartHappened result engine.old engine.new (tries waiting.now (outcome_at engine.old s waiting.now))) }
     ensures lasts { EngineLasts result engine.old engine.new }

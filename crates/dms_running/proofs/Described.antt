@@ -8,8 +8,8 @@ use Rattle.dms_history.specs.Ranges.{Logged, all_changes}
 use Rattle.dms_history.specs.declared.event.FileCount.{FileCount}
 use Rattle.dms_history.specs.Entries.{Kind, Entry, schema_part, image, byte_range, quiet_point, control_point, begin_restore, is_begin}
 use Rattle.dms_history.specs.Schemas.{Parts, no_parts, after_entry, parts_from, is_whole, parts_of_schema, schema_entries}
-use Rattle.dms_history.specs.EntryEvents.{logged, is_place, live_entries, live_of}
-use Rattle.dms_history.specs.SchemaAt.{schema_of, schema_at, joined}
+use Rattle.dms_history.specs.EntryEvents.{events_in, is_place, live_entries, live_of}
+use Rattle.dms_history.specs.SchemaAt.{schema_of, schema_at, join_parts}
 use Rattle.dms_history.specs.LawsOfEntries.{IsSchemaPart, AllSchemaParts}
 use Rattle.dms_history.specs.Points.{LivePoint, AllLive}
 use Rattle.dms_history.proofs.Order.{append_none}
@@ -23,10 +23,10 @@ use Rattle.dms_running.specs.Running.{IsPlainEntry, AllPlain}
 -- ---- places and points
 
 -- the live events up to a point are those of the live entries up to its place
-events_front : (entries : List Entry) (n : ℕ) → all_changes (logged (until_first (is_place n) (live_entries entries))) ≡ until_first (is_point n) (live_of entries)
+events_front : (entries : List Entry) (n : ℕ) → all_changes (events_in (until_first (is_place n) (live_entries entries))) ≡ until_first (is_point n) (live_of entries)
 events_front entries n =
-    ap all_changes (cut_logged n (live_entries entries) no_parts) ∙ changes_until n (logged (live_entries entries))
-    ∙ ap (λ (l : List Logged). until_first (is_point n) (all_changes l)) (live_of_entries entries) ∙ ap (λ (l : List Event). until_first (is_point n) l) (sym (live_of_ranges (logged entries)))
+    ap all_changes (cut_logged n (live_entries entries) no_parts) ∙ changes_until n (events_in (live_entries entries))
+    ∙ ap (λ (l : List Logged). until_first (is_point n) (all_changes l)) (live_of_entries entries) ∙ ap (λ (l : List Event). until_first (is_point n) l) (sym (live_of_ranges (events_in entries)))
 
 none_front : (p : Event → Bool) (es : List Event) → until_first p es ≡ [] → has p es ≡ false
 none_front p [] none = refl
@@ -59,12 +59,12 @@ ends_there n (e ∷ es) found = elim (cases_Bool (is_place n e)) [
 ]
 
 -- a place says one event
-one_event : (n : ℕ) (es : List Entry) (e : Entry) → is_place n e ≡ true → (x : Event) × (all_changes (logged (es ++ e ∷ [])) ≡ all_changes (logged es) ++ x ∷ [])
+one_event : (n : ℕ) (es : List Entry) (e : Entry) → is_place n e ≡ true → (x : Event) × (all_changes (events_in (es ++ e ∷ [])) ≡ all_changes (events_in es) ++ x ∷ [])
 one_event n es (schema_part part parts bytes) on = absurd (true≢false (sym on))
 one_event n es (image f b before after) on = absurd (true≢false (sym on))
 one_event n es (byte_range f b place bytes) on = absurd (true≢false (sym on))
-one_event n es (quiet_point m) on = (_, ap all_changes (logged_append es (quiet_point m ∷ []) no_parts) ∙ changes_push (logged es) _)
-one_event n es (control_point m next counts) on = (_, ap all_changes (logged_append es (control_point m next counts ∷ []) no_parts) ∙ changes_push (logged es) _)
+one_event n es (quiet_point m) on = (_, ap all_changes (logged_append es (quiet_point m ∷ []) no_parts) ∙ changes_push (events_in es) _)
+one_event n es (control_point m next counts) on = (_, ap all_changes (logged_append es (control_point m next counts ∷ []) no_parts) ∙ changes_push (events_in es) _)
 one_event n es (begin_restore m kind) on = absurd (true≢false (sym on))
 
 something : (xs : List Event) (x : Event) → xs ++ x ∷ [] ≡ [] → ⊥
@@ -80,9 +80,9 @@ place_is_point entries n = elim (cases_Bool (has (is_place n) (live_entries entr
     | inr none ↦
         let r = ends_there n (live_entries entries) on in
         let x = one_event n r.before r.last r.at in
-        absurd (something (all_changes (logged r.before)) x.0 (sym x.1 ∙ ap (λ (l : List Entry). all_changes (logged l)) (sym r.is) ∙ events_front entries n ∙ until_none (is_point n) (live_of entries) none))
+        absurd (something (all_changes (events_in r.before)) x.0 (sym x.1 ∙ ap (λ (l : List Entry). all_changes (events_in l)) (sym r.is) ∙ events_front entries n ∙ until_none (is_point n) (live_of entries) none))
   ]
-  | inr off ↦ off ∙ sym (none_front (is_point n) (live_of entries) (sym (events_front entries n) ∙ ap (λ (l : List Entry). all_changes (logged l)) (until_none (is_place n) (live_entries entries) off)))
+  | inr off ↦ off ∙ sym (none_front (is_point n) (live_of entries) (sym (events_front entries n) ∙ ap (λ (l : List Entry). all_changes (events_in l)) (until_none (is_place n) (live_entries entries) off)))
 ]
 
 -- ---- live entries, with one more
@@ -198,7 +198,7 @@ schema_goes k all (bytes ∷ rest) = (refl, schema_goes (k + 1) all rest)
 
 -- a whole Schema with its Control is the last one
 pub last_control : (es : List Entry) (one : List ℕ) (rest : List (List ℕ)) (n next : ℕ) (counts : List FileCount)
-    → schema_of (live_entries (es ++ (schema_entries (one ∷ rest) ++ control_point n next counts ∷ []))) ≡ Some (joined (one ∷ rest))
+    → schema_of (live_entries (es ++ (schema_entries (one ∷ rest) ++ control_point n next counts ∷ []))) ≡ Some (join_parts (one ∷ rest))
 last_control es one rest n next counts =
     let schema = schema_entries (one ∷ rest) in
     ap (λ (l : List Entry). schema_of (live_entries l)) (sym (append_assoc es schema (control_point n next counts ∷ [])))

@@ -2,7 +2,7 @@
 use Rattle.std.proofs.Common.{ℕ, ◌+◌, ◌*◌, ◌≤◌, ◌<◌, ◌≡◌, ◌⊎◌, inl, inr, true, false, cond, List, [], ◌∷◌, ◌++◌, length, Option, Some, None, refl, sym, ◌∙◌, ap, subst, arith}
 use Rattle.std.proofs.lemmas.Bool.{cases_eq, true≢false}
 use Rattle.std.proofs.lemmas.Option.{none-some}
-use Rattle.dms_site.specs.Files.{Files, with_file, overlaid, InFile, Torn, stored_of}
+use Rattle.dms_site.specs.Files.{Files, with_file, overlay_bytes, InFile, Torn, stored_of}
 use Rattle.dms_site.specs.Laws.{torn_overlaid, in_file_with}
 use Rattle.dms_site.specs.StoredLaws.{stored_whole, stored_apart}
 use Rattle.dms_history.specs.Events.{BlockBytes, AllBlocks, Stored, Event, change, block_in}
@@ -132,13 +132,13 @@ module _ (t : Telling) (a later : State) (frames : Frames) (h : FramesHold t a f
 -- ---- a block is written, and its frame isn't to be written any more, or is given up
 
 module _ (t : Telling) (a later : State) (frames : Frames) (h : FramesHold t a frames) (f b : ℕ) (x : Frame) (is : frames f b ≡ Some x) (structure : 30000 < f) (sized : AllSized (content_now t a))
-    (written : later.files ≡ with_file a.files f (overlaid (1024 * b) x.block (a.files f))) (same : content_now t later ≡ content_now t a) (entries : entries_now t later ≡ entries_now t a) where
+    (written : later.files ≡ with_file a.files f (overlay_bytes (1024 * b) x.block (a.files f))) (same : content_now t later ≡ content_now t a) (entries : entries_now t later ≡ entries_now t a) where
   len : length x.block ≡ 1024
   len = let r = (h f b).held x is in ap length r.1 ∙ sized f b r.0
 
   torn : InFile f (Torn (1024 * b) 1024) a.files later.files
   torn = subst (λ (l : Files). InFile f (Torn (1024 * b) 1024) a.files l) (sym written)
-      (in_file_with f (Torn (1024 * b) 1024) a.files (overlaid (1024 * b) x.block (a.files f)) (subst (λ k. Torn (1024 * b) k (a.files f) (overlaid (1024 * b) x.block (a.files f))) len (torn_overlaid (1024 * b) x.block (a.files f))))
+      (in_file_with f (Torn (1024 * b) 1024) a.files (overlay_bytes (1024 * b) x.block (a.files f)) (subst (λ k. Torn (1024 * b) k (a.files f) (overlay_bytes (1024 * b) x.block (a.files f))) len (torn_overlaid (1024 * b) x.block (a.files f))))
 
   still : (g c : ℕ) → (f ≡ g → b ≡ c → ⊥) → length (stored_of a.files g c) ≡ 1024 → stored_of later.files g c ≡ stored_of a.files g c
   still g c off whole =

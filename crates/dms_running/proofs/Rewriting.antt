@@ -7,7 +7,7 @@ use Rattle.std.proofs.lemmas.Bool.{cases_eq}
 use Rattle.std.proofs.lemmas.Bool.Decides.{nat_tests}
 use Rattle.dms_moments.specs.Moments.{Clock, After, Steps}
 use Rattle.dms_moments.specs.MomentLaws.{runs_none, steps_on, steps_weaken}
-use Rattle.dms_site.specs.Files.{Files, Left, with_file, overlaid, InFile, Torn, OnDisk, stored_of}
+use Rattle.dms_site.specs.Files.{Files, Left, with_file, overlay_bytes, InFile, Torn, OnDisk, stored_of}
 use Rattle.dms_site.specs.StoredLaws.{stored_apart, stored_written}
 use Rattle.dms_history.specs.Events.{BlockBytes, Event}
 use Rattle.dms_history.specs.Told.{told_block}
@@ -60,7 +60,7 @@ told_free live m f b x is kept = some_not_none x (sym is ∙ kept.1)
 
 -- ---- what stands in the files as they are read
 
-pub stands_written : (f b : ℕ) (files later : Files) (x : BlockBytes) → 30000 < f → length x ≡ 1024 → later ≡ with_file files f (overlaid (1024 * b) x (files f)) → stored_of later f b ≡ x
+pub stands_written : (f b : ℕ) (files later : Files) (x : BlockBytes) → 30000 < f → length x ≡ 1024 → later ≡ with_file files f (overlay_bytes (1024 * b) x (files f)) → stored_of later f b ≡ x
 stands_written f b files later x structure len is = ap (λ (l : Files). stored_of l f b) is ∙ stored_written files f b x structure len
 
 -- ---- rising lists of counts

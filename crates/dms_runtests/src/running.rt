@@ -42,7 +42,7 @@ pub fn run(alloc: Global, site: &mut MemSite, script: &[u8]) -> Result<RunEnd, F
 }
 
 /// What a stop within a call leaves.
-pub fn stopped(alloc: Global, site: &MemSite, call: u64, pick: u64) -> Result<MemSite, Fail> {
+pub fn stop_within(alloc: Global, site: &MemSite, call: u64, pick: u64) -> Result<MemSite, Fail> {
     if call == 0 || call > site.calls() {
         return Err(Fail::new("no such call"));
     }
@@ -50,8 +50,8 @@ pub fn stopped(alloc: Global, site: &MemSite, call: u64, pick: u64) -> Result<Me
 }
 
 /// The same, with an opening and a closing behind the stop.
-pub fn opened(alloc: Global, site: &MemSite, call: u64, pick: u64) -> Result<MemSite, Fail> {
-    let mut left = stopped(alloc, site, call, pick)?;
+pub fn stop_and_open(alloc: Global, site: &MemSite, call: u64, pick: u64) -> Result<MemSite, Fail> {
+    let mut left = stop_within(alloc, site, call, pick)?;
     match run(alloc, &mut left, b"")? {
         RunEnd::Done => Ok(left),
         end => Err(Fail::new(format_args!("call {call}, pick {pick}: {end:?}"))),

@@ -1,4 +1,4 @@
-use crate::running::{RunEnd, new_database, opened, run, stopped};
+use crate::running::{RunEnd, new_database, run, stop_and_open, stop_within};
 use dms_sitemem::MemSite;
 use std::alloc::Global;
 use std::test::Fail;
@@ -203,16 +203,16 @@ fn has(text: &[u8], part: &[u8]) -> bool {
 /// Fails where the records are those of no quiet point, or of one below the last syncpoint that was printed.
 fn look_for_a_point(alloc: Global, left: MemSite) -> Result<(), Fail> {
     let mut site = left;
-    let printed = site.said().len();
+    let printed = site.text().len();
     let mut least = 0;
     for number in 0..POINTS.len() {
-        if has(site.said(), POINTS[number].told) {
+        if has(site.text(), POINTS[number].told) {
             least = number;
         }
     }
     let end = run(alloc, &mut site, LOOK)?;
     for number in least..POINTS.len() {
-        if end == RunEnd::Done && site.said().get(printed..) == Some(POINTS[number].answers) {
+        if end == RunEnd::Done && site.text().get(printed..) == Some(POINTS[number].answers) {
             return Ok(());
         }
     }
@@ -221,11 +221,11 @@ fn look_for_a_point(alloc: Global, left: MemSite) -> Result<(), Fail> {
 
 /// A stop within a call, then two within openings. Fails where the next run finds no quiet point.
 fn stop_thrice(alloc: Global, site: &MemSite, call: u64, turn: usize) -> Result<(), Fail> {
-    let first = opened(alloc, site, call, PICKS[turn % 4])?;
+    let first = stop_and_open(alloc, site, call, PICKS[turn % 4])?;
     let within = call % first.calls().max(1) + 1;
-    let second = opened(alloc, &first, within, PICKS[turn / 4 % 4])?;
+    let second = stop_and_open(alloc, &first, within, PICKS[turn / 4 % 4])?;
     let within = turn as u64 % second.calls().max(1) + 1;
-    let third = stopped(alloc, &second, within, PICKS[turn / 16 % 4])?;
+    let third = stop_within(alloc, &second, within, PICKS[turn / 16 % 4])?;
     look_for_a_point(alloc, third)
 }
 
@@ -238,8 +238,8 @@ fn a_stop_leaves_a_quiet_point(rt: HostRuntime) -> Result<(), Fail> {
     for turn in 0..site.calls() as usize / 11 {
         let call = 11 * turn as u64 + 1;
         stop_thrice(alloc, &site, call, turn)?;
-        let left = stopped(alloc, &site, call, 1)?;
-        written_early |= !left.bytes(30002).is_empty() && !has(left.said(), b"28 A DONE");
+        let left = stop_within(alloc, &site, call, 1)?;
+        written_early |= !left.bytes(30002).is_empty() && !has(left.text(), b"28 A DONE");
     }
     assert!(rt; written_early);
     Ok(())
@@ -254,16 +254,16 @@ fn no_call_follows_one_that_failed(rt: HostRuntime) -> Result<(), Fail> {
         let call = 23 * turn as u64 + 2;
         let mut site = new_database(alloc, DESCRIPTION, vec![in alloc; call]?)?;
         let end = run(alloc, &mut site, SCRIPT)?;
-        let before = stopped(alloc, &whole, call - 1, 0)?;
-        let behind = stopped(alloc, &whole, call, 0)?;
-        let wanted = if before.said() == behind.said() {
+        let before = stop_within(alloc, &whole, call - 1, 0)?;
+        let behind = stop_within(alloc, &whole, call, 0)?;
+        let wanted = if before.text() == behind.text() {
             RunEnd::DiskFault
         } else {
             RunEnd::SayFault
         };
         assert_eq!(rt; end, wanted, "call {call}");
         assert_eq!(rt; site.calls(), call);
-        assert_eq!(rt; site.said(), before.said());
+        assert_eq!(rt; site.text(), before.text());
         stop_thrice(alloc, &site, call, turn)?;
     }
     Ok(())

@@ -1,7 +1,8 @@
 -- A run of an engine over a running database, as a run of a script over its files.
-use Rattle.std.proofs.Common.{◌⊎◌, inl, inr, ℕ, ◌≡◌, ◌<◌, ◌+◌, ◌^◌, ◌∙◌, Bool, true, false, cond, IsTrue, List, [], ◌∷◌, map, Option, Some, None, refl, sym, ap, subst, arith}
+use Rattle.std.proofs.Common.{◌⊎◌, inl, inr, ℕ, ◌≡◌, ◌<◌, ◌+◌, ◌^◌, ◌∙◌, Bool, true, false, cond, IsTrue, List, [], ◌∷◌, ◌++◌, length, map, Option, Some, None, refl, sym, ap, subst, arith}
 use Rattle.dms_base.specs.Causes.{Rose}
 use Rattle.dms_block.specs.Counts.{Faults}
+use Rattle.dms_block.specs.Held.{is_due}
 use Rattle.dms_block.specs.declared.block_fault.BlockFault.{BlockFault}
 use Rattle.dms_block.specs.declared.block_fault.BlockFault.TheVariants as block
 use Rattle.dms_block.specs.Texts.{Prints}
@@ -10,12 +11,12 @@ use Rattle.dms_feed.specs.Lines.{raw_lines}
 use Rattle.dms_model.specs.Db.{Db}
 use Rattle.dms_model.specs.Points.{Stop, LeavesPrefix, StopTextIs}
 use Rattle.dms_model.specs.Seen.{Seen}
-use Rattle.dms_model.specs.Session.{ended, fresh_session}
+use Rattle.dms_model.specs.Session.{end_session, fresh_session}
 use Rattle.dms_moments.specs.Moments.{Runs}
-use Rattle.dms_moments.specs.MomentLaws.{runs_none, runs_on}
+use Rattle.dms_moments.specs.MomentLaws.{runs_none, runs_on, runs_weaken}
 use Rattle.dms_runner.specs.Answers.{answers_text, last_quiet, script_events, script_run}
 use Rattle.dms_runner.specs.Blaming.{HasBlame}
-use Rattle.dms_runner.specs.Events.{IsDue, RunEvent, pause, quiets_of}
+use Rattle.dms_runner.specs.Events.{CrashesWithin, RunEvent, pause, quiets_of, syncs_after}
 use Rattle.dms_runner.specs.declared.run.RunFault.{RunFault}
 use Rattle.dms_runner.specs.declared.run.RunFault.TheVariants as run
 use Rattle.dms_runner.specs.declared.run.RunFault.TheVariants.{Block}
@@ -26,12 +27,13 @@ use Rattle.dms_running.specs.Points.{DescribedPoint, points_of, next_in}
 use Rattle.dms_site.specs.declared.site.Site.{Ghosts}
 use Rattle.dms_restore.specs.Logging.{Trail, trail_of, telling_of, telling, points}
 use Rattle.dms_restore.specs.Views.{view_of}
-use Rattle.dms_store.specs.Lifted.{point_of, lifted}
+use Rattle.dms_store.specs.Lifted.{point_of, lift_stops}
 use Rattle.dms_storeverbs.specs.View.{StandsFor, View}
 use Rattle.dms_wal.specs.Controls.{KeepsPace}
 use Rattle.dms_wal.specs.declared.running.Running.{Running}
-use Rattle.dms_wal.specs.Database.{held, said_of}
+use Rattle.dms_wal.specs.Database.{running_held, said_of}
 use Rattle.dms_wal.proofs.Lifts.{told_same}
+use Rattle.dms_run.proofs.Leaving.{stop_leaves}
 use Rattle.dms_run.specs.Ending.{KeepsLimits}
 use Rattle.dms_run.specs.Files.{RunLeavesFiles}
 use Rattle.dms_run.specs.States.{EndsWith, LivesEndWith}
@@ -41,9 +43,9 @@ use Rattle.dms_status.specs.declared.status.Status.TheVariants.{Ok, Memory}
 use Rattle.dms_runtop.specs.Bound.{BoundsAudit}
 use Rattle.dms_runtop.specs.Faults.{IsWithin, run_status}
 use Rattle.dms_runtop.proofs.Bounds.{bounds_none, full_not_say}
-use Rattle.dms_runtop.specs.Over.{BeginsAt, ClosesOver, FilesEndWith, RunsOver, ScriptRuns, seen_site}
+use Rattle.dms_runtop.specs.Over.{BeginsAt, ClosesOver, FilesEndWith, IsControlDue, RunsOver, ScriptRuns, seen_site}
 use Rattle.dms_runtop.specs.Statuses.{IsOfClosing}
-use Rattle.dms_runtop.proofs.Ran.{Carried, CarriedAll, moments_under, ends_under, closed_under, moments_below, closing_below, ran_nothing, ran_failed, ran_closed}
+use Rattle.dms_runtop.proofs.Ran.{Carried, CarriedAll, all_durable, due_moved, moments_under, ends_under, closed_under, moments_below, closing_below, ran_nothing, ran_failed, ran_closed, state_under}
 
 -- ---- a damaged block
 
@@ -66,7 +68,7 @@ told_text false x y same = refl
 -- ---- the next number
 
 -- there is room for one more number at the end of a script
-pub room_after : (d : Described) (db : Db) (next now : ℕ) (lines : List (List ℕ)) → next + 1000003 < 2 ^ 64 → KeepsLimits d db next lines → now ≡ (ended (script_run d db next lines).going.session).next → now + 1 < 2 ^ 64
+pub room_after : (d : Described) (db : Db) (next now : ℕ) (lines : List (List ℕ)) → next + 1000003 < 2 ^ 64 → KeepsLimits d db next lines → now ≡ (end_session (script_run d db next lines).going.session).next → now + 1 < 2 ^ 64
 room_after d db next now lines room keeps is = omega (arith, room, keeps.few, is, next_law d db next lines)
 
 -- ---- a fault that isn't another
@@ -107,21 +109,21 @@ module _ {S : Type 0} (g : Ghosts S) (d e e' : Described) (r r' : Running S) (sa
   keeps_trail : trail_of (view_of g r'.log) ≡ trail_of (view_of g r.log)
   keeps_trail = λ i. record { total = pace.total i; first = pace.first i }
 
-  moments_of : (events : List RunEvent) → Runs (lifted e (held g r).clock) (lifted e' (held g r').clock) (RunLeaves (held g r).whole entry (map (point_of e) (held g r).points) n db r.next events)
+  moments_of : (events : List RunEvent) → Runs (lift_stops e (running_held g r).clock) (lift_stops e' (running_held g r').clock) (RunLeaves (running_held g r).whole entry (map (point_of e) (running_held g r).points) n db r.next events)
       → Runs (g.clock r.log.site) (g.clock r'.log.site) (RunLeavesFiles t d entry ps n db r.next events)
   moments_of events leaves =
       moments_below g d trail r r' begins_trail keeps_trail ps b.points_are n db r.next events
-      (moments_under d e e' (held g r) (held g r') (held g r).whole entry n db r.next events same same' leaves)
+      (moments_under d e e' (running_held g r) (running_held g r') (running_held g r).whole entry n db r.next events same same' leaves)
 
   closing_of : (site : S) (status : Status) → ClosesOver g r' status site
-      → ((stop : Stop) → LeavesPrefix (held g r').whole (held g r').durable (map (point_of e') (held g r').points) (held g r').next stop → StopTextIs (held g r').said stop
-      → RunLeaves (held g r).whole entry (map (point_of e) (held g r).points) n db r.next script stop)
+      → ((stop : Stop) → LeavesPrefix (running_held g r').whole (running_held g r').durable (map (point_of e') (running_held g r').points) (running_held g r').next stop → StopTextIs (running_held g r').said stop
+      → RunLeaves (running_held g r).whole entry (map (point_of e) (running_held g r).points) n db r.next script stop)
       → r'.next + 1 < 2 ^ 64 → Runs (g.clock r'.log.site) (g.clock site) (RunLeavesFiles t d entry ps n db r.next script)
   closing_of site status closes ends room =
       closing_below g d trail r r' begins_trail keeps_trail ps b.points_are n db r.next script site
-      (ends_under d e e' (held g r) (held g r') (held g r).whole entry n db r.next script same same' ends) b.tells room closes.leaves
+      (ends_under d e e' (running_held g r) (running_held g r') (running_held g r).whole entry n db r.next script same same' ends) b.tells room closes.leaves
 
-  files_end : (site : S) (status : Status) → ClosesOver g r' status site → (m : ℕ) (x : Db) → EndsWith (map (point_of e') (held g r').points) m x → (k : ℕ) → r'.next ≡ k → status ≡ Ok → FilesEndWith t d m x k (seen_site g site)
+  files_end : (site : S) (status : Status) → ClosesOver g r' status site → (m : ℕ) (x : Db) → EndsWith (map (point_of e') (running_held g r').points) m x → (k : ℕ) → r'.next ≡ k → status ≡ Ok → FilesEndWith t d m x k (seen_site g site)
   files_end site status closes m x ends k next_is ok =
       let told : telling (view_of g r'.log) ≡ t = told_same (keeps_trail ∙ begins_trail) in
       let are : points_of t (g.files site) ≡ points (view_of g r'.log) = ap (λ (k : Telling). points_of k (g.files site)) (sym told) ∙ closes.points_are ok b.tells in
@@ -132,8 +134,29 @@ module _ {S : Type 0} (g : Ghosts S) (d e e' : Described) (r r' : Running S) (sa
         only = closes.only ok b.tells;
       }
 
+  -- what stops within these events leave, told of the blocks
+  abbrev StopsIn : List RunEvent → Type 0
+  StopsIn es = IsTrue g.tells → Runs (lift_stops e (running_held g r).clock) (lift_stops e' (running_held g r').clock) (CrashesWithin (running_held g r).whole entry (map (point_of e) (running_held g r).points) (running_held g r).durable r.next es)
+
+  abbrev DueBehind : List RunEvent → Type 0
+  DueBehind es = is_due r.every (syncs_after r.syncs es) ≡ true
+
+  -- the same told of files
+  abbrev StopsInFiles : List RunEvent → Type 0
+  StopsInFiles es = Runs (g.clock r.log.site) (g.clock r'.log.site) (RunLeavesFiles t d entry ps n db r.next es)
+
+  files_left : (es : List RunEvent) → StopsIn es → StopsInFiles es
+  files_left es stops =
+      let ends : EndsWith (map (point_of e) (running_held g r).points) n db = state_under d e (running_held g r) ps n db same b.points_are b.state in
+      let durable : (running_held g r).durable ≡ length (map (point_of e) (running_held g r).points) = all_durable e (running_held g r) b.durable in
+      moments_of es (runs_weaken (stops b.tells) (λ stop s. stop_leaves (running_held g r).whole entry (map (point_of e) (running_held g r).points) n db r.next es stop ends
+      (subst (λ (k : ℕ). CrashesWithin (running_held g r).whole entry (map (point_of e) (running_held g r).points) k r.next es stop) durable s)))
+
+  due_behind : (es : List RunEvent) → DueBehind es → IsControlDue d es
+  due_behind es is = (λ i. is_due (sym b.every i) (syncs_after (sym b.unused.1 i) es)) ∙ is
+
   -- what is changed goes on up to file FILES of the description
-  abbrev at_files : (left' : Option (List ℕ)) (fault : RunFault) → Carried r.log.end.limit d db r.next all left' entry (said_of g r'.log) fault → Carried d.files d db r.next all left' entry (said_of g r'.log) fault
+  abbrev at_files : (left' : Option (List ℕ)) (fault : RunFault) → Carried r.log.end.limit StopsIn DueBehind d db r.next all left' entry (said_of g r'.log) fault → Carried d.files StopsInFiles (IsControlDue d) d db r.next all left' entry (said_of g r'.log) fault
   at_files left' fault c = record {
     lines = c.lines;
     events = c.events;
@@ -141,7 +164,7 @@ module _ {S : Type 0} (g : Ghosts S) (d e e' : Described) (r r' : Running S) (sa
     are = c.are;
     part = c.part;
     answers = c.answers;
-    due = λ f is. subst (λ (l : ℕ). IsDue l f entry (said_of g r'.log) c.events) b.limit_is (c.due f is);
+    due = λ f is. due_moved r.log.end.limit d.files f entry (said_of g r'.log) c.events b.limit_is (λ es. files_left (es ++ pause ∷ [])) due_behind (c.due f is);
     many_lines = c.many_lines;
     many_bytes = c.many_bytes;
     many_held = c.many_held;
@@ -149,8 +172,8 @@ module _ {S : Type 0} (g : Ghosts S) (d e e' : Described) (r r' : Running S) (sa
   }
 
   -- the script stopped before its end, and the site was given back
-  pub failed_over : (left' : Option (List ℕ)) (fault : RunFault) (status : Status) (site : S) → status ≡ run_status fault → site ≡ r'.log.site → (c : Carried r.log.end.limit d db r.next all left' entry (said_of g r'.log) fault)
-      → Runs (lifted e (held g r).clock) (lifted e' (held g r').clock) (RunLeaves (held g r).whole entry (map (point_of e) (held g r).points) n db r.next c.events)
+  pub failed_over : (left' : Option (List ℕ)) (fault : RunFault) (status : Status) (site : S) → status ≡ run_status fault → site ≡ r'.log.site → (c : Carried r.log.end.limit StopsIn DueBehind d db r.next all left' entry (said_of g r'.log) fault)
+      → Runs (lift_stops e (running_held g r).clock) (lift_stops e' (running_held g r').clock) (RunLeaves (running_held g r).whole entry (map (point_of e) (running_held g r).points) n db r.next c.events)
       → ((f k : ℕ) → fault ≡ Block (block.Damaged f k) → ⊥) → BoundsAudit 0 t d c.events (g.files r.log.site) (g.files r'.log.site) entry (said_of g r'.log) (run_status fault)
       → ScriptRuns 0 t d ps n db r.next all (seen_site g r.log.site) (seen_site g site) left' status
   failed_over left' fault status site status_is site_is c leaves damaged bound =
@@ -165,7 +188,7 @@ module _ {S : Type 0} (g : Ghosts S) (d e e' : Described) (r r' : Running S) (sa
       subst (λ (x : RunFault). BoundsAudit 0 t d events (g.files r.log.site) (g.files r'.log.site) entry (said_of g r'.log) (run_status x)) same bound
 
   -- what was carried out at one fault, told of want of memory
-  abbrev carried_short : (left' : Option (List ℕ)) (fault : RunFault) → (fault ≡ Block block.Say → ⊥) → Carried r.log.end.limit d db r.next all left' entry (said_of g r'.log) fault → Carried r.log.end.limit d db r.next all left' entry (said_of g r'.log) run.Memory
+  abbrev carried_short : (left' : Option (List ℕ)) (fault : RunFault) → (fault ≡ Block block.Say → ⊥) → Carried r.log.end.limit StopsIn DueBehind d db r.next all left' entry (said_of g r'.log) fault → Carried r.log.end.limit StopsIn DueBehind d db r.next all left' entry (said_of g r'.log) run.Memory
   carried_short left' fault unsaid c = record {
     lines = c.lines;
     events = c.events;
@@ -182,8 +205,8 @@ module _ {S : Type 0} (g : Ghosts S) (d e e' : Described) (r r' : Running S) (sa
 
   -- the same, where a full audit at another file counted as want of memory
   pub within_over : (left' : Option (List ℕ)) (last : ℕ) (fault then : RunFault) (status : Status) (site : S) → IsWithin last fault then → last ≡ r'.log.end.limit → status ≡ run_status then → site ≡ r'.log.site
-      → (c : Carried r.log.end.limit d db r.next all left' entry (said_of g r'.log) fault)
-      → Runs (lifted e (held g r).clock) (lifted e' (held g r').clock) (RunLeaves (held g r).whole entry (map (point_of e) (held g r).points) n db r.next c.events)
+      → (c : Carried r.log.end.limit StopsIn DueBehind d db r.next all left' entry (said_of g r'.log) fault)
+      → Runs (lift_stops e (running_held g r).clock) (lift_stops e' (running_held g r').clock) (RunLeaves (running_held g r).whole entry (map (point_of e) (running_held g r).points) n db r.next c.events)
       → ((f k : ℕ) → fault ≡ Block (block.Damaged f k) → ⊥) → BoundsAudit 0 t d c.events (g.files r.log.site) (g.files r'.log.site) entry (said_of g r'.log) (run_status then)
       → ScriptRuns 0 t d ps n db r.next all (seen_site g r.log.site) (seen_site g site) left' status
   within_over left' last fault then status site (inl within) last_is status_is site_is c leaves damaged bound =
@@ -195,12 +218,12 @@ module _ {S : Type 0} (g : Ghosts S) (d e e' : Described) (r r' : Running S) (sa
   -- the script was carried out, and then the database closed
   pub closed_over : (left' : Option (List ℕ)) (status : Status) (site : S) → (status ≡ Ok) ⊎ IsOfClosing status → ClosesOver g r' status site → (IsTrue g.tells_said → g.said site ≡ g.said r'.log.site)
       → CarriedAll d db r.next all entry (said_of g r'.log)
-      → Runs (lifted e (held g r).clock) (lifted e' (held g r').clock) (RunLeaves (held g r).whole entry (map (point_of e) (held g r).points) n db r.next script)
-      → ((stop : Stop) → LeavesPrefix (held g r').whole (held g r').durable (map (point_of e') (held g r').points) (held g r').next stop → StopTextIs (held g r').said stop
-      → RunLeaves (held g r).whole entry (map (point_of e) (held g r).points) n db r.next script stop)
-      → EndsWith (map (point_of e') (held g r').points) (last_quiet_number n (quiets_of script)) (last_quiet db (quiets_of script))
+      → Runs (lift_stops e (running_held g r).clock) (lift_stops e' (running_held g r').clock) (RunLeaves (running_held g r).whole entry (map (point_of e) (running_held g r).points) n db r.next script)
+      → ((stop : Stop) → LeavesPrefix (running_held g r').whole (running_held g r').durable (map (point_of e') (running_held g r').points) (running_held g r').next stop → StopTextIs (running_held g r').said stop
+      → RunLeaves (running_held g r).whole entry (map (point_of e) (running_held g r).points) n db r.next script stop)
+      → EndsWith (map (point_of e') (running_held g r').points) (last_quiet_number n (quiets_of script)) (last_quiet db (quiets_of script))
       → Prints entry (said_of g r'.log) (answers_text d db r.next (raw_lines all))
-      → KeepsLimits d db r.next (raw_lines all) → r'.next ≡ (ended (script_run d db r.next (raw_lines all)).going.session).next
+      → KeepsLimits d db r.next (raw_lines all) → r'.next ≡ (end_session (script_run d db r.next (raw_lines all)).going.session).next
       → BoundsAudit 0 t d script (g.files r.log.site) (g.files site) entry (said_of g r'.log) status
       → ScriptRuns 0 t d ps n db r.next all (seen_site g r.log.site) (seen_site g site) left' status
   closed_over left' status site of closes said carried leaves behind ends prints limits next_is bound =
@@ -209,7 +232,7 @@ module _ {S : Type 0} (g : Ghosts S) (d e e' : Described) (r r' : Running S) (sa
       ran_closed 0 t d ps n db r.next all (seen_site g r.log.site) (seen_site g site) left' status of
       (subst (λ (s : Option (List ℕ)). CarriedAll d db r.next all entry s) (sym text) carried)
       (runs_on (moments_of script leaves) (closing_of site status closes behind room) (λ x l. l))
-      (files_end site status closes (last_quiet_number n (quiets_of script)) (last_quiet db (quiets_of script)) ends (ended (script_run d db r.next (raw_lines all)).going.session).next next_is)
+      (files_end site status closes (last_quiet_number n (quiets_of script)) (last_quiet db (quiets_of script)) ends (end_session (script_run d db r.next (raw_lines all)).going.session).next next_is)
       (subst (λ (s : Option (List ℕ)). Prints entry s (answers_text d db r.next (raw_lines all))) (sym text) prints)
       limits
       (subst (λ (s : Option (List ℕ)). BoundsAudit 0 t d script (g.files r.log.site) (g.files site) entry s status) (sym text) bound)

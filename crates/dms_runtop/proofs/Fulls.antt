@@ -6,7 +6,7 @@ use Rattle.dms_audfile.specs.Gates.{is_full}
 use Rattle.dms_audfile.specs.declared.fault.AudFault.TheVariants as aud
 use Rattle.dms_opening.specs.declared.choosing.OpenFault.{OpenFault}
 use Rattle.dms_opening.specs.declared.choosing.OpenFault.TheVariants.{Audit, NoSuchPoint, Voided, ByDump}
-use Rattle.dms_opening.specs.Openings.{IsFullFault, IsFullIn, IsTrailFound, RefusesFiles}
+use Rattle.dms_opening.specs.Openings.{IsFullFault, HasFullTrail, IsTrailFound, RefusesFiles}
 use Rattle.dms_opening.proofs.Rooms.{plan_has_room, scan_has_room}
 use Rattle.dms_site.specs.declared.site.Site.{Ghosts}
 use Rattle.dms_site.specs.Files.{Files}
@@ -58,11 +58,11 @@ passes_last total first now full = by (cases_lt (10000 + 9999) first)
     by (inl behind) = inl behind
     by (inr before) = inr (full 19999 (omega (arith, before)) (omega arith))
 
-full_at : (k : ℕ) (files now : Files) → k ≡ 9999 → IsFullIn files now → IsFullAt k files now
+full_at : (k : ℕ) (files now : Files) → k ≡ 9999 → HasFullTrail files now → IsFullAt k files now
 full_at k files now is f = subst (λ n. IsFullAt n files now) (sym is) (record { total = f.total; first = f.first; trail = f.trail; passes = passes_last f.total f.first now f.full })
 
 pub full_opening : {S : Type 0} (g : Ghosts S) (old new : S) (fault : OpenFault) (status : Status) → status ≡ open_status fault → (IsTrue g.tells → RefusesFiles (g.files old) fault)
-    → (IsTrue g.tells → IsFullFault fault → IsFullIn (g.files old) (g.files new)) → HasNoRoom g old new status
+    → (IsTrue g.tells → IsFullFault fault → HasFullTrail (g.files old) (g.files new)) → HasNoRoom g old new status
 full_opening g old new fault status status_is refused full k is tells =
     let at : fault ≡ Audit (aud.Full k) = open_full fault k (sym status_is ∙ is) in
     let last : fault ≡ Audit (aud.Full 9999) = is_last (g.files old) fault k (refused tells) at in

@@ -4,7 +4,7 @@ use Rattle.std.proofs.lemmas.Bool.Decides.{nat_tests}
 use Rattle.std.proofs.lemmas.List.{get_or-take, get_or_append_left}
 use Rattle.dms_site.specs.Files.{range}
 use Rattle.dms_site.specs.Laws.{get_or-range, length-range}
-use Rattle.dms_audfile.specs.Gates.{gate, opened_from, opened, is_full}
+use Rattle.dms_audfile.specs.Gates.{gate, opened_from, count_open, is_full}
 
 all_opened : (n i : ℕ) (file : List ℕ) → ((j : ℕ) → i ≤ j → j < i + n → gate j file ≡ 1) → opened_from n i file ≡ n
 all_opened zero i file opens = refl
@@ -15,7 +15,7 @@ all_opened (suc n) i file opens =
 
 -- all gates are open
 pub full_by : (total : ℕ) (file : List ℕ) → ((i : ℕ) → i < total → gate (i + 1) file ≡ 1) → is_full total file ≡ true
-unfolding is_full opened
+unfolding is_full count_open
 full_by total file opens =
     let all : opened_from total 1 file ≡ total = all_opened total 1 file (λ j low high. let at : j - 1 + 1 ≡ j = omega (arith, low) in subst (λ k. gate k file ≡ 1) at (opens (j - 1) (omega (arith, low, high)))) in
     grind (arith, nat_tests)

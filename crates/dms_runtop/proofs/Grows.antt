@@ -16,7 +16,7 @@ use Rattle.dms_status.specs.declared.status.Status.TheVariants.{Memory}
 use Rattle.dms_wal.specs.declared.running.Running.{Running}
 use Rattle.dms_wal.specs.Controls.{KeepsPace}
 use Rattle.dms_wal.specs.Growing.{GrowsBy, close_limit, over_site}
-use Rattle.dms_wal.specs.Lifting.{lifted}
+use Rattle.dms_wal.specs.Lifting.{lift_clock}
 
 -- a call that only looks leaves it
 left_looked : (total first : ℕ) (a b : Clock Left) → Steps Same a b → Steps (LeavesTrail total first) a b
@@ -50,7 +50,7 @@ module _ {S : Type 0} (g : Ghosts S) where
   left_unclosed r site same =
       let v = view_of g r.log in
       subst (λ x. ClosesOver g r Memory x) (sym same) (record {
-        leaves = λ told room. runs_none (lifted (telling v) v.clock) _;
+        leaves = λ told room. runs_none (lift_clock (telling v) v.clock) _;
         points_are = λ ok. absurd cc;
         whole = λ ok. absurd cc;
         next_is = λ ok. absurd cc;

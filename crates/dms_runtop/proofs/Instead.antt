@@ -4,7 +4,7 @@ use Rattle.dms_block.specs.Texts.{PrintsPrefix}
 use Rattle.dms_desc.specs.Shape.{Described}
 use Rattle.dms_feed.specs.Lines.{raw_lines}
 use Rattle.dms_model.specs.Db.{Db}
-use Rattle.dms_moments.specs.Moments.{Now, Runs, Steps}
+use Rattle.dms_moments.specs.Moments.{Clock, Now, Runs, Steps}
 use Rattle.dms_moments.specs.MomentLaws.{runs_none, runs_on}
 use Rattle.dms_moments.specs.SeenLaws.{runs_looking}
 use Rattle.dms_opening.specs.declared.opened.Opened.{Opened}
@@ -24,6 +24,7 @@ use Rattle.dms_runtop.specs.Full.{IsOfFull}
 use Rattle.dms_runtop.specs.Over.{PassesScript, ScriptRuns, SiteSeen, seen_site}
 use Rattle.dms_runtop.proofs.Bounds.{bounds_instead, closes_not}
 use Rattle.dms_runtop.proofs.Looked.{said_seen}
+use Rattle.dms_runtop.proofs.Ran.{passes_moved}
 
 -- ---- the status
 
@@ -83,7 +84,10 @@ ran_instead opening t d ps n db next all a b c left' s then place moments same f
   whole_answers = λ other. subst (λ (x : Option (List ℕ)). SaidWhole a.said x r.events) (sym same) (r.whole_answers place.unsaid);
   whole = λ is. absurd (place.not_ok is);
   within = λ is. absurd (place.not_ok is);
-  limit = λ k is. subst (λ (x : Option (List ℕ)). PassesScript k d db next (raw_lines all) r.lines r.events a.said x) (sym same) (r.limit k (place.limits k is));
+  limit = λ k is.
+      let Stops : Clock Left → List RunEvent → Type 0 = λ later es. Runs a.clock later (RunLeavesFiles t d a.said ps n db next es) in
+      passes_moved (Stops b.clock) (Stops c.clock) k d db next (raw_lines all) r.lines r.events a.said c.said (λ es l. runs_on l (moments es) (λ x y. y))
+      (subst (λ (x : Option (List ℕ)). PassesScript k (Stops b.clock) d db next (raw_lines all) r.lines r.events a.said x) (sym same) (r.limit k (place.limits k is)));
   input_cut = λ is. absurd (place.not_input is);
   undamaged = λ f k is high. place.undamaged f k is;
 }

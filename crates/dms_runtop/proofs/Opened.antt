@@ -7,7 +7,7 @@ use Rattle.dms_desc_bytes.specs.Spelling.{spelling}
 use Rattle.dms_desc_bytes.specs.WellFormed.{IsWellFormed}
 use Rattle.dms_model.specs.Db.{Db}
 use Rattle.dms_running.specs.Points.{DescribedPoint}
-use Rattle.dms_store.specs.Spelled.{spelled}
+use Rattle.dms_store.specs.Spelled.{database_in}
 use Rattle.dms_wal.specs.Lifting.{block_point, last_blocks}
 use Rattle.dms_wal.proofs.Lifts.{last_here}
 use Rattle.dms_run.specs.States.{LivesEndWith}
@@ -27,11 +27,11 @@ same_points : (ps qs : List DescribedPoint) → map block_point ps ≡ map block
 same_points ps qs same = sym (unblocked ps) ∙ ap (map unblock) same ∙ unblocked qs
 
 -- the blocks at the last point spell its database
-pub spells_last : (desc : Described) (ps qs : List DescribedPoint) (content : Content) (n : ℕ) (db : Db) → LivesEndWith desc qs n db → map block_point ps ≡ map block_point qs → content ≡ last_blocks (λ f. []) ps → spelled desc content ≡ Some db
+pub spells_last : (desc : Described) (ps qs : List DescribedPoint) (content : Content) (n : ℕ) (db : Db) → LivesEndWith desc qs n db → map block_point ps ≡ map block_point qs → content ≡ last_blocks (λ f. []) ps → database_in desc content ≡ Some db
 spells_last desc ps qs content n db state same is =
     let ends : ps ≡ state.before ++ state.point ∷ [] = same_points ps qs same ∙ state.are in
     let blocks : content ≡ state.point.blocks = is ∙ ap (last_blocks (λ f. [])) ends ∙ last_here (λ f. []) state.before state.point in
-    ap (spelled desc) blocks ∙ state.spells
+    ap (database_in desc) blocks ∙ state.spells
 
 -- ---- the description
 

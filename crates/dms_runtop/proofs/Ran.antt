@@ -1,11 +1,11 @@
 -- What a run over a store on a running database is of the files below.
-use Rattle.std.proofs.Common.{inl, inr, ◌⊎◌, ℕ, ◌≡◌, ◌<◌, ◌+◌, ◌^◌, ◌∙◌, Bool, true, false, IsTrue, List, [], ◌∷◌, ◌++◌, map, length, Option, Some, refl, sym, ap, subst, arith}
+use Rattle.std.proofs.Common.{inl, inr, ◌⊎◌, ℕ, ◌≡◌, ◌<◌, ◌+◌, ◌^◌, ◌∙◌, Bool, true, false, IsTrue, List, [], ◌∷◌, ◌++◌, map, length, take, Option, Some, refl, sym, ap, subst, arith}
 use Rattle.std.proofs.lemmas.List.{length-map, append-nil}
 use Rattle.std.specs.declared.result.Result.{Result}
 use Rattle.std.specs.declared.result.Result.TheVariants as result
-use Rattle.dms_block.specs.Held.{Held}
+use Rattle.dms_block.specs.Held.{Held, is_due}
 use Rattle.dms_block.specs.Texts.{Prints, PrintsPrefix}
-use Rattle.dms_desc.specs.Shape.{Described, described}
+use Rattle.dms_desc.specs.Shape.{Described, as_described}
 use Rattle.dms_model.specs.Db.{Db}
 use Rattle.dms_model.specs.Points.{Point, Stop, LeavesPrefix, StopTextIs}
 use Rattle.dms_moments.specs.Moments.{Runs}
@@ -15,13 +15,13 @@ use Rattle.dms_block.specs.declared.block_fault.BlockFault.TheVariants.{Say}
 use Rattle.dms_feed.specs.Lines.{raw_lines}
 use Rattle.dms_runner.specs.Answers.{LineEffect, answers_text, first_state, script_events}
 use Rattle.dms_runner.specs.Blaming.{IsFullRun}
-use Rattle.dms_runner.specs.Events.{IsDue, Performs, RunEvent, SaidWhole, TookAll, pause, text_of}
+use Rattle.dms_runner.specs.Events.{CrashesFrom, IsDue, IsFullIn, Performs, RunEvent, SaidWhole, TookAll, pause, syncs_after, text_of}
 use Rattle.dms_runner.specs.Running.{AreOfFront, KeepsFront}
 use Rattle.dms_runner.specs.Starting.{CarriesOut}
 use Rattle.dms_runner.proofs.Running.{run_none}
 use Rattle.dms_model.specs.declared.store.Store as store
 use Rattle.dms_storeverbs.specs.declared.engine.Engine.{Engine}
-use Rattle.dms_storeverbs.specs.View.{seen}
+use Rattle.dms_storeverbs.specs.View.{engine_view}
 use Rattle.dms_runner.specs.declared.run.RunFault.{RunFault}
 use Rattle.dms_runner.specs.declared.run.RunFault.TheVariants as run
 use Rattle.dms_runner.specs.declared.run.RunFault.TheVariants.{Block}
@@ -32,12 +32,12 @@ use Rattle.dms_site.specs.declared.site.Site.{Ghosts}
 use Rattle.dms_site.specs.Files.{Files}
 use Rattle.dms_restore.specs.Logging.{Trail, trail_of, telling_of, telling}
 use Rattle.dms_restore.specs.Views.{view_of}
-use Rattle.dms_store.specs.Lifted.{db_of, point_of, lifted, stop_of as store_stop}
+use Rattle.dms_store.specs.Lifted.{db_of, point_of, lift_stops, stop_of as store_stop}
 use Rattle.dms_store.specs.LiftedLaws as stores
-use Rattle.dms_store.specs.Spelled.{spelled}
+use Rattle.dms_store.specs.Spelled.{database_in}
 use Rattle.dms_wal.specs.declared.running.Running.{Running}
 use Rattle.dms_wal.specs.Closing.{LeavesUntil}
-use Rattle.dms_wal.specs.Database.{held, said_of}
+use Rattle.dms_wal.specs.Database.{running_held, said_of}
 use Rattle.dms_wal.specs.Lifting as wal
 use Rattle.dms_wal.proofs.Lifts as walks
 use Rattle.dms_run.specs.States.{EndsWith, LivesEndWith}
@@ -50,7 +50,7 @@ use Rattle.dms_status.specs.declared.status.Status.{Status}
 use Rattle.dms_status.specs.declared.status.Status.TheVariants.{Ok, Limit}
 use Rattle.dms_runtop.specs.Bound.{BoundsAudit, StopsAtLine}
 use Rattle.dms_runtop.specs.Faults.{IsWithin, run_status}
-use Rattle.dms_runtop.specs.Over.{CutsScript, IsAtEnds, ReachesFiles, PassesScript, ScriptRuns, SiteSeen}
+use Rattle.dms_runtop.specs.Over.{CutsScript, IsAtEnds, IsControlDue, ReachesFiles, PassesScript, ScriptRuns, SiteSeen}
 use Rattle.dms_runtop.proofs.Bounds.{at_line_of}
 use Rattle.dms_runtop.proofs.Counted.{an_error}
 use Rattle.dms_runtop.proofs.Fronts.{leaves_wide, wider}
@@ -63,7 +63,7 @@ use Rattle.dms_wal.specs.Lifting.{block_point}
 
 -- ---- the database
 
-pub db_told : (desc : Described) (b : Bool) (c : _) (db : Db) → IsTrue b → spelled desc c ≡ Some db → db_of desc b c ≡ Some db
+pub db_told : (desc : Described) (b : Bool) (c : _) (db : Db) → IsTrue b → database_in desc c ≡ Some db → db_of desc b c ≡ Some db
 db_told desc true c db told is = is
 db_told desc false c db told is = absurd (cc)
 
@@ -72,8 +72,8 @@ all_durable desc h is = is ∙ sym (length-map h.points (point_of desc))
 
 -- ---- the same description
 
-pub db_under : (d e : Described) (b : Bool) (c : _) (db : Db) → e ≡ d → IsTrue b → spelled d c ≡ Some db → db_of e b c ≡ Some db
-db_under d e b c db same told is = db_told e b c db told (ap (λ (x : Described). spelled x c) same ∙ is)
+pub db_under : (d e : Described) (b : Bool) (c : _) (db : Db) → e ≡ d → IsTrue b → database_in d c ≡ Some db → db_of e b c ≡ Some db
+db_under d e b c db same told is = db_told e b c db told (ap (λ (x : Described). database_in x c) same ∙ is)
 
 pub state_under : (d e : Described) (h : Held) (ps : List DescribedPoint) (n : ℕ) (db : Db) → e ≡ d → map (point_of d) h.points ≡ points_seen d ps → LivesEndWith d ps n db → EndsWith (map (point_of e) h.points) n db
 state_under d e h ps n db same are state =
@@ -81,11 +81,11 @@ state_under d e h ps n db same are state =
     (subst (λ (p : List Point). EndsWith p n db) (sym are) (blocks_seen d (map block_point ps) n db (lives_seen d ps n db state)))
 
 pub moments_under : (d e e' : Described) (a b : Held) (whole : Files → Type 0) (entry : Option (List ℕ)) (n : ℕ) (db : Db) (next : ℕ) (events : List RunEvent) → e ≡ d → e' ≡ d
-    → Runs (lifted e a.clock) (lifted e' b.clock) (RunLeaves whole entry (map (point_of e) a.points) n db next events)
-    → Runs (lifted d a.clock) (lifted d b.clock) (RunLeaves whole entry (map (point_of d) a.points) n db next events)
+    → Runs (lift_stops e a.clock) (lift_stops e' b.clock) (RunLeaves whole entry (map (point_of e) a.points) n db next events)
+    → Runs (lift_stops d a.clock) (lift_stops d b.clock) (RunLeaves whole entry (map (point_of d) a.points) n db next events)
 moments_under d e e' a b whole entry n db next events same same' run =
-    subst (λ (x : Described). Runs (lifted x a.clock) (lifted d b.clock) (RunLeaves whole entry (map (point_of x) a.points) n db next events)) same
-    (subst (λ (x : Described). Runs (lifted e a.clock) (lifted x b.clock) (RunLeaves whole entry (map (point_of e) a.points) n db next events)) same' run)
+    subst (λ (x : Described). Runs (lift_stops x a.clock) (lift_stops d b.clock) (RunLeaves whole entry (map (point_of x) a.points) n db next events)) same
+    (subst (λ (x : Described). Runs (lift_stops e a.clock) (lift_stops x b.clock) (RunLeaves whole entry (map (point_of e) a.points) n db next events)) same' run)
 
 pub ends_under : (d e e' : Described) (a b : Held) (whole : Files → Type 0) (entry : Option (List ℕ)) (n : ℕ) (db : Db) (next : ℕ) (events : List RunEvent) → e ≡ d → e' ≡ d
     → ((stop : Stop) → LeavesPrefix b.whole b.durable (map (point_of e') b.points) b.next stop → StopTextIs b.said stop → RunLeaves whole entry (map (point_of e) a.points) n db next events stop)
@@ -99,7 +99,7 @@ closed_under d e ps n db same ends = lives_are d ps n db (blocks_are d (map bloc
 
 -- ---- what stops leave
 
-module _ {S : Type 0} (g : Ghosts S) (d : Described) (trail : Trail) (r r' : Running S) (is : trail_of (view_of g r.log) ≡ trail) (same : trail_of (view_of g r'.log) ≡ trail_of (view_of g r.log)) (ps : List DescribedPoint) (points_are : map (point_of d) (held g r).points ≡ points_seen d ps)
+module _ {S : Type 0} (g : Ghosts S) (d : Described) (trail : Trail) (r r' : Running S) (is : trail_of (view_of g r.log) ≡ trail) (same : trail_of (view_of g r'.log) ≡ trail_of (view_of g r.log)) (ps : List DescribedPoint) (points_are : map (point_of d) (running_held g r).points ≡ points_seen d ps)
     (n : ℕ) (db : Db) (next : ℕ) (events : List RunEvent) where
   abbrev t : Telling
   t = telling_of trail.total trail.first
@@ -108,31 +108,31 @@ module _ {S : Type 0} (g : Ghosts S) (d : Described) (trail : Trail) (r r' : Run
   entry = said_of g r.log
 
   -- a stop within the script
-  pub moments_below : Runs (lifted d (held g r).clock) (lifted d (held g r').clock) (RunLeaves (held g r).whole entry (map (point_of d) (held g r).points) n db next events)
+  pub moments_below : Runs (lift_stops d (running_held g r).clock) (lift_stops d (running_held g r').clock) (RunLeaves (running_held g r).whole entry (map (point_of d) (running_held g r).points) n db next events)
       → Runs (g.clock r.log.site) (g.clock r'.log.site) (RunLeavesFiles t d entry ps n db next events)
   moments_below run =
       subst (λ (k : Telling). Runs (g.clock r.log.site) (g.clock r'.log.site) (RunLeavesFiles k d entry ps n db next events)) (walks.told_same is)
       (files_left g d r r' same entry ps n db next events
-      (subst (λ (p : List Point). Runs (lifted d (held g r).clock) (lifted d (held g r').clock) (RunLeaves (held g r).whole entry p n db next events)) points_are run))
+      (subst (λ (p : List Point). Runs (lift_stops d (running_held g r).clock) (lift_stops d (running_held g r').clock) (RunLeaves (running_held g r).whole entry p n db next events)) points_are run))
 
   -- a stop within the closing control point
-  pub closing_below : (site : S) → ((stop : Stop) → LeavesPrefix (held g r').whole (held g r').durable (map (point_of d) (held g r').points) (held g r').next stop → StopTextIs (held g r').said stop
-      → RunLeaves (held g r).whole entry (map (point_of d) (held g r).points) n db next events stop)
-      → IsTrue g.tells → r'.next + 1 < 2 ^ 64 → LeavesUntil (held g r') (wal.lifted (telling (view_of g r'.log)) (g.clock site))
+  pub closing_below : (site : S) → ((stop : Stop) → LeavesPrefix (running_held g r').whole (running_held g r').durable (map (point_of d) (running_held g r').points) (running_held g r').next stop → StopTextIs (running_held g r').said stop
+      → RunLeaves (running_held g r).whole entry (map (point_of d) (running_held g r).points) n db next events stop)
+      → IsTrue g.tells → r'.next + 1 < 2 ^ 64 → LeavesUntil (running_held g r') (wal.lift_clock (telling (view_of g r'.log)) (g.clock site))
       → Runs (g.clock r'.log.site) (g.clock site) (RunLeavesFiles t d entry ps n db next events)
   closing_below site ends tells room leaves =
       let k = telling (view_of g r'.log) in
-      let a = held g r' in
-      let b : Held = record a { clock = wal.lifted k (g.clock site) } in
-      let seen : List Point = map (point_of d) (held g r).points in
+      let a = running_held g r' in
+      let b : Held = record a { clock = wal.lift_clock k (g.clock site) } in
+      let known : List Point = map (point_of d) (running_held g r).points in
       let up = stores.leaves_lifted d a b a.points a.next (leaves tells room) in
-      let ran : Runs (lifted d a.clock) (lifted d b.clock) (RunLeaves (held g r).whole entry seen n db next events) = runs_weaken up (λ stop p. ends stop p.0 p.1) in
-      let blocks = stores.lowered d a b ran in
-      let below = walks.lowered k (g.clock r'.log.site) (g.clock site) blocks in
+      let ran : Runs (lift_stops d a.clock) (lift_stops d b.clock) (RunLeaves (running_held g r).whole entry known n db next events) = runs_weaken up (λ stop p. ends stop p.0 p.1) in
+      let blocks = stores.lower_runs d a b ran in
+      let below = walks.lower_runs k (g.clock r'.log.site) (g.clock site) blocks in
       runs_weaken below (λ x l. leaves_files t d entry ps n db next events x
       (subst (λ (w : Telling). RunLeaves (IsWhole w) entry (points_seen d ps) n db next events (stop_seen t d x)) (walks.told_same is)
-      (subst (λ (p : List Point). RunLeaves (held g r).whole entry p n db next events (stop_seen t d x)) points_are
-      (subst (λ (w : Telling). RunLeaves (held g r).whole entry seen n db next events (store_stop d (wal.stop_of w x))) (walks.told_same (same ∙ is)) l))))
+      (subst (λ (p : List Point). RunLeaves (running_held g r).whole entry p n db next events (stop_seen t d x)) points_are
+      (subst (λ (w : Telling). RunLeaves (running_held g r).whole entry known n db next events (store_stop d (wal.stop_of w x))) (walks.told_same (same ∙ is)) l))))
 
 -- ---- what is printed
 
@@ -149,17 +149,17 @@ said_nothing said events = (0, λ t is. is ∙ ap (λ (s : List ℕ). Some s) (s
 
 -- So much of a script was carried out where the run stopped with this fault, told by the text before it and behind it. What is changed may go on up to
 -- this audit file.
-pub record Carried (last : ℕ) (d : Described) (db : Db) (next : ℕ) (all : List ℕ) (left' : Option (List ℕ)) (said said' : Option (List ℕ)) (fault : RunFault) : Type 0 where
+pub record Carried (last : ℕ) (Stops Due : List RunEvent → Type 0) (d : Described) (db : Db) (next : ℕ) (all : List ℕ) (left' : Option (List ℕ)) (said said' : Option (List ℕ)) (fault : RunFault) : Type 0 where
   pub lines : ℕ
   pub events : List RunEvent
   pub front : KeepsFront (raw_lines all) lines
   pub are : AreOfFront d db next (raw_lines all) lines events
   pub part : PrintsPrefix said said' (text_of events)
   pub answers : (fault ≡ Block Say → ⊥) → SaidWhole said said' events
-  pub due : (f : ℕ) → fault ≡ Block (block.Full f) → IsDue last f said said' events
-  pub many_lines : fault ≡ run.Lines → PassesScript Lines d db next (raw_lines all) lines events said said'
-  pub many_bytes : fault ≡ run.Bytes → PassesScript Bytes d db next (raw_lines all) lines events said said'
-  pub many_held : fault ≡ run.Held → PassesScript limits.Held d db next (raw_lines all) lines events said said'
+  pub due : (f : ℕ) → fault ≡ Block (block.Full f) → IsDue last f Stops Due said said' events
+  pub many_lines : fault ≡ run.Lines → PassesScript Lines Stops d db next (raw_lines all) lines events said said'
+  pub many_bytes : fault ≡ run.Bytes → PassesScript Bytes Stops d db next (raw_lines all) lines events said said'
+  pub many_held : fault ≡ run.Held → PassesScript limits.Held Stops d db next (raw_lines all) lines events said said'
   pub cut : fault ≡ run.Input → CutsScript d db next all left' lines events said said'
 
 -- All of it was.
@@ -180,7 +180,15 @@ pub full_run : (fault : RunFault) (f : ℕ) → fault ≡ Block (block.Full f) �
 full_run fault f is = subst (λ (x : RunFault). IsFullRun (fault_of x) f) (sym is) refl
 
 module _ {St : Type 0} {g : store.Ghosts St} (left' : Option (List ℕ)) (old new : Engine St g) (db : Db) (first : ℕ) (all : List ℕ) where
-  abbrev pub carried_of : (fault : RunFault) → CarriesOut (fault_of fault) left' old new db first all → Carried (seen old).last (described old.desc) db first all left' (seen old).said (seen new).said fault
+  -- what stops within these events leave
+  abbrev pub StopsIn : List RunEvent → Type 0
+  StopsIn es = (engine_view old).tells → Runs (engine_view old).clock (engine_view new).clock (CrashesFrom (engine_view old) es)
+
+  -- a control point follows the sync behind them
+  abbrev pub DueBehind : List RunEvent → Type 0
+  DueBehind es = is_due (engine_view old).pace.every (syncs_after (engine_view old).effort.syncs es) ≡ true
+
+  abbrev pub carried_of : (fault : RunFault) → CarriesOut (fault_of fault) left' old new db first all → Carried (engine_view old).pace.last StopsIn DueBehind (as_described old.desc) db first all left' (engine_view old).said (engine_view new).said fault
   carried_of fault k = record {
     lines = k.n;
     events = k.events;
@@ -196,22 +204,47 @@ module _ {St : Type 0} {g : store.Ghosts St} (left' : Option (List ℕ)) (old ne
   }
 
   -- where it stopped at a line, exactly its events took what was taken
-  pub took_at_line : (last : ℕ) (fault then : RunFault) → IsWithin last fault then → (k : CarriesOut (fault_of fault) left' old new db first all) → StopsAtLine (run_status then) → TookAll (seen old) (seen new) k.events
+  pub took_at_line : (last : ℕ) (fault then : RunFault) → IsWithin last fault then → (k : CarriesOut (fault_of fault) left' old new db first all) → StopsAtLine (run_status then) → TookAll (engine_view old) (engine_view new) k.events
   took_at_line last fault then within k =
       at_line_of last fault then within (λ is. took (k.failed (an_error fault run.Input is)).1.did) (λ is. took (k.lines (an_error fault run.Lines is)).1.did) (λ is. took (k.bytes (an_error fault run.Bytes is)).1.did)
       (λ is. took (k.full_list (an_error fault run.Held is)).1.did)
     where
-      took : Performs (seen old) (seen new) k.events → TookAll (seen old) (seen new) k.events
+      took : Performs (engine_view old) (engine_view new) k.events → TookAll (engine_view old) (engine_view new) k.events
       took did = record { effort = did.effort; next = did.next_high }
 
-  pub carried_all : (x : Unit {0}) → CarriesOut (ok_of x) left' old new db first all → CarriedAll (described old.desc) db first all (seen old).said (seen new).said
+  pub carried_all : (x : Unit {0}) → CarriesOut (ok_of x) left' old new db first all → CarriedAll (as_described old.desc) db first all (engine_view old).said (engine_view new).said
   carried_all x k = record {
     lines = k.n;
     front = k.front;
-    are = subst (λ (es : List RunEvent). AreOfFront (described old.desc) db first (raw_lines all) k.n es) k.whole k.are;
-    part = subst (λ (es : List RunEvent). PrintsPrefix (seen old).said (seen new).said (text_of es)) k.whole k.part.text;
-    answers = subst (λ (es : List RunEvent). SaidWhole (seen old).said (seen new).said es) k.whole (k.part.said_whole (λ cut. cut));
+    are = subst (λ (es : List RunEvent). AreOfFront (as_described old.desc) db first (raw_lines all) k.n es) k.whole k.are;
+    part = subst (λ (es : List RunEvent). PrintsPrefix (engine_view old).said (engine_view new).said (text_of es)) k.whole k.part.text;
+    answers = subst (λ (es : List RunEvent). SaidWhole (engine_view old).said (engine_view new).said es) k.whole (k.part.said_whole (λ cut. cut));
   }
+
+-- ---- what was due, told of other stops
+
+made_moved : {X Y A B C : Type 0} → (X → Y) → (B → C) → X ⊎ (A × B) → Y ⊎ (A × C)
+made_moved stops due (inl x) = inl (stops x)
+made_moved stops due (inr x) = inr (x.0, due x.1)
+
+pub due_moved : {Stops Stops' Due Due' : List RunEvent → Type 0} (last last' f : ℕ) (before after : Option (List ℕ)) (events : List RunEvent) → last ≡ last'
+    → ((es : List RunEvent) → Stops (es ++ pause ∷ []) → Stops' (es ++ pause ∷ [])) → ((es : List RunEvent) → Due es → Due' es) → IsDue last f Stops Due before after events → IsDue last' f Stops' Due' before after events
+due_moved last last' f before after events same stops due d = record {
+  k = d.k;
+  at = d.at;
+  is = d.is;
+  full = subst (λ (l : ℕ). IsFullIn l d.at f) same d.full;
+  text = d.text;
+  made = made_moved (stops (take d.k events)) (due (take d.k events)) d.made;
+}
+
+pub passes_moved : (Stops Stops' : List RunEvent → Type 0) (k : LimitKind) (d : Described) (db : Db) (next : ℕ) (lines : List (List ℕ)) (n : ℕ) (events : List RunEvent) (before after : Option (List ℕ))
+    → ((es : List RunEvent) → Stops (es ++ pause ∷ []) → Stops' (es ++ pause ∷ [])) → PassesScript k Stops d db next lines n events before after → PassesScript k Stops' d db next lines n events before after
+passes_moved Stops Stops' (AuditFile f) d db next lines n events before after stops (inl due) = inl (due_moved d.files d.files f before after events refl stops (λ es is. is) due)
+passes_moved Stops Stops' (AuditFile f) d db next lines n events before after stops (inr ends) = inr ends
+passes_moved Stops Stops' Lines d db next lines n events before after stops passes = passes
+passes_moved Stops Stops' Bytes d db next lines n events before after stops passes = passes
+passes_moved Stops Stops' limits.Held d db next lines n events before after stops passes = passes
 
 -- ---- a run, by how it ended
 
@@ -229,7 +262,7 @@ module _ (opening : ℕ) (t : Telling) (d : Described) (ps : List DescribedPoint
   paused : (events : List RunEvent) → Leaves events → Leaves (events ++ pause ∷ [])
   paused events moments = runs_weaken moments (leaves_wide (wider events (pause ∷ [])))
 
-  pub of_audit : (lines : ℕ) (events : List RunEvent) (k : LimitKind) → IsOfAuditLimit k → IsAtEnds d db next (raw_lines all) events a.said b.said → PassesScript k d db next (raw_lines all) lines events a.said b.said
+  pub of_audit : (lines : ℕ) (events : List RunEvent) (k : LimitKind) → IsOfAuditLimit k → IsAtEnds d db next (raw_lines all) events a.said b.said → PassesScript k Leaves d db next (raw_lines all) lines events a.said b.said
   of_audit lines events (AuditFile f) is ends = inr (is, ends)
   of_audit lines events Lines is ends = absurd is
   of_audit lines events Bytes is ends = absurd is
@@ -253,13 +286,13 @@ module _ (opening : ℕ) (t : Telling) (d : Described) (ps : List DescribedPoint
     whole_answers = λ unsaid. subst (λ (s : Option (List ℕ)). SaidWhole a.said s []) (sym same) (said_nothing a.said []);
     whole = λ is. absurd (undone_ok status undone is);
     within = λ is. absurd (undone_ok status undone is);
-    limit = λ k is. of_audit 0 [] k (undone_limit status undone k is) (inl (subst (λ (s : Option (List ℕ)). Prints a.said s []) (sym same) (still_prints a.said)));
+    limit = λ k is. of_audit 0 [] k (undone_limit status undone k is) (inl (refl, subst (λ (s : Option (List ℕ)). Prints a.said s []) (sym same) (still_prints a.said)));
     input_cut = λ is. absurd (undone_input status undone is);
     undamaged = λ f k is high. undone_damaged status undone f k is high;
   }
 
   -- the script stopped before its end
-  pub ran_failed : (fault : RunFault) (c : Carried d.files d db next all left' a.said b.said fault) → Leaves c.events
+  pub ran_failed : (fault : RunFault) (c : Carried d.files Leaves (IsControlDue d) d db next all left' a.said b.said fault) → Leaves c.events
       → ((f k : ℕ) → fault ≡ Block (block.Damaged f k) → ⊥) → Bound c.events (run_status fault) → ScriptRuns opening t d ps n db next all a b left' (run_status fault)
   ran_failed fault c moments damaged bound = record {
     lines = c.lines;
@@ -279,7 +312,7 @@ module _ (opening : ℕ) (t : Telling) (d : Described) (ps : List DescribedPoint
     undamaged = λ f k is high. damaged f k (run_damaged fault f k is);
   }
     where
-      passes : (k : LimitKind) → run_status fault ≡ Limit k → PassesScript k d db next (raw_lines all) c.lines c.events a.said b.said
+      passes : (k : LimitKind) → run_status fault ≡ Limit k → PassesScript k Leaves d db next (raw_lines all) c.lines c.events a.said b.said
       passes (AuditFile f) is = inl (c.due f (run_full_is fault f is))
       passes Lines is = c.many_lines (run_lines_is fault is)
       passes Bytes is = c.many_bytes (run_bytes_is fault is)
@@ -307,6 +340,6 @@ module _ (opening : ℕ) (t : Telling) (d : Described) (ps : List DescribedPoint
     undamaged = λ f k is high. closing_damaged status of f k is;
   }
     where
-      closing_limit : (s : Status) → (s ≡ Ok) ⊎ IsOfClosing s → (k : LimitKind) → s ≡ Limit k → PassesScript k d db next (raw_lines all) c.lines script a.said b.said
+      closing_limit : (s : Status) → (s ≡ Ok) ⊎ IsOfClosing s → (k : LimitKind) → s ≡ Limit k → PassesScript k Leaves d db next (raw_lines all) c.lines script a.said b.said
       closing_limit s (inl ok) k is = absurd (ok_not_limit k (sym ok ∙ is))
       closing_limit s (inr of) k is = of_audit c.lines script k (subst IsOfClosing is of) (inr (refl, prints))

@@ -3,8 +3,9 @@ use Rattle.std.proofs.Common.{ℕ, ◌≡◌, ◌≤◌, ◌+◌, ◌∙◌, Lis
 use Rattle.std.proofs.lemmas.List.{append-nil}
 use Rattle.std.proofs.lemmas.Option.{same_Some}
 use Rattle.dms_desc.specs.Shape.{Described}
+use Rattle.dms_feed.specs.Lines.{raw_lines}
 use Rattle.dms_model.specs.Db.{Db}
-use Rattle.dms_moments.specs.Moments.{Runs}
+use Rattle.dms_moments.specs.Moments.{Clock, Runs}
 use Rattle.dms_moments.specs.MomentLaws.{runs_on}
 use Rattle.dms_runner.specs.Events.{RunEvent, pause, quiets_of}
 use Rattle.dms_running.specs.Telling.{Telling}
@@ -17,6 +18,7 @@ use Rattle.dms_run.specs.States.{LivesEndWith}
 use Rattle.dms_status.specs.declared.status.Status.{Status}
 use Rattle.dms_runtop.specs.Over.{ScriptRuns, SiteSeen}
 use Rattle.dms_runtop.proofs.Bounds.{bounds_since}
+use Rattle.dms_runtop.proofs.Ran.{passes_moved}
 
 -- ---- there is a first event
 
@@ -72,7 +74,9 @@ module _ (opening opening0 : ℕ) (t : Telling) (d : Described) (ps : List Descr
         whole_answers = r.whole_answers;
         whole = r.whole;
         within = r.within;
-        limit = r.limit;
+        limit = λ k is.
+            let Stops : Clock Left → List RunEvent → Type 0 = λ early es. Runs early b.clock (RunLeavesFiles t d a0.said ps n db next es) in
+            passes_moved (Stops a.clock) (Stops a0.clock) k d db next (raw_lines all) r.lines r.events a0.said b.said (λ es later. runs_on (before es) later (λ x l. l)) (r.limit k is);
         bound = bounds_since grew r.bound;
         input_cut = r.input_cut;
         undamaged = r.undamaged;

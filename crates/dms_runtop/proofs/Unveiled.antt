@@ -12,7 +12,7 @@ use Rattle.dms_restore.specs.Logging.{telling_of, points, waits}
 use Rattle.dms_restore.specs.Views.{view_of}
 use Rattle.dms_store.specs.Lifted.{point_of}
 use Rattle.dms_wal.specs.declared.running.Running.{Running}
-use Rattle.dms_wal.specs.Database.{held}
+use Rattle.dms_wal.specs.Database.{running_held}
 use Rattle.dms_opening.specs.declared.opened.Opened.{Opened}
 use Rattle.dms_opening.specs.Openings.{RunsFrom, TellsOpened}
 use Rattle.dms_status.specs.declared.status.Status.{Status}
@@ -33,12 +33,12 @@ module _ {S V : Type 0} (g : Ghosts S) (gv : Ghosts V) (of : V → S) (known : B
     (one : (d e : Described) → IsWellFormed d → IsWellFormed e → spelling d ≡ spelling e → d ≡ e) (o : Opened S) (desc : Described) (formed : IsWellFormed desc) (under : IsUnderSchema o.schema.items desc)
     (bytes : List ℕ) (bytes_are : bytes ≡ spelling desc)
     (r : Running V) (site_is : of r.log.site ≡ o.log.site) (total_is : r.log.end.total ≡ o.log.end.total) (first_is : r.log.first ≡ o.log.first) (next_is : r.next ≡ o.next) (limit_is : r.log.end.limit ≡ desc.files)
-    (opened : (files : Files) → RunsFrom files o.point o.next bytes o.counts.items (view_of g o.log) → TellsOpened (telling_of o.log.end.total o.log.first) files o.next (held gv r))
+    (opened : (files : Files) → RunsFrom files o.point o.next bytes o.counts.items (view_of g o.log) → TellsOpened (telling_of o.log.end.total o.log.first) files o.next (running_held gv r))
     (every_is : r.every ≡ desc.controlpoint) (unused : (r.spent ≡ 0) × (r.syncs ≡ 0) × (r.outs ≡ 0)) (waiting : waits o.log.end ≡ [] → waits r.log.end ≡ []) where
   abbrev t : Telling
   t = telling_of o.log.end.total o.log.first
 
-  opened_under : (st : StandsOpened g o) → TellsOpened t st.files o.next (held gv r)
+  opened_under : (st : StandsOpened g o) → TellsOpened t st.files o.next (running_held gv r)
   opened_under st = opened st.files (under_bytes g one o desc formed under bytes bytes_are st)
 
   begins_opened : IsTrue g.tells → IsTrue known → (st : StandsOpened g o) (n : ℕ) (db : Db) → LivesEndWith st.desc (points_of t st.files) n db → o.next + 1000003 < 2 ^ 64 → BeginsAt gv r o.log.end.total o.log.first (points_of t st.files) st.desc n db
@@ -51,7 +51,7 @@ module _ {S V : Type 0} (g : Ghosts S) (gv : Ghosts V) (of : V → S) (known : B
         limit_is = limit_is ∙ ap (λ (d : Described). d.files) (same_description one o.schema.items desc st.desc formed under st.formed st.spelled);
         points_are = ap (map (point_of st.desc)) to.points_are;
         state = state;
-        spells = spells_last st.desc (points (view_of gv r.log)) (points_of t st.files) (held gv r).content n db state to.points_are to.content_is;
+        spells = spells_last st.desc (points (view_of gv r.log)) (points_of t st.files) (running_held gv r).content n db state to.points_are to.content_is;
         durable = to.all_durable;
         room = subst (λ (m : ℕ). m + 1000003 < 2 ^ 64) (sym next_is) room;
         nothing = waiting (under_bytes g one o desc formed under bytes bytes_are st).nothing;

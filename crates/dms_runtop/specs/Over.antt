@@ -1,12 +1,13 @@
 -- A run of a script over a database that was opened.
-use Rattle.std.specs.Prelude.{ℕ, ◌≡◌, ◌⊎◌, ◌+◌, ◌<◌, ◌^◌, List, [], ◌∷◌, ◌++◌, length, map, Some, None, IsTrue, if◌then◌else◌}
+use Rattle.std.specs.Prelude.{ℕ, ◌≡◌, ◌⊎◌, ◌+◌, ◌<◌, ◌^◌, List, [], ◌∷◌, ◌++◌, length, map, true, Some, None, IsTrue, if◌then◌else◌}
 use Rattle.std.specs.declared.option.Option.{Option}
 use Rattle.dms_moments.specs.Moments.{Clock, Runs}
+use Rattle.dms_block.specs.Held.{is_due}
 use Rattle.dms_block.specs.Texts.{Prints, PrintsPrefix}
 use Rattle.dms_desc.specs.Shape.{Described}
 use Rattle.dms_feed.specs.Lines.{raw_lines}
 use Rattle.dms_model.specs.Db.{Db}
-use Rattle.dms_model.specs.Session.{ended}
+use Rattle.dms_model.specs.Session.{end_session}
 use Rattle.dms_site.specs.declared.site.Site.{Ghosts}
 use Rattle.dms_site.specs.Files.{Files, Left, Only}
 use Rattle.dms_running.specs.Telling.{Telling}
@@ -16,14 +17,14 @@ use Rattle.dms_restore.specs.Logging.{LogGrows, LogStays, telling_of, telling, p
 use Rattle.dms_restore.specs.Views.{view_of}
 use Rattle.dms_wal.specs.declared.running.Running.{Running}
 use Rattle.dms_wal.specs.Closing.{LeavesUntil}
-use Rattle.dms_wal.specs.Database.{held}
+use Rattle.dms_wal.specs.Database.{running_held}
 use Rattle.dms_wal.specs.Growing.{over_site}
-use Rattle.dms_wal.specs.Lifting.{lifted}
+use Rattle.dms_wal.specs.Lifting.{lift_clock}
 use Rattle.dms_runtop.specs.Bound.{BoundsAudit}
 use Rattle.dms_store.specs.Lifted.{point_of}
-use Rattle.dms_store.specs.Spelled.{spelled}
+use Rattle.dms_store.specs.Spelled.{database_in}
 use Rattle.dms_runner.specs.Answers.{answers_quiets, answers_text, left_by, script_events, script_run}
-use Rattle.dms_runner.specs.Events.{IsDue, RunEvent, SaidWhole, pause, text_of}
+use Rattle.dms_runner.specs.Events.{IsDue, RunEvent, SaidWhole, pause, syncs_after, text_of}
 use Rattle.dms_runner.specs.Running.{AreExactly, AreOfFront, CutInput, KeepsFront, PassesBytes, PassesLines, PassesWaiting}
 use Rattle.dms_run.specs.Ending.{KeepsLimits}
 use Rattle.dms_run.specs.Files.{points_seen, RunLeavesFiles}
@@ -51,21 +52,26 @@ pub record FilesEndWith (t : Telling) (desc : Described) (n : ℕ) (db : Db) (ne
   pub next_is : next_in t s.files ≡ next
   pub only : Only s.files s.clock
 
--- Nothing was printed, as at the opening; or the text of the whole script was, as before the close.
+-- Nothing was carried out and nothing printed, as at the opening; or the text of the whole script was, as before the close.
 abbrev pub IsAtEnds : Described → Db → ℕ → List (List ℕ) → List RunEvent → Option (List ℕ) → Option (List ℕ) → Type 0
 IsAtEnds desc db first lines events before after =
-    Prints before after [] ⊎ ((events ≡ script_events desc db first lines) × Prints before after (answers_text desc db first lines))
+    ((events ≡ []) × Prints before after []) ⊎ ((events ≡ script_events desc db first lines) × Prints before after (answers_text desc db first lines))
+
+-- a sync behind these events of a run would be one at which a control point is due
+abbrev pub IsControlDue : Described → List RunEvent → Type 0
+IsControlDue desc events = is_due desc.controlpoint (syncs_after 0 events) ≡ true
 
 -- The script passes this limit. Of lines, bytes and held lines: what the whole lines before that place answer was printed, and these are their events,
 -- so nothing else was done; of a line that is one too many to hold its first try, if there is one, which waits, is among them. The audit may go on up
 -- to file FILES of the description for what a script changes: exactly the text before the call of a verb was printed that is done, and stores a record
--- or makes a quiet point. It goes on up to file 9,999 for openings, ways back and closings: exactly the text before an ABORT that is done was printed,
--- or before the way back at the script's end; or nothing, or all that the script answers.
-abbrev pub PassesScript : LimitKind → Described → Db → ℕ → List (List ℕ) → ℕ → List RunEvent → Option (List ℕ) → Option (List ℕ) → Type 0
-PassesScript (AuditFile f) desc db first lines n events before after = IsDue desc.files f before after events ⊎ ((f ≡ 9999) × IsAtEnds desc db first lines events before after)
-PassesScript Lines desc db first lines n events before after = PassesLines desc db first lines before after × AreExactly desc db first lines n events 1000000
-PassesScript Bytes desc db first lines n events before after = (p : PassesBytes desc db first lines before after) × AreExactly desc db first lines n events p.n
-PassesScript Held desc db first lines n events before after = (p : PassesWaiting desc db first lines before after) × AreExactly desc db first lines n events (p.n + 1)
+-- or makes a quiet point; and a stop leaves no quiet point of it, but where a control point was due at its syncpoint. It goes on up to file 9,999 for
+-- openings, ways back and closings: exactly the text before an ABORT that is done was printed, or before the way back at the script's end; or nothing
+-- was carried out, or all that the script answers was printed.
+abbrev pub PassesScript : LimitKind → (List RunEvent → Type 0) → Described → Db → ℕ → List (List ℕ) → ℕ → List RunEvent → Option (List ℕ) → Option (List ℕ) → Type 0
+PassesScript (AuditFile f) Leaves desc db first lines n events before after = IsDue desc.files f Leaves (IsControlDue desc) before after events ⊎ ((f ≡ 9999) × IsAtEnds desc db first lines events before after)
+PassesScript Lines Leaves desc db first lines n events before after = PassesLines desc db first lines before after × AreExactly desc db first lines n events 1000000
+PassesScript Bytes Leaves desc db first lines n events before after = (p : PassesBytes desc db first lines before after) × AreExactly desc db first lines n events p.n
+PassesScript Held Leaves desc db first lines n events before after = (p : PassesWaiting desc db first lines before after) × AreExactly desc db first lines n events (p.n + 1)
 
 -- Taking from the input failed: what the whole lines that were taken answer was printed, and these are their events, so nothing else was done.
 abbrev pub CutsScript : Described → Db → ℕ → List ℕ → Option (List ℕ) → ℕ → List RunEvent → Option (List ℕ) → Option (List ℕ) → Type 0
@@ -74,7 +80,7 @@ CutsScript desc db first all left n events before after = (p : CutInput desc db 
 -- So the files of a database end that at point n was this one with this next number, where a script with these lines was carried out.
 abbrev pub ReachesFiles : Telling → Described → ℕ → Db → ℕ → List (List ℕ) → SiteSeen → Type 0
 ReachesFiles t desc n db next lines s =
-    FilesEndWith t desc (last_quiet_number n (answers_quiets desc db next lines)) (left_by desc db next lines) (ended (script_run desc db next lines).going.session).next s
+    FilesEndWith t desc (last_quiet_number n (answers_quiets desc db next lines)) (left_by desc db next lines) (end_session (script_run desc db next lines).going.session).next s
 
 -- A run of the script that an input has, over a database that at point n is db, whose next number is this one. These were the points before the run,
 -- so the site was seen before it and behind it, so much of the input was left, and so the run ended. An opening before it took at most so many entries
@@ -102,7 +108,8 @@ pub record ScriptRuns (opening : ℕ) (t : Telling) (desc : Described) (ps : Lis
   -- at status 0 the script keeps the limits
   pub within : status ≡ Ok → KeepsLimits desc db next (raw_lines all)
   -- at status 8 by the script it passes that limit, and none before
-  pub limit : (k : LimitKind) → status ≡ Limit k → PassesScript k desc db next (raw_lines all) lines events a.said b.said
+  pub limit : (k : LimitKind) → status ≡ Limit k
+      → PassesScript k (λ es. Runs a.clock b.clock (RunLeavesFiles t desc a.said ps n db next es)) desc db next (raw_lines all) lines events a.said b.said
   -- at each status it took no more of the audit than an opening, what is answered, one call whose answer wasn't printed, and a close may take
   pub bound : BoundsAudit opening t desc events a.files b.files a.said b.said status
   -- at status 6 what the whole lines that were taken answer was printed, and nothing else was done
@@ -119,10 +126,10 @@ module _ {S : Type 0} (g : Ghosts S) where
     pub total_is : r.log.end.total ≡ total
     pub first_is : r.log.first ≡ first
     pub limit_is : r.log.end.limit ≡ desc.files
-    pub points_are : map (point_of desc) (held g r).points ≡ points_seen desc ps
+    pub points_are : map (point_of desc) (running_held g r).points ≡ points_seen desc ps
     pub state : LivesEndWith desc ps n db
-    pub spells : spelled desc (held g r).content ≡ Some db
-    pub durable : (held g r).durable ≡ length (held g r).points
+    pub spells : database_in desc (running_held g r).content ≡ Some db
+    pub durable : (running_held g r).durable ≡ length (running_held g r).points
     pub room : r.next + 1000003 < 2 ^ 64
     pub nothing : waits r.log.end ≡ []
     pub every : r.every ≡ desc.controlpoint
@@ -142,7 +149,7 @@ module _ {S : Type 0} (g : Ghosts S) where
   -- stop left the first so many of its points, at least the durable ones, and no other text. Whatever failed the audit took at most 18 entries, and they
   -- stand in blocks behind the old ones.
   pub record ClosesOver (r : Running S) (status : Status) (site : S) : Type 0 where
-    pub leaves : LeavesUntil (held g r) (lifted (telling (view_of g r.log)) (g.clock site))
+    pub leaves : LeavesUntil (running_held g r) (lift_clock (telling (view_of g r.log)) (g.clock site))
     pub points_are : status ≡ Ok → IsTrue g.tells → points_of (telling (view_of g r.log)) (g.files site) ≡ points (view_of g r.log)
     pub whole : status ≡ Ok → IsTrue g.tells → IsWhole (telling (view_of g r.log)) (g.files site)
     pub next_is : status ≡ Ok → IsTrue g.tells → next_in (telling (view_of g r.log)) (g.files site) ≡ r.next

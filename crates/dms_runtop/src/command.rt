@@ -2,7 +2,7 @@
 
 ghost use Rattle.std.specs.Prelude.{◌≡◌, ◌⊎◌, [], ℕ, List, Option, Some, IfSome, IsTrue};
 ghost use Rattle.dms_audfile.specs.Counting.{CountedAt};
-ghost use Rattle.dms_desc.specs.Shape.{described};
+ghost use Rattle.dms_desc.specs.Shape.{as_described};
 ghost use Rattle.dms_desc_bytes.specs.Spelling.{spelling};
 ghost use Rattle.dms_desc_bytes.specs.WellFormed.{IsWellFormed};
 ghost use Rattle.dms_opening.specs.Openings.{NamesStructures};
@@ -66,7 +66,7 @@ fn site_of<S: Site>(opened: Opened<S>) -> S
 
 /// The bytes of a description, where memory isn't refused.
 fn bytes_of(alloc: Global, desc: &Description) -> Option<Vec<u8>>
-    ensures { IfSome result (λ bytes. bytes.items ≡ spelling (described desc.now)) }
+    ensures { IfSome result (λ bytes. bytes.items ≡ spelling (as_described desc.now)) }
 {
     let Ok(spelled) = encode(alloc, desc) else {
         return None;
@@ -93,8 +93,8 @@ fn run_described<S: Site, I: Source, K: Knows>(
     desc: &Description,
     source: &mut I,
 ) -> Ended<S>
-    requires formed { IsWellFormed (described desc.now) }
-    requires under { IsUnderSchema opened.schema.items (described desc.now) }
+    requires formed { IsWellFormed (as_described desc.now) }
+    requires under { IsUnderSchema opened.schema.items (as_described desc.now) }
     requires table { AreCounts opened.counts.items }
     requires named { NamesStructures opened.schema.items opened.counts.items }
     requires known { IsTrue S.tells → IsTrue K.known → StandsOpened S.Site opened }

@@ -2,7 +2,7 @@
 
 ghost use Rattle.std.specs.Prelude.{◌≡◌, IfOk, IsErrOf, IsTrue};
 ghost use Rattle.dms_audfile.specs.Counting.{CountedAt};
-ghost use Rattle.dms_desc.specs.Shape.{described};
+ghost use Rattle.dms_desc.specs.Shape.{as_described};
 ghost use Rattle.dms_desc_bytes.specs.WellFormed.{IsWellFormed};
 ghost use Rattle.dms_moments.specs.Moments.{Steps};
 ghost use Rattle.dms_runtop.specs.Describing.{IsUnderSchema};
@@ -22,8 +22,8 @@ pub fn describe<S: Site>(
     site: &mut S,
     schema: &[u8],
 ) -> Result<Description, FileFault>
-    ensures formed { IfOk result (λ d. IsWellFormed (described d)) }
-    ensures under { IfOk result (λ d. IsUnderSchema schema.now (described d)) }
+    ensures formed { IfOk result (λ d. IsWellFormed (as_described d)) }
+    ensures under { IfOk result (λ d. IsUnderSchema schema.now (as_described d)) }
     ensures files { IsTrue S.tells → S.files site.new ≡ S.files site.old }
     ensures said { S.said site.new ≡ S.said site.old }
     ensures same_site { S.same_site site.old site.new }

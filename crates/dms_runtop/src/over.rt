@@ -2,7 +2,7 @@
 
 ghost use Rattle.std.specs.Prelude.{◌≡◌, ◌⊎◌, [], ℕ, List, Some, IsTrue};
 ghost use Rattle.dms_audfile.specs.Counting.{CountedAt};
-ghost use Rattle.dms_desc.specs.Shape.{described};
+ghost use Rattle.dms_desc.specs.Shape.{as_described};
 ghost use Rattle.dms_desc_bytes.specs.WellFormed.{IsWellFormed};
 ghost use Rattle.dms_model.specs.Db.{Db};
 ghost use Rattle.dms_model.specs.Session.{fresh_session};
@@ -10,8 +10,8 @@ ghost use Rattle.dms_runtop.specs.Inputs.{BlamesInput};
 ghost use Rattle.dms_runtop.specs.Over.{RunsOver, ClosesOver, GrowsOver};
 ghost use Rattle.dms_runtop.specs.Statuses.{IsOfClosing, IsOfScript};
 ghost use Rattle.dms_store.specs.Lifted.{Serves};
-ghost use Rattle.dms_storeverbs.specs.View.{StandsFor, seen, view};
-ghost use Rattle.dms_wal.specs.Database.{held};
+ghost use Rattle.dms_storeverbs.specs.View.{StandsFor, engine_view, view};
+ghost use Rattle.dms_wal.specs.Database.{running_held};
 
 use crate::ended::Ended;
 use crate::ending::{fault_within, status_of_block, status_of_run};
@@ -34,7 +34,7 @@ fn running_under<S: Site>(engine: Engine<BlockStore<Running<S>>>) -> Running<S>
 
 /// Closes a database in which nothing is changed since the last point, and gives the site.
 fn close_over<S: Site>(alloc: Global, running: Running<S>) -> Ended<S>
-    requires { (held S.Site running).sound }
+    requires { (running_held S.Site running).sound }
     ensures closes { ClosesOver S.Site running result.status result.site }
     ensures said { IsTrue S.tells_said → S.said result.site ≡ S.said running.log.site }
     ensures statuses { (result.status ≡ Status.Ok) ⊎ IsOfClosing result.status }
@@ -68,10 +68,10 @@ fn run_engine<S: Site, I: Source>(
     mut engine: Engine<BlockStore<Running<S>>>,
     source: &mut I,
 ) -> Ended<S>
-    requires sound { (seen engine).sound }
-    requires fresh { (db : Db) → (seen engine).db ≡ Some db → StandsFor (view engine) (fresh_session db (seen engine).next) }
+    requires sound { (engine_view engine).sound }
+    requires fresh { (db : Db) → (engine_view engine).db ≡ Some db → StandsFor (view engine) (fresh_session db (engine_view engine).next) }
     requires found { engine.store.found ≡ 0 }
-    ensures ran { RunsOver S.Site engine.store.over.below (described engine.desc) (I.left source.old) (I.left source.new) result.status result.site }
+    ensures ran { RunsOver S.Site engine.store.over.below (as_described engine.desc) (I.left source.old) (I.left source.new) result.status result.site }
     ensures grown { GrowsOver S.Site engine.store.over.below result.site }
     ensures by_input { BlamesInput (I.left source.old) (I.left source.new) result.status }
     ensures end { result.status ≡ Status.Ok → (all : List ℕ) → I.left source.old ≡ Some all → I.left source.new ≡ Some [] }
@@ -107,11 +107,11 @@ pub fn run_over<S: Site, I: Source>(
     running: Running<S>,
     source: &mut I,
 ) -> Ended<S>
-    requires sound { (held S.Site running).sound }
-    requires serves { Serves (described desc.now) (held S.Site running) }
-    requires formed { IsWellFormed (described desc.now) }
-    requires mark { IsTrue S.tells → (held S.Site running).mark ≡ (held S.Site running).content }
-    ensures ran { RunsOver S.Site running (described desc.now) (I.left source.old) (I.left source.new) result.status result.site }
+    requires sound { (running_held S.Site running).sound }
+    requires serves { Serves (as_described desc.now) (running_held S.Site running) }
+    requires formed { IsWellFormed (as_described desc.now) }
+    requires mark { IsTrue S.tells → (running_held S.Site running).mark ≡ (running_held S.Site running).content }
+    ensures ran { RunsOver S.Site running (as_described desc.now) (I.left source.old) (I.left source.new) result.status result.site }
     ensures grown { GrowsOver S.Site running result.site }
     ensures by_input { BlamesInput (I.left source.old) (I.left source.new) result.status }
     ensures end { result.status ≡ Status.Ok → (all : List ℕ) → I.left source.old ≡ Some all → I.left source.new ≡ Some [] }

@@ -12,7 +12,7 @@ use Rattle.std.proofs.lemmas.Bool.{and_parts}
 use Rattle.dms_base.specs.declared.kind.ItemKind.{ItemKind}
 use Rattle.dms_base.specs.declared.kind.Literal.{Literal}
 use Rattle.dms_base.specs.Name.{IsName, is_name}
-use Rattle.dms_base.specs.Text.{text_of, trimmed, is_printable}
+use Rattle.dms_base.specs.Text.{text_of, trim_spaces, is_printable}
 use Rattle.dms_base.proofs.Kept.{texted}
 use Rattle.dms_tokens.specs.declared.token.Token.{Token}
 use Rattle.dms_tokens.specs.declared.token.Token.TheVariants.{Word, Number, Decimal, Quoted}
@@ -40,7 +40,7 @@ use Rattle.dms_script.specs.declared.look.Wanted.TheVariants.{DataSet, Path as A
 use Rattle.dms_script.specs.declared.look.ItemRange.{ItemRange}
 use Rattle.dms_script.specs.Cursors.{word_at, equal_at, name_at, name_in, literal_at, literal_in, text_literal, if_kind, structure_at, target_at, key_item_at, run_at}
 use Rattle.dms_script.specs.Lines.{line_of, sound_line, sound_len, bad_by, line_from, spoken_at, program_at, whole_verb_at, colon_at}
-use Rattle.dms_script.specs.Looks.{is_wanted, if_wanted, structure_named, counted, if_settable, target_named, key_item_of, key_item, kind_named, run_of, run_named, whole_run, upward, numbers}
+use Rattle.dms_script.specs.Looks.{is_wanted, if_wanted, structure_named, first_items, if_settable, target_named, key_item_of, key_item, kind_named, run_of, run_named, whole_run, upward, numbers}
 use Rattle.dms_script.specs.Reads.{LineRead, or_bad, ◌>>=◌}
 use Rattle.dms_script.specs.Spoken.{HasOrder, is_such, MaySetTo, TakeKey, TakesAt, IsWay, HasRestart, NamesWhatIsThere, SpeaksWell, LinesSpeakWell}
 use Rattle.dms_script.specs.Verbs.{close_line_at, word_then, open_at, close_at, first_at, last_at, member_at, path_at, find_at, create_at, store_at, list_of, list_at, setting_at, put_at, shown_at, is_over, all_shown_at, get_at, mode_at, begin_at, sync_at, finish_at, abort_at, transaction_at, area_at, verb_at}
@@ -83,10 +83,10 @@ some_plain : (b : Bool) (o p : Option Literal) → IfSome o IsPlainLiteral → I
 some_plain true o p h k = h
 some_plain false o p h k = k
 
-text_plain : (bytes : List ℕ) (b : Bool) → (list_all is_printable bytes && nat_le (length (trimmed bytes)) 200) ≡ b → IfSome (text_literal (cond b (Some (trimmed bytes)) None)) IsPlainLiteral
+text_plain : (bytes : List ℕ) (b : Bool) → (list_all is_printable bytes && nat_le (length (trim_spaces bytes)) 200) ≡ b → IfSome (text_literal (cond b (Some (trim_spaces bytes)) None)) IsPlainLiteral
 text_plain bytes true h =
-    let h' = and_parts (list_all is_printable bytes) (nat_le (length (trimmed bytes)) 200) h in
-    texted bytes (trimmed bytes) refl h'.0 (grind (arith, nat_tests, h'.1))
+    let h' = and_parts (list_all is_printable bytes) (nat_le (length (trim_spaces bytes)) 200) h in
+    texted bytes (trim_spaces bytes) refl h'.0 (grind (arith, nat_tests, h'.1))
 text_plain bytes false h = tt
 
 literal_plain : (t : Token) → IfSome (literal_in t) IsPlainLiteral
@@ -309,7 +309,7 @@ module _ (desc : Described) (order : HasOrder desc) where
   settable_is items done (Some t) h = if_none (is_link t.kind || list_any (λ (s : Setting). s.item == t.number) done) t (IsSettable items) (λ e. record { target = h; no_link = neither _ _ e })
 
   target_is : (name : List ℕ) (items : List Item) (done : List Setting) → IfSome (target_named name items done) (IsSettable items)
-  unfolding target_named counted
+  unfolding target_named first_items
   target_is name items done = settable_is items done (item_named name 1 (take 60 items)) (item_is 1 name (take 60 items) (few_counted items))
 
   target_gives : (items : List Item) (done : List Setting) (ts : List Lexeme) → IfOk (target_at items done ts) (λ r. IsSettable items r.0)
@@ -379,7 +379,7 @@ module _ (desc : Described) (order : HasOrder desc) where
   run_is items None (Some g) h k = record { low = k.0; high = omega (arith, k.1) }
 
   run_named_is : (name : List ℕ) (s : Shape) → HasItems s → IfSome (run_named name s) (IsRunOf s.items)
-  unfolding run_named counted
+  unfolding run_named first_items
   run_named_is name s h = run_is s.items (item_named name 1 (take 60 s.items)) (group_named name s.groups) (item_is 1 name (take 60 s.items) (few_counted s.items)) (group_is name s.groups _ h)
 
   run_gives : (s : Shape) (ts : List Lexeme) → HasItems s → IfOk (run_at s ts) (λ r. IsRunOf s.items r.0)
@@ -396,7 +396,7 @@ module _ (desc : Described) (order : HasOrder desc) where
   few_items m items = omega (arith, length-take m items)
 
   whole_there : (s : Shape) → IsRunOf s.items (whole_run s)
-  unfolding counted
+  unfolding first_items
   whole_there s = record { low = omega arith; high = omega (arith, few_items 60 s.items) }
 
   all_shown_gives : (s : Shape) (ts : List Lexeme) → HasItems s → IfOk (all_shown_at s ts) (λ r. AllByRecursion (IsItemOf s.items) r.0)

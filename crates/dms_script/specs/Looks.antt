@@ -35,8 +35,8 @@ structure_named wanted name desc = if_wanted wanted (first_named name desc.struc
 -- Items
 
 -- a data set has at most 60 items and links
-unfoldable pub counted : List Item → List Item
-counted items = take 60 items
+unfoldable pub first_items : List Item → List Item
+first_items items = take 60 items
 
 -- an item of a data set that may be named behind these settings: no link, and none that was named
 abbrev pub if_settable : List Setting → Option NamedItem → Option NamedItem
@@ -44,7 +44,7 @@ if_settable done None = None
 if_settable done (Some t) = if is_link t.kind || list_any (λ (s : Setting). s.item == t.number) done then None else Some t
 
 unfoldable pub target_named : List ℕ → List Item → List Setting → Option NamedItem
-target_named name items done = if_settable done (item_named name 1 (counted items))
+target_named name items done = if_settable done (item_named name 1 (first_items items))
 
 -- Keys
 
@@ -71,11 +71,11 @@ run_of None (Some g) = Some (record { first = g.first; end = min (g.first + g.co
 
 -- the items that a name stands for in GET
 unfoldable pub run_named : List ℕ → Shape → Option ItemRange
-run_named name s = run_of (item_named name 1 (counted s.items)) (group_named name s.groups)
+run_named name s = run_of (item_named name 1 (first_items s.items)) (group_named name s.groups)
 
 -- all items and links of a data set, in text order
 abbrev pub whole_run : Shape → ItemRange
-whole_run s = record { first = 1; end = length (counted s.items) + 1 }
+whole_run s = record { first = 1; end = length (first_items s.items) + 1 }
 
 abbrev pub upward : ℕ → ℕ → List ℕ
 upward n zero = []

@@ -1,9 +1,9 @@
 ghost use Rattle.std.specs.Prelude.{◌≡◌, ◌≤◌, ◌+◌, option_map, take, length, min, OnOk, ◌++◌, IfSome, ◌==◌};
 ghost use Rattle.std.specs.Option.{option_copied};
 ghost use Rattle.std.specs.List.{list_any};
-ghost use Rattle.dms_desc.specs.Shape.{shape_of, described};
+ghost use Rattle.dms_desc.specs.Shape.{shape_of, as_described};
 ghost use Rattle.dms_model.specs.declared.verb.Setting.{Setting};
-ghost use Rattle.dms_script.specs.Looks.{is_wanted, structure_named, counted, target_named, key_item_of, key_item, kind_named, run_of, run_named, whole_run, numbers};
+ghost use Rattle.dms_script.specs.Looks.{is_wanted, structure_named, first_items, target_named, key_item_of, key_item, kind_named, run_of, run_named, whole_run, numbers};
 ghost use Rattle.dms_model.specs.Verbs.{has_kind};
 
 use dms_base::{ItemKind, Literal, Memory, Name};
@@ -46,7 +46,7 @@ pub fn structure_named<'a>(
     name: &Name,
     desc: &'a Description,
 ) -> Option<&'a Structure>
-    ensures { option_map shape_of (option_copied result) ≡ structure_named wanted name.now (described desc.now) }
+    ensures { option_map shape_of (option_copied result) ≡ structure_named wanted name.now (as_described desc.now) }
 {
     match desc.structure_named(name) {
         None => None,
@@ -85,9 +85,9 @@ fn front(items: &[Item], most: usize) -> &[Item]
 }
 
 /// The items and links that a data set may have, at most 60.
-#[tactic(auto, unfolding(crate::specs::Looks::counted))]
-fn counted(items: &[Item]) -> &[Item]
-    ensures items { result.now ≡ counted items.now }
+#[tactic(auto, unfolding(crate::specs::Looks::first_items))]
+fn first_items(items: &[Item]) -> &[Item]
+    ensures items { result.now ≡ first_items items.now }
     ensures few { length result.now ≤ 60 }
 {
     front(items, 60)
@@ -104,7 +104,7 @@ fn was_set(done: &[Setting], item: u8) -> bool
 pub fn target_named(name: &Name, items: &[Item], done: &[Setting]) -> Option<NamedItem>
     ensures { result ≡ target_named name.now items.now done.now }
 {
-    match item_named(counted(items), name) {
+    match item_named(first_items(items), name) {
         None => None,
         Some(target) => {
             if is_link(&target.kind) || was_set(done, target.number) {
@@ -127,7 +127,7 @@ fn key_item_of<'a>(parts: &[KeyPart], items: &'a [Item]) -> Option<&'a Item>
 /// The first item of a structure's key.
 #[tactic(auto, unfolding(crate::specs::Looks::key_item))]
 pub fn key_item<'a>(desc: &'a Description, s: &Structure) -> Option<&'a Item>
-    ensures { option_copied result ≡ key_item (described desc.now) (shape_of s.now) }
+    ensures { option_copied result ≡ key_item (as_described desc.now) (shape_of s.now) }
 {
     key_item_of(s.parts.as_slice(), desc.items_of(s.over()))
 }
@@ -183,7 +183,7 @@ fn group_end(group: &Group) -> u8
 pub fn run_named(name: &Name, s: &Structure) -> Option<ItemRange>
     ensures { result ≡ run_named name.now (shape_of s.now) }
 {
-    let target = item_named(counted(s.items.as_slice()), name);
+    let target = item_named(first_items(s.items.as_slice()), name);
     run_of(target, group_named(s.groups.as_slice(), name))
 }
 
@@ -193,7 +193,7 @@ pub fn whole_run(s: &Structure) -> ItemRange
 {
     ItemRange {
         first: 1,
-        end: counted(s.items.as_slice()).len() as u8 + 1,
+        end: first_items(s.items.as_slice()).len() as u8 + 1,
     }
 }
 

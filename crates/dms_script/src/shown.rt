@@ -57,7 +57,7 @@ fn one_shown(
 /// item {, item}. Answers Bad with the place of the first token that isn't allowed, or with 0 where no token is left,
 /// and Memory.
 #[tactic(auto, unfolding(crate::specs::Verbs::list_at))]
-pub fn shown(cursor: &mut Cursor<'_>, set: &Structure) -> Result<ItemNumbers, Fault>
+pub fn shown_items(cursor: &mut Cursor<'_>, set: &Structure) -> Result<ItemNumbers, Fault>
     ensures { LineTakes result cursor.new (list_at (shown_at (shape_of set.now)) cursor.old) }
 {
     let mut shown = ItemNumbers::new(cursor.alloc());

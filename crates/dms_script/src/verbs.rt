@@ -1,4 +1,4 @@
-ghost use Rattle.dms_desc.specs.Shape.{shape_of, described};
+ghost use Rattle.dms_desc.specs.Shape.{shape_of, as_described};
 ghost use Rattle.dms_script.specs.Reads.{LineTakes, LinePasses};
 ghost use Rattle.dms_script.specs.Verbs.{open_at, close_at, first_at, last_at, member_at, path_at, find_at, create_at, store_at, put_at, all_shown_at, get_at, mode_at, begin_at, sync_at, finish_at, abort_at, transaction_at, area_at, verb_at, close_line_at};
 
@@ -7,7 +7,7 @@ use crate::expect::{
 };
 use crate::fault::Fault;
 use crate::look::{Wanted, key_item, push_numbers, whole_run};
-use crate::shown::{settings, shown};
+use crate::shown::{settings, shown_items};
 use dms_desc::{Description, Structure};
 use dms_model::{ItemNumbers, Literals, Path, Verb};
 use dms_tokens::Cursor;
@@ -37,7 +37,7 @@ fn close(cursor: &mut Cursor<'_>) -> Result<Verb, Fault>
 /// FIRST x
 #[tactic(auto, unfolding(crate::specs::Verbs::first_at))]
 fn first(cursor: &mut Cursor<'_>, desc: &Description) -> Result<Path, Fault>
-    ensures { LineTakes result cursor.new (first_at (described desc.now) cursor.old) }
+    ensures { LineTakes result cursor.new (first_at (as_described desc.now) cursor.old) }
 {
     expect_word(cursor, b"FIRST")?;
     let path = read_structure(cursor, Wanted::Path, desc)?;
@@ -47,7 +47,7 @@ fn first(cursor: &mut Cursor<'_>, desc: &Description) -> Result<Path, Fault>
 /// LAST x
 #[tactic(auto, unfolding(crate::specs::Verbs::last_at))]
 fn last(cursor: &mut Cursor<'_>, desc: &Description) -> Result<Path, Fault>
-    ensures { LineTakes result cursor.new (last_at (described desc.now) cursor.old) }
+    ensures { LineTakes result cursor.new (last_at (as_described desc.now) cursor.old) }
 {
     expect_word(cursor, b"LAST")?;
     let path = read_structure(cursor, Wanted::Path, desc)?;
@@ -57,7 +57,7 @@ fn last(cursor: &mut Cursor<'_>, desc: &Description) -> Result<Path, Fault>
 /// x AT item = literal
 #[tactic(auto, unfolding(crate::specs::Verbs::member_at))]
 fn member(cursor: &mut Cursor<'_>, desc: &Description) -> Result<Path, Fault>
-    ensures { LineTakes result cursor.new (member_at (described desc.now) cursor.old) }
+    ensures { LineTakes result cursor.new (member_at (as_described desc.now) cursor.old) }
 {
     let path = read_structure(cursor, Wanted::Path, desc)?;
     expect_word(cursor, b"AT")?;
@@ -71,7 +71,7 @@ fn member(cursor: &mut Cursor<'_>, desc: &Description) -> Result<Path, Fault>
 
 #[tactic(auto, unfolding(crate::specs::Verbs::path_at))]
 fn path(cursor: &mut Cursor<'_>, desc: &Description) -> Result<Path, Fault>
-    ensures { LineTakes result cursor.new (path_at (described desc.now) cursor.old) }
+    ensures { LineTakes result cursor.new (path_at (as_described desc.now) cursor.old) }
 {
     if cursor.starts_word(b"FIRST") {
         return first(cursor, desc);
@@ -85,7 +85,7 @@ fn path(cursor: &mut Cursor<'_>, desc: &Description) -> Result<Path, Fault>
 /// FIND path
 #[tactic(auto, unfolding(crate::specs::Verbs::find_at))]
 fn find(cursor: &mut Cursor<'_>, desc: &Description) -> Result<Verb, Fault>
-    ensures { LineTakes result cursor.new (find_at (described desc.now) cursor.old) }
+    ensures { LineTakes result cursor.new (find_at (as_described desc.now) cursor.old) }
 {
     expect_word(cursor, b"FIND")?;
     let path = path(cursor, desc)?;
@@ -95,7 +95,7 @@ fn find(cursor: &mut Cursor<'_>, desc: &Description) -> Result<Verb, Fault>
 /// CREATE D
 #[tactic(auto, unfolding(crate::specs::Verbs::create_at))]
 fn create(cursor: &mut Cursor<'_>, desc: &Description) -> Result<Verb, Fault>
-    ensures { LineTakes result cursor.new (create_at (described desc.now) cursor.old) }
+    ensures { LineTakes result cursor.new (create_at (as_described desc.now) cursor.old) }
 {
     expect_word(cursor, b"CREATE")?;
     let set = read_structure(cursor, Wanted::DataSet, desc)?;
@@ -105,7 +105,7 @@ fn create(cursor: &mut Cursor<'_>, desc: &Description) -> Result<Verb, Fault>
 /// STORE D
 #[tactic(auto, unfolding(crate::specs::Verbs::store_at))]
 fn store(cursor: &mut Cursor<'_>, desc: &Description) -> Result<Verb, Fault>
-    ensures { LineTakes result cursor.new (store_at (described desc.now) cursor.old) }
+    ensures { LineTakes result cursor.new (store_at (as_described desc.now) cursor.old) }
 {
     expect_word(cursor, b"STORE")?;
     let set = read_structure(cursor, Wanted::DataSet, desc)?;
@@ -115,7 +115,7 @@ fn store(cursor: &mut Cursor<'_>, desc: &Description) -> Result<Verb, Fault>
 /// PUT D item = literal {, item = literal}
 #[tactic(auto, unfolding(crate::specs::Verbs::put_at))]
 fn put(cursor: &mut Cursor<'_>, desc: &Description) -> Result<Verb, Fault>
-    ensures { LineTakes result cursor.new (put_at (described desc.now) cursor.old) }
+    ensures { LineTakes result cursor.new (put_at (as_described desc.now) cursor.old) }
 {
     expect_word(cursor, b"PUT")?;
     let set = read_structure(cursor, Wanted::DataSet, desc)?;
@@ -133,13 +133,13 @@ fn all_shown(cursor: &mut Cursor<'_>, set: &Structure) -> Result<ItemNumbers, Fa
         push_numbers(&mut all, whole_run(set))?;
         return Ok(all);
     }
-    shown(cursor, set)
+    shown_items(cursor, set)
 }
 
 /// GET D [item {, item}]
 #[tactic(auto, unfolding(crate::specs::Verbs::get_at))]
 fn get(cursor: &mut Cursor<'_>, desc: &Description) -> Result<Verb, Fault>
-    ensures { LineTakes result cursor.new (get_at (described desc.now) cursor.old) }
+    ensures { LineTakes result cursor.new (get_at (as_described desc.now) cursor.old) }
 {
     expect_word(cursor, b"GET")?;
     let set = read_structure(cursor, Wanted::DataSet, desc)?;
@@ -163,7 +163,7 @@ fn mode(cursor: &mut Cursor<'_>) -> Result<bool, Fault>
 /// BEGIN-TRANSACTION mode R
 #[tactic(auto, unfolding(crate::specs::Verbs::begin_at))]
 fn begin(cursor: &mut Cursor<'_>, desc: &Description) -> Result<Verb, Fault>
-    ensures { LineTakes result cursor.new (begin_at (described desc.now) cursor.old) }
+    ensures { LineTakes result cursor.new (begin_at (as_described desc.now) cursor.old) }
 {
     expect_word(cursor, b"BEGIN-TRANSACTION")?;
     let audit = mode(cursor)?;
@@ -186,7 +186,7 @@ fn sync(cursor: &mut Cursor<'_>) -> Result<bool, Fault>
 /// END-TRANSACTION mode R [SYNC]
 #[tactic(auto, unfolding(crate::specs::Verbs::finish_at))]
 fn finish(cursor: &mut Cursor<'_>, desc: &Description) -> Result<Verb, Fault>
-    ensures { LineTakes result cursor.new (finish_at (described desc.now) cursor.old) }
+    ensures { LineTakes result cursor.new (finish_at (as_described desc.now) cursor.old) }
 {
     expect_word(cursor, b"END-TRANSACTION")?;
     let audit = mode(cursor)?;
@@ -198,7 +198,7 @@ fn finish(cursor: &mut Cursor<'_>, desc: &Description) -> Result<Verb, Fault>
 /// ABORT-TRANSACTION R
 #[tactic(auto, unfolding(crate::specs::Verbs::abort_at))]
 fn abort(cursor: &mut Cursor<'_>, desc: &Description) -> Result<Verb, Fault>
-    ensures { LineTakes result cursor.new (abort_at (described desc.now) cursor.old) }
+    ensures { LineTakes result cursor.new (abort_at (as_described desc.now) cursor.old) }
 {
     expect_word(cursor, b"ABORT-TRANSACTION")?;
     read_structure(cursor, Wanted::Restart, desc)?;
@@ -207,7 +207,7 @@ fn abort(cursor: &mut Cursor<'_>, desc: &Description) -> Result<Verb, Fault>
 
 #[tactic(auto, unfolding(crate::specs::Verbs::transaction_at))]
 fn transaction(cursor: &mut Cursor<'_>, desc: &Description) -> Result<Verb, Fault>
-    ensures { LineTakes result cursor.new (transaction_at (described desc.now) cursor.old) }
+    ensures { LineTakes result cursor.new (transaction_at (as_described desc.now) cursor.old) }
 {
     if cursor.starts_word(b"BEGIN-TRANSACTION") {
         return begin(cursor, desc);
@@ -220,7 +220,7 @@ fn transaction(cursor: &mut Cursor<'_>, desc: &Description) -> Result<Verb, Faul
 
 #[tactic(auto, unfolding(crate::specs::Verbs::area_at))]
 fn area(cursor: &mut Cursor<'_>, desc: &Description) -> Result<Verb, Fault>
-    ensures { LineTakes result cursor.new (area_at (described desc.now) cursor.old) }
+    ensures { LineTakes result cursor.new (area_at (as_described desc.now) cursor.old) }
 {
     if cursor.starts_word(b"CREATE") {
         return create(cursor, desc);
@@ -241,7 +241,7 @@ fn area(cursor: &mut Cursor<'_>, desc: &Description) -> Result<Verb, Fault>
 /// Memory.
 #[tactic(auto, unfolding(crate::specs::Verbs::verb_at))]
 pub fn verb(cursor: &mut Cursor<'_>, desc: &Description) -> Result<Verb, Fault>
-    ensures { LineTakes result cursor.new (verb_at (described desc.now) cursor.old) }
+    ensures { LineTakes result cursor.new (verb_at (as_described desc.now) cursor.old) }
 {
     if cursor.starts_word(b"OPEN") {
         return open(cursor);

@@ -12,7 +12,7 @@ use Rattle.dms_base.specs.declared.value.Value.TheVariants.{Null, Text, Number, 
 use Rattle.dms_base.specs.Name.{IsName, is_name, unknown_name}
 use Rattle.dms_base.specs.Spelling.{text_for, is_kind}
 use Rattle.dms_base.specs.Text.{is_printable}
-use Rattle.dms_base.specs.Texts.{doubled, quoted, last_digits, after_point, sign_of, number_text, decimals_of, value_text}
+use Rattle.dms_base.specs.Texts.{double_quotes, quote, last_digits, after_point, sign_of, number_text, decimals_of, value_text}
 use Rattle.dms_base.specs.Words.{is_word, is_word_byte}
 use Rattle.dms_desc.specs.Plain.{IsPlain}
 use Rattle.dms_model.specs.declared.reply.Reply.{Reply}
@@ -58,12 +58,12 @@ unknown_feed = feed_of unknown_name refl
 
 -- values
 
-doubled_feed : (bs : List ℕ) → NoFeed bs → NoFeed (doubled bs)
+doubled_feed : (bs : List ℕ) → NoFeed bs → NoFeed (double_quotes bs)
 doubled_feed [] h = tt
-doubled_feed (b ∷ bs) h = feed_if (b == 34) (34 ∷ 34 ∷ doubled bs) (b ∷ doubled bs) (refl, (refl, doubled_feed bs h.1)) (h.0, doubled_feed bs h.1)
+doubled_feed (b ∷ bs) h = feed_if (b == 34) (34 ∷ 34 ∷ double_quotes bs) (b ∷ double_quotes bs) (refl, (refl, doubled_feed bs h.1)) (h.0, doubled_feed bs h.1)
 
-quoted_feed : (bs : List ℕ) → NoFeed bs → NoFeed (quoted bs)
-quoted_feed bs h = (refl, feed_on (doubled bs) (34 ∷ []) (doubled_feed bs h) (refl, tt))
+quoted_feed : (bs : List ℕ) → NoFeed bs → NoFeed (quote bs)
+quoted_feed bs h = (refl, feed_on (double_quotes bs) (34 ∷ []) (doubled_feed bs h) (refl, tt))
 
 last_feed : (m n : ℕ) → NoFeed (last_digits m n)
 last_feed zero n = tt

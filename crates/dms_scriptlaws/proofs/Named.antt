@@ -25,7 +25,7 @@ use Rattle.dms_model.specs.declared.put.Put.{Put}
 use Rattle.dms_model.specs.declared.spot.Spot.{Spot}
 use Rattle.dms_model.specs.Db.{Db}
 use Rattle.dms_desc.specs.Lookups.{name_of, structure_of, items_of, set_of}
-use Rattle.dms_model.specs.Session.{Session, Outcome, StoreResult, Refused, Keeps, Filled, Misfit, Values', refuse, done, shows, settle, keep, store_step, after_store, begin_step, after_begin, begun, begin_refusals, area_answer, area_of, area_refusals, duplicate_of, or_no_area, or_unknown, replies, stored_program, awaited, workers, end_step, after_end, abort_step, find_step, find_for, after_find, found_by, create_step, create_for, owner_for, refuse_unowned, put_step, put_area, after_put, filled, item_name, setting_value, get_step, get_area, get_text, more_text, item_text, close_step, open_as, open_step, verb_step, step_at, answered, carried_out, step, with_program, with_work, restart_of, someone_works, is_inquiry, opens, changes, path_of, new_program, place_of, carried, left, without, idle, backed_out, found_program, let_go, with_lock, missing_from, area_values, open_in}
+use Rattle.dms_model.specs.Session.{Session, Outcome, StoreResult, Refused, Keeps, Filled, Misfit, Values', refuse, succeeds, shows, settle, keep, store_step, after_store, begin_step, after_begin, begin_transaction, begin_refusals, area_answer, area_of, area_refusals, duplicate_of, or_no_area, or_unknown, replies, stored_program, begin_blockers, workers, end_step, after_end, abort_step, find_step, find_for, after_find, found_by, create_step, create_for, owner_for, refuse_unowned, put_step, put_area, after_put, fill_values, item_name, setting_value, get_step, get_area, get_text, more_text, item_text, close_step, open_as, open_step, verb_step, step_at, after_answer, carried_out, step, with_program, with_work, restart_of, someone_works, is_inquiry, opens, changes, path_of, new_program, place_of, activate, leave_transaction, without, idle, backed_out, found_program, let_go, with_lock, missing_from, area_values, open_in}
 use Rattle.dms_model.specs.Traits.{traits}
 use Rattle.dms_model.specs.Areas.{AreaFits, AreasFit}
 use Rattle.dms_laws.proofs.Lists.{all_at, all_set, all_mapped, all_pushed, all_without}
@@ -124,10 +124,10 @@ filled_if : (b : Bool) (x y : Filled) → FilledClean x → FilledClean y → Fi
 filled_if true x y h k = h
 filled_if false x y h k = k
 
-filled_clean : (items : List Item) (ts : List Setting) (values : List Value) → ItemsNamed items → FilledClean (filled items ts values)
+filled_clean : (items : List Item) (ts : List Setting) (values : List Value) → ItemsNamed items → FilledClean (fill_values items ts values)
 filled_clean items [] values h = tt
 filled_clean items (t ∷ ts) values h =
-    filled_if (is_some (setting_value items t)) (filled items ts (slice_set values (t.item - 1) (or_null (setting_value items t)))) (Misfit (item_name (slice_get items (t.item - 1))))
+    filled_if (is_some (setting_value items t)) (fill_values items ts (slice_set values (t.item - 1) (or_null (setting_value items t)))) (Misfit (item_name (slice_get items (t.item - 1))))
     (filled_clean items ts _ h) (item_name_feed items (t.item - 1) h)
 
 -- what GET shows
@@ -203,15 +203,15 @@ module _ (desc : Described) (names : HasNames desc) where
     keep_named : (db : Db) (set : ℕ) → KeptNamed (keep desc p db set)
     keep_named db set = keep_by KeptNamed desc p db set (λ a n may. kept_named db set a n) (shape_feed set, area_clean (or_no_area (area_of p set)) (area_answer desc p db set) set)
 
-    begun_kept : (audit : Bool) → AllByRecursion NoFeed (awaited s) → KeptNamed (begun desc p s audit)
-    begun_kept audit h = begun_by KeptNamed desc p s audit (λ is a n may. kept_named s.db (restart_of desc) a n) mine (begun_clean audit (awaited s) (area_of p (restart_of desc)) (area_answer desc p s.db (restart_of desc)) (restart_of desc) h)
+    begun_kept : (audit : Bool) → AllByRecursion NoFeed (begin_blockers s) → KeptNamed (begin_transaction desc p s audit)
+    begun_kept audit h = begun_by KeptNamed desc p s audit (λ is a n may. kept_named s.db (restart_of desc) a n) mine (begun_clean audit (begin_blockers s) (area_of p (restart_of desc)) (area_answer desc p s.db (restart_of desc)) (restart_of desc) h)
 
     keep_if : (audit : Bool) → KeptNamed (cond audit (keep desc p s.db (restart_of desc)) (Keeps p s.db))
     keep_if audit = kept_if audit (keep desc p s.db (restart_of desc)) (Keeps p s.db) (keep_named s.db (restart_of desc)) mine
 
     store_named : (k : StoreResult) → KeptNamed k → LeavesNamed (after_store k i s)
     store_named (Refused r) h = replied s r h all
-    store_named (Keeps q db) h = shown _ [] tt (with_named (carried q) h)
+    store_named (Keeps q db) h = shown _ [] tt (with_named (activate q) h)
 
     begun_named : (k : StoreResult) → KeptNamed k → LeavesNamed (after_begin k i s)
     begun_named (Refused r) h = replied s r h all
@@ -220,12 +220,12 @@ module _ (desc : Described) (names : HasNames desc) where
     end_named : (k : StoreResult) (sync : Bool) → KeptNamed k → LeavesNamed (after_end k desc i s sync)
     end_named (Refused r) sync h = replied s r h all
     end_named (Keeps q db) sync h =
-        settled (record s { db = db; programs = slice_set s.programs i (left q); pending = s.pending || sync || nat_le desc.syncpoint (one_more s.since); since = one_more s.since }) (with_named (left q) h)
+        settled (record s { db = db; programs = slice_set s.programs i (leave_transaction q); pending = s.pending || sync || nat_le desc.syncpoint (one_more s.since); since = one_more s.since }) (with_named (leave_transaction q) h)
 
     find_named : (r : Option Spot) (x : ℕ) → LeavesNamed (after_find r desc i p s x)
     find_named None x = refused s _ _ (shape_feed x) all
     find_named (Some r) x =
-        shown _ [] tt (with_named (carried (found_program p (set_of desc x) r)) (let_go_named (with_work p (set_of desc x) (record { current = Some r.number; area = Some (Old r.rec.values) })) (set_of desc x) mine))
+        shown _ [] tt (with_named (activate (found_program p (set_of desc x) r)) (let_go_named (with_work p (set_of desc x) (record { current = Some r.number; area = Some (Old r.rec.values) })) (set_of desc x) mine))
 
     owner_feed : (x : ℕ) → LeavesNamed (refuse_unowned desc s x)
     owner_feed x = refused s _ _ (shape_feed (owner_of (structure_of desc x))) all
@@ -245,7 +245,7 @@ module _ (desc : Described) (names : HasNames desc) where
     put_area_named : (o : Option Area) (set : ℕ) (settings : List Setting) → LeavesNamed (put_area o desc i p s set settings)
     put_area_named None set settings = refused s _ _ (shape_feed set) all
     put_area_named (Some a) set settings =
-        after_put_named (filled (items_of (structure_of desc set)) settings (area_values a)) set a (filled_clean (items_of (structure_of desc set)) settings (area_values a) (set_items set))
+        after_put_named (fill_values (items_of (structure_of desc set)) settings (area_values a)) set a (filled_clean (items_of (structure_of desc set)) settings (area_values a) (set_items set))
 
     -- values of an area are plain, where its data set is there; else nothing is shown of them
     area_plain : (shape : Shape) (a : Area) → AreaFits shape (Some a) → ArePlain (area_values a)
@@ -262,13 +262,13 @@ module _ (desc : Described) (names : HasNames desc) where
 
     get_named : (o : Option Area) (set : ℕ) (numbers : List ℕ) → AreasFit desc p → area_of p set ≡ o → LeavesNamed (get_area o desc i p s set numbers)
     get_named None set numbers fit is = refused s _ _ (shape_feed set) all
-    get_named (Some a) set numbers fit is = shown _ _ (by (structure_of desc set) refl) (with_named (carried p) mine)
+    get_named (Some a) set numbers fit is = shown _ _ (by (structure_of desc set) refl) (with_named (activate p) mine)
       where
         by : (o : Option Shape) → structure_of desc set ≡ o → NoFeed (get_text (items_of o) numbers (area_values a))
         by None h = none_shown numbers (area_values a)
         by (Some shape) h = get_feed shape.items numbers (area_values a) (items_named shape.items (names.items set shape h)) (area_plain shape a (subst (AreaFits shape) is (fit set shape h)))
 
-  awaited_feed : (s : Session) → AreNamed s.programs → AllByRecursion NoFeed (awaited s)
+  awaited_feed : (s : Session) → AreNamed s.programs → AllByRecursion NoFeed (begin_blockers s)
   awaited_feed s all = by s.pending
     where
       by : (b : Bool) → AllByRecursion NoFeed (cond b (workers s.programs) [])
@@ -281,25 +281,25 @@ module _ (desc : Described) (names : HasNames desc) where
   unfolding verb_step store_step begin_step end_step abort_step find_step create_step put_step get_step close_step
   verb_named i p s OpenUpdate at all fit = refused s _ p.name (mine_feed s i p at all) all
   verb_named i p s OpenInquiry at all fit = refused s _ p.name (mine_feed s i p at all) all
-  verb_named i p s Close at all fit = leaves_if p.in_transaction (refuse s AuditError p.name) (done (record s { programs = without i s.programs })) (refused s _ p.name (mine_feed s i p at all) all) (shown _ [] tt (all_without Named s.programs i all))
+  verb_named i p s Close at all fit = leaves_if p.in_transaction (refuse s AuditError p.name) (succeeds (record s { programs = without i s.programs })) (refused s _ p.name (mine_feed s i p at all) all) (shown _ [] tt (all_without Named s.programs i all))
   verb_named i p s (Find path) at all fit = find_for_named s i p at all (owner_for desc p (path_of path)) path
   verb_named i p s (Create set) at all fit = create_for_named s i p at all (owner_for desc p set) set
   verb_named i p s (PutItems set settings) at all fit = put_area_named s i p at all (area_of p set) set settings
   verb_named i p s (Get set items) at all fit = get_named s i p at all (area_of p set) set items fit refl
   verb_named i p s (Store set) at all fit = leaves_if p.in_transaction (after_store (keep desc p s.db set) i s) (refuse s AuditError p.name) (store_named s i p at all (keep desc p s.db set) (keep_named s i p at all s.db set)) (refused s _ p.name (mine_feed s i p at all) all)
   verb_named i p s (Begin audit) at all fit =
-      leaves_if p.in_transaction (refuse s AuditError p.name) (after_begin (begun desc p s audit) i s) (refused s _ p.name (mine_feed s i p at all) all)
-      (begun_named s i p at all (begun desc p s audit) (begun_kept s i p at all audit (awaited_feed s all)))
+      leaves_if p.in_transaction (refuse s AuditError p.name) (after_begin (begin_transaction desc p s audit) i s) (refused s _ p.name (mine_feed s i p at all) all)
+      (begun_named s i p at all (begin_transaction desc p s audit) (begun_kept s i p at all audit (awaited_feed s all)))
   verb_named i p s (End audit sync) at all fit =
       leaves_if p.in_transaction (after_end (cond audit (keep desc p s.db (restart_of desc)) (Keeps p s.db)) desc i s sync) (refuse s AuditError p.name)
       (end_named s i p at all (cond audit (keep desc p s.db (restart_of desc)) (Keeps p s.db)) sync (keep_if s i p at all audit)) (refused s _ p.name (mine_feed s i p at all) all)
   verb_named i p s Abort at all fit =
-      leaves_if p.in_transaction (done (record s { db = s.mark; programs = map (backed_out p.name) s.programs; pending = false; since = 0 })) (refuse s AuditError p.name)
+      leaves_if p.in_transaction (succeeds (record s { db = s.mark; programs = map (backed_out p.name) s.programs; pending = false; since = 0 })) (refuse s AuditError p.name)
       (shown _ [] tt (all_mapped Named (backed_out p.name) s.programs (λ x n. backed_named p.name x n) all)) (refused s _ p.name (mine_feed s i p at all) all)
 
 open_as_named : (desc : Described) (s : Session) (name : List ℕ) (mode : Mode) → IsName name → AreNamed s.programs → LeavesNamed (open_as desc s name mode)
 open_as_named desc s name mode named all =
-    leaves_if (nat_le 64 (length s.programs)) (refuse s LimitError name) (done (record s { programs = s.programs ++ new_program desc name mode ∷ [] }))
+    leaves_if (nat_le 64 (length s.programs)) (refuse s LimitError name) (succeeds (record s { programs = s.programs ++ new_program desc name mode ∷ [] }))
     (refused s _ name (name_feed name named) all) (shown _ [] tt (all_pushed Named s.programs (new_program desc name mode) all named))
 
 open_in_named : (o : Option Mode) (desc : Described) (s : Session) (name : List ℕ) → IsName name → AreNamed s.programs → LeavesNamed (open_in o desc s name)
@@ -320,7 +320,7 @@ step_at_named desc names (Some p) i s name v at named all fit =
     (record { reply = name_feed name named; names = with_named desc names s i p at all due (mine desc names s i p at all) })
     (leaves_if (is_inquiry p.mode && changes v) (refuse s _ name) _ (refused s _ name (name_feed name named) all) (verb_named desc names i p s v at all (all_at (AreasFit desc) s.programs i p at fit))))
 
-answered_named : (name : List ℕ) (o : Outcome) → LeavesNamed o → LeavesNamed (answered name o)
+answered_named : (name : List ℕ) (o : Outcome) → LeavesNamed o → LeavesNamed (after_answer name o)
 answered_named name o h = record { reply = h.reply; names = h.names }
 
 -- one step

@@ -3,7 +3,7 @@ use Rattle.std.proofs.Common.{ℕ, zero, suc, ◌≡◌, ◌≤◌, ◌<◌, ◌
 use Rattle.std.proofs.lemmas.Bool.Decides.{nat_tests}
 use Rattle.std.proofs.lemmas.List.{append_assoc, length-map, length-append}
 use Rattle.dms_model.specs.Db.{Db}
-use Rattle.dms_model.specs.Points.{Point, Quiet, told as told_point, known}
+use Rattle.dms_model.specs.Points.{Point, Quiet, told_point, known_point}
 use Rattle.dms_runner.specs.Events.{RunEvent, text_of, quiets_of, durable_after, durable_by}
 use Rattle.dms_runner.proofs.Happening.{quiets_on}
 use Rattle.dms_scriptlaws.specs.Told.{told}
@@ -73,7 +73,7 @@ module _ (first : ℕ) (Q : Quiet → Type 0) (events : List RunEvent) (r : IsTr
   behind_points m k zero (p ∷ points) more e h = absurd (omega (arith, e))
   behind_points m k (suc j) (p ∷ points) more e h = or_later (p.number == m) (is_point_in (take j (points ++ more)) m) (behind_points m k j points more (omega (arith, e)) h)
 
-  as_points : (m k : ℕ) (more : List Point) (made : List Quiet) → map told_point more ≡ map known made → is_point_in (take k more) m ≡ is_quiet_in (take k made) m
+  as_points : (m k : ℕ) (more : List Point) (made : List Quiet) → map told_point more ≡ map known_point made → is_point_in (take k more) m ≡ is_quiet_in (take k made) m
   as_points m zero more made e = (λ i. is_point_in (none_p i) m) ∙ sym (λ i. is_quiet_in (none_q i) m)
     where
       none_p : take 0 more ≡ []
@@ -85,9 +85,9 @@ module _ (first : ℕ) (Q : Quiet → Type 0) (events : List RunEvent) (r : IsTr
   as_points m (suc k) [] (q ∷ made) e = absurd (cc)
   as_points m (suc k) (p ∷ more) [] e = absurd (cc)
   as_points m (suc k) (p ∷ more) (q ∷ made) e =
-      let here : told_point p ≡ known q = cc in
+      let here : told_point p ≡ known_point q = cc in
       let number : p.number ≡ q.0 = ap (λ (x : ℕ × Option Db). x.0) here in
-      let tails : map told_point more ≡ map known made = cc in
+      let tails : map told_point more ≡ map known_point made = cc in
       let rest = as_points m k more made tails in
       λ i. (number i == m) || rest i
 
@@ -101,7 +101,7 @@ module _ (first : ℕ) (Q : Quiet → Type 0) (events : List RunEvent) (r : IsTr
       let f = l.front in
       let g = l.grew in
       let shift = durable_shift c 0 0 c c s.before (omega arith) (omega arith) in
-      let lengths : length g.more ≡ length l.made = sym (length-map g.more told_point) ∙ ap length g.spells ∙ length-map l.made known in
+      let lengths : length g.more ≡ length l.made = sym (length-map g.more told_point) ∙ ap length g.spells ∙ length-map l.made known_point in
       let all : length l.all ≡ c + length g.more = ap length g.is ∙ length-append points g.more in
       let enough : c + durable_after 0 0 s.before ≤ f.count = omega (arith, shift, f.enough) in
       let within : f.count ≤ c + length l.made = omega (arith, f.within, all, lengths) in

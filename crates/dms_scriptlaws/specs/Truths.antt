@@ -7,7 +7,7 @@ use Rattle.dms_desc.specs.Shape.{Shape, Described}
 use Rattle.dms_model.specs.Db.{Db}
 use Rattle.dms_desc.specs.Lookups.{structure_of}
 use Rattle.dms_model.specs.Points.{Point, Quiet, Stop}
-use Rattle.dms_model.specs.Session.{ended}
+use Rattle.dms_model.specs.Session.{end_session}
 use Rattle.dms_model.specs.Valid.{IsValid}
 use Rattle.dms_laws.specs.Made.{IsWellMade, OfAllItems}
 use Rattle.dms_laws.specs.Sound.{IsFlat}
@@ -76,4 +76,4 @@ pub record StayValid (desc : Described) (db : Db) (first : ℕ) (lines : List (L
   pub valid : AllByRecursion (λ (q : Quiet). IsStart desc q.1) (answers_quiets desc db first lines)
   pub left : IsStart desc (left_by desc db first lines)
   pub numbers : RiseFrom first (answers_quiets desc db first lines)
-  pub next : (ended (script_run desc db first lines).going.session).next ≡ first + length (answers_quiets desc db first lines)
+  pub next : (end_session (script_run desc db first lines).going.session).next ≡ first + length (answers_quiets desc db first lines)

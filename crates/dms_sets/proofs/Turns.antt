@@ -6,7 +6,7 @@ use Rattle.dms_base.specs.declared.kind.ItemKind.{ItemKind}
 use Rattle.dms_desc.specs.declared.record.Record.{Record}
 use Rattle.dms_desc.specs.declared.structure.Structure.{Structure}
 use Rattle.dms_desc.specs.Shape.{Shape, shape_of}
-use Rattle.dms_sets.specs.Changes.{ListsOf, IfListed, OneChanged, kept}
+use Rattle.dms_sets.specs.Changes.{ListsOf, IfListed, OneChanged, list_of_set}
 
 got_at : (ss : List Structure) (k : ℕ) (x : Structure) → k < length ss → x ≡ get_or ss k x → slice_get (map shape_of ss) k ≡ Some (shape_of x)
 got_at [] k x low h = absurd (omega (arith, low))
@@ -24,10 +24,10 @@ pub shapes_long : (ss : List Structure) → length (map shape_of ss) ≡ length 
 shapes_long ss = length-map ss shape_of
 
 pub one_as : (s : Shape) (number : ℕ) (old new : Option Record) (a z : ListsOf) (ks kinds : List ItemKind) (b refused : Bool) → ks ≡ kinds → b ≡ refused
-    → IfListed (kept a ks s) (λ xs. OneChanged ks s number old new xs (kept z ks s) b) → IfListed (kept a kinds s) (λ xs. OneChanged kinds s number old new xs (kept z kinds s) refused)
+    → IfListed (list_of_set a ks s) (λ xs. OneChanged ks s number old new xs (list_of_set z ks s) b) → IfListed (list_of_set a kinds s) (λ xs. OneChanged kinds s number old new xs (list_of_set z kinds s) refused)
 one_as s number old new a z ks kinds b refused same is h =
-    subst (λ (k : List ItemKind). IfListed (kept a k s) (λ xs. OneChanged k s number old new xs (kept z k s) refused)) same
-    (subst (λ (t : Bool). IfListed (kept a ks s) (λ xs. OneChanged ks s number old new xs (kept z ks s) t)) is h)
+    subst (λ (k : List ItemKind). IfListed (list_of_set a k s) (λ xs. OneChanged k s number old new xs (list_of_set z k s) refused)) same
+    (subst (λ (t : Bool). IfListed (list_of_set a ks s) (λ xs. OneChanged ks s number old new xs (list_of_set z ks s) t)) is h)
 
 pub three_more : (k : ℕ) → 3 * k + 3 ≡ 3 * (k + 1)
 three_more k = omega arith

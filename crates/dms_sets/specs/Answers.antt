@@ -12,7 +12,7 @@ use Rattle.dms_desc.specs.Shape.{Shape, Described}
 use Rattle.dms_model.specs.Db.{Db, Records}
 use Rattle.dms_desc.specs.Keys.{key_of}
 use Rattle.dms_desc.specs.Kinds.{takes, over}
-use Rattle.dms_model.specs.Stores.{has_equal, is_closed, clash, judged, put_number, put_unless}
+use Rattle.dms_model.specs.Stores.{has_equal, is_closed, clash, judge_put, put_number, put_unless}
 use Rattle.dms_sets.specs.Listing.{member_opt}
 use Rattle.dms_sets.specs.Sets.{entry_of, entries_of, kinds_over}
 use Rattle.dms_sets.specs.Owners.{EntriesFit}
@@ -64,16 +64,16 @@ closed_is s set d t h =
 
 blocked_at : (desc : Described) (s : Shape) (db : Db) (set : ℕ) (number : Option ℕ) (rec : Record) → IsOpenTo s set → rec.owner < 2 ^ 32 → IsFoundNumber number → AreJudged desc db rec s
     → has_equal s db.entries number rec (entries db.records) ≡ is_blocked desc s db set number rec
-blocked_at desc s db set None rec able owned small judged = new_taken (kinds_over desc s) s db.entries rec able.auto owned judged.key db.records judged.all
-blocked_at desc s db set (Some n) rec able owned small judged =
-    old_taken (kinds_over desc s) s db.entries rec able.auto owned judged.key db.records n small judged.all
+blocked_at desc s db set None rec able owned small judge_put = new_taken (kinds_over desc s) s db.entries rec able.auto owned judge_put.key db.records judge_put.all
+blocked_at desc s db set (Some n) rec able owned small judge_put =
+    old_taken (kinds_over desc s) s db.entries rec able.auto owned judge_put.key db.records n small judge_put.all
     ∙ ap (λ (k : ℕ). is_blocked desc s db k (Some n) rec) able.over
 
 clash_turn : (b : Bool) (desc : Described) (s : Shape) (db : Db) (set : ℕ) (number : Option ℕ) (rec : Record) (o p : Option ℕ) → is_closed s set rec.values ≡ b → rec.owner < 2 ^ 32 → IsFoundNumber number → (is_closed s set rec.values ≡ true → AreJudged desc db rec s) → o ≡ p
     → cond (b && has_equal s db.entries number rec (entries db.records)) (Some s.number) o ≡ cond (b && is_blocked desc s db set number rec) (Some s.number) p
-clash_turn true desc s db set number rec o p closed owned small judged rest =
-    (λ i. cond (blocked_at desc s db set number rec (closed_is s set (not s.duplicates) (takes s rec.values) closed) owned small (judged closed) i) (Some s.number) (rest i))
-clash_turn false desc s db set number rec o p closed owned small judged rest = rest
+clash_turn true desc s db set number rec o p closed owned small judge_put rest =
+    (λ i. cond (blocked_at desc s db set number rec (closed_is s set (not s.duplicates) (takes s rec.values) closed) owned small (judge_put closed) i) (Some s.number) (rest i))
+clash_turn false desc s db set number rec o p closed owned small judge_put rest = rest
 
 pub clash_is : (desc : Described) (ss : List Shape) (db : Db) (set : ℕ) (number : Option ℕ) (rec : Record) → rec.owner < 2 ^ 32 → IsFoundNumber number → AllByRecursion (λ s. is_closed s set rec.values ≡ true → AreJudged desc db rec s) ss
     → clash ss db set number rec ≡ clash_seen desc ss db set number rec
@@ -83,5 +83,5 @@ clash_is desc (s ∷ ss) db set number rec owned small all =
 
 -- What is answered where a record would be stored: a duplicate exactly where a look at a set's entries finds its owner and key.
 pub answer_is : (desc : Described) (db : Db) (set : ℕ) (number : Option ℕ) (rec : Record) → rec.owner < 2 ^ 32 → IsFoundNumber number → AllByRecursion (λ s. is_closed s set rec.values ≡ true → AreJudged desc db rec s) desc.structures
-    → judged desc db set number rec ≡ put_unless (clash_seen desc desc.structures db set number rec) (put_number desc db set number)
+    → judge_put desc db set number rec ≡ put_unless (clash_seen desc desc.structures db set number rec) (put_number desc db set number)
 answer_is desc db set number rec owned small all = ap (λ o. put_unless o (put_number desc db set number)) (clash_is desc desc.structures db set number rec owned small all)

@@ -16,7 +16,7 @@ use Rattle.dms_desc.specs.Keys.{key_of}
 use Rattle.dms_desc.specs.Kinds.{takes}
 use Rattle.dms_sets.specs.Entries.{entry_bytes}
 use Rattle.dms_sets.specs.Padded.{entry_width}
-use Rattle.dms_ordlist.specs.Lists.{with_entry, without, with_in, without_in, padded, first_from}
+use Rattle.dms_ordlist.specs.Lists.{with_entry, without, with_in, without_in, pad_bound, first_from}
 use Rattle.dms_sets.specs.Prefixes.{starts}
 use Rattle.dms_desc.specs.Sorted.{that_passes}
 use Rattle.dms_sets.specs.Changes.{ListsOf, IsEntryWidth, OnlyList, OnlyRoomy, PartFits, PartsFit, HasEntry, entry_in, front_in, is_seen}
@@ -68,7 +68,7 @@ front_whole kinds s rec f =
 pub bound_long : (kinds : List ItemKind) (s : Shape) (rec : Record) → HasEntry kinds s rec.values → length (front_in kinds s rec ++ 0 ∷ 0 ∷ 0 ∷ 0 ∷ []) ≡ entry_width kinds s.parts
 bound_long kinds s rec f = length-append (front_in kinds s rec) (0 ∷ 0 ∷ 0 ∷ 0 ∷ []) ∙ front_long kinds s rec f
 
-bound_is : (kinds : List ItemKind) (s : Shape) (rec : Record) → HasEntry kinds s rec.values → front_in kinds s rec ++ 0 ∷ 0 ∷ 0 ∷ 0 ∷ [] ≡ padded (entry_width kinds s.parts) (front_in kinds s rec)
+bound_is : (kinds : List ItemKind) (s : Shape) (rec : Record) → HasEntry kinds s rec.values → front_in kinds s rec ++ 0 ∷ 0 ∷ 0 ∷ 0 ∷ [] ≡ pad_bound (entry_width kinds s.parts) (front_in kinds s rec)
 bound_is kinds s rec f =
     let long = front_long kinds s rec f in
     let four : 4 ≡ entry_width kinds s.parts - length (front_in kinds s rec) = omega (arith, long) in

@@ -13,7 +13,7 @@ use Rattle.dms_key.specs.KeyBytes.{kind_of, key_bytes}
 use Rattle.dms_desc.specs.Keys.{key_of}
 use Rattle.dms_desc.specs.Kinds.{takes}
 use Rattle.dms_desc.specs.Sorted.{that_passes}
-use Rattle.dms_ordlist.specs.Lists.{padded, first_from, with_in, without_in}
+use Rattle.dms_ordlist.specs.Lists.{pad_bound, first_from, with_in, without_in}
 use Rattle.dms_sets.specs.Entries.{entry_bytes}
 use Rattle.dms_sets.specs.Prefixes.{starts}
 use Rattle.dms_sets.specs.Padded.{entry_width}
@@ -49,8 +49,8 @@ pub record OnlyRoomy (f : List (List ℕ) → List (List ℕ)) (n w : ℕ) (a b 
 -- ---- one set
 
 -- the list of a set
-abbrev pub kept : ListsOf → List ItemKind → Shape → Option (List (List ℕ))
-kept ls kinds s = ls s.number (entry_width kinds s.parts)
+abbrev pub list_of_set : ListsOf → List ItemKind → Shape → Option (List (List ℕ))
+list_of_set ls kinds s = ls s.number (entry_width kinds s.parts)
 
 -- one list is changed so, where it is known
 abbrev pub ListChanged : (List (List ℕ) → List (List ℕ)) → List ItemKind → Shape → ListsOf → ListsOf → Type 0
@@ -87,7 +87,7 @@ front_in kinds s rec = to_be_bytes w32 rec.owner ++ key_bytes kinds s.parts (key
 
 -- the first entry not below them begins with them
 abbrev pub is_seen : List ItemKind → Shape → Record → List (List ℕ) → Bool
-is_seen kinds s rec xs = is_some (that_passes (starts (front_in kinds s rec)) (first_from (Some (padded (entry_width kinds s.parts) (front_in kinds s rec))) xs))
+is_seen kinds s rec xs = is_some (that_passes (starts (front_in kinds s rec)) (first_from (Some (pad_bound (entry_width kinds s.parts) (front_in kinds s rec))) xs))
 
 -- a set without DUPLICATES refuses a record that it takes where an entry has its owner and key
 abbrev pub refuses : List ItemKind → Shape → Option Record → List (List ℕ) → Bool
@@ -105,10 +105,10 @@ OneChanged kinds s number old new xs left refused = EntersSet kinds s number new
 
 -- the same of the lists, where that of the set is known
 abbrev pub Enters : List ItemKind → Shape → ℕ → Option Record → ListsOf → ListsOf → Bool → Type 0
-Enters kinds s number new a b refused = IfListed (kept a kinds s) (λ xs. EntersSet kinds s number new xs (kept b kinds s) refused)
+Enters kinds s number new a b refused = IfListed (list_of_set a kinds s) (λ xs. EntersSet kinds s number new xs (list_of_set b kinds s) refused)
 
 abbrev pub ChangesSet : List ItemKind → Shape → ℕ → Option Record → Option Record → ListsOf → ListsOf → Bool → Type 0
-ChangesSet kinds s number old new a b refused = IfListed (kept a kinds s) (λ xs. OneChanged kinds s number old new xs (kept b kinds s) refused)
+ChangesSet kinds s number old new a b refused = IfListed (list_of_set a kinds s) (λ xs. OneChanged kinds s number old new xs (list_of_set b kinds s) refused)
 
 -- ---- what fits
 

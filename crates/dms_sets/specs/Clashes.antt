@@ -23,7 +23,7 @@ use Rattle.dms_desc.specs.Kinds.{takes, over}
 use Rattle.dms_desc.specs.Sorted.{first, that_passes}
 use Rattle.dms_model.specs.Members.{names, belongs}
 use Rattle.dms_model.specs.Stores.{has_equal, is_other}
-use Rattle.dms_sets.specs.Listing.{listing, member_opt, AllPlaces, left}
+use Rattle.dms_sets.specs.Listing.{listing, member_opt, AllPlaces, leaves_list}
 use Rattle.dms_sets.specs.Prefixes.{starts, reaches, front_append, first_starts, any_first}
 use Rattle.dms_sets.specs.Sets.{entry_of, listed_in, number_in, entry_number, own_entry, place_in_entry, IsSmall, keys_with_opt, keys_without_opt}
 use Rattle.dms_sets.specs.Owners.{EntryFits, EntriesFit, belongs_is}
@@ -189,5 +189,5 @@ module _ (kinds : List ItemKind) (s : Shape) (manual : List SubsetEntry) (rec : 
       other_left n (entries m)
       ∙ ap (has_equal s manual None rec) (sym gone)
       ∙ new_taken (remove m k) fits'
-      ∙ ap (λ (x : ByteSet). is_some (look the_front (keys x))) (left (entry_of kinds s) (place_in_entry s) IsSmall (own_entry kinds s) m k (small_of (entries m) all) (small_of (entries (remove m k)) fits') small)
+      ∙ ap (λ (x : ByteSet). is_some (look the_front (keys x))) (leaves_list (entry_of kinds s) (place_in_entry s) IsSmall (own_entry kinds s) m k (small_of (entries m) all) (small_of (entries (remove m k)) fits') small)
       ∙ ap (λ (x : List (List ℕ)). is_some (look the_front x)) (keys_without_opt (member_opt (entry_of kinds s) k (get m k)) (listed_in kinds s m))

@@ -38,11 +38,11 @@ kept_at p true q x r h e =
     or_false : (b : Bool) → (b || false) ≡ b
     or_false true = refl
     or_false false = refl
-kept_at p false q x r h e = gone (p x) q x e
+kept_at p false q x r h e = holds_none (p x) q x e
   where
-    gone : (b : Bool) (q x : List ℕ) → is_same q x ≡ false → has_entry q (cond b (x ∷ []) []) ≡ false
-    gone true q x e = ap (λ z. z || false) e
-    gone false q x e = refl
+    holds_none : (b : Bool) (q x : List ℕ) → is_same q x ≡ false → has_entry q (cond b (x ∷ []) []) ≡ false
+    holds_none true q x e = ap (λ z. z || false) e
+    holds_none false q x e = refl
 
 front_or : (b : Bool) (q x : List ℕ) (ys : List (List ℕ)) → has_entry q (cond b (x ∷ ys) ys) ≡ (has_entry q (cond b (x ∷ []) []) || has_entry q ys)
 front_or true q x ys = or_assoc (is_same q x) (has_entry q ys)

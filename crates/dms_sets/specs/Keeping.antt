@@ -6,7 +6,7 @@ use Rattle.dms_block.specs.declared.block_fault.BlockFault.{BlockFault}
 use Rattle.dms_block.specs.declared.blocks.Blocks.{Ghosts}
 use Rattle.dms_block.specs.declared.overlay.Overlay.{Overlay}
 use Rattle.dms_block.specs.Held.{HasCausesOr, Looks}
-use Rattle.dms_block.specs.View.{seen, seen_counts, under, written}
+use Rattle.dms_block.specs.View.{overlay_content, seen_counts, under, overlay_changes}
 use Rattle.dms_ordlist.specs.ListIn.{list_in}
 
 -- the file of a structure
@@ -18,8 +18,8 @@ abbrev pub list_told : Bool → ℕ → List (List ℕ) → Option (List (List �
 list_told told width bs = if told && nat_le (length bs) 1048576 then list_in width bs else None
 
 module _ {B : Type 0} {g : Ghosts B} where
-  abbrev pub listed : Overlay B g → ℕ → ℕ → Option (List (List ℕ))
-  listed o n width = list_told (under o).told width (seen o (file_of n))
+  abbrev pub seen_list : Overlay B g → ℕ → ℕ → Option (List (List ℕ))
+  seen_list o n width = list_told (under o).told width (overlay_content o (file_of n))
 
   -- the blocks below are usable, and the file of the structure is theirs
   abbrev pub Usable : Overlay B g → ℕ → Type 0
@@ -27,7 +27,7 @@ module _ {B : Type 0} {g : Ghosts B} where
 
   -- the file of a structure is as it was
   abbrev pub FileStays : ℕ → Overlay B g → Overlay B g → Type 0
-  FileStays n a b = (seen_counts b (file_of n) ≡ seen_counts a (file_of n)) × (IsTrue (under a).told → seen b (file_of n) ≡ seen a (file_of n))
+  FileStays n a b = (seen_counts b (file_of n) ≡ seen_counts a (file_of n)) × (IsTrue (under a).told → overlay_content b (file_of n) ≡ overlay_content a (file_of n))
 
 -- Calls on the lists of these structures that didn't fail: the blocks below were only read, each call wrote three blocks at most, and
 -- the files of all other structures are as they were.
@@ -36,7 +36,7 @@ pub record Calm {B : Type 0} {g : Ghosts B} (p : ℕ → Bool) (n : ℕ) (a b : 
   pub faults : (under b).faults ≡ (under a).faults
   pub reads : ℕ
   pub looks : (under a).sound → Looks {T = Unit {0}} reads (Ok tt) (under a) (under b)
-  pub more : length (written b) ≤ length (written a) + 3 * n
+  pub more : length (overlay_changes b) ≤ length (overlay_changes a) + 3 * n
   pub same : g.same_blocks a.below b.below
   pub others : (m : ℕ) → p m ≡ false → FileStays m a b
 
@@ -45,7 +45,7 @@ pub record EndsInFault {B : Type 0} {g : Ghosts B} (e : BlockFault) (n : ℕ) (a
   pub reads : ℕ
   pub looks : (under a).sound → Looks {T = Unit {0}} reads (Err e) (under a) (under b)
   pub causes : (under a).sound → HasCausesOr {T = Unit {0}} (λ f k. Unit {0}) (Err e) (under a) (under b)
-  pub more : length (written b) ≤ length (written a) + 3 * n
+  pub more : length (overlay_changes b) ≤ length (overlay_changes a) + 3 * n
   pub same : g.same_blocks a.below b.below
 
 -- the fault is that of the blocks below

@@ -11,13 +11,13 @@ use Rattle.dms_block.specs.declared.blocks.Blocks.{Ghosts}
 use Rattle.dms_block.specs.declared.overlay.Overlay.{Overlay}
 use Rattle.dms_block.specs.Held.{BlocksAgree, HasCausesOr}
 use Rattle.dms_block.specs.HeldLaws.{causes_or_on, looks_as, looks_err, looks_none, looks_on}
-use Rattle.dms_block.specs.View.{ReadsOverlay, WritesOverlay, seen, seen_counts, under}
+use Rattle.dms_block.specs.View.{ReadsOverlay, WritesOverlay, overlay_content, seen_counts, under}
 use Rattle.dms_block.specs.ViewLaws.{counts_seen, seen_still}
 use Rattle.dms_ordlist.specs.ListIn.{list_in}
 use Rattle.dms_ordlist.specs.Seen.{IfList, NoList}
 use Rattle.dms_ordlist.specs.SeenLaws.{causes_err, counts_still}
 use Rattle.dms_sets.specs.Changes.{IfListed, OnlyList, OnlyRoomy}
-use Rattle.dms_sets.specs.Keeping.{Calm, EndsInFault, FileStays, FromBelow, Usable, file_of, list_told, listed}
+use Rattle.dms_sets.specs.Keeping.{Calm, EndsInFault, FileStays, FromBelow, Usable, file_of, list_told, seen_list}
 
 -- ---- a list that is told
 
@@ -63,9 +63,9 @@ none_there told width bs xs is none =
 -- ---- an overlay over calls
 
 module _ {B : Type 0} {g : Ghosts B} where
-  pub listed_still : (a b : Overlay B g) (m v : ℕ) → (under b).told ≡ (under a).told → FileStays m a b → listed b m v ≡ listed a m v
+  pub listed_still : (a b : Overlay B g) (m v : ℕ) → (under b).told ≡ (under a).told → FileStays m a b → seen_list b m v ≡ seen_list a m v
   listed_still a b m v told still =
-      ap (λ t. list_told t v (seen b (file_of m))) told ∙ still_by (under a).told (under a).told v (seen a (file_of m)) (seen b (file_of m)) refl still.1
+      ap (λ t. list_told t v (overlay_content b (file_of m))) told ∙ still_by (under a).told (under a).told v (overlay_content a (file_of m)) (overlay_content b (file_of m)) refl still.1
 
   pub calm_none : ((x : B) → g.same_blocks x x) → (p : ℕ → Bool) (n : ℕ) (a : Overlay B g) → Calm p n a a
   calm_none again p n a = record {
@@ -131,7 +131,7 @@ module _ {B : Type 0} {g : Ghosts B} where
   -- ---- one call that writes, into the file f of the structure s
 
   pub calm_write : {T : Type 0} (s k f : ℕ) (P : ℕ → ℕ → Type 0) (r : Result T BlockFault) (a b : Overlay B g) → f ≡ file_of s → WritesOverlay k 3 r a b → HasCausesOr P r (under a) (under b)
-      → OnOk r (IsTrue (under a).told → (h : ℕ) → h ≢ f → seen b h ≡ seen a h) → OnOk r ((h : ℕ) → h ≢ f → seen_counts b h ≡ seen_counts a h) → OnOk r (Calm (λ m. m == s) 1 a b)
+      → OnOk r (IsTrue (under a).told → (h : ℕ) → h ≢ f → overlay_content b h ≡ overlay_content a h) → OnOk r ((h : ℕ) → h ≢ f → seen_counts b h ≡ seen_counts a h) → OnOk r (Calm (λ m. m == s) 1 a b)
   calm_write s k f P (Ok x) a b is writes causes others counts = record {
     told = writes.looks.passes.lasts.told;
     faults = causes;
@@ -158,50 +158,50 @@ module _ {B : Type 0} {g : Ghosts B} where
   usable_write k n (Err e) a b writes = tt
 
   -- a fault isn't found in a list that is known
-  pub below_write : {T : Type 0} (s w f : ℕ) (r : Result T BlockFault) (a b : Overlay B g) → f ≡ file_of s → HasCausesOr (NoList a f w) r (under a) (under b) → IfErr r (λ e. IfListed (listed a s w) (λ xs. FromBelow e a b))
+  pub below_write : {T : Type 0} (s w f : ℕ) (r : Result T BlockFault) (a b : Overlay B g) → f ≡ file_of s → HasCausesOr (NoList a f w) r (under a) (under b) → IfErr r (λ e. IfListed (seen_list a s w) (λ xs. FromBelow e a b))
   below_write s w f (Ok x) a b is causes = tt
   below_write {T = T} s w f (Err e) a b is causes = λ xs at sound.
-      causes_err T (Unit {0}) (NoList a f w) (λ h n. ⊥) e (under a) (under b) (λ h n no. none_there (under a).told w (seen a (file_of s)) xs at (λ told. ap (λ k. list_in w (seen a k)) (sym is) ∙ no.2 told)) causes
+      causes_err T (Unit {0}) (NoList a f w) (λ h n. ⊥) e (under a) (under b) (λ h n no. none_there (under a).told w (overlay_content a (file_of s)) xs at (λ told. ap (λ k. list_in w (overlay_content a k)) (sym is) ∙ no.2 told)) causes
 
   -- what is answered of a list
-  pub answer_of : {T : Type 0} (s w f : ℕ) (Q : T → List (List ℕ) → Type 0) (r : Result T BlockFault) (a : Overlay B g) → f ≡ file_of s → IfOk r (λ x. IfList a f w (Q x)) → IfOk r (λ x. IfListed (listed a s w) (Q x))
+  pub answer_of : {T : Type 0} (s w f : ℕ) (Q : T → List (List ℕ) → Type 0) (r : Result T BlockFault) (a : Overlay B g) → f ≡ file_of s → IfOk r (λ x. IfList a f w (Q x)) → IfOk r (λ x. IfListed (seen_list a s w) (Q x))
   answer_of s w f Q (Ok x) a is answer = λ xs at.
-      let t = told_is (under a).told w (seen a (file_of s)) xs at in
-      answer t.told_is xs (ap (λ k. list_in w (seen a k)) is ∙ t.list)
+      let t = told_is (under a).told w (overlay_content a (file_of s)) xs at in
+      answer t.told_is xs (ap (λ k. list_in w (overlay_content a k)) is ∙ t.list)
   answer_of s w f Q (Err e) a is answer = tt
 
   -- the list that a call leaves
   module _ (fn : List (List ℕ) → List (List ℕ)) (s w f : ℕ) (a b : Overlay B g) (is : f ≡ file_of s) (before : BlocksAgree (under a)) (after : (under b).sound → BlocksAgree (under b)) where
-    list_after : IfList a f w (λ xs. list_in w (seen b f) ≡ Some (fn xs)) → (told : (under b).told ≡ (under a).told) (xs : List (List ℕ)) → IsToldList (under a).told w (seen a (file_of s)) xs → length (seen b (file_of s)) ≤ 1048576 → listed b s w ≡ Some (fn xs)
+    list_after : IfList a f w (λ xs. list_in w (overlay_content b f) ≡ Some (fn xs)) → (told : (under b).told ≡ (under a).told) (xs : List (List ℕ)) → IsToldList (under a).told w (overlay_content a (file_of s)) xs → length (overlay_content b (file_of s)) ≤ 1048576 → seen_list b s w ≡ Some (fn xs)
     list_after list told xs t few =
-        told_list (under b).told w (seen b (file_of s)) (fn xs) (told ∙ t.told_is) few
-        (ap (λ k. list_in w (seen b k)) (sym is) ∙ list t.told_is xs (ap (λ k. list_in w (seen a k)) is ∙ t.list))
+        told_list (under b).told w (overlay_content b (file_of s)) (fn xs) (told ∙ t.told_is) few
+        (ap (λ k. list_in w (overlay_content b k)) (sym is) ∙ list t.told_is xs (ap (λ k. list_in w (overlay_content a k)) is ∙ t.list))
 
-    counts_at : (under b).sound → (told : (under b).told ≡ (under a).told) → IsTrue (under a).told → (seen_counts a f ≡ length (seen a (file_of s))) × (seen_counts b f ≡ length (seen b (file_of s)))
-    counts_at sound told t = (counts_seen a before t f ∙ ap (λ k. length (seen a k)) is, counts_seen b (after sound) (told ∙ t) f ∙ ap (λ k. length (seen b k)) is)
+    counts_at : (under b).sound → (told : (under b).told ≡ (under a).told) → IsTrue (under a).told → (seen_counts a f ≡ length (overlay_content a (file_of s))) × (seen_counts b f ≡ length (overlay_content b (file_of s)))
+    counts_at sound told t = (counts_seen a before t f ∙ ap (λ k. length (overlay_content a k)) is, counts_seen b (after sound) (told ∙ t) f ∙ ap (λ k. length (overlay_content b k)) is)
 
-    others_at : {T : Type 0} (k : ℕ) (x : T) → WritesOverlay k 3 (Ok x) a b → (IsTrue (under a).told → (h : ℕ) → h ≢ f → seen b h ≡ seen a h) → ((h : ℕ) → h ≢ f → seen_counts b h ≡ seen_counts a h) → (m v : ℕ) → (m == s) ≡ false → listed b m v ≡ listed a m v
+    others_at : {T : Type 0} (k : ℕ) (x : T) → WritesOverlay k 3 (Ok x) a b → (IsTrue (under a).told → (h : ℕ) → h ≢ f → overlay_content b h ≡ overlay_content a h) → ((h : ℕ) → h ≢ f → seen_counts b h ≡ seen_counts a h) → (m v : ℕ) → (m == s) ≡ false → seen_list b m v ≡ seen_list a m v
     others_at k x writes others counts m v off =
         let apart = files_off s m f is off in listed_still a b m v writes.looks.passes.lasts.told (counts (file_of m) apart, λ told. others told (file_of m) apart)
 
-    pub roomy_after : {T : Type 0} (k : ℕ) (r : Result T BlockFault) → WritesOverlay k 3 r a b → OnOk r (IfList a f w (λ xs. list_in w (seen b f) ≡ Some (fn xs))) → OnOk r (IfList a f w (λ xs. seen_counts b f ≤ max (seen_counts a f) (2 + length xs)))
-        → OnOk r (IsTrue (under a).told → (h : ℕ) → h ≢ f → seen b h ≡ seen a h) → OnOk r ((h : ℕ) → h ≢ f → seen_counts b h ≡ seen_counts a h) → OnOk r (OnlyRoomy fn s w (listed a) (listed b))
+    pub roomy_after : {T : Type 0} (k : ℕ) (r : Result T BlockFault) → WritesOverlay k 3 r a b → OnOk r (IfList a f w (λ xs. list_in w (overlay_content b f) ≡ Some (fn xs))) → OnOk r (IfList a f w (λ xs. seen_counts b f ≤ max (seen_counts a f) (2 + length xs)))
+        → OnOk r (IsTrue (under a).told → (h : ℕ) → h ≢ f → overlay_content b h ≡ overlay_content a h) → OnOk r ((h : ℕ) → h ≢ f → seen_counts b h ≡ seen_counts a h) → OnOk r (OnlyRoomy fn s w (seen_list a) (seen_list b))
     roomy_after k (Ok x) writes list few others counts = record {
       here = λ xs at room.
-          let t = told_is (under a).told w (seen a (file_of s)) xs at in
+          let t = told_is (under a).told w (overlay_content a (file_of s)) xs at in
           let told = writes.looks.passes.lasts.told in
           let n = counts_at writes.looks.stays.sound told t.told_is in
-          let most = few t.told_is xs (ap (λ k. list_in w (seen a k)) is ∙ t.list) in
+          let most = few t.told_is xs (ap (λ k. list_in w (overlay_content a k)) is ∙ t.list) in
           list_after list told xs t (omega (arith, n.0, n.1, most, t.few, room));
       others = others_at k x writes others counts;
     }
     roomy_after k (Err e) writes list few others counts = tt
 
-    pub only_after : {T : Type 0} (k : ℕ) (r : Result T BlockFault) → WritesOverlay k 3 r a b → OnOk r (IfList a f w (λ xs. list_in w (seen b f) ≡ Some (fn xs))) → OnOk r (seen_counts b ≡ seen_counts a)
-        → OnOk r (IsTrue (under a).told → (h : ℕ) → h ≢ f → seen b h ≡ seen a h) → OnOk r (OnlyList fn s w (listed a) (listed b))
+    pub only_after : {T : Type 0} (k : ℕ) (r : Result T BlockFault) → WritesOverlay k 3 r a b → OnOk r (IfList a f w (λ xs. list_in w (overlay_content b f) ≡ Some (fn xs))) → OnOk r (seen_counts b ≡ seen_counts a)
+        → OnOk r (IsTrue (under a).told → (h : ℕ) → h ≢ f → overlay_content b h ≡ overlay_content a h) → OnOk r (OnlyList fn s w (seen_list a) (seen_list b))
     only_after k (Ok x) writes list counts others = record {
       here = λ xs at.
-          let t = told_is (under a).told w (seen a (file_of s)) xs at in
+          let t = told_is (under a).told w (overlay_content a (file_of s)) xs at in
           let told = writes.looks.passes.lasts.told in
           let n = counts_at writes.looks.stays.sound told t.told_is in
           let same = ap (λ (k : ℕ → ℕ). k f) counts in
@@ -230,7 +230,7 @@ module _ {B : Type 0} {g : Ghosts B} where
   }
   calm_read s k P (Err e) a b reads causes = tt
 
-  pub list_read : {T : Type 0} (k : ℕ) (r : Result T BlockFault) (a b : Overlay B g) → ReadsOverlay k r a b → OnOk r (listed b ≡ listed a)
+  pub list_read : {T : Type 0} (k : ℕ) (r : Result T BlockFault) (a b : Overlay B g) → ReadsOverlay k r a b → OnOk r (seen_list b ≡ seen_list a)
   list_read k (Ok x) a b reads = λ i n w. listed_still a b n w reads.looks.passes.lasts.told (files_read k x a b reads n) i
   list_read k (Err e) a b reads = tt
 
@@ -245,7 +245,7 @@ module _ {B : Type 0} {g : Ghosts B} where
     same = again a.below;
   }
 
-  pub below_long : (s w f : ℕ) (e : BlockFault) (a : Overlay B g) → f ≡ file_of s → BlocksAgree (under a) → 1048576 < seen_counts a f → IfListed (listed a s w) (λ xs. FromBelow e a a)
+  pub below_long : (s w f : ℕ) (e : BlockFault) (a : Overlay B g) → f ≡ file_of s → BlocksAgree (under a) → 1048576 < seen_counts a f → IfListed (seen_list a s w) (λ xs. FromBelow e a a)
   below_long s w f e a is agrees long xs at =
-      let t = told_is (under a).told w (seen a (file_of s)) xs at in
-      absurd (omega (arith, long, counts_seen a agrees t.told_is f, ap (λ k. length (seen a k)) is, t.few))
+      let t = told_is (under a).told w (overlay_content a (file_of s)) xs at in
+      absurd (omega (arith, long, counts_seen a agrees t.told_is f, ap (λ k. length (overlay_content a k)) is, t.few))

@@ -15,7 +15,7 @@ use Rattle.dms_model.specs.declared.put.Put.TheVariants.{Stored, Duplicate, Full
 use Rattle.dms_model.specs.Db.{Db, Place}
 use Rattle.dms_desc.specs.Lookups.{structure_of, items_of}
 use Rattle.dms_desc.specs.Kinds.{is_link}
-use Rattle.dms_model.specs.Stores.{kept_value, linked_from, linked, values_of, old_of, stored, put_answer, put_after, put_number, put_unless, kept_owner}
+use Rattle.dms_model.specs.Stores.{kept_value, linked_from, with_links_of, values_of, old_of, record_to_store, put_answer, put_after, put_number, put_unless, kept_owner}
 use Rattle.dms_desc.specs.Plain.{FitsKind}
 use Rattle.dms_sets.specs.Spots.{ValuesFit, RecordHasSpot, RecordsHaveSpots, put_fits}
 use Rattle.std.specs.List.{AllByRecursion}
@@ -52,7 +52,7 @@ owner_fits desc db set None owner fits low = low
 owner_fits desc db set (Some n) owner fits low = owner_kept desc db (set, n) owner (get db.records (set, n)) refl fits low
 
 -- what is stored for a record that may come fits
-pub stored_fits : (desc : Described) (db : Db) (set n : ℕ) (rec : Record) → RecordsHaveSpots desc db → MayCome desc set rec → n < 2 ^ 32 → RecordHasSpot desc (set, n) (linked (items_of (structure_of desc set)) (get db.records (set, n)) rec)
+pub stored_fits : (desc : Described) (db : Db) (set n : ℕ) (rec : Record) → RecordsHaveSpots desc db → MayCome desc set rec → n < 2 ^ 32 → RecordHasSpot desc (set, n) (with_links_of (items_of (structure_of desc set)) (get db.records (set, n)) rec)
 stored_fits desc db set n rec fits may small =
     let items = items_of (structure_of desc set) in
     let old = get db.records (set, n) in
@@ -70,7 +70,7 @@ olds_fit desc db set None rec fits may k item at = null_kind item.kind (or_null 
 olds_fit desc db set (Some n) rec fits may k item at = old_values desc db (set, n) (get db.records (set, n)) rec refl fits may.values k item at
 
 -- what is stored for a record that may come may come itself
-pub stored_comes : (desc : Described) (db : Db) (set : ℕ) (number : Option ℕ) (rec : Record) → RecordsHaveSpots desc db → MayCome desc set rec → MayCome desc set (stored desc db set number rec)
+pub stored_comes : (desc : Described) (db : Db) (set : ℕ) (number : Option ℕ) (rec : Record) → RecordsHaveSpots desc db → MayCome desc set rec → MayCome desc set (record_to_store desc db set number rec)
 stored_comes desc db set number rec fits may =
     let items = items_of (structure_of desc set) in
     let olds = values_of (old_of db set number) in
@@ -84,10 +84,10 @@ stored_comes desc db set number rec fits may =
 -- Storing a record answers a duplicate exactly for the first set without DUPLICATES in whose entries, without that of the record that it replaces,
 -- the first that reaches the owner and key of what would be stored has them.
 pub put_answers : (desc : Described) (db : Db) (set : ℕ) (number : Option ℕ) (rec : Record) → AllByRecursion (IsNamed desc) desc.structures → RecordsHaveSpots desc db → MayCome desc set rec → IsFoundNumber number
-    → put_answer desc db set number rec ≡ put_unless (clash_seen desc desc.structures db set number (stored desc db set number rec)) (put_number desc db set number)
+    → put_answer desc db set number rec ≡ put_unless (clash_seen desc desc.structures db set number (record_to_store desc db set number rec)) (put_number desc db set number)
 unfolding put_answer
 put_answers desc db set number rec named fits may small =
-    let made = stored desc db set number rec in
+    let made = record_to_store desc db set number rec in
     let comes = stored_comes desc db set number rec fits may in
     answer_is desc db set number made comes.owner small (all_judged desc db set made desc.structures named fits comes)
 
@@ -98,6 +98,6 @@ IsStoredSmall Full = Unit {0}
 
 -- All records fit after a put.
 pub fits_after : (answer : Put) (desc : Described) (db : Db) (set : ℕ) (rec : Record) → IsStoredSmall answer → RecordsHaveSpots desc db → MayCome desc set rec → RecordsHaveSpots desc (put_after answer desc db set rec)
-fits_after (Stored n) desc db set rec small fits may = put_fits desc db (set, n) (linked (items_of (structure_of desc set)) (get db.records (set, n)) rec) fits (stored_fits desc db set n rec fits may small)
+fits_after (Stored n) desc db set rec small fits may = put_fits desc db (set, n) (with_links_of (items_of (structure_of desc set)) (get db.records (set, n)) rec) fits (stored_fits desc db set n rec fits may small)
 fits_after (Duplicate s) desc db set rec small fits may = fits
 fits_after Full desc db set rec small fits may = fits

@@ -129,8 +129,8 @@ module _ (member : Place → Record → Option (List ℕ)) where
         ∙ ap (or_else (test_of q (member e.0 e.1))) (listed_at es small.1 (second_true _ _ order) q)
         ∙ step (eq_by_cmp place_cmp (at q) e.0) q e es refl small.0 (first_true _ _ order)
 
-    pub listed : (m : Records) → AllPlaces Small (entries m) → (q : List ℕ) → get (listing_of member m) q ≡ test_of q (member_opt member (at q) (get m (at q)))
-    listed m small q = listed_at (entries m) small (entries_sorted m) q ∙ ap (λ o. test_of q (member_opt member (at q) o)) (sym (get-entries m (at q)))
+    pub lists_members : (m : Records) → AllPlaces Small (entries m) → (q : List ℕ) → get (listing_of member m) q ≡ test_of q (member_opt member (at q) (get m (at q)))
+    lists_members m small q = listed_at (entries m) small (entries_sorted m) q ∙ ap (λ o. test_of q (member_opt member (at q) o)) (sym (get-entries m (at q)))
 
     change_at : (b : Bool) (m : Records) (k : Place) (v : Record) (q : List ℕ) → Small k → eq_by_cmp place_cmp (at q) k ≡ b
         → test_of q (member_opt member (at q) (cond b (Some v) (get m (at q))))
@@ -145,14 +145,14 @@ module _ (member : Place → Record → Option (List ℕ)) where
         sym ((λ i. or_else (other_member k v q small apart i) (minus (other_opt k (get m k) q small apart i) (test_of q (member_opt member (at q) (get m (at q)))))))
 
     -- After a record was put the listing is the old one without the old record's member and with the new one's.
-    pub changed : (m : Records) (k : Place) (v : Record) → AllPlaces Small (entries m) → AllPlaces Small (entries (insert m k v)) → Small k
+    pub changes_list : (m : Records) (k : Place) (v : Record) → AllPlaces Small (entries m) → AllPlaces Small (entries (insert m k v)) → Small k
         → listing_of member (insert m k v) ≡ with_opt (member k v) (without_opt (member_opt member k (get m k)) (listing_of member m))
-    changed m k v small small' here =
+    changes_list m k v small small' here =
         same_map nat_list_cmp_total bytes_same _ _ (λ q.
-        listed (insert m k v) small' q
+        lists_members (insert m k v) small' q
         ∙ ap (λ o. test_of q (member_opt member (at q) o)) (get-insert places_total m k v (at q))
         ∙ change_at (eq_by_cmp place_cmp (at q) k) m k v q here refl
-        ∙ ap (λ o. or_else (test_of q (member k v)) (minus (test_of q (member_opt member k (get m k))) o)) (sym (listed m small q))
+        ∙ ap (λ o. or_else (test_of q (member k v)) (minus (test_of q (member_opt member k (get m k))) o)) (sym (lists_members m small q))
         ∙ ap (or_else (test_of q (member k v))) (sym (get_without (member_opt member k (get m k)) (listing_of member m) q))
         ∙ sym (get_with (member k v) (without_opt (member_opt member k (get m k)) (listing_of member m)) q))
 
@@ -167,14 +167,14 @@ module _ (member : Place → Record → Option (List ℕ)) where
         sym ((λ i. minus (other_opt k (get m k) q small apart i) (test_of q (member_opt member (at q) (get m (at q))))))
 
     -- After a record was removed the listing is the old one without its member.
-    pub left : (m : Records) (k : Place) → AllPlaces Small (entries m) → AllPlaces Small (entries (remove m k)) → Small k
+    pub leaves_list : (m : Records) (k : Place) → AllPlaces Small (entries m) → AllPlaces Small (entries (remove m k)) → Small k
         → listing_of member (remove m k) ≡ without_opt (member_opt member k (get m k)) (listing_of member m)
-    left m k small small' here =
+    leaves_list m k small small' here =
         same_map nat_list_cmp_total bytes_same _ _ (λ q.
-        listed (remove m k) small' q
+        lists_members (remove m k) small' q
         ∙ ap (λ o. test_of q (member_opt member (at q) o)) (get-remove places_total m k (at q))
         ∙ left_at (eq_by_cmp place_cmp (at q) k) m k q here refl
-        ∙ ap (λ o. minus (test_of q (member_opt member k (get m k))) o) (sym (listed m small q))
+        ∙ ap (λ o. minus (test_of q (member_opt member k (get m k))) o) (sym (lists_members m small q))
         ∙ sym (get_without (member_opt member k (get m k)) (listing_of member m) q))
 
     still_at : (b : Bool) (m : Records) (k : Place) (v : Record) (q : List ℕ) → eq_by_cmp place_cmp (at q) k ≡ b → member k v ≡ member_opt member k (get m k)
@@ -188,16 +188,16 @@ module _ (member : Place → Record → Option (List ℕ)) where
     pub still : (m : Records) (k : Place) (v : Record) → AllPlaces Small (entries m) → AllPlaces Small (entries (insert m k v)) → member k v ≡ member_opt member k (get m k) → listing_of member (insert m k v) ≡ listing_of member m
     still m k v small small' same =
         same_map nat_list_cmp_total bytes_same _ _ (λ q.
-        listed (insert m k v) small' q
+        lists_members (insert m k v) small' q
         ∙ ap (λ o. test_of q (member_opt member (at q) o)) (get-insert places_total m k v (at q))
         ∙ still_at (eq_by_cmp place_cmp (at q) k) m k v q refl same
-        ∙ sym (listed m small q))
+        ∙ sym (lists_members m small q))
 
     -- The member of the record that stands at a place is listed,
     pub stands : (m : Records) (k : Place) (r : Record) (q : List ℕ) → AllPlaces Small (entries m) → Small k → get m k ≡ Some r → member k r ≡ Some q → get (listing_of member m) q ≡ Some tt
     stands m k r q small here at_k is =
         let place : at q ≡ k = sym (own k r q here is) in
-        listed m small q
+        lists_members m small q
         ∙ ap (λ p. test_of q (member_opt member p (get m p))) place
         ∙ ap (λ o. test_of q (member_opt member k o)) at_k
         ∙ ap (test_of q) is
@@ -208,5 +208,5 @@ module _ (member : Place → Record → Option (List ℕ)) where
     is_new m k v q small here is =
         let place : at q ≡ k = sym (own k v q here is) in
         get_without (member_opt member k (get m k)) (listing_of member m) q
-        ∙ ap (minus (test_of q (member_opt member k (get m k)))) (listed m small q ∙ ap (λ p. test_of q (member_opt member p (get m p))) place)
+        ∙ ap (minus (test_of q (member_opt member k (get m k)))) (lists_members m small q ∙ ap (λ p. test_of q (member_opt member p (get m p))) place)
         ∙ minus_itself (test_of q (member_opt member k (get m k)))

@@ -20,7 +20,7 @@ use Rattle.dms_model.specs.declared.spot.Spot.{Spot}
 use Rattle.dms_model.specs.Db.{Db, SubsetEntry, Place, place_cmp}
 use Rattle.dms_desc.specs.Keys.{key_of, key_cmp}
 use Rattle.dms_desc.specs.Kinds.{takes, over}
-use Rattle.dms_desc.specs.Sorted.{sorted, place_in}
+use Rattle.dms_desc.specs.Sorted.{sort, place_in}
 use Rattle.dms_model.specs.Members.{names, belongs, spot_of, spots_of, spot_cmp, is_before, members}
 use Rattle.dms_sets.specs.Listing.{listing}
 use Rattle.dms_sets.specs.Prefixes.{starts, front_whole}
@@ -126,9 +126,9 @@ module _ {A : Type 0} (less : A → A → Bool) (P : A → Type 0) where
       let rest = all_place x ys h all.1 in
       elim (less x y) as (λ b. AllByRecursion P (cond b (x ∷ y ∷ ys) (y ∷ place_in less x ys))) [ true ↦ (h, all) | false ↦ (all.0, rest) ]
 
-  pub all_sorted : (xs : List A) → AllByRecursion P xs → AllByRecursion P (sorted less xs)
+  pub all_sorted : (xs : List A) → AllByRecursion P xs → AllByRecursion P (sort less xs)
   all_sorted [] all = tt
-  all_sorted (x ∷ xs) all = all_place x (sorted less xs) all.0 (all_sorted xs all.1)
+  all_sorted (x ∷ xs) all = all_place x (sort less xs) all.0 (all_sorted xs all.1)
 
 then_less : (o p r : Ordering) → o ≡ Equal → ordering_then o (ordering_then p r) ≡ ordering_then p r
 then_less o p r e = ap (λ z. ordering_then z (ordering_then p r)) e
@@ -188,13 +188,13 @@ module _ (kinds : List ItemKind) (s : Shape) (manual : List SubsetEntry) (owner 
       alike_by (belongs s manual owner d) e d (spots_of s manual owner es) refl f all.0 at (first_true _ _ below) (all_alike e es f all.1 at (second_true _ _ below))
 
   turn : (a t w : Bool) (e : Place × Record) (es : List (Place × Record)) (ys : List (List ℕ)) → (over s == e.0.0) ≡ a → (owner == e.1.owner) ≡ w → EntryFits kinds s e → EntriesFit kinds s es → T (below_all place_cmp e.0 es) → AreInByteOrder ys
-      → of_owner owner ys ≡ map B (sorted (is_before s.parts) (spots_of s manual owner es))
+      → of_owner owner ys ≡ map B (sort (is_before s.parts) (spots_of s manual owner es))
       → of_owner owner (with_in (cond (a && t) (Some (entry_bytes kinds s.parts e.1.owner (key_of s.parts e.1.values) e.0.1)) None) ys)
-      ≡ map B (sorted (is_before s.parts) (cond (a && (w && t)) (spot_of s.parts e ∷ spots_of s manual owner es) (spots_of s manual owner es)))
+      ≡ map B (sort (is_before s.parts) (cond (a && (w && t)) (spot_of s.parts e ∷ spots_of s manual owner es) (spots_of s manual owner es)))
   turn true true true e es ys at own fits all below rise rest =
       let q = entry_bytes kinds s.parts e.1.owner (key_of s.parts e.1.values) e.0.1 in
       let x = spot_of s.parts e in
-      let xs = sorted (is_before s.parts) (spots_of s manual owner es) in
+      let xs = sort (is_before s.parts) (spots_of s manual owner es) in
       let mine : is_of owner q ≡ true = is_of_entry kinds s.parts owner e.1.owner (key_of s.parts e.1.values) e.0.1 small fits.owner ∙ own in
       let same : owner ≡ e.1.owner = grind (arith, nat_tests, own) in
       filter_keeps (is_of owner) q ys mine rise
@@ -213,13 +213,13 @@ module _ (kinds : List ItemKind) (s : Shape) (manual : List SubsetEntry) (owner 
   no_keys = ap (of_owner owner) empty_keys
 
   pub owned_at : (es : List (Place × Record)) → (s.kind == 5) ≡ false → T (is_sorted place_cmp es) → EntriesFit kinds s es
-      → of_owner owner (keys (listing (entry_of kinds s) es)) ≡ map B (sorted (is_before s.parts) (spots_of s manual owner es))
+      → of_owner owner (keys (listing (entry_of kinds s) es)) ≡ map B (sort (is_before s.parts) (spots_of s manual owner es))
   owned_at [] auto order all = no_keys
   owned_at (e ∷ es) auto order all =
       let ys = keys (listing (entry_of kinds s) es) in
       ap (of_owner owner) (keys_with_opt (entry_of kinds s e.0 e.1) (listing (entry_of kinds s) es))
       ∙ turn (over s == e.0.0) (takes s e.1.values) (owner == e.1.owner) e es ys refl refl all.0 all.1 (first_true _ _ order) (keys_rise (listing (entry_of kinds s) es)) (owned_at es auto (second_true _ _ order) all.1)
-      ∙ ap (λ b. map B (sorted (is_before s.parts) (cond b (spot_of s.parts e ∷ spots_of s manual owner es) (spots_of s manual owner es)))) (sym (belongs_is s manual owner e auto))
+      ∙ ap (λ b. map B (sort (is_before s.parts) (cond b (spot_of s.parts e ∷ spots_of s manual owner es) (spots_of s manual owner es)))) (sym (belongs_is s manual owner e auto))
 
 -- The entries of an owner in a set are the bytes of the members for that owner.
 pub owned_entries : (desc : Described) (db : Db) (s : Shape) (owner : ℕ) → owner < 2 ^ 32 → (s.kind == 5) ≡ false → EntriesFit (kinds_over desc s) s (entries db.records)

@@ -33,7 +33,7 @@ use Rattle.dms_key.specs.KeyBytes.{key_bytes, key_width, KeyHasKinds}
 use Rattle.dms_key.specs.KeyOrder.{four_cmp, key_most}
 use Rattle.dms_sets.specs.Entries.{entry_bytes, IsSetKey, whole_width}
 use Rattle.dms_ordlist.specs.Lists as list
-use Rattle.dms_ordlist.specs.Lists.{bytes_cmp, empty_keys, is_same, with_entry, with_in, without_in, padded, not_below, is_under, first_from, last_to}
+use Rattle.dms_ordlist.specs.Lists.{bytes_cmp, empty_keys, is_same, with_entry, with_in, without_in, pad_bound, not_below, is_under, first_from, last_to}
 
 -- the form of an entry
 pub record IsSetEntry (width : ℕ) (q : List ℕ) : Type 0 where
@@ -101,22 +101,22 @@ pad_gt k (a ∷ p) [] h = absurd (omega (arith, h))
 pad_gt k (a ∷ p) (b ∷ q) h = gt_then (nat_cmp a b) (bytes_cmp (p ++ replicate k 0) q) (front_cmp p q) (pad_gt k p q (omega (arith, h)))
 
 -- to reach a prefix is not to be below it, filled with zeros
-pub padded_gt : (w : ℕ) (p q : List ℕ) → length q ≡ w → length p ≤ w → is_gt (bytes_cmp (padded w p) q) ≡ is_gt (front_cmp p q)
+pub padded_gt : (w : ℕ) (p q : List ℕ) → length q ≡ w → length p ≤ w → is_gt (bytes_cmp (pad_bound w p) q) ≡ is_gt (front_cmp p q)
 padded_gt w p q h le = pad_gt (w - length p) p q (h ∙ omega (arith, le))
 
 -- what the first entry behind a bound isn't below; none where there is no such entry
 abbrev pub from_bytes : List ItemKind → List KeyPart → ℕ → Bound → Option (List ℕ)
-from_bytes kinds ps owner Start = Some (padded (entry_width kinds ps) (to_be_bytes w32 owner))
+from_bytes kinds ps owner Start = Some (pad_bound (entry_width kinds ps) (to_be_bytes w32 owner))
 from_bytes kinds ps owner End = None
 from_bytes kinds ps owner (At key n) = Some (entry_bytes kinds ps owner key (n + 1))
-from_bytes kinds ps owner (From key) = Some (padded (entry_width kinds ps) (key_front kinds ps owner key))
+from_bytes kinds ps owner (From key) = Some (pad_bound (entry_width kinds ps) (key_front kinds ps owner key))
 
 -- what the last entry before a bound is below
 abbrev pub to_bytes : List ItemKind → List KeyPart → ℕ → Bound → Option (List ℕ)
 to_bytes kinds ps owner Start = None
-to_bytes kinds ps owner End = Some (padded (entry_width kinds ps) (to_be_bytes w32 (owner + 1)))
+to_bytes kinds ps owner End = Some (pad_bound (entry_width kinds ps) (to_be_bytes w32 (owner + 1)))
 to_bytes kinds ps owner (At key n) = Some (entry_bytes kinds ps owner key n)
-to_bytes kinds ps owner (From key) = Some (padded (entry_width kinds ps) (key_front kinds ps owner key))
+to_bytes kinds ps owner (From key) = Some (pad_bound (entry_width kinds ps) (key_front kinds ps owner key))
 
 -- the numbers of a bound have a successor, and a prefix isn't longer than an entry
 abbrev pub BoundSmall : List ItemKind → List KeyPart → Bound → Type 0
@@ -184,7 +184,7 @@ module _ (kinds : List ItemKind) (ps : List KeyPart) (owner : ℕ) (own : owner 
   -- the first entry behind a bound, by one look
   pub first_is : (bound : Bound) (xs : List (List ℕ)) → BoundKeyFits kinds ps bound → BoundSmall kinds ps bound → AllByRecursion (IsSetEntry (key_width kinds ps)) xs → first (passes kinds ps owner bound) xs ≡ first_from (from_bytes kinds ps owner bound) xs
   first_is Start xs f g all =
-      first_same (IsSetEntry (key_width kinds ps)) (passes kinds ps owner Start) (not_below (padded (entry_width kinds ps) (to_be_bytes w32 owner))) xs
+      first_same (IsSetEntry (key_width kinds ps)) (passes kinds ps owner Start) (not_below (pad_bound (entry_width kinds ps) (to_be_bytes w32 owner))) xs
       (λ q e. sym (ap not (padded_gt (entry_width kinds ps) (to_be_bytes w32 owner) q (entry_long (key_width kinds ps) q e) (four_short owner)))) all
   first_is End xs f g all = none_pass xs
   first_is (At key n) xs f g all =
@@ -194,7 +194,7 @@ module _ (kinds : List ItemKind) (ps : List KeyPart) (owner : ℕ) (own : owner 
       ∙ next_then (nat_cmp owner e.owner) (bytes_cmp (key_bytes kinds ps key) e.key) n e.number
       ∙ sym (ap (λ o. not (is_gt o)) (entry_order kinds ps owner key (n + 1) q f.0 g small_owner e))) all
   first_is (From key) xs f g all =
-      first_same (IsSetEntry (key_width kinds ps)) (passes kinds ps owner (From key)) (not_below (padded (entry_width kinds ps) (key_front kinds ps owner key))) xs
+      first_same (IsSetEntry (key_width kinds ps)) (passes kinds ps owner (From key)) (not_below (pad_bound (entry_width kinds ps) (key_front kinds ps owner key))) xs
       (λ q e. sym (ap not (padded_gt (entry_width kinds ps) (key_front kinds ps owner key) q (entry_long (key_width kinds ps) q e) (front_short kinds ps owner key f)))) all
 
   owner_order : (n : ℕ) (q : List ℕ) → n < 2 ^ 32 → (e : IsSetEntry (key_width kinds ps) q) → front_cmp (to_be_bytes w32 n) q ≡ nat_cmp n e.owner
@@ -205,19 +205,19 @@ module _ (kinds : List ItemKind) (ps : List KeyPart) (owner : ℕ) (own : owner 
   pub last_is : (bound : Bound) (xs : List (List ℕ)) → BoundKeyFits kinds ps bound → AllByRecursion (IsSetEntry (key_width kinds ps)) xs → last (precedes kinds ps owner bound) xs ≡ last_to (to_bytes kinds ps owner bound) xs
   last_is Start xs f all = none_last xs
   last_is End xs f all =
-      last_same (IsSetEntry (key_width kinds ps)) (precedes kinds ps owner End) (is_under (padded (entry_width kinds ps) (to_be_bytes w32 (owner + 1)))) xs
+      last_same (IsSetEntry (key_width kinds ps)) (precedes kinds ps owner End) (is_under (pad_bound (entry_width kinds ps) (to_be_bytes w32 (owner + 1)))) xs
       (λ q e.
       ap (λ o. not (is_lt o)) (owner_order owner q small_owner e) ∙ ge_next owner e.owner ∙ sym (ap is_gt (owner_order (owner + 1) q own e))
       ∙ sym (padded_gt (entry_width kinds ps) (to_be_bytes w32 (owner + 1)) q (entry_long (key_width kinds ps) q e) (four_short (owner + 1)))) all
   last_is (At key n) xs f all = last_same (IsSetEntry (key_width kinds ps)) (precedes kinds ps owner (At key n)) (is_under (entry_bytes kinds ps owner key n)) xs (λ q e. refl) all
   last_is (From key) xs f all =
-      last_same (IsSetEntry (key_width kinds ps)) (precedes kinds ps owner (From key)) (is_under (padded (entry_width kinds ps) (key_front kinds ps owner key))) xs
+      last_same (IsSetEntry (key_width kinds ps)) (precedes kinds ps owner (From key)) (is_under (pad_bound (entry_width kinds ps) (key_front kinds ps owner key))) xs
       (λ q e. sym (padded_gt (entry_width kinds ps) (key_front kinds ps owner key) q (entry_long (key_width kinds ps) q e) (front_short kinds ps owner key f))) all
 
 -- the look for a duplicate, by a bound of the entries' width
-pub look_is : (w : ℕ) (p : List ℕ) (xs : List (List ℕ)) → length p ≤ 4 + (w + 4) → AllByRecursion (IsSetEntry w) xs → look p xs ≡ that_passes (starts p) (first_from (Some (padded (4 + (w + 4)) p)) xs)
+pub look_is : (w : ℕ) (p : List ℕ) (xs : List (List ℕ)) → length p ≤ 4 + (w + 4) → AllByRecursion (IsSetEntry w) xs → look p xs ≡ that_passes (starts p) (first_from (Some (pad_bound (4 + (w + 4)) p)) xs)
 look_is w p xs le all =
-    ap (that_passes (starts p)) (first_same (IsSetEntry w) (reaches p) (not_below (padded (4 + (w + 4)) p)) xs (λ q e. sym (ap not (padded_gt (4 + (w + 4)) p q (entry_long w q e) le))) all)
+    ap (that_passes (starts p)) (first_same (IsSetEntry w) (reaches p) (not_below (pad_bound (4 + (w + 4)) p)) xs (λ q e. sym (ap not (padded_gt (4 + (w + 4)) p q (entry_long w q e) le))) all)
 
 pub all_filter : (P : List ℕ → Type 0) (t : List ℕ → Bool) (xs : List (List ℕ)) → AllByRecursion P xs → AllByRecursion P (filter t xs)
 all_filter P t [] all = tt

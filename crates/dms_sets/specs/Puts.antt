@@ -29,8 +29,8 @@ pub record MayCome (desc : Described) (set : ℕ) (rec : Record) : Type 0 where
   pub owner : rec.owner < 2 ^ 32
   pub values : ValuesFit (items_of (structure_of desc set)) rec.values
 
-judged : (desc : Described) (db : Db) (set : ℕ) (rec : Record) (s : Shape) → IsNamed desc s → RecordsHaveSpots desc db → MayCome desc set rec → is_closed s set rec.values ≡ true → AreJudged desc db rec s
-judged desc db set rec s named fits may closed =
+judges_put : (desc : Described) (db : Db) (set : ℕ) (rec : Record) (s : Shape) → IsNamed desc s → RecordsHaveSpots desc db → MayCome desc set rec → is_closed s set rec.values ≡ true → AreJudged desc db rec s
+judges_put desc db set rec s named fits may closed =
     let able = closed_is s set (not s.duplicates) (takes s rec.values) closed in
     record {
       all = all_fit desc db s named.items fits;
@@ -39,7 +39,7 @@ judged desc db set rec s named fits may closed =
 
 pub all_judged : (desc : Described) (db : Db) (set : ℕ) (rec : Record) (ss : List Shape) → AllByRecursion (IsNamed desc) ss → RecordsHaveSpots desc db → MayCome desc set rec → AllByRecursion (λ s. is_closed s set rec.values ≡ true → AreJudged desc db rec s) ss
 all_judged desc db set rec [] named fits may = tt
-all_judged desc db set rec (s ∷ ss) named fits may = ((λ h. judged desc db set rec s named.0 fits may h), all_judged desc db set rec ss named.1 fits may)
+all_judged desc db set rec (s ∷ ss) named fits may = ((λ h. judges_put desc db set rec s named.0 fits may h), all_judged desc db set rec ss named.1 fits may)
 
 pub all_small : (kinds : List ItemKind) (s : Shape) (es : List (Place × Record)) → EntriesFit kinds s es → AllPlaces IsSmall es
 all_small kinds s [] all = tt

@@ -23,8 +23,8 @@ use Rattle.dms_model.specs.Db.{Db, Records, Place, place_cmp}
 use Rattle.dms_desc.specs.Keys.{key_of}
 use Rattle.dms_desc.specs.Kinds.{takes, over}
 use Rattle.dms_desc.specs.Lookups.{structure_of, items_of}
-use Rattle.dms_model.specs.Stores.{put_after, stored}
-use Rattle.dms_sets.specs.Listing.{left, still, with_opt, without_opt, listing_of, member_opt, AllPlaces, changed}
+use Rattle.dms_model.specs.Stores.{put_after, record_to_store}
+use Rattle.dms_sets.specs.Listing.{leaves_list, still, with_opt, without_opt, listing_of, member_opt, AllPlaces, changes_list}
 use Rattle.dms_key.specs.ByteOrder.{high_first_length}
 use Rattle.dms_key.specs.KeyBytes.{key_bytes}
 use Rattle.dms_sets.specs.Entries.{entry_bytes, kinds_of}
@@ -110,15 +110,15 @@ keys_without_opt (Some x) m = keys_without x m
 pub entries_changed : (kinds : List ItemKind) (s : Shape) (m : Records) (k : Place) (v : Record) → AllPlaces IsSmall (entries m) → IsSmall k
     → keys (listed_in kinds s (insert m k v)) ≡ with_in (entry_of kinds s k v) (without_in (member_opt (entry_of kinds s) k (get m k)) (keys (listed_in kinds s m)))
 entries_changed kinds s m k v all here =
-    ap (λ (n : ByteSet). keys n) (changed (entry_of kinds s) (place_in_entry s) IsSmall (own_entry kinds s) m k v all (small_insert m k v here all) here)
+    ap (λ (n : ByteSet). keys n) (changes_list (entry_of kinds s) (place_in_entry s) IsSmall (own_entry kinds s) m k v all (small_insert m k v here all) here)
     ∙ keys_with_opt (entry_of kinds s k v) (without_opt (member_opt (entry_of kinds s) k (get m k)) (listed_in kinds s m))
     ∙ ap (with_in (entry_of kinds s k v)) (keys_without_opt (member_opt (entry_of kinds s) k (get m k)) (listed_in kinds s m))
 
 -- the same of what storing a record leaves
 pub entries_put : (desc : Described) (db : Db) (s : Shape) (set n : ℕ) (rec : Record) → AllPlaces IsSmall (entries db.records) → n < 2 ^ 32
     → entries_of desc (put_after (Stored n) desc db set rec) s
-    ≡ with_in (entry_of (kinds_over desc s) s (set, n) (stored desc db set (Some n) rec)) (without_in (member_opt (entry_of (kinds_over desc s) s) (set, n) (get db.records (set, n))) (entries_of desc db s))
-entries_put desc db s set n rec all small = entries_changed (kinds_over desc s) s db.records (set, n) (stored desc db set (Some n) rec) all small
+    ≡ with_in (entry_of (kinds_over desc s) s (set, n) (record_to_store desc db set (Some n) rec)) (without_in (member_opt (entry_of (kinds_over desc s) s) (set, n) (get db.records (set, n))) (entries_of desc db s))
+entries_put desc db s set n rec all small = entries_changed (kinds_over desc s) s db.records (set, n) (record_to_store desc db set (Some n) rec) all small
 
 small_where : (p : Place → Bool) (es : List (Place × Record)) → AllPlaces IsSmall es → AllPlaces IsSmall (where_key place_cmp p es)
 small_where p [] all = tt
@@ -133,7 +133,7 @@ module _ (kinds : List ItemKind) (s : Shape) (m : Records) (k : Place) (all : Al
   -- after a record was removed
   pub entries_left : keys (listed_in kinds s (remove m k)) ≡ without_in (member_opt (entry_of kinds s) k (get m k)) (keys (listed_in kinds s m))
   entries_left =
-      ap (λ (n : ByteSet). keys n) (left (entry_of kinds s) (place_in_entry s) IsSmall (own_entry kinds s) m k all (small_remove m k all) here)
+      ap (λ (n : ByteSet). keys n) (leaves_list (entry_of kinds s) (place_in_entry s) IsSmall (own_entry kinds s) m k all (small_remove m k all) here)
       ∙ keys_without_opt (member_opt (entry_of kinds s) k (get m k)) (listed_in kinds s m)
 
   -- a put that changes no entry of the set

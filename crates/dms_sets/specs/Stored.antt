@@ -16,7 +16,7 @@ use Rattle.dms_model.specs.Db.{Db, Place}
 use Rattle.dms_desc.specs.Keys.{key_of}
 use Rattle.dms_desc.specs.Kinds.{takes, over, is_link}
 use Rattle.dms_desc.specs.Lookups.{structure_of, items_of}
-use Rattle.dms_model.specs.Stores.{kept_value, linked_from, linked, values_of, put_after, kept_owner}
+use Rattle.dms_model.specs.Stores.{kept_value, linked_from, with_links_of, values_of, put_after, kept_owner}
 use Rattle.dms_sets.specs.Listing.{member_opt, AllPlaces}
 use Rattle.dms_sets.specs.Sets.{entry_of, entries_of, items_over, kinds_over, IsSmall, entries_put}
 use Rattle.dms_sets.specs.Entries.{entry_bytes}
@@ -73,10 +73,10 @@ abbrev pub put_entry : Described → Db → Shape → ℕ → ℕ → Record →
 put_entry desc db s set n rec = entry_of (kinds_over desc s) s (set, n) (owned_as (get db.records (set, n)) rec)
 
 -- the entry of a record, with the owner of the one that it replaces, is that of what is stored for it
-pub entry_kept : (kinds : List ItemKind) (items : List Item) (s : Shape) (k : Place) (old : Option Record) (rec : Record) → NamesNoLinks items s → entry_of kinds s k (linked items old rec) ≡ entry_of kinds s k (owned_as old rec)
+pub entry_kept : (kinds : List ItemKind) (items : List Item) (s : Shape) (k : Place) (old : Option Record) (rec : Record) → NamesNoLinks items s → entry_of kinds s k (with_links_of items old rec) ≡ entry_of kinds s k (owned_as old rec)
 entry_kept kinds items s k old rec none =
     let key = key_kept items (values_of old) rec.values s.parts none.parts in
-    let test : takes s (linked items old rec).values ≡ takes s rec.values = ap (λ b. cond (s.kind == 4) b true) (meets_kept items (values_of old) rec.values s.cond none.cond) in
+    let test : takes s (with_links_of items old rec).values ≡ takes s rec.values = ap (λ b. cond (s.kind == 4) b true) (meets_kept items (values_of old) rec.values s.cond none.cond) in
     λ i. cond ((over s == k.0) && test i) (Some (entry_bytes kinds s.parts (kept_owner old rec.owner) (key i) k.1)) None
 
 -- What storing a record leaves of a set over its data set: the old entries without that of the record that it replaces, and with its own.
@@ -86,4 +86,4 @@ pub entries_stored : (desc : Described) (db : Db) (s : Shape) (set n : ℕ) (rec
 entries_stored desc db s set n rec all small at none =
     entries_put desc db s set n rec all small
     ∙ ap (λ o. with_in o (without_in (member_opt (entry_of (kinds_over desc s) s) (set, n) (get db.records (set, n))) (entries_of desc db s)))
-    (ap (λ m. entry_of (kinds_over desc s) s (set, n) (linked (items_of (structure_of desc m)) (get db.records (set, n)) rec)) (sym at) ∙ entry_kept (kinds_over desc s) (items_over desc s) s (set, n) (get db.records (set, n)) rec none)
+    (ap (λ m. entry_of (kinds_over desc s) s (set, n) (with_links_of (items_of (structure_of desc m)) (get db.records (set, n)) rec)) (sym at) ∙ entry_kept (kinds_over desc s) (items_over desc s) s (set, n) (get db.records (set, n)) rec none)

@@ -9,7 +9,7 @@ use Rattle.dms_ordlist.specs.Lists.{without_in}
 use Rattle.dms_sets.specs.declared.answer.SetAnswer.{SetAnswer}
 use Rattle.dms_sets.specs.declared.answer.SetAnswer.TheVariants.{Done, Duplicate}
 use Rattle.dms_sets.specs.Answers.{clash_seen}
-use Rattle.dms_sets.specs.Changes.{HasRoom, ListsOf, OptHasEntry, is_over, kept, entry_opt, refuses}
+use Rattle.dms_sets.specs.Changes.{HasRoom, ListsOf, OptHasEntry, is_over, list_of_set, entry_opt, refuses}
 use Rattle.dms_sets.specs.Entries.{kinds_of}
 use Rattle.dms_desc.specs.Lookups.{structure_of, items_of}
 use Rattle.dms_sets.specs.Puts.{MayCome}
@@ -28,7 +28,7 @@ OfStructures desc P = (k : ℕ) (s : Shape) → slice_get desc.structures k ≡ 
 
 -- The lists are those of a database.
 abbrev pub AreListed : Described → Db → ListsOf → Type 0
-AreListed desc db ls = OfStructures desc (λ s. is_set_or_automatic s ≡ true → kept ls (kinds_over desc s) s ≡ Some (entries_of desc db s))
+AreListed desc db ls = OfStructures desc (λ s. is_set_or_automatic s ≡ true → list_of_set ls (kinds_over desc s) s ≡ Some (entries_of desc db s))
 
 abbrev pub OptMayCome : Described → ℕ → Option Record → Type 0
 OptMayCome desc set None = Unit {0}
@@ -73,8 +73,8 @@ is_refused desc db set number old new s = is_over s set && refuses (kinds_over d
 
 -- the first k structures are changed, and none of them refused
 pub record Upto (desc : Described) (db : Db) (set number : ℕ) (old new : Option Record) (k : ℕ) (now : ListsOf) : Type 0 where
-  pub done : (j : ℕ) (s : Shape) → j < k → slice_get desc.structures j ≡ Some s → is_set_or_automatic s ≡ true → kept now (kinds_over desc s) s ≡ Some (entries_of desc (db_with db set number new) s)
-  pub left : (j : ℕ) (s : Shape) → k ≤ j → slice_get desc.structures j ≡ Some s → is_set_or_automatic s ≡ true → kept now (kinds_over desc s) s ≡ Some (entries_of desc db s)
+  pub done : (j : ℕ) (s : Shape) → j < k → slice_get desc.structures j ≡ Some s → is_set_or_automatic s ≡ true → list_of_set now (kinds_over desc s) s ≡ Some (entries_of desc (db_with db set number new) s)
+  pub left : (j : ℕ) (s : Shape) → k ≤ j → slice_get desc.structures j ≡ Some s → is_set_or_automatic s ≡ true → list_of_set now (kinds_over desc s) s ≡ Some (entries_of desc db s)
   pub none : (j : ℕ) (s : Shape) → j < k → slice_get desc.structures j ≡ Some s → is_refused desc db set number old new s ≡ false
 
 -- a record may have an entry in each set over the data set

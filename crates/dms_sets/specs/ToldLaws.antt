@@ -17,10 +17,10 @@ use Rattle.dms_desc.specs.Kinds.{takes, over, is_set_or_automatic}
 use Rattle.dms_desc.specs.Lookups.{structure_of, items_of}
 use Rattle.dms_desc.specs.Sorted.{that_passes}
 use Rattle.dms_model.specs.Stores.{is_closed}
-use Rattle.dms_ordlist.specs.Lists.{with_in, without_in, padded, first_from}
+use Rattle.dms_ordlist.specs.Lists.{with_in, without_in, pad_bound, first_from}
 use Rattle.dms_sets.specs.declared.answer.SetAnswer.TheVariants.{Done, Duplicate}
 use Rattle.dms_sets.specs.Answers.{clash_seen, closed_is, is_blocked, old_entry}
-use Rattle.dms_sets.specs.Changes.{ListsOf, OneChanged, has_number, OtherListsStay, is_over, kept, entry_opt, refuses, front_in, is_seen}
+use Rattle.dms_sets.specs.Changes.{ListsOf, OneChanged, has_number, OtherListsStay, is_over, list_of_set, entry_opt, refuses, front_in, is_seen}
 use Rattle.dms_sets.specs.Clashes.{key_front, look}
 use Rattle.dms_sets.specs.Entries.{entry_bytes, kinds_of, whole_width}
 use Rattle.dms_sets.specs.Prefixes.{starts}
@@ -88,9 +88,9 @@ nothing_behind : (p : List ℕ) → p ++ [] ≡ p
 nothing_behind [] = refl
 nothing_behind (b ∷ p) = ap (λ (q : List ℕ). b ∷ q) (nothing_behind p)
 
-regrouped : (o d t b : Bool) → (o && ((d && t) && b)) ≡ (((o && d) && t) && b)
-regrouped true d t b = refl
-regrouped false d t b = refl
+regroup : (o d t b : Bool) → (o && ((d && t) && b)) ≡ (((o && d) && t) && b)
+regroup true d t b = refl
+regroup false d t b = refl
 
 module _ (desc : Described) (db : Db) (set number : ℕ) (old : Option Record) (rec : Record) (judged : ChangeStands desc db set number old (Some rec)) where
   seen_is : (k : ℕ) (s : Shape) → slice_get desc.structures k ≡ Some s → is_over s set ≡ true
@@ -112,7 +112,7 @@ module _ (desc : Described) (db : Db) (set number : ℕ) (old : Option Record) (
       let whole = length-append (to_be_bytes w32 rec.owner) (key_bytes kinds s.parts (key_of s.parts rec.values)) in
       let short : length p ≤ 4 + (w + 4) = subst (λ (q : List ℕ). length q ≤ 4 + (w + 4)) (sym is) (omega (arith, key, whole)) in
       let back : front ≡ p = sym is in
-      (λ i. is_some (that_passes (starts (back i)) (first_from (Some (padded (entry_width kinds s.parts) (back i))) (without_in (gone i) (entries_of desc db s)))))
+      (λ i. is_some (that_passes (starts (back i)) (first_from (Some (pad_bound (entry_width kinds s.parts) (back i))) (without_in (gone i) (entries_of desc db s)))))
       ∙ ap is_some (sym (look_is w p xs short shaped))
 
   refused_by : (b : Bool) (k : ℕ) (s : Shape) → is_over s set ≡ b → slice_get desc.structures k ≡ Some s
@@ -178,11 +178,11 @@ module _ (desc : Described) (db : Db) (set number : ℕ) (old new : Option Recor
 
   -- one that is over it is changed
   pub upto_step : (k : ℕ) (s : Shape) (a b : ListsOf) → slice_get desc.structures k ≡ Some s → is_over s set ≡ true
-      → ((xs : List (List ℕ)) → kept a (kinds_over desc s) s ≡ Some xs → OneChanged (kinds_over desc s) s number old new xs (kept b (kinds_over desc s) s) false)
+      → ((xs : List (List ℕ)) → list_of_set a (kinds_over desc s) s ≡ Some xs → OneChanged (kinds_over desc s) s number old new xs (list_of_set b (kinds_over desc s) s) false)
       → OtherListsStay s a b → Upto desc db set number old new k a → Upto desc db set number old new (k + 1) b
   upto_step k s a b at h changed others u =
       let one = changed (entries_of desc db s) (u.left k s (omega arith) at (over_kept s set h)) in
-      let here : kept b (kinds_over desc s) s ≡ Some (entries_of desc (db_with db set number new) s) = one.done refl (judged.room k s at h) ∙ ap Some (sym (entries_here desc db set number old new judged k s at h)) in
+      let here : list_of_set b (kinds_over desc s) s ≡ Some (entries_of desc (db_with db set number new) s) = one.done refl (judged.room k s at h) ∙ ap Some (sym (entries_here desc db set number old new judged k s at h)) in
       let refused : is_refused desc db set number old new s ≡ false = ap (λ t. t && refuses (kinds_over desc s) s new (without_in (entry_opt (kinds_over desc s) s number old) (entries_of desc db s))) h ∙ sym one.answer in
       record {
         done = λ j t lt is kept. elim (cases_lt j k) [
@@ -220,7 +220,7 @@ clash_here desc db set number old (Some rec) judged k s now at h refused u =
     (λ j t lt is. sym (refused_is desc db set number old rec judged j t is) ∙ u.none j t lt is)
 
 pub upto_refused : (desc : Described) (db : Db) (set number : ℕ) (old new : Option Record) → ChangeStands desc db set number old new → (k : ℕ) (s : Shape) (a b : ListsOf) → slice_get desc.structures k ≡ Some s → is_over s set ≡ true
-    → ((xs : List (List ℕ)) → kept a (kinds_over desc s) s ≡ Some xs → OneChanged (kinds_over desc s) s number old new xs (kept b (kinds_over desc s) s) true)
+    → ((xs : List (List ℕ)) → list_of_set a (kinds_over desc s) s ≡ Some xs → OneChanged (kinds_over desc s) s number old new xs (list_of_set b (kinds_over desc s) s) true)
     → Upto desc db set number old new k a → KeepsSets desc db set number new b (Duplicate s.number)
 upto_refused desc db set number old new judged k s a b at h changed u =
     let one = changed (entries_of desc db s) (u.left k s (omega arith) at (over_kept s set h)) in

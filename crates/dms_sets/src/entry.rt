@@ -33,7 +33,7 @@ pub fn front(
 {
     let parts = s.parts.as_slice();
     let key = key_of(alloc, parts, rec.values.as_slice())?;
-    let mut out = Bytes::copied(alloc, &rec.owner.to_be_bytes()[4..])?;
+    let mut out = Bytes::copy_of(alloc, &rec.owner.to_be_bytes()[4..])?;
     out.extend(key_bytes(alloc, parts, kinds, key.as_slice())?.as_slice())?;
     Ok(out)
 }

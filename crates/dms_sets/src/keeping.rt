@@ -1,5 +1,5 @@
 ghost use Rattle.std.specs.Prelude.{◌≡◌};
-ghost use Rattle.dms_sets.specs.Keeping.{Calm, EndsInFault, FromBelow, Usable, file_of, listed};
+ghost use Rattle.dms_sets.specs.Keeping.{Calm, EndsInFault, FromBelow, Usable, file_of, seen_list};
 ghost use Rattle.dms_sets.specs.KeepingLaws as laws;
 
 use crate::Lists;
@@ -17,7 +17,7 @@ fn file_of(structure: u16) -> u32
 /// Ordered lists, each in the file of its structure, as they are seen through an overlay. A file of more than
 /// 1,048,576 blocks is no list.
 impl<B: Blocks> Lists for Overlay<B> {
-    ghost listed = { λ o n w. listed o n w };
+    ghost listed = { λ o n w. seen_list o n w };
 
     ghost usable = { λ o n. Usable o n };
 

@@ -12,7 +12,7 @@ ghost use Rattle.dms_model.specs.Db.{Db};
 ghost use Rattle.dms_desc.specs.Kinds.{over};
 ghost use Rattle.dms_desc.specs.Lookups.{structure_of};
 ghost use Rattle.dms_model.specs.Members.{members, first_member, last_member};
-ghost use Rattle.dms_model.specs.Stores.{put_answer, put_after, put_number, put_unless, stored};
+ghost use Rattle.dms_model.specs.Stores.{put_answer, put_after, put_number, put_unless, record_to_store};
 ghost use Rattle.dms_ordlist.specs.Lists.{AreInByteOrder, with_in, without_in, first_from, last_to};
 ghost use Rattle.dms_sets.specs.Told.{db_with};
 ghost use Rattle.dms_sets.specs.Sets.{entries_of, kinds_over};
@@ -57,7 +57,7 @@ pub fn one_put_changes()
 pub fn duplicate_by_one_look()
     ensures answer { (desc : Described) (db : Db) (set : ℕ) (number : Option ℕ) (rec : Record) → AllByRecursion (IsNamed desc) desc.structures
         → RecordsHaveSpots desc db → MayCome desc set rec → IsFoundNumber number
-        → put_answer desc db set number rec ≡ put_unless (clash_seen desc desc.structures db set number (stored desc db set number rec)) (put_number desc db set number) }
+        → put_answer desc db set number rec ≡ put_unless (clash_seen desc desc.structures db set number (record_to_store desc db set number rec)) (put_number desc db set number) }
     ensures fresh { (desc : Described) (db : Db) (set n : ℕ) (rec : Record) → get db.records (set, n) ≡ None
         → clash_seen desc desc.structures db set None rec ≡ clash_seen desc desc.structures db set (Some n) rec }
 {}
@@ -65,7 +65,7 @@ pub fn duplicate_by_one_look()
 /// A law: storing a record is one change of the stored record, which has the owner and the links of the one that it replaces.
 pub fn one_put_is_a_change()
     ensures { (desc : Described) (db : Db) (set n : ℕ) (rec : Record)
-        → put_after (Stored n) desc db set rec ≡ db_with db set n (Some (stored desc db set (Some n) rec)) }
+        → put_after (Stored n) desc db set rec ≡ db_with db set n (Some (record_to_store desc db set (Some n) rec)) }
 {}
 
 /// A law: the first member behind a bound is that of the first entry not below the bound's bytes, where that entry is

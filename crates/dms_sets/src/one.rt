@@ -2,7 +2,7 @@ ghost use Rattle.std.specs.Prelude.{◌≡◌, ◌==◌, ◌++◌, ◌∷◌, []
 ghost use Rattle.std.specs.Option.{option_copied};
 ghost use Rattle.dms_desc.specs.Shape.{shape_of};
 ghost use Rattle.dms_ordlist.specs.Lists.{with_in, without_in};
-ghost use Rattle.dms_sets.specs.Changes.{ChangesSet, Enters, IfListed, ListChanged, ListGrown, OtherListsStay, HasEntry, OptHasEntry, entry_in, entry_opt, is_seen, kept, refuses};
+ghost use Rattle.dms_sets.specs.Changes.{ChangesSet, Enters, IfListed, ListChanged, ListGrown, OtherListsStay, HasEntry, OptHasEntry, entry_in, entry_opt, is_seen, list_of_set, refuses};
 ghost use Rattle.dms_sets.specs.Prefixes.{starts};
 
 use crate::Lists;
@@ -43,7 +43,7 @@ fn take_out<L: Lists>(
     ensures usable { OnOk result ((n : ℕ) → L.usable lists.old n → L.usable lists.new n) }
     ensures calm { OnOk result (L.calm (λ m. m == s.now.number) 1 lists.old lists.new) }
     ensures fails { IfErr result (λ e. L.fails e 1 lists.old lists.new) }
-    ensures below { IfErr result (λ e. IfListed (kept (L.listed lists.old) kinds.now (shape_of s.now)) (λ xs. L.below e lists.old lists.new)) }
+    ensures below { IfErr result (λ e. IfListed (list_of_set (L.listed lists.old) kinds.now (shape_of s.now)) (λ xs. L.below e lists.old lists.new)) }
 {
     if let Some(entry) = entry(alloc, s, kinds, number, rec)? {
         lists.remove(alloc, s.number, entry.as_slice())?;
@@ -66,7 +66,7 @@ fn put_in<L: Lists>(
     ensures usable { OnOk result ((n : ℕ) → L.usable lists.old n → L.usable lists.new n) }
     ensures calm { OnOk result (L.calm (λ m. m == s.now.number) 1 lists.old lists.new) }
     ensures fails { IfErr result (λ e. L.fails e 1 lists.old lists.new) }
-    ensures below { IfErr result (λ e. IfListed (kept (L.listed lists.old) kinds.now (shape_of s.now)) (λ xs. L.below e lists.old lists.new)) }
+    ensures below { IfErr result (λ e. IfListed (list_of_set (L.listed lists.old) kinds.now (shape_of s.now)) (λ xs. L.below e lists.old lists.new)) }
 {
     if let Some(entry) = entry(alloc, s, kinds, number, rec)? {
         lists.insert(alloc, s.number, entry.as_slice())?;
@@ -84,12 +84,12 @@ fn is_taken<L: Lists>(
 ) -> Result<bool, BlockFault>
     requires usable { L.usable lists.old s.now.number }
     requires fits { HasEntry kinds.now (shape_of s.now) rec.now.values }
-    ensures seen { IfOk result (λ b. IfListed (kept (L.listed lists.old) kinds.now (shape_of s.now)) (λ xs. b ≡ is_seen kinds.now (shape_of s.now) rec.now xs)) }
+    ensures seen { IfOk result (λ b. IfListed (list_of_set (L.listed lists.old) kinds.now (shape_of s.now)) (λ xs. b ≡ is_seen kinds.now (shape_of s.now) rec.now xs)) }
     ensures list { OnOk result (L.listed lists.new ≡ L.listed lists.old) }
     ensures usable { OnOk result ((n : ℕ) → L.usable lists.old n → L.usable lists.new n) }
     ensures calm { OnOk result (L.calm (λ m. m == s.now.number) 1 lists.old lists.new) }
     ensures fails { IfErr result (λ e. L.fails e 1 lists.old lists.new) }
-    ensures below { IfErr result (λ e. IfListed (kept (L.listed lists.old) kinds.now (shape_of s.now)) (λ xs. L.below e lists.old lists.new)) }
+    ensures below { IfErr result (λ e. IfListed (list_of_set (L.listed lists.old) kinds.now (shape_of s.now)) (λ xs. L.below e lists.old lists.new)) }
 {
     let front = front(alloc, s, kinds, rec)?;
     let bound = bound(alloc, &front)?;
@@ -109,12 +109,12 @@ fn refuses<L: Lists>(
 ) -> Result<bool, BlockFault>
     requires usable { L.usable lists.old s.now.number }
     requires fits { HasEntry kinds.now (shape_of s.now) rec.now.values }
-    ensures answer { IfOk result (λ b. IfListed (kept (L.listed lists.old) kinds.now (shape_of s.now)) (λ xs. b ≡ refuses kinds.now (shape_of s.now) (Some rec.now) xs)) }
+    ensures answer { IfOk result (λ b. IfListed (list_of_set (L.listed lists.old) kinds.now (shape_of s.now)) (λ xs. b ≡ refuses kinds.now (shape_of s.now) (Some rec.now) xs)) }
     ensures list { OnOk result (L.listed lists.new ≡ L.listed lists.old) }
     ensures usable { OnOk result ((n : ℕ) → L.usable lists.old n → L.usable lists.new n) }
     ensures calm { OnOk result (L.calm (λ m. m == s.now.number) 1 lists.old lists.new) }
     ensures fails { IfErr result (λ e. L.fails e 1 lists.old lists.new) }
-    ensures below { IfErr result (λ e. IfListed (kept (L.listed lists.old) kinds.now (shape_of s.now)) (λ xs. L.below e lists.old lists.new)) }
+    ensures below { IfErr result (λ e. IfListed (list_of_set (L.listed lists.old) kinds.now (shape_of s.now)) (λ xs. L.below e lists.old lists.new)) }
 {
     if s.duplicates || !s.takes(rec.values.as_slice()) {
         return Ok(false);
@@ -137,7 +137,7 @@ fn leave<L: Lists>(
     ensures usable { OnOk result ((n : ℕ) → L.usable lists.old n → L.usable lists.new n) }
     ensures calm { OnOk result (L.calm (λ m. m == s.now.number) 1 lists.old lists.new) }
     ensures fails { IfErr result (λ e. L.fails e 1 lists.old lists.new) }
-    ensures below { IfErr result (λ e. IfListed (kept (L.listed lists.old) kinds.now (shape_of s.now)) (λ xs. L.below e lists.old lists.new)) }
+    ensures below { IfErr result (λ e. IfListed (list_of_set (L.listed lists.old) kinds.now (shape_of s.now)) (λ xs. L.below e lists.old lists.new)) }
 {
     match old {
         None => Ok(()),
@@ -161,7 +161,7 @@ fn put_new<L: Lists>(
     ensures usable { OnOk result ((n : ℕ) → L.usable lists.old n → L.usable lists.new n) }
     ensures calm { OnOk result (L.calm (λ m. m == s.now.number) 2 lists.old lists.new) }
     ensures fails { IfErr result (λ e. L.fails e 2 lists.old lists.new) }
-    ensures below { IfErr result (λ e. IfListed (kept (L.listed lists.old) kinds.now (shape_of s.now)) (λ xs. L.below e lists.old lists.new)) }
+    ensures below { IfErr result (λ e. IfListed (list_of_set (L.listed lists.old) kinds.now (shape_of s.now)) (λ xs. L.below e lists.old lists.new)) }
 {
     if refuses(lists, alloc, s, kinds, rec)? {
         return Ok(true);
@@ -186,7 +186,7 @@ fn enter<L: Lists>(
     ensures usable { OnOk result ((n : ℕ) → L.usable lists.old n → L.usable lists.new n) }
     ensures calm { OnOk result (L.calm (λ m. m == s.now.number) 2 lists.old lists.new) }
     ensures fails { IfErr result (λ e. L.fails e 2 lists.old lists.new) }
-    ensures below { IfErr result (λ e. IfListed (kept (L.listed lists.old) kinds.now (shape_of s.now)) (λ xs. L.below e lists.old lists.new)) }
+    ensures below { IfErr result (λ e. IfListed (list_of_set (L.listed lists.old) kinds.now (shape_of s.now)) (λ xs. L.below e lists.old lists.new)) }
 {
     match new {
         None => Ok(false),
@@ -213,7 +213,7 @@ pub fn change_one<L: Lists>(
     ensures usable { OnOk result ((n : ℕ) → L.usable lists.old n → L.usable lists.new n) }
     ensures calm { OnOk result (L.calm (λ m. m == s.now.number) 3 lists.old lists.new) }
     ensures fails { IfErr result (λ e. L.fails e 3 lists.old lists.new) }
-    ensures below { IfErr result (λ e. IfListed (kept (L.listed lists.old) kinds.now (shape_of s.now)) (λ xs. L.below e lists.old lists.new)) }
+    ensures below { IfErr result (λ e. IfListed (list_of_set (L.listed lists.old) kinds.now (shape_of s.now)) (λ xs. L.below e lists.old lists.new)) }
 {
     leave(lists, alloc, s, kinds, number, old)?;
     enter(lists, alloc, s, kinds, number, new)

@@ -1,7 +1,7 @@
 ghost use Rattle.std.specs.Prelude.{◌≡◌, ◌*◌, ℕ, true, IfOk, IfErr, OnOk, length};
 ghost use Rattle.std.specs.Option.{option_copied};
-ghost use Rattle.dms_desc.specs.Shape.{shape_of, described};
-ghost use Rattle.dms_desc.specs.Lookups.{structure_of, items_of};
+ghost use Rattle.dms_desc.specs.Shape.{shape_of, as_described};
+ghost use Rattle.dms_desc.specs.Lookups.{items_of};
 ghost use Rattle.dms_sets.specs.Changes.{has_number, is_over};
 ghost use Rattle.dms_sets.specs.Told.{IfJudged, KeepsSets, MayEnter, OfStructures};
 
@@ -9,7 +9,7 @@ use crate::entry::kinds_of;
 use crate::one::change_one;
 use crate::{Lists, SetAnswer};
 use dms_block::BlockFault;
-use dms_desc::{Description, Item, Record, Structure};
+use dms_desc::{Description, Record, Structure};
 use std::alloc::Global;
 
 // Whether a structure is a set or automatic subset of a data set.
@@ -17,19 +17,6 @@ fn is_over(s: &Structure, set: u16) -> bool
     ensures { result ≡ is_over (shape_of s.now) set }
 {
     2 < s.kind && s.kind < 5 && s.set == set
-}
-
-// The items of a structure; none where there is no such structure.
-fn items_of(desc: &Description, set: u16) -> &[Item]
-    ensures { result.now ≡ items_of (structure_of (described desc.now) set) }
-{
-    if set == 0 {
-        return &[];
-    }
-    match desc.structures.as_slice().get((set - 1) as usize) {
-        None => &[],
-        Some(s) => s.items.as_slice(),
-    }
 }
 
 /// One change of a record of a data set in all its sets and automatic subsets, in number order: the old record's entry
@@ -49,17 +36,17 @@ pub fn change<L: Lists>(
     old: Option<&Record>,
     new: Option<&Record>,
 ) -> Result<SetAnswer, BlockFault>
-    requires usable { OfStructures (described desc.now) (λ s. is_over s set ≡ true → L.usable lists.old s.number) }
-    requires old { MayEnter (described desc.now) set (option_copied old) }
-    requires new { MayEnter (described desc.now) set (option_copied new) }
-    ensures kept { IfOk result (λ a. IfJudged (described desc.now) set number (option_copied old.entry) (option_copied new.entry) (L.listed lists.old)
-        (λ db. KeepsSets (described desc.now) db set number (option_copied new.entry) (L.listed lists.new) a)) }
+    requires usable { OfStructures (as_described desc.now) (λ s. is_over s set ≡ true → L.usable lists.old s.number) }
+    requires old { MayEnter (as_described desc.now) set (option_copied old) }
+    requires new { MayEnter (as_described desc.now) set (option_copied new) }
+    ensures kept { IfOk result (λ a. IfJudged (as_described desc.now) set number (option_copied old.entry) (option_copied new.entry) (L.listed lists.old)
+        (λ db. KeepsSets (as_described desc.now) db set number (option_copied new.entry) (L.listed lists.new) a)) }
     ensures usable { OnOk result ((n : ℕ) → L.usable lists.old n → L.usable lists.new n) }
-    ensures calm { OnOk result (L.calm (has_number (described desc.now).structures set) (3 * length desc.now.structures) lists.old lists.new) }
+    ensures calm { OnOk result (L.calm (has_number (as_described desc.now).structures set) (3 * length desc.now.structures) lists.old lists.new) }
     ensures fails { IfErr result (λ e. L.fails e (3 * length desc.now.structures) lists.old lists.new) }
-    ensures below { IfErr result (λ e. IfJudged (described desc.now) set number (option_copied old.entry) (option_copied new.entry) (L.listed lists.old) (λ db. L.below e lists.old lists.new)) }
+    ensures below { IfErr result (λ e. IfJudged (as_described desc.now) set number (option_copied old.entry) (option_copied new.entry) (L.listed lists.old) (λ db. L.below e lists.old lists.new)) }
 {
-    let kinds = kinds_of(alloc, items_of(desc, set))?;
+    let kinds = kinds_of(alloc, desc.items_of(set))?;
     for s in desc.structures.as_slice() {
         if is_over(s, set) {
             if change_one(lists, alloc, s, kinds.as_slice(), number, old, new)? {

@@ -25,12 +25,12 @@ unfoldable pub stored_of : Files → ℕ → ℕ → List ℕ
 stored_of files f b = if nat_lt 30000 f then range (1024 * b) 1024 (files f) else []
 
 -- with zeros at the end up to a length
-unfoldable pub padded : List ℕ → ℕ → List ℕ
-padded file len = file ++ replicate (len - length file) 0
+unfoldable pub pad_zeros : List ℕ → ℕ → List ℕ
+pad_zeros file len = file ++ replicate (len - length file) 0
 
 -- these bytes over what was there, from an offset on; a gap before them is filled with zeros
-unfoldable pub overlaid : ℕ → List ℕ → List ℕ → List ℕ
-overlaid at bytes file = take at (padded file at) ++ bytes ++ drop (at + length bytes) file
+unfoldable pub overlay_bytes : ℕ → List ℕ → List ℕ → List ℕ
+overlay_bytes at bytes file = take at (pad_zeros file at) ++ bytes ++ drop (at + length bytes) file
 
 -- one file may be changed by step, the others are the same
 pub record InFile (f : ℕ) (step : List ℕ → List ℕ → Type 0) (old new : Files) : Type 0 where

@@ -3,7 +3,7 @@ use Rattle.std.proofs.Common.{ℕ, ◌+◌, ◌-◌, ◌*◌, ◌<◌, ◌≤◌
 use Rattle.std.proofs.lemmas.List.{places, length-replicate, get_or-drop, get_or-take, take_at, drop_at, ext_get_or, append_assoc}
 use Rattle.std.proofs.lemmas.Bool.{cases_lt}
 use Rattle.std.proofs.lemmas.Bool.Decides.{nat_tests}
-use Rattle.dms_site.specs.Files.{Files, with_file, range, padded, overlaid, InFile, Torn}
+use Rattle.dms_site.specs.Files.{Files, with_file, range, pad_zeros, overlay_bytes, InFile, Torn}
 
 pub with_file_here : (files : Files) (f : ℕ) (bytes : List ℕ) → with_file files f bytes f ≡ bytes
 unfolding with_file
@@ -31,21 +31,21 @@ range_same at n old new long longer same =
     let low : k < n = omega arith in
     get_or-range at n k new low ∙ same (at + k) (omega arith) (omega arith) ∙ sym (get_or-range at n k old low))
 
-length-padded : (file : List ℕ) (len : ℕ) → length (padded file len) ≡ max (length file) len
-unfolding padded
+length-padded : (file : List ℕ) (len : ℕ) → length (pad_zeros file len) ≡ max (length file) len
+unfolding pad_zeros
 length-padded file len = omega (arith, length-append file (replicate (len - length file) 0), length-replicate {A = ℕ} (len - length file) 0)
 
-front : (at : ℕ) (file : List ℕ) → length (take at (padded file at)) ≡ at
-front at file = omega (arith, length-take at (padded file at), length-padded file at)
+front : (at : ℕ) (file : List ℕ) → length (take at (pad_zeros file at)) ≡ at
+front at file = omega (arith, length-take at (pad_zeros file at), length-padded file at)
 
-pub length-overlaid : (at : ℕ) (bytes file : List ℕ) → length (overlaid at bytes file) ≡ max (length file) (at + length bytes)
-unfolding overlaid
+pub length-overlaid : (at : ℕ) (bytes file : List ℕ) → length (overlay_bytes at bytes file) ≡ max (length file) (at + length bytes)
+unfolding overlay_bytes
 length-overlaid at bytes file =
-    omega (arith, front at file, length-append (take at (padded file at)) bytes, length-append (take at (padded file at) ++ bytes) (drop (at + length bytes) file), length-drop (at + length bytes) file)
+    omega (arith, front at file, length-append (take at (pad_zeros file at)) bytes, length-append (take at (pad_zeros file at) ++ bytes) (drop (at + length bytes) file), length-drop (at + length bytes) file)
 
 -- a whole write is one that may be cut short
-pub torn_overlaid : (at : ℕ) (bytes file : List ℕ) → Torn at (length bytes) file (overlaid at bytes file)
-unfolding overlaid padded
+pub torn_overlaid : (at : ℕ) (bytes file : List ℕ) → Torn at (length bytes) file (overlay_bytes at bytes file)
+unfolding overlay_bytes pad_zeros
 torn_overlaid at bytes file = record {
   no_shorter = omega (arith, length-overlaid at bytes file);
   no_longer = omega (arith, length-overlaid at bytes file);
@@ -54,10 +54,10 @@ torn_overlaid at bytes file = record {
 }
 
 -- what was written is read
-pub range_overlaid : (at : ℕ) (bytes file : List ℕ) → range at (length bytes) (overlaid at bytes file) ≡ bytes
-unfolding overlaid range
+pub range_overlaid : (at : ℕ) (bytes file : List ℕ) → range at (length bytes) (overlay_bytes at bytes file) ≡ bytes
+unfolding overlay_bytes range
 range_overlaid at bytes file =
-    let before = take at (padded file at) in
+    let before = take at (pad_zeros file at) in
     let after = drop (at + length bytes) file in
     ap (λ (l : List ℕ). take (length bytes) (drop at l)) (append_assoc before bytes after)
     ∙ ap (λ (l : List ℕ). take (length bytes) l) (drop_at before (bytes ++ after) at (front at file))

@@ -2,7 +2,7 @@
 use Rattle.std.proofs.Common.{ℕ, ◌+◌, ◌*◌, ◌<◌, ◌≤◌, ◌≡◌, ◌≢◌, inl, inr, List, [], length, sym, ◌∙◌, ap, arith}
 use Rattle.std.proofs.lemmas.Bool.{cases_lt, cases_eq}
 use Rattle.std.proofs.lemmas.Bool.Decides.{nat_tests}
-use Rattle.dms_site.specs.Files.{Files, stored_of, with_file, range, overlaid, InFile, Torn}
+use Rattle.dms_site.specs.Files.{Files, stored_of, with_file, range, overlay_bytes, InFile, Torn}
 use Rattle.dms_site.specs.Laws.{with_file_here, length-range, range_overlaid, range_apart}
 
 -- a block of a structure file
@@ -41,7 +41,7 @@ stored_apart x y f b g c step apart whole = elim (cases_eq g f) [
 ]
 
 -- a block that was written whole is what is stored
-pub stored_written : (files : Files) (f b : ℕ) (block : List ℕ) → 30000 < f → length block ≡ 1024 → stored_of (with_file files f (overlaid (1024 * b) block (files f))) f b ≡ block
+pub stored_written : (files : Files) (f b : ℕ) (block : List ℕ) → 30000 < f → length block ≡ 1024 → stored_of (with_file files f (overlay_bytes (1024 * b) block (files f))) f b ≡ block
 stored_written files f b block structure sized =
-    stored_at (with_file files f (overlaid (1024 * b) block (files f))) f b structure ∙ ap (λ (l : List ℕ). range (1024 * b) 1024 l) (with_file_here files f (overlaid (1024 * b) block (files f)))
-    ∙ ap (λ (n : ℕ). range (1024 * b) n (overlaid (1024 * b) block (files f))) (sym sized) ∙ range_overlaid (1024 * b) block (files f)
+    stored_at (with_file files f (overlay_bytes (1024 * b) block (files f))) f b structure ∙ ap (λ (l : List ℕ). range (1024 * b) 1024 l) (with_file_here files f (overlay_bytes (1024 * b) block (files f)))
+    ∙ ap (λ (n : ℕ). range (1024 * b) n (overlay_bytes (1024 * b) block (files f))) (sym sized) ∙ range_overlaid (1024 * b) block (files f)

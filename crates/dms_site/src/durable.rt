@@ -1,14 +1,14 @@
 ghost use Rattle.std.specs.Prelude.{◌≡◌, ◌+◌, ◌^◌, ◌<◌, length, take, OnOk, IsTrue};
 ghost use Rattle.dms_base.specs.Causes.{HasCause};
 ghost use Rattle.dms_moments.specs.Moments.{Steps};
-ghost use Rattle.dms_site.specs.Files.{with_file, overlaid, InFile, Torn, Cut, OnDisk, Only};
+ghost use Rattle.dms_site.specs.Files.{with_file, overlay_bytes, InFile, Torn, Cut, OnDisk, Only};
 
 use crate::{Failed, Site};
 
 /// Writes bytes from a position on and syncs. Answers Failed where the write or the sync fails.
 pub fn write_synced<S: Site>(site: &mut S, file: u32, at: u64, bytes: &[u8]) -> Result<(), Failed>
     requires { at + length bytes.now < 2 ^ 40 }
-    ensures written { OnOk result (IsTrue S.tells → S.files site.new ≡ with_file (S.files site.old) file (overlaid at bytes.now (S.files site.old file))) }
+    ensures written { OnOk result (IsTrue S.tells → S.files site.new ≡ with_file (S.files site.old) file (overlay_bytes at bytes.now (S.files site.old file))) }
     ensures torn { IsTrue S.tells → InFile file (Torn at (length bytes.now)) (S.files site.old) (S.files site.new) }
     ensures durable { OnOk result (IsTrue S.tells → Only (S.files site.new) (S.clock site.new)) }
     ensures said { S.said site.new ≡ S.said site.old }

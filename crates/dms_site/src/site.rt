@@ -1,7 +1,7 @@
 ghost use Rattle.std.specs.Prelude.{◌≡◌, ◌+◌, ◌^◌, ◌<◌, ◌≤◌, ℕ, Bool, List, ◌++◌, length, take, drop, IfOk, OnOk, IsTrue};
 ghost use Rattle.dms_base.specs.Causes.{HasCause};
 ghost use Rattle.dms_moments.specs.Moments.{Clock, Now, Steps};
-ghost use Rattle.dms_site.specs.Files.{Files, Left, with_file, range, overlaid, InFile, Torn, Cut, OnDisk, PrintsPartOf, Same, Only, IsLastPresent};
+ghost use Rattle.dms_site.specs.Files.{Files, Left, with_file, range, overlay_bytes, InFile, Torn, Cut, OnDisk, PrintsPartOf, Same, Only, IsLastPresent};
 
 /// A call of the outside failed.
 #[derive(Clone, Copy, Debug, PartialEq, Eq)]
@@ -76,7 +76,7 @@ pub trait Site {
     /// wrote any bytes.
     fn write_at(&mut self, file: u32, at: u64, bytes: &[u8]) -> Result<(), Failed>
         requires { at + length bytes.now < 2 ^ 40 }
-        ensures written { OnOk result (IsTrue tells → files self.new ≡ with_file (files self.old) file (overlaid at bytes.now (files self.old file))) }
+        ensures written { OnOk result (IsTrue tells → files self.new ≡ with_file (files self.old) file (overlay_bytes at bytes.now (files self.old file))) }
         ensures torn { IsTrue tells → InFile file (Torn at (length bytes.now)) (files self.old) (files self.new) }
         ensures said { said self.new ≡ said self.old }
         ensures same_site { same_site self.old self.new }

@@ -11,7 +11,7 @@ use Rattle.dms_sitemem.specs.declared.event.SiteEvent.TheVariants.{Looked, Wrote
 use Rattle.dms_sitemem.specs.declared.pick.Fill.{Fill}
 use Rattle.dms_sitemem.specs.Events.{is_call, is_sync, through}
 use Rattle.dms_sitemem.specs.Replay.{Replayed, after, state_of}
-use Rattle.dms_sitemem.specs.Picks.{Struck, struck, fill_of, cuts_of, picked, picked_after}
+use Rattle.dms_sitemem.specs.Picks.{Struck, strike, fill_of, cuts_of, pick_state, picked_after}
 use Rattle.dms_sitemem.specs.Honest.{state_push}
 
 one_more : (n : ℕ) → n + 1 ≡ suc n
@@ -82,19 +82,19 @@ through_all n p events all is past =
     sym (is ∙ ap (λ (l : List SiteEvent). take p events ++ through n l) (drop_all p events past) ∙ ap (λ (l : List SiteEvent). take p events ++ l) (through_nil n) ∙ append-nil (take p events))
 
 -- one more event that isn't followed by a sync
-picked_event : (pick : ℕ) (event : SiteEvent) (s : Replayed) → is_sync event ≡ false → picked pick (after event s).stable (after event s).pending ≡ struck (fill_of pick) (cuts_of pick) event (picked pick s.stable s.pending)
-unfolding picked
+picked_event : (pick : ℕ) (event : SiteEvent) (s : Replayed) → is_sync event ≡ false → pick_state pick (after event s).stable (after event s).pending ≡ strike (fill_of pick) (cuts_of pick) event (pick_state pick s.stable s.pending)
+unfolding pick_state
 picked_event pick event s isnt =
-    ap (λ (b : Bool). picked pick (if b then s.files else s.stable) (if b then [] else event ∷ s.pending)) isnt
+    ap (λ (b : Bool). pick_state pick (if b then s.files else s.stable) (if b then [] else event ∷ s.pending)) isnt
 
-pub picked_step : (pick p : ℕ) (events : List SiteEvent) (event : SiteEvent) → slice_get events p ≡ Some event → is_sync event ≡ false → picked_after pick (take (p + 1) events) ≡ struck (fill_of pick) (cuts_of pick) event (picked_after pick (take p events))
+pub picked_step : (pick p : ℕ) (events : List SiteEvent) (event : SiteEvent) → slice_get events p ≡ Some event → is_sync event ≡ false → picked_after pick (take (p + 1) events) ≡ strike (fill_of pick) (cuts_of pick) event (picked_after pick (take p events))
 picked_step pick p events event is isnt =
-    ap (λ (s : Replayed). picked pick s.stable s.pending) (state_take events p event is) ∙ picked_event pick event (state_of (take p events)) isnt
+    ap (λ (s : Replayed). pick_state pick s.stable s.pending) (state_take events p event is) ∙ picked_event pick event (state_of (take p events)) isnt
 
-pub picked_start : (pick : ℕ) (s : Replayed) → s.pending ≡ [] → s.stable ≡ s.files → picked pick s.stable s.pending ≡ record { files = s.files; seed = pick }
-unfolding picked
+pub picked_start : (pick : ℕ) (s : Replayed) → s.pending ≡ [] → s.stable ≡ s.files → pick_state pick s.stable s.pending ≡ record { files = s.files; seed = pick }
+unfolding pick_state
 picked_start pick s none same =
-    ap (λ (l : List SiteEvent). picked pick s.stable l) none ∙ ap (λ (l : Files). record { files = l; seed = pick }) same
+    ap (λ (l : List SiteEvent). pick_state pick s.stable l) none ∙ ap (λ (l : Files). record { files = l; seed = pick }) same
 
 -- up to a place, the last sync that succeeded ends before this one
 abbrev pub SyncedTo : List SiteEvent → ℕ → ℕ → Type 0
@@ -132,8 +132,8 @@ pub synced_all : (events : List SiteEvent) (p synced : ℕ) → SyncedTo events 
 synced_all events p synced was past i e from at = was.none_behind i e from (omega (arith, past, slice_get_within events i e at)) at
 
 -- one more event before the stop
-pub struck_next : (pick p : ℕ) (events : List SiteEvent) (event : SiteEvent) (fill : Fill) (files : Files) (seed : ℕ) → slice_get events p ≡ Some event → is_sync event ≡ false → fill ≡ fill_of pick → files ≡ (picked_after pick (take p events)).files → seed ≡ (picked_after pick (take p events)).seed → struck fill (cuts_of pick) event (record { files = files; seed = seed }) ≡ picked_after pick (take (p + 1) events)
+pub struck_next : (pick p : ℕ) (events : List SiteEvent) (event : SiteEvent) (fill : Fill) (files : Files) (seed : ℕ) → slice_get events p ≡ Some event → is_sync event ≡ false → fill ≡ fill_of pick → files ≡ (picked_after pick (take p events)).files → seed ≡ (picked_after pick (take p events)).seed → strike fill (cuts_of pick) event (record { files = files; seed = seed }) ≡ picked_after pick (take (p + 1) events)
 struck_next pick p events event fill files seed at isnt same files_same seed_same =
-    ap (λ (f : Fill). struck f (cuts_of pick) event (record { files = files; seed = seed })) same
-    ∙ ap (λ (s : Struck). struck (fill_of pick) (cuts_of pick) event s) (λ i. record { files = files_same i; seed = seed_same i })
+    ap (λ (f : Fill). strike f (cuts_of pick) event (record { files = files; seed = seed })) same
+    ∙ ap (λ (s : Struck). strike (fill_of pick) (cuts_of pick) event s) (λ i. record { files = files_same i; seed = seed_same i })
     ∙ sym (picked_step pick p events event at isnt)

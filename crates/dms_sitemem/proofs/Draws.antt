@@ -1,10 +1,10 @@
 -- Bytes that are drawn one by one.
 use Rattle.std.proofs.Math.Nat.{add-mul-mod_self_left, div-add-mod}
 use Rattle.std.proofs.Common.{ℕ, zero, suc, sym, ◌*◌, ◌+◌, ◌/◌, ◌%◌, ◌^◌, ◌≡◌, List, [], ◌∷◌, ◌++◌, refl, ◌∙◌, ap, arith}
-use Rattle.dms_sitemem.specs.Picks.{next_seed, drawn, seed_after}
+use Rattle.dms_sitemem.specs.Picks.{next_seed, draw_bytes, seed_after}
 
-draw_suc : (n seed : ℕ) → drawn (suc n) seed ≡ drawn n seed ++ ((next_seed (seed_after n seed) / 2 ^ 33) % 256) ∷ []
-unfolding drawn seed_after
+draw_suc : (n seed : ℕ) → draw_bytes (suc n) seed ≡ draw_bytes n seed ++ ((next_seed (seed_after n seed) / 2 ^ 33) % 256) ∷ []
+unfolding draw_bytes seed_after
 draw_suc zero seed = refl
 draw_suc (suc n) seed = ap (λ (l : List ℕ). (next_seed seed / 2 ^ 33) % 256 ∷ l) (draw_suc n (next_seed seed))
 
@@ -17,8 +17,8 @@ one_more : (n : ℕ) → n + 1 ≡ suc n
 one_more n = omega arith
 
 -- one more draw behind those before
-pub draw_next : (n seed : ℕ) → drawn (n + 1) seed ≡ drawn n seed ++ ((next_seed (seed_after n seed) / 2 ^ 33) % 256) ∷ []
-draw_next n seed = ap (λ (k : ℕ). drawn k seed) (one_more n) ∙ draw_suc n seed
+pub draw_next : (n seed : ℕ) → draw_bytes (n + 1) seed ≡ draw_bytes n seed ++ ((next_seed (seed_after n seed) / 2 ^ 33) % 256) ∷ []
+draw_next n seed = ap (λ (k : ℕ). draw_bytes k seed) (one_more n) ∙ draw_suc n seed
 
 pub seed_next : (n seed : ℕ) → seed_after (n + 1) seed ≡ next_seed (seed_after n seed)
 seed_next n seed = ap (λ (k : ℕ). seed_after k seed) (one_more n) ∙ seed_suc n seed

@@ -5,13 +5,13 @@ use Rattle.std.proofs.lemmas.List.{append-nil}
 use Rattle.std.proofs.lemmas.Bool.{false≢true}
 use Rattle.std.proofs.lemmas.Bool.Decides.{nat_tests}
 use Rattle.dms_moments.specs.Moments.{Steps}
-use Rattle.dms_site.specs.Files.{Files, Left, with_file, overlaid, InFile, Torn, Cut, OnDisk, PrintsPartOf, Only}
+use Rattle.dms_site.specs.Files.{Files, Left, with_file, overlay_bytes, InFile, Torn, Cut, OnDisk, PrintsPartOf, Only}
 use Rattle.dms_site.specs.Laws.{torn_overlaid, torn_refl, in_file_with, in_file_same}
 use Rattle.dms_sitemem.specs.declared.event.SiteEvent.{SiteEvent}
 use Rattle.dms_sitemem.specs.declared.event.SiteEvent.TheVariants.{Wrote, Shortened, Synced, Said}
 use Rattle.dms_sitemem.specs.Events.{files_after, said_after, is_call, calls_in}
 use Rattle.dms_sitemem.specs.Replay.{Replayed, MayLeave, after, state_of, clock_of}
-use Rattle.dms_sitemem.specs.Honest.{state_push, pushed, write_leads, say_leads, synced_only}
+use Rattle.dms_sitemem.specs.Honest.{state_push, push_holds, write_leads, say_leads, synced_only}
 
 pub kept_file : (old new : Files) (f : ℕ) (next bytes : List ℕ) → ((g : ℕ) → new g ≡ (if g == f then next else old g)) → next ≡ bytes → new ≡ with_file old f bytes
 unfolding with_file
@@ -56,7 +56,7 @@ calls_few [] = omega arith
 calls_few (e ∷ events) = omega (arith, calls_few events, at_most_one (is_call e))
 
 pub more_steps : (events all : List SiteEvent) (event : SiteEvent) (step : Left → Left → Type 0) → More events event all → ((x : Left) → MayLeave (after event (state_of events)) x → (y : Left) × MayLeave (state_of events) y × step y x) → Steps step (clock_of events) (clock_of all)
-more_steps events all event step more leads = subst (λ l. Steps step (clock_of events) (clock_of l)) (sym more) (pushed events event step leads)
+more_steps events all event step more leads = subst (λ l. Steps step (clock_of events) (clock_of l)) (sym more) (push_holds events event step leads)
 
 pub prints_none : (bytes : List ℕ) (x : Left) → PrintsPartOf bytes x x
 prints_none bytes x = record { files = refl; some = 0; said = sym (append-nil x.said) }
@@ -66,7 +66,7 @@ module _ (events all : List SiteEvent) (f at : ℕ) (v : Vec ℕ Global) (ok : B
   pub write_steps : Steps (OnDisk f (Torn at (length bytes))) (clock_of events) (clock_of all)
   write_steps = subst (λ (l : List ℕ). Steps (OnDisk f (Torn at (length l))) (clock_of events) (clock_of all)) is (more_steps events all _ _ more (write_leads (state_of events) f at v ok))
 
-write_torn_by : (ok : Bool) (f at : ℕ) (bytes : List ℕ) (old new : Files) → new ≡ (if ok then with_file old f (overlaid at bytes (old f)) else old) → InFile f (Torn at (length bytes)) old new
+write_torn_by : (ok : Bool) (f at : ℕ) (bytes : List ℕ) (old new : Files) → new ≡ (if ok then with_file old f (overlay_bytes at bytes (old f)) else old) → InFile f (Torn at (length bytes)) old new
 write_torn_by true f at bytes old new is = subst (λ (l : Files). InFile f (Torn at (length bytes)) old l) (sym is) (in_file_with f _ old _ (torn_overlaid at bytes (old f)))
 write_torn_by false f at bytes old new is = subst (λ (l : Files). InFile f (Torn at (length bytes)) old l) (sym is) (in_file_same f _ old (torn_refl at (length bytes) (old f)))
 

@@ -1,13 +1,13 @@
 -- What was done to a site in memory, one by one.
 use Rattle.std.specs.Prelude.{ℕ, ◌+◌, ◌-◌, ◌==◌, if◌then◌else◌, Bool, true, false, List, [], ◌∷◌, ◌++◌, take}
-use Rattle.dms_site.specs.Files.{Files, with_file, overlaid}
+use Rattle.dms_site.specs.Files.{Files, with_file, overlay_bytes}
 use Rattle.dms_sitemem.specs.declared.event.SiteEvent.{SiteEvent}
 use Rattle.dms_sitemem.specs.declared.event.SiteEvent.TheVariants.{Looked, Wrote, Shortened, Synced, Said, Replaced, Recalled}
 
 -- what a read gives after it; a call that failed changes nothing that is read
 abbrev pub files_after : SiteEvent → Files → Files
 files_after (Looked ok) files = files
-files_after (Wrote f at bytes ok) files = if ok then with_file files f (overlaid at bytes.items (files f)) else files
+files_after (Wrote f at bytes ok) files = if ok then with_file files f (overlay_bytes at bytes.items (files f)) else files
 files_after (Shortened f len ok) files = if ok then with_file files f (take len (files f)) else files
 files_after (Synced ok) files = files
 files_after (Said bytes ok) files = files

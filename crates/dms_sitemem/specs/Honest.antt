@@ -4,14 +4,14 @@ use Rattle.std.specs.declared.alloc.Global.{Global}
 use Rattle.std.proofs.lemmas.List.{take_all, take-append-le, append-nil, length-replicate}
 use Rattle.std.proofs.lemmas.Bool.{cases_lt}
 use Rattle.dms_moments.specs.Moments.{Now, After, Steps}
-use Rattle.dms_site.specs.Files.{Files, Left, overlaid, InFile, Torn, Cut, OnDisk, PrintsPartOf, Same, Only}
+use Rattle.dms_site.specs.Files.{Files, Left, overlay_bytes, InFile, Torn, Cut, OnDisk, PrintsPartOf, Same, Only}
 use Rattle.dms_site.specs.Laws.{torn_overlaid, torn_refl, in_file_with, in_file_same}
 use Rattle.dms_sitemem.specs.declared.event.SiteEvent.{SiteEvent}
 use Rattle.dms_sitemem.specs.declared.event.SiteEvent.TheVariants.{Looked, Wrote, Shortened, Synced, Said, Replaced, Recalled}
 use Rattle.dms_sitemem.specs.declared.pick.Fill.{Fill}
 use Rattle.dms_sitemem.specs.declared.pick.Fill.TheVariants.{Old, New, Sevens, Drawn}
 use Rattle.dms_sitemem.specs.Replay.{EventMayMake, Reaches, Replayed, empty, MayLeave, after, run, state_of, clock_of}
-use Rattle.dms_sitemem.specs.Picks.{drawn, start_of, count_of, marked, Struck, struck, fill_of, cuts_of, picked}
+use Rattle.dms_sitemem.specs.Picks.{draw_bytes, start_of, count_of, file_after, Struck, strike, fill_of, cuts_of, pick_state}
 
 run_push : (events : List SiteEvent) (event : SiteEvent) (s : Replayed) → run (events ++ event ∷ []) s ≡ after event (run events s)
 run_push [] event s = refl
@@ -34,9 +34,9 @@ unfolding clock_of
 counts_since events t x le left = (left.0, omega (arith, le, left.1), left.2, left.3)
 
 -- One more event does a step, where what it may leave is an earlier outcome after that step.
-pub pushed : (events : List SiteEvent) (event : SiteEvent) (step : Left → Left → Type 0) → ((x : Left) → MayLeave (after event (state_of events)) x → (y : Left) × MayLeave (state_of events) y × step y x) → Steps step (clock_of events) (clock_of (events ++ event ∷ []))
+pub push_holds : (events : List SiteEvent) (event : SiteEvent) (step : Left → Left → Type 0) → ((x : Left) → MayLeave (after event (state_of events)) x → (y : Left) × MayLeave (state_of events) y × step y x) → Steps step (clock_of events) (clock_of (events ++ event ∷ []))
 unfolding clock_of
-pushed events event step leads = record { follows = λ x now. one x (left_now all x now); runs = record { later = later; only = only; keeps = keeps } }
+push_holds events event step leads = record { follows = λ x now. one x (left_now all x now); runs = record { later = later; only = only; keeps = keeps } }
   where
     all : List SiteEvent
     all = events ++ event ∷ []
@@ -70,15 +70,15 @@ still events step refls = record {
 
 -- the events, one by one
 module _ (s : Replayed) where
-  passed : (files : Files) → ((before : Files) × Reaches s.stable s.pending before × (files ≡ before)) → Reaches s.stable s.pending files
-  passed files from = subst (λ (l : Files). Reaches s.stable s.pending l) (sym from.2) from.1
+  passes_one : (files : Files) → ((before : Files) × Reaches s.stable s.pending before × (files ≡ before)) → Reaches s.stable s.pending files
+  passes_one files from = subst (λ (l : Files). Reaches s.stable s.pending l) (sym from.2) from.1
 
   pub write_leads : (f at : ℕ) (bytes : Vec ℕ Global) (ok : Bool) (x : Left) → MayLeave (after (Wrote f at bytes ok) s) x → (y : Left) × MayLeave s y × OnDisk f (Torn at (length bytes.items)) y x
   write_leads f at bytes true x (inl now, said) = (
     record { files = s.files; said = s.said },
     (inl refl, refl),
     record {
-      files = subst (λ (l : Files). InFile f (Torn at (length bytes.items)) s.files l) (sym now) (in_file_with f (Torn at (length bytes.items)) s.files (overlaid at bytes.items (s.files f)) (torn_overlaid at bytes.items (s.files f)));
+      files = subst (λ (l : Files). InFile f (Torn at (length bytes.items)) s.files l) (sym now) (in_file_with f (Torn at (length bytes.items)) s.files (overlay_bytes at bytes.items (s.files f)) (torn_overlaid at bytes.items (s.files f)));
       said = said;
     },
   )
@@ -113,23 +113,23 @@ module _ (s : Replayed) where
 
   pub look_leads : (ok : Bool) (x : Left) → MayLeave (after (Looked ok) s) x → (y : Left) × MayLeave s y × Same y x
   look_leads ok x (inl now, said) = (x, (inl now, said), refl)
-  look_leads ok x (inr reached, said) = (x, (inr (passed x.files reached), said), refl)
+  look_leads ok x (inr reached, said) = (x, (inr (passes_one x.files reached), said), refl)
 
   pub sync_leads : (ok : Bool) (x : Left) → MayLeave (after (Synced ok) s) x → (y : Left) × MayLeave s y × Same y x
   sync_leads true x (inl now, said) = (x, (inl now, said), refl)
   sync_leads true x (inr stable, said) = (x, (inl stable, said), refl)
   sync_leads false x (inl now, said) = (x, (inl now, said), refl)
-  sync_leads false x (inr reached, said) = (x, (inr (passed x.files reached), said), refl)
+  sync_leads false x (inr reached, said) = (x, (inr (passes_one x.files reached), said), refl)
 
   pub say_leads : (bytes : Vec ℕ Global) (ok : Bool) (x : Left) → MayLeave (after (Said bytes ok) s) x → (y : Left) × MayLeave s y × PrintsPartOf bytes.items y x
   say_leads bytes true x (from, said) = (
     record { files = x.files; said = s.said },
-    (⊎_elim (λ now. inl now) (λ reached. inr (passed x.files reached)) from, refl),
+    (⊎_elim (λ now. inl now) (λ reached. inr (passes_one x.files reached)) from, refl),
     record { files = refl; some = length bytes.items; said = said ∙ ap (λ (l : List ℕ). s.said ++ l) (sym (take_all (length bytes.items) bytes.items (omega arith))) },
   )
   say_leads bytes false x (from, said) = (
     record { files = x.files; said = s.said },
-    (⊎_elim (λ now. inl now) (λ reached. inr (passed x.files reached)) from, refl),
+    (⊎_elim (λ now. inl now) (λ reached. inr (passes_one x.files reached)) from, refl),
     record { files = refl; some = 0; said = said ∙ sym (append-nil s.said) },
   )
 
@@ -158,13 +158,13 @@ pub said_now : (events : List SiteEvent) (said : List ℕ) → said ≡ (state_o
 said_now events said same x now = (left_now events x now).1 ∙ sym same
 
 -- A pick leaves what a stop may leave.
-length-drawn : (count seed : ℕ) → length (drawn count seed) ≡ count
-unfolding drawn
+length-drawn : (count seed : ℕ) → length (draw_bytes count seed) ≡ count
+unfolding draw_bytes
 length-drawn zero seed = refl
 length-drawn (suc count) seed = ap suc (length-drawn count _)
 
 -- a write of the gap too is one that began at its offset
-torn_gap : (at : ℕ) (bytes other file : List ℕ) → length other ≡ count_of at bytes file → Torn at (length bytes) file (overlaid (start_of at file) other file)
+torn_gap : (at : ℕ) (bytes other file : List ℕ) → length other ≡ count_of at bytes file → Torn at (length bytes) file (overlay_bytes (start_of at file) other file)
 torn_gap at bytes other file long =
     let t = torn_overlaid (start_of at file) other file in
     record {
@@ -174,13 +174,13 @@ torn_gap at bytes other file long =
       above = λ i within high. t.above i within (omega (arith, long, high, within));
     }
 
-pub marked_torn : (fill : Fill) (seed at : ℕ) (bytes file : List ℕ) → Torn at (length bytes) file (marked fill seed at bytes file)
+pub marked_torn : (fill : Fill) (seed at : ℕ) (bytes file : List ℕ) → Torn at (length bytes) file (file_after fill seed at bytes file)
 marked_torn Old seed at bytes file = torn_refl at (length bytes) file
 marked_torn New seed at bytes file = torn_overlaid at bytes file
 marked_torn Sevens seed at bytes file = torn_gap at bytes _ file (length-replicate (count_of at bytes file) 7)
 marked_torn Drawn seed at bytes file = torn_gap at bytes _ file (length-drawn (count_of at bytes file) seed)
 
-strikes : (fill : Fill) (cuts : Bool) (event : SiteEvent) (s : Struck) → EventMayMake event s.files (struck fill cuts event s).files
+strikes : (fill : Fill) (cuts : Bool) (event : SiteEvent) (s : Struck) → EventMayMake event s.files (strike fill cuts event s).files
 strikes fill cuts (Looked ok) s = refl
 strikes fill cuts (Wrote f at bytes ok) s = in_file_with f _ s.files _ (marked_torn fill s.seed at bytes.items (s.files f))
 strikes fill true (Shortened f len ok) s = in_file_with f _ s.files _ (inr refl)
@@ -190,7 +190,7 @@ strikes fill cuts (Said bytes ok) s = refl
 strikes fill cuts (Replaced f bytes) s = refl
 strikes fill cuts (Recalled bytes) s = refl
 
-pub picks_reach : (pick : ℕ) (stable : Files) (pending : List SiteEvent) → Reaches stable pending (picked pick stable pending).files
-unfolding picked
+pub picks_reach : (pick : ℕ) (stable : Files) (pending : List SiteEvent) → Reaches stable pending (pick_state pick stable pending).files
+unfolding pick_state
 picks_reach pick stable [] = refl
-picks_reach pick stable (event ∷ earlier) = ((picked pick stable earlier).files, picks_reach pick stable earlier, strikes (fill_of pick) (cuts_of pick) event (picked pick stable earlier))
+picks_reach pick stable (event ∷ earlier) = ((pick_state pick stable earlier).files, picks_reach pick stable earlier, strikes (fill_of pick) (cuts_of pick) event (pick_state pick stable earlier))

@@ -1,6 +1,6 @@
 -- The files that a stop leaves by a pick: what stands where something was written since the last sync, and whether cuts have happened.
 use Rattle.std.specs.Prelude.{ℕ, zero, suc, ◌+◌, ◌-◌, ◌*◌, ◌/◌, ◌%◌, ◌^◌, ◌==◌, min, if◌then◌else◌, Bool, List, [], ◌∷◌, length, take, replicate}
-use Rattle.dms_site.specs.Files.{Files, with_file, overlaid}
+use Rattle.dms_site.specs.Files.{Files, with_file, overlay_bytes}
 use Rattle.dms_sitemem.specs.declared.event.SiteEvent.{SiteEvent}
 use Rattle.dms_sitemem.specs.declared.event.SiteEvent.TheVariants.{Looked, Wrote, Shortened, Synced, Said, Replaced, Recalled}
 use Rattle.dms_sitemem.specs.declared.pick.Fill.{Fill}
@@ -12,9 +12,9 @@ unfoldable pub next_seed : ℕ → ℕ
 next_seed seed = (6364136223846793005 * seed + 1442695040888963407) % 2 ^ 64
 
 -- so many bytes drawn from a seed
-unfoldable pub drawn : ℕ → ℕ → List ℕ
-drawn zero seed = []
-drawn (suc count) seed = (next_seed seed / 2 ^ 33) % 256 ∷ drawn count (next_seed seed)
+unfoldable pub draw_bytes : ℕ → ℕ → List ℕ
+draw_bytes zero seed = []
+draw_bytes (suc count) seed = (next_seed seed / 2 ^ 33) % 256 ∷ draw_bytes count (next_seed seed)
 
 -- the seed after so many draws
 unfoldable pub seed_after : ℕ → ℕ → ℕ
@@ -30,11 +30,11 @@ abbrev pub count_of : ℕ → List ℕ → List ℕ → ℕ
 count_of at bytes file = at + length bytes - start_of at file
 
 -- A file after a write that a stop cut off: with its old bytes and its old length, its new bytes, the byte 7, or drawn bytes.
-abbrev pub marked : Fill → ℕ → ℕ → List ℕ → List ℕ → List ℕ
-marked Old seed at bytes file = file
-marked New seed at bytes file = overlaid at bytes file
-marked Sevens seed at bytes file = overlaid (start_of at file) (replicate (count_of at bytes file) 7) file
-marked Drawn seed at bytes file = overlaid (start_of at file) (drawn (count_of at bytes file) seed) file
+abbrev pub file_after : Fill → ℕ → ℕ → List ℕ → List ℕ → List ℕ
+file_after Old seed at bytes file = file
+file_after New seed at bytes file = overlay_bytes at bytes file
+file_after Sevens seed at bytes file = overlay_bytes (start_of at file) (replicate (count_of at bytes file) 7) file
+file_after Drawn seed at bytes file = overlay_bytes (start_of at file) (draw_bytes (count_of at bytes file) seed) file
 
 abbrev pub seed_behind : Fill → ℕ → ℕ → ℕ
 seed_behind Old count seed = seed
@@ -48,17 +48,17 @@ pub record Struck : Type 0 where
   pub seed : ℕ
 
 -- one more event before the stop
-abbrev pub struck : Fill → Bool → SiteEvent → Struck → Struck
-struck fill cuts (Wrote f at bytes ok) s = record {
-  files = with_file s.files f (marked fill s.seed at bytes.items (s.files f));
+abbrev pub strike : Fill → Bool → SiteEvent → Struck → Struck
+strike fill cuts (Wrote f at bytes ok) s = record {
+  files = with_file s.files f (file_after fill s.seed at bytes.items (s.files f));
   seed = seed_behind fill (count_of at bytes.items (s.files f)) s.seed;
 }
-struck fill cuts (Shortened f len ok) s = record s { files = if cuts then with_file s.files f (take len (s.files f)) else s.files }
-struck fill cuts (Looked ok) s = s
-struck fill cuts (Synced ok) s = s
-struck fill cuts (Said bytes ok) s = s
-struck fill cuts (Replaced f bytes) s = record s { files = with_file s.files f bytes.items }
-struck fill cuts (Recalled bytes) s = s
+strike fill cuts (Shortened f len ok) s = record s { files = if cuts then with_file s.files f (take len (s.files f)) else s.files }
+strike fill cuts (Looked ok) s = s
+strike fill cuts (Synced ok) s = s
+strike fill cuts (Said bytes ok) s = s
+strike fill cuts (Replaced f bytes) s = record s { files = with_file s.files f bytes.items }
+strike fill cuts (Recalled bytes) s = s
 
 -- what a pick puts where something was written
 abbrev pub fill_of : ℕ → Fill
@@ -69,10 +69,10 @@ abbrev pub cuts_of : ℕ → Bool
 cuts_of pick = pick % 2 == 1
 
 -- From the files at the last sync through the events since, of which the newest comes first. The pick is the seed of the draws.
-unfoldable pub picked : ℕ → Files → List SiteEvent → Struck
-picked pick stable [] = record { files = stable; seed = pick }
-picked pick stable (event ∷ earlier) = struck (fill_of pick) (cuts_of pick) event (picked pick stable earlier)
+unfoldable pub pick_state : ℕ → Files → List SiteEvent → Struck
+pick_state pick stable [] = record { files = stable; seed = pick }
+pick_state pick stable (event ∷ earlier) = strike (fill_of pick) (cuts_of pick) event (pick_state pick stable earlier)
 
 -- the files that a stop leaves by a pick after these events
 abbrev pub picked_after : ℕ → List SiteEvent → Struck
-picked_after pick events = picked pick (state_of events).stable (state_of events).pending
+picked_after pick events = pick_state pick (state_of events).stable (state_of events).pending

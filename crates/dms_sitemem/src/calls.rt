@@ -1,6 +1,6 @@
 ghost use Rattle.std.specs.Prelude.{◌≡◌, ◌+◌, ℕ, ◌++◌, not, length, take, OnOk, OnErr, IfOk, IsTrue};
 ghost use Rattle.dms_moments.specs.Moments.{Steps};
-ghost use Rattle.dms_site.specs.Files.{with_file, overlaid, InFile, Torn, Cut, OnDisk, PrintsPartOf, Same, Only};
+ghost use Rattle.dms_site.specs.Files.{with_file, overlay_bytes, InFile, Torn, Cut, OnDisk, PrintsPartOf, Same, Only};
 ghost use Rattle.dms_sitemem.specs.Keeping.{KeepsEvent, IsLookEvent, IsWrite, IsCut, IsSync, IsSaying};
 ghost use Rattle.dms_sitemem.specs.Slots.{files_of};
 ghost use Rattle.dms_sitemem.specs.Plans.{is_named};
@@ -37,7 +37,7 @@ impl Journal {
     /// Writes bytes to a file from a position on, or keeps that it failed.
     pub fn write(&mut self, file: u32, at: u64, bytes: &[u8]) -> Result<bool, AllocError>
         ensures done { IfOk result (λ done. done ≡ not (is_named self.old.plan (self.old.made + 1))) }
-        ensures written { IfOk result (λ done. IsTrue done → files_of self.new.image.files ≡ with_file (files_of self.old.image.files) file (overlaid at bytes.now (files_of self.old.image.files file))) }
+        ensures written { IfOk result (λ done. IsTrue done → files_of self.new.image.files ≡ with_file (files_of self.old.image.files) file (overlay_bytes at bytes.now (files_of self.old.image.files file))) }
         ensures torn { InFile file (Torn at (length bytes.now)) (files_of self.old.image.files) (files_of self.new.image.files) }
         ensures said { self.new.image.said.items ≡ self.old.image.said.items }
         ensures moments { Steps (OnDisk file (Torn at (length bytes.now))) (clock_of self.old.events.items) (clock_of self.new.events.items) }

@@ -5,7 +5,7 @@ ghost use Rattle.dms_site.specs.Files.{with_file};
 ghost use Rattle.dms_sitemem.specs.Slots.{files_of};
 ghost use Rattle.dms_sitemem.specs.Events.{said_after, is_sync, through};
 ghost use Rattle.dms_sitemem.specs.Replay.{state_of};
-ghost use Rattle.dms_sitemem.specs.Picks.{marked, seed_behind, count_of, struck, fill_of, picked_after};
+ghost use Rattle.dms_sitemem.specs.Picks.{file_after, seed_behind, count_of, strike, fill_of, picked_after};
 
 use crate::event::SiteEvent;
 use crate::image::Image;
@@ -67,7 +67,7 @@ pub fn strike_write(
     fill: Fill,
     seed: &mut u64,
 ) -> Result<(), AllocError>
-    ensures files { OnOk result (files_of image.new.files ≡ with_file (files_of image.old.files) file (marked fill seed.old at bytes.now (files_of image.old.files file))) }
+    ensures files { OnOk result (files_of image.new.files ≡ with_file (files_of image.old.files) file (file_after fill seed.old at bytes.now (files_of image.old.files file))) }
     ensures seed { OnOk result (seed.new ≡ seed_behind fill (count_of at bytes.now (files_of image.old.files file)) seed.old) }
     ensures said { image.new.said.items ≡ image.old.said.items }
 {
@@ -98,8 +98,8 @@ fn strike(
     cuts: bool,
     seed: &mut u64,
 ) -> Result<(), AllocError>
-    ensures files { OnOk result (files_of image.new.files ≡ (struck fill cuts event.now (record { files = files_of image.old.files; seed = seed.old })).files) }
-    ensures seed { OnOk result (seed.new ≡ (struck fill cuts event.now (record { files = files_of image.old.files; seed = seed.old })).seed) }
+    ensures files { OnOk result (files_of image.new.files ≡ (strike fill cuts event.now (record { files = files_of image.old.files; seed = seed.old })).files) }
+    ensures seed { OnOk result (seed.new ≡ (strike fill cuts event.now (record { files = files_of image.old.files; seed = seed.old })).seed) }
     ensures said { OnOk result (image.new.said.items ≡ said_after event.now image.old.said.items) }
 {
     match event {

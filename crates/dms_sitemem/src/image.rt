@@ -1,7 +1,7 @@
 ghost use Rattle.std.specs.Prelude.{◌≡◌, ◌+◌, ◌<◌, ◌≤◌, ℕ, List, [], ◌++◌, length, vec_len, take, drop, OnOk, OnErr, IsSome, if◌then◌else◌, ◌==◌};
 ghost use Rattle.std.specs.Ordering.{nat_cmp};
 ghost use Rattle.std.specs.BTreeMap.{get};
-ghost use Rattle.dms_site.specs.Files.{with_file, range, padded, overlaid, IsLastPresent};
+ghost use Rattle.dms_site.specs.Files.{with_file, range, pad_zeros, overlay_bytes, IsLastPresent};
 ghost use Rattle.dms_sitemem.specs.Slots.{files_of};
 ghost use Rattle.dms_sitemem.specs.Events.{files_after, said_after};
 
@@ -27,9 +27,9 @@ fn lay_over(file: &mut Vec<u8>, at: usize, bytes: &[u8])
 }
 
 /// Adds zeros up to a length.
-#[tactic(auto, using(std::proofs::lemmas::Grind::common_steps), unfolding(dms_site::specs::Files::padded))]
+#[tactic(auto, using(std::proofs::lemmas::Grind::common_steps), unfolding(dms_site::specs::Files::pad_zeros))]
 fn grow(file: &mut Vec<u8>, len: usize) -> Result<(), AllocError>
-    ensures grown { OnOk result (file.new.items ≡ padded file.old.items len) }
+    ensures grown { OnOk result (file.new.items ≡ pad_zeros file.old.items len) }
     ensures long { OnOk result (len ≤ vec_len file.new) }
     ensures same { OnErr result (file.new.items ≡ file.old.items) }
 {
@@ -42,7 +42,7 @@ fn grow(file: &mut Vec<u8>, len: usize) -> Result<(), AllocError>
 /// Puts bytes over what is there, with zeros in a gap.
 #[tactic(auto, using(crate::proofs::Laid::laid_padded))]
 fn lay(file: &mut Vec<u8>, at: usize, bytes: &[u8]) -> Result<(), AllocError>
-    ensures laid { OnOk result (file.new.items ≡ overlaid at bytes.now file.old.items) }
+    ensures laid { OnOk result (file.new.items ≡ overlay_bytes at bytes.now file.old.items) }
     ensures same { OnErr result (file.new.items ≡ file.old.items) }
 {
     let Some(end) = at.checked_add(bytes.len()) else {
@@ -91,7 +91,7 @@ impl Image {
     /// Writes over a file that has an entry.
     fn lay_in(&mut self, file: u32, at: usize, bytes: &[u8]) -> Result<(), AllocError>
         requires { IsSome (get nat_cmp self.old.files file) }
-        ensures laid { OnOk result ((f : ℕ) → files_of self.new.files f ≡ (if f == file then overlaid at bytes.now (files_of self.old.files file) else files_of self.old.files f)) }
+        ensures laid { OnOk result ((f : ℕ) → files_of self.new.files f ≡ (if f == file then overlay_bytes at bytes.now (files_of self.old.files file) else files_of self.old.files f)) }
         ensures same { OnErr result ((f : ℕ) → files_of self.new.files f ≡ files_of self.old.files f) }
         ensures said { self.new.said.items ≡ self.old.said.items }
     {
@@ -124,7 +124,7 @@ impl Image {
     /// Writes bytes from a position on. A gap before them is filled with zeros.
     /// Answers Err where memory is refused, or the bytes reach beyond 2^64 - 1.
     pub fn write(&mut self, file: u32, at: u64, bytes: &[u8]) -> Result<(), AllocError>
-        ensures written { OnOk result (files_of self.new.files ≡ with_file (files_of self.old.files) file (overlaid at bytes.now (files_of self.old.files file))) }
+        ensures written { OnOk result (files_of self.new.files ≡ with_file (files_of self.old.files) file (overlay_bytes at bytes.now (files_of self.old.files file))) }
         ensures same { OnErr result (files_of self.new.files ≡ files_of self.old.files) }
         ensures said { self.new.said.items ≡ self.old.said.items }
     {

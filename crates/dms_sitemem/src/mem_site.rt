@@ -1,7 +1,7 @@
 ghost use Rattle.std.specs.Prelude.{◌≡◌, ◌+◌, ◌-◌, ◌^◌, ◌<◌, ◌≤◌, ℕ, [], ◌++◌, true, None, length, take, drop, min, nat_lt, if◌then◌else◌, IfOk, OnOk, OnErr};
 ghost use Rattle.dms_base.specs.Causes.{HasCause};
 ghost use Rattle.dms_moments.specs.Moments.{Steps};
-ghost use Rattle.dms_site.specs.Files.{with_file, range, overlaid, InFile, Torn, Cut, OnDisk, PrintsPartOf, Same, Only, IsLastPresent};
+ghost use Rattle.dms_site.specs.Files.{with_file, range, overlay_bytes, InFile, Torn, Cut, OnDisk, PrintsPartOf, Same, Only, IsLastPresent};
 ghost use Rattle.dms_sitemem.specs.Keeping.{KeptCall, IsLookEvent, IsWrite, IsCut, IsSync, IsSaying};
 ghost use Rattle.dms_sitemem.specs.Slots.{files_of};
 ghost use Rattle.dms_sitemem.specs.Plans.{EndsByPlan};
@@ -51,7 +51,7 @@ impl MemSite {
     }
 
     /// The text that was printed so far.
-    pub fn said(&self) -> &[u8]
+    pub fn text(&self) -> &[u8]
         ensures { result.now ≡ self.now.journal.image.said.items }
     {
         self.journal.image.said.as_slice()
@@ -65,7 +65,7 @@ impl MemSite {
     }
 
     /// How many bytes reads of files above 30,000 gave. It stays at 2^64 - 1.
-    pub fn given(&self) -> u64
+    pub fn bytes_given(&self) -> u64
         ensures { result ≡ self.now.tally.given }
     {
         self.tally.given
@@ -227,7 +227,7 @@ impl Site for MemSite {
 
     fn write_at(&mut self, file: u32, at: u64, bytes: &[u8]) -> Result<(), Failed>
         requires { at + length bytes.now < 2 ^ 40 }
-        ensures written { OnOk result (files_of self.new.journal.image.files ≡ with_file (files_of self.old.journal.image.files) file (overlaid at bytes.now (files_of self.old.journal.image.files file))) }
+        ensures written { OnOk result (files_of self.new.journal.image.files ≡ with_file (files_of self.old.journal.image.files) file (overlay_bytes at bytes.now (files_of self.old.journal.image.files file))) }
         ensures torn { InFile file (Torn at (length bytes.now)) (files_of self.old.journal.image.files) (files_of self.new.journal.image.files) }
         ensures said { self.new.journal.image.said.items ≡ self.old.journal.image.said.items }
         ensures same_site { Unit {0} }

@@ -1,5 +1,5 @@
 ghost use Rattle.std.specs.Prelude.{◌≡◌, replicate, OnOk, IfOk};
-ghost use Rattle.dms_sitemem.specs.Picks.{drawn, seed_after, fill_of};
+ghost use Rattle.dms_sitemem.specs.Picks.{draw_bytes, seed_after, fill_of};
 
 use std::alloc::{AllocError, Global};
 
@@ -30,7 +30,7 @@ pub fn fill_of(pick: u64) -> Fill
 
 /// Draws so many bytes. Answers Err where memory is refused.
 pub fn draw(alloc: Global, count: usize, seed: &mut u64) -> Result<Vec<u8>, AllocError>
-    ensures bytes { IfOk result (λ v. v.items ≡ drawn count seed.old) }
+    ensures bytes { IfOk result (λ v. v.items ≡ draw_bytes count seed.old) }
     ensures seed { OnOk result (seed.new ≡ seed_after count seed.old) }
 {
     let mut bytes = Vec::new(alloc);

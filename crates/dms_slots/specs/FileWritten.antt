@@ -8,8 +8,8 @@ use Rattle.std.proofs.lemmas.List.{length-replicate, take-replicate, drop-replic
 use Rattle.std.proofs.lemmas.Nat.{div-add-mod'}
 use Rattle.std.proofs.Math.Nat as nat
 use Rattle.dms_desc.specs.Shape.{Shape}
-use Rattle.dms_fields.specs.Fields.{laid}
-use Rattle.dms_block.specs.Content.{Content, laid as block_laid}
+use Rattle.dms_fields.specs.Fields.{lay_bytes}
+use Rattle.dms_block.specs.Content.{Content, put_block}
 use Rattle.dms_block.specs.ContentLaws.{in_file}
 use Rattle.dms_layout.specs.declared.slot.Slot.{Slot}
 use Rattle.dms_layout.specs.declared.slot.SlotRead.{SlotRead}
@@ -17,7 +17,7 @@ use Rattle.dms_layout.specs.declared.slot.SlotRead.TheVariants.{Free, Used, Bad}
 use Rattle.dms_layout.specs.Slots.{slot_width, slot_bytes, slot_of, SlotFits, AreKinds}
 use Rattle.dms_layout.specs.SlotLaws.{slot_again, slot_long}
 use Rattle.dms_layout.specs.ReadLaws.{used_fits, free_is, free_again, are_zeros}
-use Rattle.dms_slots.specs.SlotBlocks.{file_of, per_block, block_of, place_of, is_slot, are_slots, is_block, cut, slots_by, slots_in, or_free, slot_at, block_at, slot_put, MayPutSlot}
+use Rattle.dms_slots.specs.SlotBlocks.{file_of, per_block, block_of, place_of, is_slot, are_slots, is_block, slot_chunks, slots_by, slots_in, or_free, slot_at, block_at, slot_put, MayPutSlot}
 use Rattle.dms_slots.specs.SlotBlockLaws.{bad_block, place_bad, slot_there, slot_past, slots_length, some_at, none_at}
 use Rattle.dms_slots.specs.Written.{room, block_written}
 
@@ -40,13 +40,13 @@ set_other (x ∷ l) zero (suc k) r other = refl
 set_other (x ∷ l) (suc p) zero r other = refl
 set_other (x ∷ l) (suc p) (suc k) r other = set_other l p k r (λ e. other (ap suc e))
 
-at_laid : (b : ℕ) (x : List ℕ) (bs : List (List ℕ)) → b ≤ length bs → block_at (block_laid b x bs) b ≡ x
+at_laid : (b : ℕ) (x : List ℕ) (bs : List (List ℕ)) → b ≤ length bs → block_at (put_block b x bs) b ≡ x
 at_laid zero x [] low = refl
 at_laid (suc b) x [] low = absurd (omega arith)
 at_laid zero x (z ∷ bs) low = refl
 at_laid (suc b) x (z ∷ bs) low = at_laid b x bs (omega arith)
 
-off_laid : (b k : ℕ) (x : List ℕ) (bs : List (List ℕ)) → b ≤ length bs → k ≢ b → block_at (block_laid b x bs) k ≡ block_at bs k
+off_laid : (b k : ℕ) (x : List ℕ) (bs : List (List ℕ)) → b ≤ length bs → k ≢ b → block_at (put_block b x bs) k ≡ block_at bs k
 off_laid zero zero x bs low other = absurd (other refl)
 off_laid zero (suc k) x [] low other = refl
 off_laid (suc b) k x [] low other = absurd (omega arith)
@@ -67,13 +67,13 @@ zeros_good s (suc k) n low =
     let rest : k * w ≤ n - w = omega (arith, low, nat.suc-mul k w) in
     and_from _ _ (ap is_slot (zeros_first s n first)) (ap (are_slots s k) (drop-replicate w n 0) ∙ zeros_good s k (n - w) rest)
 
-zeros_slots : (s : Shape) (k n : ℕ) → k * slot_width s.items ≤ n → cut s k (replicate n 0) ≡ replicate k Free
+zeros_slots : (s : Shape) (k n : ℕ) → k * slot_width s.items ≤ n → slot_chunks s k (replicate n 0) ≡ replicate k Free
 zeros_slots s zero n low = refl
 zeros_slots s (suc k) n low =
     let w = slot_width s.items in
     let first : w ≤ n = omega (arith, low, nat.suc-mul k w) in
     let rest : k * w ≤ n - w = omega (arith, low, nat.suc-mul k w) in
-    (λ i. zeros_first s n first i ∷ (ap (cut s k) (drop-replicate w n 0) ∙ zeros_slots s k (n - w) rest) i)
+    (λ i. zeros_first s n first i ∷ (ap (slot_chunks s k) (drop-replicate w n 0) ∙ zeros_slots s k (n - w) rest) i)
 
 zeros_block : (s : Shape) → is_block s (replicate 1024 0) ≡ true
 unfolding is_block
@@ -136,7 +136,7 @@ block_there s (x ∷ bs) (suc b) all = block_there s bs b (and_parts (is_block s
 pub all_good : (s : Shape) (bs : List (List ℕ)) (number : ℕ) → 0 < per_block s.items → list_all (is_block s) bs ≡ true → slot_at s bs number ≢ Bad
 all_good s bs number some all = slot_good s bs number some (block_there s bs (block_of s.items number) all)
 
-all_laid : (p : List ℕ → Bool) (b : ℕ) (x : List ℕ) (bs : List (List ℕ)) → list_all p bs ≡ true → p x ≡ true → list_all p (block_laid b x bs) ≡ true
+all_laid : (p : List ℕ → Bool) (b : ℕ) (x : List ℕ) (bs : List (List ℕ)) → list_all p bs ≡ true → p x ≡ true → list_all p (put_block b x bs) ≡ true
 all_laid p zero x [] all good = and_from _ _ good refl
 all_laid p (suc b) x [] all good = and_from _ _ good refl
 all_laid p zero x (z ∷ bs) all good = and_from _ _ good (and_parts (p z) (list_all p bs) all).1
@@ -158,7 +158,7 @@ module _ (s : Shape) (c : Content) (number : ℕ) (bytes : List ℕ) (may : MayP
   old = block_at (c (file_of s.number)) (block_of s.items number)
 
   abbrev new : List ℕ
-  new = laid (place_of s.items number * slot_width s.items) bytes (block_at (c (file_of s.number)) (block_of s.items number))
+  new = lay_bytes (place_of s.items number * slot_width s.items) bytes (block_at (c (file_of s.number)) (block_of s.items number))
 
   some : 0 < per_block s.items
   some = some_slot (slot_width s.items) may.fits (omega arith)
@@ -169,7 +169,7 @@ module _ (s : Shape) (c : Content) (number : ℕ) (bytes : List ℕ) (may : MayP
       let is = slot_fine (slot_of s bytes) fine in
       (block_written s (place_of s.items number) bytes old (nat.mod-lt (number - 1) some) (slot_size s bytes _ refl is) is good).1
 
-  blocks_are : slot_put s number bytes c (file_of s.number) ≡ block_laid (block_of s.items number) new (c (file_of s.number))
+  blocks_are : slot_put s number bytes c (file_of s.number) ≡ put_block (block_of s.items number) new (c (file_of s.number))
   blocks_are = in_file c (file_of s.number) (block_of s.items number) new
 
   -- the slot that was written
@@ -193,7 +193,7 @@ module _ (s : Shape) (c : Content) (number : ℕ) (bytes : List ℕ) (may : MayP
       elim (cases_eq k b) [
         | inl same ↦
             let off : p ≢ place_of s.items number = λ e. apart (same_number (per_block s.items) other number some low may.low same e) in
-            start ∙ ap (λ j. over (block_at (block_laid b new (c (file_of s.number))) j)) same ∙ ap over (at_laid b new (c (file_of s.number)) may.next)
+            start ∙ ap (λ j. over (block_at (put_block b new (c (file_of s.number))) j)) same ∙ ap over (at_laid b new (c (file_of s.number)) may.next)
             ∙ ap (λ l. or_free (slice_get l p)) changed_in ∙ ap or_free (set_other (slots_in s old) (place_of s.items number) p (slot_of s bytes) off)
             ∙ ap (λ j. over (block_at (c (file_of s.number)) j)) (sym same) ∙ end
         | inr off ↦ start ∙ ap over (off_laid b k new (c (file_of s.number)) may.next off) ∙ end

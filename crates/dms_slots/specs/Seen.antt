@@ -4,13 +4,13 @@ use Rattle.dms_desc.specs.Shape.{Shape}
 use Rattle.dms_block.specs.Content.{Content}
 use Rattle.dms_block.specs.declared.blocks.Blocks.{Ghosts}
 use Rattle.dms_block.specs.declared.overlay.Overlay.{Overlay}
-use Rattle.dms_block.specs.View.{seen, seen_counts, under}
+use Rattle.dms_block.specs.View.{overlay_content, seen_counts, under}
 use Rattle.dms_slots.specs.SlotBlocks.{file_of, slot_put, BadBlock}
 
 module _ {B : Type 0} {g : Ghosts B} where
   -- its blocks
   abbrev pub blocks_of : Shape → Overlay B g → List (List ℕ)
-  blocks_of s o = seen o (file_of s.number)
+  blocks_of s o = overlay_content o (file_of s.number)
 
   -- how many there are
   abbrev pub count_of : Shape → Overlay B g → ℕ
@@ -26,4 +26,4 @@ module _ {B : Type 0} {g : Ghosts B} where
 
   -- all files, with these bytes in the place of the slot of a record
   abbrev pub with_slot : Shape → ℕ → List ℕ → Overlay B g → Content
-  with_slot s number bytes o = slot_put s number bytes (seen o)
+  with_slot s number bytes o = slot_put s number bytes (overlay_content o)

@@ -16,7 +16,7 @@ use Rattle.dms_layout.specs.ReadLaws.{used_fits}
 use Rattle.dms_layout.specs.Slots.{SlotFits, slot_width, slot_of, is_zero}
 use Rattle.std.specs.List.{list_all}
 use Rattle.std.proofs.lemmas.Bool.{and_parts}
-use Rattle.dms_slots.specs.SlotBlocks.{per_block, block_of, is_slot, is_free, are_slots, is_block, cut, slots_by, slots_in, slots_of, or_free, slot_at, before_free, block_or_zeros, block_at}
+use Rattle.dms_slots.specs.SlotBlocks.{per_block, block_of, is_slot, is_free, are_slots, is_block, slot_chunks, slots_by, slots_in, slots_of, or_free, slot_at, before_free, block_or_zeros, block_at}
 
 -- ---- lists
 
@@ -46,7 +46,7 @@ module _ {A B : Type 0} (f : A → List B) (n : ℕ) (long : (x : A) → length 
 
 -- ---- one block
 
-cut_length : (s : Shape) (k : ℕ) (bytes : List ℕ) → length (cut s k bytes) ≡ k
+cut_length : (s : Shape) (k : ℕ) (bytes : List ℕ) → length (slot_chunks s k bytes) ≡ k
 cut_length s zero bytes = refl
 cut_length s (suc k) bytes = ap suc (cut_length s k (drop (slot_width s.items) bytes))
 
@@ -63,7 +63,7 @@ drop_more a zero l = ap (λ k. drop k l) (omega arith)
 drop_more a (suc b) [] = (λ i. drop_all a [] (omega arith) i) ∙ sym (drop_all (suc b + a) [] (omega arith))
 drop_more a (suc b) (x ∷ l) = drop_more a b l ∙ ap (λ k. drop k (x ∷ l)) (let e : suc (b + a) ≡ suc b + a = omega arith in e)
 
-cut_get : (s : Shape) (k p : ℕ) (bytes : List ℕ) → p < k → slice_get (cut s k bytes) p ≡ Some (slot_of s (take (slot_width s.items) (drop (p * slot_width s.items) bytes)))
+cut_get : (s : Shape) (k p : ℕ) (bytes : List ℕ) → p < k → slice_get (slot_chunks s k bytes) p ≡ Some (slot_of s (take (slot_width s.items) (drop (p * slot_width s.items) bytes)))
 cut_get s zero p bytes low = absurd (omega arith)
 cut_get s (suc k) zero bytes low = ap (λ n. Some (slot_of s (take (slot_width s.items) (drop n bytes)))) (let e : 0 ≡ 0 * slot_width s.items = omega arith in e)
 cut_get s (suc k) (suc p) bytes low =
@@ -89,7 +89,7 @@ pub place_bad : (s : Shape) (block : List ℕ) (p : ℕ) → p < per_block s.ite
 unfolding slots_in
 place_bad s block p low bad = sym (ap (λ b. or_free (slice_get (slots_by b s block) p)) bad ∙ ap or_free (bad_get (per_block s.items) p low))
 
-no_bad : (s : Shape) (k p : ℕ) (bytes : List ℕ) → p < k → are_slots s k bytes ≡ true → is_slot (or_free (slice_get (cut s k bytes) p)) ≡ true
+no_bad : (s : Shape) (k p : ℕ) (bytes : List ℕ) → p < k → are_slots s k bytes ≡ true → is_slot (or_free (slice_get (slot_chunks s k bytes) p)) ≡ true
 no_bad s zero p bytes low good = absurd (omega arith)
 no_bad s (suc k) zero bytes low good = (and_parts (is_slot (slot_of s (take (slot_width s.items) bytes))) (are_slots s k (drop (slot_width s.items) bytes)) good).0
 no_bad s (suc k) (suc p) bytes low good = no_bad s k p (drop (slot_width s.items) bytes) (omega arith) (and_parts (is_slot (slot_of s (take (slot_width s.items) bytes))) (are_slots s k (drop (slot_width s.items) bytes)) good).1
@@ -98,7 +98,7 @@ bad_by : (b : Bool) (s : Shape) (block : List ℕ) (p : ℕ) → is_block s bloc
 unfolding is_block
 bad_by true s block p e low h =
     let good = no_bad s (per_block s.items) p block low (and_parts (length block == 1024) (are_slots s (per_block s.items) block) e).1 in
-    let bad : is_slot (or_free (slice_get (cut s (per_block s.items) block) p)) ≡ false = ap is_slot h in
+    let bad : is_slot (or_free (slice_get (slot_chunks s (per_block s.items) block) p)) ≡ false = ap is_slot h in
     absurd (cc (good, bad))
 bad_by false s block p e low h = refl
 
@@ -107,7 +107,7 @@ pub bad_block : (s : Shape) (block : List ℕ) (p : ℕ) → p < per_block s.ite
 unfolding slots_in
 bad_block s block p low h = bad_by (is_block s block) s block p refl low h
 
-used_cut : (s : Shape) (k p : ℕ) (bytes : List ℕ) (slot : Slot) → or_free (slice_get (cut s k bytes) p) ≡ Used slot → SlotFits s slot
+used_cut : (s : Shape) (k p : ℕ) (bytes : List ℕ) (slot : Slot) → or_free (slice_get (slot_chunks s k bytes) p) ≡ Used slot → SlotFits s slot
 used_cut s zero p bytes slot h = absurd (cc h)
 used_cut s (suc k) zero bytes slot h = (used_fits s (take (slot_width s.items) bytes) slot h).0
 used_cut s (suc k) (suc p) bytes slot h = used_cut s k p (drop (slot_width s.items) bytes) slot h
@@ -163,22 +163,22 @@ walk_stops s i n w rest slot r b low width here is bad so_far =
     ∙ ap (λ k. are_slots s k rest) (sym (left_more i n low)) ∙ so_far
 
 walk_same : (s : Shape) (i n w : ℕ) (rest slot : List ℕ) (r : SlotRead) → i < n → w ≡ slot_width s.items → slot ≡ take w rest → r ≡ slot_of s slot
-    → before_free (cut s (n - i) rest) ≡ cond (is_free r) 0 (suc (before_free (cut s (n - (i + 1)) (drop (slot_width s.items) rest))))
+    → before_free (slot_chunks s (n - i) rest) ≡ cond (is_free r) 0 (suc (before_free (slot_chunks s (n - (i + 1)) (drop (slot_width s.items) rest))))
 walk_same s i n w rest slot r low width here is =
-    ap (λ k. before_free (cut s k rest)) (left_more i n low)
-    ∙ ap (λ x. cond (is_free x) 0 (suc (before_free (cut s (n - (i + 1)) (drop (slot_width s.items) rest))))) (sym (is ∙ ap (slot_of s) (here ∙ ap (λ k. take k rest) width)))
+    ap (λ k. before_free (slot_chunks s k rest)) (left_more i n low)
+    ∙ ap (λ x. cond (is_free x) 0 (suc (before_free (slot_chunks s (n - (i + 1)) (drop (slot_width s.items) rest))))) (sym (is ∙ ap (slot_of s) (here ∙ ap (λ k. take k rest) width)))
 
 pub count_on : (s : Shape) (i n w first : ℕ) (rest slot more : List ℕ) (r : SlotRead) → i < n → w ≡ slot_width s.items → slot ≡ take w rest → more ≡ drop w rest
-    → r ≡ slot_of s slot → is_free r ≡ false → first ≡ i + before_free (cut s (n - i) rest) → first ≡ (i + 1) + before_free (cut s (n - (i + 1)) more)
+    → r ≡ slot_of s slot → is_free r ≡ false → first ≡ i + before_free (slot_chunks s (n - i) rest) → first ≡ (i + 1) + before_free (slot_chunks s (n - (i + 1)) more)
 count_on s i n w first rest slot more r low width here behind is used so_far =
-    let step = walk_same s i n w rest slot r low width here is ∙ ap (λ b. cond b 0 (suc (before_free (cut s (n - (i + 1)) (drop (slot_width s.items) rest))))) used in
-    let more' : before_free (cut s (n - (i + 1)) more) ≡ before_free (cut s (n - (i + 1)) (drop (slot_width s.items) rest)) = ap (λ l. before_free (cut s (n - (i + 1)) l)) (behind ∙ ap (λ k. drop k rest) width) in
+    let step = walk_same s i n w rest slot r low width here is ∙ ap (λ b. cond b 0 (suc (before_free (slot_chunks s (n - (i + 1)) (drop (slot_width s.items) rest))))) used in
+    let more' : before_free (slot_chunks s (n - (i + 1)) more) ≡ before_free (slot_chunks s (n - (i + 1)) (drop (slot_width s.items) rest)) = ap (λ l. before_free (slot_chunks s (n - (i + 1)) l)) (behind ∙ ap (λ k. drop k rest) width) in
     omega (arith, so_far, step, more')
 
 pub count_stops : (s : Shape) (i n w first : ℕ) (rest slot : List ℕ) (r : SlotRead) → i < n → w ≡ slot_width s.items → slot ≡ take w rest
-    → r ≡ slot_of s slot → is_free r ≡ true → first ≡ i + before_free (cut s (n - i) rest) → i ≡ first
+    → r ≡ slot_of s slot → is_free r ≡ true → first ≡ i + before_free (slot_chunks s (n - i) rest) → i ≡ first
 count_stops s i n w first rest slot r low width here is free so_far =
-    let step = walk_same s i n w rest slot r low width here is ∙ ap (λ b. cond b 0 (suc (before_free (cut s (n - (i + 1)) (drop (slot_width s.items) rest))))) free in
+    let step = walk_same s i n w rest slot r low width here is ∙ ap (λ b. cond b 0 (suc (before_free (slot_chunks s (n - (i + 1)) (drop (slot_width s.items) rest))))) free in
     omega (arith, so_far, step)
 
 -- ---- a file
@@ -213,7 +213,7 @@ zeros_cut w k a block is zeros width le = is ∙ (λ i. take (width i) (zeros i)
 
 -- ---- the least free slot
 
-pub taken_block : (s : Shape) (block : List ℕ) (n : ℕ) → is_block s block ≡ true → n ≡ before_free (cut s (per_block s.items) block) → n ≡ before_free (slots_in s block)
+pub taken_block : (s : Shape) (block : List ℕ) (n : ℕ) → is_block s block ≡ true → n ≡ before_free (slot_chunks s (per_block s.items) block) → n ≡ before_free (slots_in s block)
 unfolding slots_in
 taken_block s block n good is = is ∙ sym (ap (λ b. before_free (slots_by b s block)) good)
 

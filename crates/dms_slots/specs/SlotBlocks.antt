@@ -3,7 +3,7 @@ use Rattle.std.specs.Prelude.{ℕ, zero, suc, ◌+◌, ◌-◌, ◌*◌, ◌/◌
 use Rattle.std.specs.declared.option.Option.{Option}
 use Rattle.std.specs.List.{list_all}
 use Rattle.dms_block.specs.Content.{Content, with_block}
-use Rattle.dms_fields.specs.Fields.{laid}
+use Rattle.dms_fields.specs.Fields.{lay_bytes}
 use Rattle.dms_desc.specs.declared.structure.Item.{Item}
 use Rattle.dms_desc.specs.Shape.{Shape}
 use Rattle.dms_layout.specs.declared.slot.Slot.{Slot}
@@ -46,12 +46,12 @@ unfoldable pub is_block : Shape → List ℕ → Bool
 is_block s bytes = (length bytes == 1024) && are_slots s (per_block s.items) bytes
 
 -- so many slots one after another
-abbrev pub cut : Shape → ℕ → List ℕ → List SlotRead
-cut s zero bytes = []
-cut s (suc k) bytes = slot_of s (take (slot_width s.items) bytes) ∷ cut s k (drop (slot_width s.items) bytes)
+abbrev pub slot_chunks : Shape → ℕ → List ℕ → List SlotRead
+slot_chunks s zero bytes = []
+slot_chunks s (suc k) bytes = slot_of s (take (slot_width s.items) bytes) ∷ slot_chunks s k (drop (slot_width s.items) bytes)
 
 abbrev pub slots_by : Bool → Shape → List ℕ → List SlotRead
-slots_by true s bytes = cut s (per_block s.items) bytes
+slots_by true s bytes = slot_chunks s (per_block s.items) bytes
 slots_by false s bytes = replicate (per_block s.items) Bad
 
 -- the slots of a block, each bad where the block is none
@@ -102,7 +102,7 @@ least_free s bs = within s.population (before_free (slots_of s bs) + 1)
 -- all files, with these bytes in the place of the slot of a record
 abbrev pub slot_put : Shape → ℕ → List ℕ → Content → Content
 slot_put s number bytes c = with_block c (file_of s.number) (block_of s.items number)
-    (laid (place_of s.items number * slot_width s.items) bytes (block_at (c (file_of s.number)) (block_of s.items number)))
+    (lay_bytes (place_of s.items number * slot_width s.items) bytes (block_at (c (file_of s.number)) (block_of s.items number)))
 
 -- the slot of a number may be written: it stands in a block of the file or in the next one, and isn't bad
 pub record MayPutSlot (s : Shape) (c : Content) (number : ℕ) : Type 0 where

@@ -2,7 +2,7 @@ ghost use Rattle.std.specs.Prelude.{◌≡◌, ◌+◌, ◌<◌, ◌≤◌, IfOk
 ghost use Rattle.std.specs.List.{list_all};
 ghost use Rattle.dms_desc.specs.Shape.{shape_of};
 ghost use Rattle.dms_layout.specs.Slots.{slot_width, is_zero};
-ghost use Rattle.dms_slots.specs.SlotBlocks.{file_of, per_block, is_slot, is_free, is_block, cut, slots_in, or_free, before_free};
+ghost use Rattle.dms_slots.specs.SlotBlocks.{file_of, per_block, is_slot, is_free, is_block, slot_chunks, slots_in, or_free, before_free};
 
 use dms_base::Memory;
 use dms_block::Block;
@@ -117,7 +117,7 @@ pub fn slot_in(
 /// How many slots stand before the first free one, in the bytes of a block. Answers Err where memory is refused.
 pub fn before_free(alloc: Global, s: &Structure, bytes: &[u8]) -> Result<usize, Memory>
     requires few { length s.now.items ≤ 60 }
-    ensures first { IfOk result (λ n. n ≡ before_free (cut (shape_of s.now) (per_block s.now.items) bytes.now)) }
+    ensures first { IfOk result (λ n. n ≡ before_free (slot_chunks (shape_of s.now) (per_block s.now.items) bytes.now)) }
     ensures most { IfOk result (λ n. n ≤ per_block s.now.items) }
 {
     let width = width_of(s);

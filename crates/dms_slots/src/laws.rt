@@ -1,6 +1,6 @@
 ghost use Rattle.std.specs.Prelude.{◌≡◌, ◌≢◌, ◌*◌, ◌<◌, ◌≤◌, ℕ, List, true, length, replicate, slice_set};
 ghost use Rattle.dms_desc.specs.Shape.{Shape};
-ghost use Rattle.dms_fields.specs.Fields.{laid};
+ghost use Rattle.dms_fields.specs.Fields.{lay_bytes};
 ghost use Rattle.dms_block.specs.Content.{Content};
 ghost use Rattle.dms_layout.specs.declared.slot.Slot.{Slot};
 ghost use Rattle.dms_layout.specs.declared.slot.SlotRead.TheVariants.{Free, Used, Bad};
@@ -12,8 +12,8 @@ ghost use Rattle.dms_slots.specs.SlotBlocks.{file_of, per_block, is_slot, is_blo
 pub fn written_law()
     ensures { (s : Shape) (p : ℕ) (x block : List ℕ) → p < per_block s.items → length x ≡ slot_width s.items
         → is_slot (slot_of s x) ≡ true → is_block s block ≡ true
-        → (is_block s (laid (p * slot_width s.items) x block) ≡ true)
-        × (slots_in s (laid (p * slot_width s.items) x block) ≡ slice_set (slots_in s block) p (slot_of s x)) }
+        → (is_block s (lay_bytes (p * slot_width s.items) x block) ≡ true)
+        × (slots_in s (lay_bytes (p * slot_width s.items) x block) ≡ slice_set (slots_in s block) p (slot_of s x)) }
 {}
 
 /// A law: in a file in which the slot of a number was written, also in a new block, that slot is the one that was

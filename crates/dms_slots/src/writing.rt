@@ -1,11 +1,11 @@
 ghost use Rattle.std.specs.Prelude.{◌≡◌, ◌+◌, ◌*◌, ◌<◌, ◌≤◌, true, IfOk, OnOk, OnErr, IsTrue, length, replicate};
 ghost use Rattle.dms_desc.specs.Shape.{shape_of};
-ghost use Rattle.dms_fields.specs.Fields.{laid};
+ghost use Rattle.dms_fields.specs.Fields.{lay_bytes};
 ghost use Rattle.dms_layout.specs.Slots.{slot_bytes, slot_width};
 ghost use Rattle.dms_desc.specs.Fitting.{values_fit};
-ghost use Rattle.dms_block.specs.Content.{raised};
+ghost use Rattle.dms_block.specs.Content.{raise_count};
 ghost use Rattle.dms_block.specs.Held.{HasCausesOr};
-ghost use Rattle.dms_block.specs.View.{ReadsOverlay, WritesOverlay, seen, seen_counts, under, written};
+ghost use Rattle.dms_block.specs.View.{ReadsOverlay, WritesOverlay, overlay_content, seen_counts, under, overlay_changes};
 ghost use Rattle.dms_slots.specs.Seen.{blocks_of, count_of, BadAt, with_slot};
 ghost use Rattle.dms_slots.specs.SlotBlocks.{file_of, block_of, is_block, block_at};
 
@@ -16,10 +16,10 @@ use dms_layout::{Slot, to_slot};
 use std::alloc::Global;
 
 // Lays bytes over those of a block from a place on.
-#[tactic(auto, using(std::proofs::lemmas::List::places), unfolding(dms_fields::specs::Fields::laid))]
+#[tactic(auto, using(std::proofs::lemmas::List::places), unfolding(dms_fields::specs::Fields::lay_bytes))]
 fn patch(block: &mut Block, at: usize, bytes: &[u8])
     requires { at + length bytes.now ≤ 1024 }
-    ensures { block.new.0 ≡ laid at bytes.now block.old.0 }
+    ensures { block.new.0 ≡ lay_bytes at bytes.now block.old.0 }
 {
     block.0[at..at + bytes.len()].copy_from_slice(bytes);
 }
@@ -72,10 +72,10 @@ fn write_bytes<B: Blocks>(
     requires most { number ≤ 1000000 }
     requires next { block_of s.now.items number ≤ count_of (shape_of s.now) b.old }
     requires long { length bytes.now ≡ slot_width s.now.items }
-    ensures seen { OnOk result (IsTrue (under b.old).told → seen b.new ≡ with_slot (shape_of s.now) number bytes.now b.old) }
-    ensures counts { OnOk result (seen_counts b.new ≡ raised (seen_counts b.old) (file_of s.now.number) (block_of s.now.items number)) }
+    ensures seen { OnOk result (IsTrue (under b.old).told → overlay_content b.new ≡ with_slot (shape_of s.now) number bytes.now b.old) }
+    ensures counts { OnOk result (seen_counts b.new ≡ raise_count (seen_counts b.old) (file_of s.now.number) (block_of s.now.items number)) }
     ensures writes { WritesOverlay 1 1 result b.old b.new }
-    ensures err { OnErr result (written b.new ≡ written b.old) }
+    ensures err { OnErr result (overlay_changes b.new ≡ overlay_changes b.old) }
     ensures causes { HasCausesOr (BadAt (shape_of s.now) (block_of s.now.items number) b.old) result (under b.old) (under b.new) }
 {
     let per = per_block(s) as u64;
@@ -109,10 +109,10 @@ pub fn write_slot<B: Blocks>(
     requires most { number ≤ 1000000 }
     requires next { block_of s.now.items number ≤ count_of (shape_of s.now) b.old }
     requires values { IsTrue (values_fit s.now.items slot.now.rec.values) }
-    ensures seen { OnOk result (IsTrue (under b.old).told → seen b.new ≡ with_slot (shape_of s.now) number (slot_bytes s.now.items slot.now) b.old) }
-    ensures counts { OnOk result (seen_counts b.new ≡ raised (seen_counts b.old) (file_of s.now.number) (block_of s.now.items number)) }
+    ensures seen { OnOk result (IsTrue (under b.old).told → overlay_content b.new ≡ with_slot (shape_of s.now) number (slot_bytes s.now.items slot.now) b.old) }
+    ensures counts { OnOk result (seen_counts b.new ≡ raise_count (seen_counts b.old) (file_of s.now.number) (block_of s.now.items number)) }
     ensures writes { WritesOverlay 1 1 result b.old b.new }
-    ensures err { OnErr result (written b.new ≡ written b.old) }
+    ensures err { OnErr result (overlay_changes b.new ≡ overlay_changes b.old) }
     ensures causes { HasCausesOr (BadAt (shape_of s.now) (block_of s.now.items number) b.old) result (under b.old) (under b.new) }
 {
     let bytes = to_slot(alloc, s, slot)?;
@@ -134,10 +134,10 @@ pub fn free_slot<B: Blocks>(
     requires number { 1 ≤ number }
     requires most { number ≤ 1000000 }
     requires next { block_of s.now.items number ≤ count_of (shape_of s.now) b.old }
-    ensures seen { OnOk result (IsTrue (under b.old).told → seen b.new ≡ with_slot (shape_of s.now) number (replicate (slot_width s.now.items) 0) b.old) }
-    ensures counts { OnOk result (seen_counts b.new ≡ raised (seen_counts b.old) (file_of s.now.number) (block_of s.now.items number)) }
+    ensures seen { OnOk result (IsTrue (under b.old).told → overlay_content b.new ≡ with_slot (shape_of s.now) number (replicate (slot_width s.now.items) 0) b.old) }
+    ensures counts { OnOk result (seen_counts b.new ≡ raise_count (seen_counts b.old) (file_of s.now.number) (block_of s.now.items number)) }
     ensures writes { WritesOverlay 1 1 result b.old b.new }
-    ensures err { OnErr result (written b.new ≡ written b.old) }
+    ensures err { OnErr result (overlay_changes b.new ≡ overlay_changes b.old) }
     ensures causes { HasCausesOr (BadAt (shape_of s.now) (block_of s.now.items number) b.old) result (under b.old) (under b.new) }
 {
     let zeros = blank();

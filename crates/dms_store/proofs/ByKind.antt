@@ -18,7 +18,7 @@ use Rattle.dms_desc.specs.Kinds.{over, is_set_or_automatic}
 use Rattle.dms_desc.specs.Lookups.{structure_of}
 use Rattle.dms_desc.specs.Shape.{Shape, Described, shape_of}
 use Rattle.dms_desc.specs.declared.structure.Structure.{Structure}
-use Rattle.dms_desc.specs.Sorted.{first, last, sorted}
+use Rattle.dms_desc.specs.Sorted.{first, last, sort}
 use Rattle.dms_model.specs.declared.spot.Spot.{Spot}
 use Rattle.dms_model.specs.Db.{Place, SubsetEntry}
 use Rattle.dms_model.specs.Fitting.{population_of}
@@ -51,8 +51,8 @@ module _ (s : Shape) (owner : ℕ) (manual : (s.kind == 5) ≡ true) where
 
   no_members : (desc : Described) (c : Content) → members s (db_in desc c) owner ≡ []
   no_members desc c =
-      ap (λ (es : List SubsetEntry). sorted (is_before s.parts) (spots_of s es owner (entries (db_in desc c).records))) (no_manual desc c)
-      ∙ ap (sorted (is_before s.parts)) (none_belong (entries (db_in desc c).records))
+      ap (λ (es : List SubsetEntry). sort (is_before s.parts) (spots_of s es owner (entries (db_in desc c).records))) (no_manual desc c)
+      ∙ ap (sort (is_before s.parts)) (none_belong (entries (db_in desc c).records))
 
 module _ {desc : Described} (path : ℕ) {s : Shape} (served : IsServed desc) (at : structure_of desc path ≡ Some s) where
   module _ (manual : kinds.is_manual s ≡ true) (told : Bool) (c : Content) (owner : ℕ) (bound : Bound) where

@@ -15,7 +15,7 @@ use Rattle.dms_desc.specs.declared.structure.KeyPart.{KeyPart}
 use Rattle.dms_key.specs.KeyBytes.{KeyHasKinds, key_bytes}
 use Rattle.dms_key.specs.KeyOrder.{key_most}
 use Rattle.dms_ordlist.specs.ListIn.{list_in}
-use Rattle.dms_ordlist.specs.Lists.{first, first_from, has_entry, is_same, last, last_to, or_else, padded}
+use Rattle.dms_ordlist.specs.Lists.{first, first_from, has_entry, is_same, last, last_to, or_else, pad_bound}
 use Rattle.dms_sets.specs.Entries.{IsSetKey, entry_bytes, whole_width}
 use Rattle.dms_sets.specs.Padded.{entry_width, from_bytes, to_bytes}
 use Rattle.dms_store.specs.Listed.{MayLook}
@@ -23,16 +23,16 @@ use Rattle.dms_store.specs.SpelledLaws.{nothing_listed}
 
 -- ---- the bytes of a bound
 
-padded_long : (w : ℕ) (p : List ℕ) → length p ≤ w → length (padded w p) ≡ w
+padded_long : (w : ℕ) (p : List ℕ) → length p ≤ w → length (pad_bound w p) ≡ w
 padded_long w p le =
     let zeros = length-replicate {A = ℕ} (w - length p) 0 in
     length-append p (replicate (w - length p) 0) ∙ omega (arith, le, zeros)
 
 module _ (kinds : List ItemKind) (ps : List KeyPart) (owner : ℕ) where
-  owner_long : (n : ℕ) → length (padded (entry_width kinds ps) (to_be_bytes w32 n)) ≡ entry_width kinds ps
+  owner_long : (n : ℕ) → length (pad_bound (entry_width kinds ps) (to_be_bytes w32 n)) ≡ entry_width kinds ps
   owner_long n = padded_long (entry_width kinds ps) (to_be_bytes w32 n) (omega arith)
 
-  key_long : (key : List Value) → KeyHasKinds kinds ps key → length (padded (entry_width kinds ps) (to_be_bytes w32 owner ++ (key_bytes kinds ps key ++ []))) ≡ entry_width kinds ps
+  key_long : (key : List Value) → KeyHasKinds kinds ps key → length (pad_bound (entry_width kinds ps) (to_be_bytes w32 owner ++ (key_bytes kinds ps key ++ []))) ≡ entry_width kinds ps
   key_long key f =
       let whole = length-append (to_be_bytes w32 owner) (key_bytes kinds ps key ++ []) in
       let inner = length-append (key_bytes kinds ps key) [] in

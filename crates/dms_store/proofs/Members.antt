@@ -12,7 +12,7 @@ use Rattle.dms_block.specs.declared.blocks.Blocks.{Ghosts}
 use Rattle.dms_block.specs.declared.overlay.Overlay.{Overlay}
 use Rattle.dms_block.specs.Content.{Content}
 use Rattle.dms_block.specs.Held.{HasCausesOr}
-use Rattle.dms_block.specs.View.{ReadsOverlay, seen, seen_counts, under}
+use Rattle.dms_block.specs.View.{ReadsOverlay, overlay_content, seen_counts, under}
 use Rattle.dms_base.specs.declared.kind.ItemKind.{ItemKind}
 use Rattle.dms_desc.specs.declared.bound.Bound.{Bound}
 use Rattle.dms_desc.specs.Lookups.{over_of, set_of, structure_of}
@@ -41,8 +41,8 @@ use Rattle.dms_store.specs.LiftedLaws.{db_same}
 use Rattle.dms_store.specs.Listed.{BadEntry, BadPath, MayLook}
 use Rattle.dms_store.specs.Noted.{tells_if}
 use Rattle.dms_store.specs.Serving.{IsServed}
-use Rattle.dms_store.specs.SetPaths.{first_look, formed, last_look, may_look, set_at}
-use Rattle.dms_store.specs.Spelled.{db_in, file_in, is_spelled, some_if, spelled}
+use Rattle.dms_store.specs.SetPaths.{first_look, served_formed, last_look, may_look, set_at}
+use Rattle.dms_store.specs.Spelled.{db_in, file_in, is_spelled, some_if, database_in}
 use Rattle.dms_store.specs.SpelledLaws.{spelled_fits, spells}
 use Rattle.dms_store.specs.Undamaged.{no_bad_slot, told_spelled}
 use Rattle.dms_store.proofs.Standing.{over_set, stands_for}
@@ -64,7 +64,7 @@ pub tells_none : (s : Shape) (owner : ℕ) (o : Option Db) → TellsOf {T = Opti
 tells_none s owner None = tt
 tells_none s owner (Some d) = refl
 
-db_told : (told : Bool) (desc : Described) (c : Content) (d : Db) → db_of desc told c ≡ Some d → spelled desc c ≡ Some d
+db_told : (told : Bool) (desc : Described) (c : Content) (d : Db) → db_of desc told c ≡ Some d → database_in desc c ≡ Some d
 db_told true desc c d h = h
 db_told false desc c d h = absurd (cc)
 
@@ -86,9 +86,9 @@ module _ (desc : Described) (s : Shape) (served : IsServed desc) (at : structure
   listed_in : (c : Content) → is_spelled desc c ≡ true → list_in width (file_in c s) ≡ Some (entries_of desc (db_in desc c) s)
   listed_in c spelt = list_at desc c s.number s spelt at (no_data_set s kept) kept
 
-  all_small_in : (c : Content) (d : Db) → spelled desc c ≡ Some d → AllPlaces IsSmall (entries d.records)
+  all_small_in : (c : Content) (d : Db) → database_in desc c ≡ Some d → AllPlaces IsSmall (entries d.records)
   all_small_in c d is =
-      all_small (kinds_over desc s) s (entries d.records) (all_fit desc d s (set_at desc s.number s served at kept).named.items (spelled_fits desc c d (formed desc served) is))
+      all_small (kinds_over desc s) s (entries d.records) (all_fit desc d s (set_at desc s.number s served at kept).named.items (spelled_fits desc c d (served_formed desc served) is))
 
   module _ (told : Bool) (c : Content) (owner : ℕ) (bound : Bound) (may : MayStart desc s.number owner bound) (q : Option (List ℕ)) (r : Result (Option Spot) BlockFault) where
     -- the member of the entry that was found is the first one behind the bound
@@ -108,10 +108,10 @@ module _ (desc : Described) (s : Shape) (served : IsServed desc) (at : structure
   -- ---- causes
 
   module _ {B : Type 0} {g : Ghosts B} (o : Overlay B g) (usable : IsUsable desc o) where
-    same_file : seen o (file_of s.number) ≡ file_in (under o).content s
+    same_file : overlay_content o (file_of s.number) ≡ file_in (under o).content s
     same_file = ap (λ (c : Content). c (file_of s.number)) (seen_below o usable.none)
 
-    told_list : (d : Db) → db_of desc (under o).told (under o).content ≡ Some d → list_in width (seen o (file_of s.number)) ≡ Some (entries_of desc d s)
+    told_list : (d : Db) → db_of desc (under o).told (under o).content ≡ Some d → list_in width (overlay_content o (file_of s.number)) ≡ Some (entries_of desc d s)
     told_list d told =
         let c = (under o).content in
         let spelt = (told_spelled desc (under o).told c d told).1 in

@@ -12,7 +12,7 @@ use Rattle.dms_desc.specs.Lookups.{structure_of}
 use Rattle.dms_desc.specs.Shape.{Shape, Described}
 use Rattle.dms_model.specs.Fitting.{is_number}
 use Rattle.dms_store.specs.Serving.{IsServed}
-use Rattle.dms_store.specs.SetPaths.{formed}
+use Rattle.dms_store.specs.SetPaths.{served_formed}
 use Rattle.dms_store.specs.Spelled.{db_in, is_spelled, some_if}
 use Rattle.dms_store.specs.SpelledLaws.{RecordStands, spelled_stands}
 
@@ -24,7 +24,7 @@ pub no_record : (desc : Described) (c : Content) (set number : ℕ) (s : Shape) 
 no_record desc c set number s served spelt at off = by (get (db_in desc c).records (set, number)) refl
   where
     stands : (rec : Record) → get (db_in desc c).records (set, number) ≡ Some rec → RecordStands desc (db_in desc c) (set, number) rec
-    stands rec is = spelled_stands desc c (db_in desc c) (formed desc served) (ap (λ t. some_if t (db_in desc c)) spelt) (set, number) rec is
+    stands rec is = spelled_stands desc c (db_in desc c) (served_formed desc served) (ap (λ t. some_if t (db_in desc c)) spelt) (set, number) rec is
 
     by : (o : Option Record) → get (db_in desc c).records (set, number) ≡ o → None ≡ o
     by None is = refl

@@ -20,7 +20,7 @@ use Rattle.dms_desc_bytes.specs.Lists.{is_empty, is_within, total}
 use Rattle.dms_desc_bytes.specs.Members.{is_item_sound}
 use Rattle.dms_desc_bytes.specs.Spelling.{is_data_set as is_set_kind}
 use Rattle.dms_desc_bytes.specs.WellFormed as well
-use Rattle.dms_desc_bytes.specs.WellFormed.{IsWellFormed, are_sound, has_sound_items, is_data_set_sound, is_key_item, is_key_sound, is_part_sound, is_set_sound, is_sound, lacks_set_fields, numbered}
+use Rattle.dms_desc_bytes.specs.WellFormed.{IsWellFormed, are_sound, has_sound_items, is_data_set_sound, is_key_item, is_key_sound, is_part_sound, is_set_sound, is_sound, lacks_set_fields, stand_in_order}
 use Rattle.dms_key.specs.KeyBytes as bytes
 use Rattle.dms_layout.specs.Slots.{AreKinds, slot_width}
 use Rattle.dms_model.specs.Valid.{is_data_set}
@@ -46,9 +46,9 @@ nothing_in : {A : Type 0} (xs : List A) → is_empty xs ≡ true → xs ≡ []
 nothing_in [] h = refl
 nothing_in (x ∷ xs) h = absurd (cc)
 
-numbered_in : (k : ℕ) (ss : List Shape) → numbered k ss ≡ true → AreNumbered k ss
+numbered_in : (k : ℕ) (ss : List Shape) → stand_in_order k ss ≡ true → AreNumbered k ss
 numbered_in k [] h = tt
-numbered_in k (s ∷ ss) h = let two = and_parts (s.number == k) (numbered (k + 1) ss) h in (grind (arith, nat_tests, two.0), numbered_in (k + 1) ss two.1)
+numbered_in k (s ∷ ss) h = let two = and_parts (s.number == k) (stand_in_order (k + 1) ss) h in (grind (arith, nat_tests, two.0), numbered_in (k + 1) ss two.1)
 
 -- ---- items
 

@@ -27,7 +27,7 @@ use Rattle.dms_ordlist.specs.Lists.{bytes_cmp, bytes_same, has_entry}
 use Rattle.dms_sets.specs.Changes.{entry_in}
 use Rattle.dms_sets.specs.Entries.{entry_bytes}
 use Rattle.dms_sets.specs.Finds.{spot_by}
-use Rattle.dms_sets.specs.Listing.{AllPlaces, listed, member_opt, test_of}
+use Rattle.dms_sets.specs.Listing.{AllPlaces, lists_members, member_opt, test_of}
 use Rattle.dms_sets.specs.Owners.{is_of, is_of_entry}
 use Rattle.dms_sets.specs.Sets.{IsSmall, entries_of, entry_number, entry_of, kinds_over, listed_in, number_in, own_entry, place_in_entry}
 use Rattle.dms_sets.specs.Spots.{and_then, spot_at}
@@ -67,7 +67,7 @@ module _ (desc : Described) (s : Shape) (db : Db) (q : List ℕ) where
   pub stands_for : AllPlaces IsSmall (entries db.records) → has_entry q (entries_of desc db s) ≡ true → IsEntryOfRecord desc s db q
   stands_for small has =
       stands_opt (get db.records (place_in_entry s q)) refl
-      (ap is_some (sym (listed (entry_of (kinds_over desc s) s) (place_in_entry s) IsSmall (own_entry (kinds_over desc s) s) db.records small q))
+      (ap is_some (sym (lists_members (entry_of (kinds_over desc s) s) (place_in_entry s) IsSmall (own_entry (kinds_over desc s) s) db.records small q))
       ∙ contains_key-keys (listed_in (kinds_over desc s) s db.records) q ∙ has)
 
 -- ---- the entry of a record

@@ -11,13 +11,13 @@ use Rattle.dms_base.specs.Fits.{fits}
 use Rattle.dms_block.specs.declared.blocks.Blocks.{Ghosts}
 use Rattle.dms_block.specs.declared.change.Change.{Change}
 use Rattle.dms_block.specs.declared.overlay.Overlay.{Overlay}
-use Rattle.dms_block.specs.Content.{Content, changed, grown}
+use Rattle.dms_block.specs.Content.{Content, apply_changes, counts_after}
 use Rattle.dms_block.specs.HeldLaws.{causes_or_on, lasts_none, same_none, told_after}
 use Rattle.dms_block.specs.Held.{HasCausesOr}
 use Rattle.dms_block.specs.declared.block_fault.BlockFault.{BlockFault}
 use Rattle.std.specs.declared.result.Result.{Result}
 use Rattle.std.proofs.lemmas.Bool.{and_parts}
-use Rattle.dms_block.specs.View.{ReadsOverlay, seen, under, written}
+use Rattle.dms_block.specs.View.{ReadsOverlay, overlay_content, under, overlay_changes}
 use Rattle.dms_block.specs.ViewLaws.{seen_still}
 use Rattle.dms_desc.specs.declared.structure.Item.{Item}
 use Rattle.dms_desc.specs.Lookups.{items_of, structure_of}
@@ -61,15 +61,15 @@ module _ {B : Type 0} {g : Ghosts B} where
     (
       bad.0.0,
       λ told.
-          let same : seen b (file_of s.number) ≡ seen a (file_of s.number) = ap (λ (c : Content). c (file_of s.number)) (seen_still reads told) in
+          let same : overlay_content b (file_of s.number) ≡ overlay_content a (file_of s.number) = ap (λ (c : Content). c (file_of s.number)) (seen_still reads told) in
           subst (λ (bs : List (List ℕ)). (k < length bs) × (is_block s (slice_index_or bs k []) ≡ false)) same (bad.0.1 (told_after reads.looks.passes.lasts told)),
     ),
-    subst (λ (m : ℕ). k < m) (λ i. grown (reads.written_still i) (reads.looks.counts i) (file_of s.number)) bad.1,
+    subst (λ (m : ℕ). k < m) (λ i. counts_after (reads.written_still i) (reads.looks.counts i) (file_of s.number)) bad.1,
   )
 
   -- where nothing is written, what is seen stands below
-  pub seen_below : (o : Overlay B g) → written o ≡ [] → seen o ≡ (under o).content
-  seen_below o none = ap (λ (l : List Change). changed l (under o).content) none
+  pub seen_below : (o : Overlay B g) → overlay_changes o ≡ [] → overlay_content o ≡ (under o).content
+  seen_below o none = ap (λ (l : List Change). apply_changes l (under o).content) none
 
 -- ---- structures that are served
 

@@ -5,8 +5,8 @@ use Rattle.std.specs.Str.{bytes_eq}
 use Rattle.dms_moments.specs.Moments.{Clock, seen_as}
 use Rattle.dms_block.specs.Content.{Content}
 use Rattle.dms_block.specs.Counts.{Faults}
-use Rattle.dms_block.specs.Held.{Held, BlockPoint, BlockStop, Uses}
-use Rattle.dms_block.specs.View.{under, written}
+use Rattle.dms_block.specs.Held.{AuditPace, Held, BlockPoint, BlockStop, Uses}
+use Rattle.dms_block.specs.View.{under, overlay_changes}
 use Rattle.dms_block.specs.declared.blocks.Blocks.{Ghosts}
 use Rattle.dms_block.specs.declared.overlay.Overlay.{Overlay}
 use Rattle.dms_desc.specs.Lookups.{structure_of}
@@ -17,7 +17,7 @@ use Rattle.dms_model.specs.Points.{Point, Stop}
 use Rattle.dms_model.specs.Seen.{Effort, Seen}
 use Rattle.dms_slots.specs.SlotBlocks.{file_of}
 use Rattle.dms_store.specs.Serving.{IsServed}
-use Rattle.dms_store.specs.Spelled.{spelled}
+use Rattle.dms_store.specs.Spelled.{database_in}
 
 -- the store counts by itself how often it answers that a block is damaged, whoever found it so
 abbrev pub faults_with : Faults → ℕ → Faults
@@ -29,7 +29,7 @@ effort_of u = record { spent = u.spent; syncs = u.syncs; outs = u.outs }
 module _ (desc : Described) where
   -- the database of blocks, where they are told
   abbrev pub db_of : Bool → Content → Option Db
-  db_of true c = spelled desc c
+  db_of true c = database_in desc c
   db_of false c = None
 
   -- A point has the database that its blocks spell, but only where it stands under the bytes of this description.
@@ -40,16 +40,16 @@ module _ (desc : Described) where
   abbrev pub stop_of : BlockStop → Stop
   stop_of x = record { files = x.files; points = map point_of x.points; next = x.next; said = x.said }
 
-  abbrev pub lifted : Clock BlockStop → Clock Stop
-  lifted clock = seen_as stop_of clock
+  abbrev pub lift_stops : Clock BlockStop → Clock Stop
+  lift_stops clock = seen_as stop_of clock
 
   -- the point that would be made now: it has the next number and, where they are told, the blocks
   abbrev pub here_of : Held → BlockPoint
   here_of h = record { number = h.next; blocks = if h.told then h.content else h.here.blocks; schema = h.here.schema }
 
   -- what a store over blocks tells, that so often answered that a block is damaged
-  abbrev pub seen_of : Type 0 → ℕ → ℕ → Held → Seen
-  seen_of sound found last h = record {
+  abbrev pub seen_of : Type 0 → ℕ → AuditPace → Held → Seen
+  seen_of sound found pace h = record {
     tells = h.tells;
     sound = sound;
     desc = desc;
@@ -60,9 +60,9 @@ module _ (desc : Described) where
     points = map point_of h.points;
     durable = h.durable;
     here = point_of (here_of h);
-    clock = lifted h.clock;
+    clock = lift_stops h.clock;
     whole = h.whole;
-    last = last;
+    pace = pace;
     faults = faults_with h.faults found;
     reads = h.uses.reads;
     effort = effort_of h.uses;
@@ -84,9 +84,9 @@ pub record Serves (desc : Described) (h : Held) : Type 0 where
 -- a store may be used: its blocks can be, they are those of the description, and nothing is written over them between two calls
 pub record IsUsable {B : Type 0} {g : Ghosts B} (desc : Described) (o : Overlay B g) : Type 0 where
   pub sound : (under o).sound
-  pub none : written o ≡ []
+  pub none : overlay_changes o ≡ []
   pub serves : Serves desc (under o)
 
 -- what a store tells, over these blocks
 abbrev pub store_seen : {B : Type 0} {g : Ghosts B} → Described → ℕ → Overlay B g → Seen
-store_seen {g = g} desc found o = seen_of desc (IsUsable desc o) found (g.last o.below) (under o)
+store_seen {g = g} desc found o = seen_of desc (IsUsable desc o) found (g.pace o.below) (under o)

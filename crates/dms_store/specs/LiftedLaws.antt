@@ -13,19 +13,20 @@ use Rattle.dms_block.specs.declared.block_fault.BlockFault.{BlockFault}
 use Rattle.dms_block.specs.declared.block_fault.BlockFault.TheVariants.{Disk, Memory, Full, Damaged, Say}
 use Rattle.dms_block.specs.declared.blocks.Blocks.{Ghosts}
 use Rattle.dms_block.specs.declared.overlay.Overlay.{Overlay}
-use Rattle.dms_block.specs.Faults.{Unbroken}
-use Rattle.dms_block.specs.View.{ReadsOverlay, under, written}
+use Rattle.dms_block.specs.Faults.{IfFull, Unbroken}
+use Rattle.dms_block.specs.View.{ReadsOverlay, under, overlay_changes}
 use Rattle.dms_block.specs.Content.{Content}
 use Rattle.dms_block.specs.Counts.{CausedBy}
-use Rattle.dms_block.specs.Held.{Held, BlockPoint, BlockStop, Lasts, MakesNoPoint, Prefix, SameBlocks}
+use Rattle.dms_block.specs.Held.{AuditPace, Held, BlockPoint, BlockStop, Lasts, MakesNoPoint, Prefix, SameBlocks}
 use Rattle.dms_block.specs.Held as held
+use Rattle.dms_block.specs.HeldLaws.{full_weaker}
 use Rattle.dms_desc.specs.Shape.{Described}
 use Rattle.dms_desc_bytes.specs.Spelling.{spelling}
 use Rattle.dms_model.specs.Db.{Db}
 use Rattle.dms_model.specs.Points.{Point, Stop, LeavesPrefix, StopTextIs, StoreLeaves, StoreLeavesText, IsUnder}
 use Rattle.dms_model.specs.Seen as store
 use Rattle.dms_slots.specs.SlotBlocks.{file_of}
-use Rattle.dms_store.specs.Lifted.{IsUsable, Serves, db_of, effort_of, faults_with, here_of, lifted, point_of, seen_of, stop_of, store_seen}
+use Rattle.dms_store.specs.Lifted.{IsUsable, Serves, db_of, effort_of, faults_with, here_of, lift_stops, point_of, seen_of, stop_of, store_seen}
 
 -- ---- the database
 
@@ -51,10 +52,10 @@ module _ (desc : Described) where
     files = p.whole_files;
   }
 
-  pub leaves_lifted : (a b : Held) (points : List BlockPoint) (next : ℕ) → held.Leaves a b points next → StoreLeaves a.whole (lifted desc a.clock) (lifted desc b.clock) a.durable (map (point_of desc) points) next a.said
+  pub leaves_lifted : (a b : Held) (points : List BlockPoint) (next : ℕ) → held.Leaves a b points next → StoreLeaves a.whole (lift_stops desc a.clock) (lift_stops desc b.clock) a.durable (map (point_of desc) points) next a.said
   leaves_lifted a b points next run = runs_seen_as (stop_of desc) (runs_weaken run (λ x p. (front_lifted a points next x p.0, p.1)))
 
-  pub text_lifted : (a b : Held) (bytes : List ℕ) → held.LeavesText a b bytes → StoreLeavesText a.whole (lifted desc a.clock) (lifted desc b.clock) a.durable (map (point_of desc) a.points) a.next a.said bytes
+  pub text_lifted : (a b : Held) (bytes : List ℕ) → held.LeavesText a b bytes → StoreLeavesText a.whole (lift_stops desc a.clock) (lift_stops desc b.clock) a.durable (map (point_of desc) a.points) a.next a.said bytes
   text_lifted a b bytes run = runs_seen_as (stop_of desc) (runs_weaken run (λ x p. (front_lifted a a.points a.next x p.0, p.1)))
 
   blocks_here : (t : Bool) (c d : Content) → (IsTrue t → d ≡ c) → cond t c d ≡ d
@@ -87,18 +88,18 @@ module _ (desc : Described) where
 
 -- ---- one call of a store
 
-module _ (desc : Described) (sound sound' : Type 0) (found found' last last' : ℕ) (a b : Held) where
+module _ (desc : Described) (sound sound' : Type 0) (found found' : ℕ) (pace pace' : AuditPace) (a b : Held) where
   abbrev old : store.Seen
-  old = seen_of desc sound found last a
+  old = seen_of desc sound found pace a
 
   abbrev new : store.Seen
-  new = seen_of desc sound' found' last' b
+  new = seen_of desc sound' found' pace' b
 
   pub silent_lifted : MakesNoPoint a b → store.IsSilent old new
   silent_lifted p = record { next = p.next; said = p.said; leaves = λ tells room. leaves_lifted desc a b a.points a.next (p.leaves tells room) }
 
-  pub causes_lifted : {T : Type 0} (r : Result T BlockFault) → Lasts a b → last' ≡ last → a.uses.reads ≤ b.uses.reads → CausedBy r (faults_with a.faults found) (faults_with b.faults found') → store.HasStoreCauses r old new
-  causes_lifted r lasts same reads cause = record { tells = lasts.tells; desc = refl; last = same; whole = lasts.whole; whole_on = lasts.whole_on; cause = cause; reads = reads }
+  pub causes_lifted : {T : Type 0} (r : Result T BlockFault) → Lasts a b → pace' ≡ pace → a.uses.reads ≤ b.uses.reads → CausedBy r (faults_with a.faults found) (faults_with b.faults found') → store.HasStoreCauses r old new
+  causes_lifted r lasts same reads cause = record { tells = lasts.tells; desc = refl; pace = same; whole = lasts.whole; whole_on = lasts.whole_on; cause = cause; reads = reads }
 
   pub points_lifted : held.IfTold a ((b.points ≡ a.points) × (a.durable ≤ b.durable)) → store.StaysDurable old new
   points_lifted stays tells room = let s = stays tells room in (ap (map (point_of desc)) s.0, s.1)
@@ -115,15 +116,22 @@ module _ (desc : Described) (sound sound' : Type 0) (found found' last last' : �
   keeps_points_lifted sound lasts stays = record { sound = sound; mark = db_same desc a.told b.told a.mark b.mark lasts.told stays.mark; points = points_lifted stays.points }
 
   pub quiet_leaves : held.BlocksAgree a → held.IfTold a (held.Leaves a b (a.points ++ a.here ∷ []) (a.next + 1))
-      → store.IfPointsTold old (StoreLeaves a.whole (lifted desc a.clock) (lifted desc b.clock) a.durable (map (point_of desc) a.points ++ point_of desc (here_of desc a) ∷ []) (a.next + 1) a.said)
+      → store.IfPointsTold old (StoreLeaves a.whole (lift_stops desc a.clock) (lift_stops desc b.clock) a.durable (map (point_of desc) a.points ++ point_of desc (here_of desc a) ∷ []) (a.next + 1) a.said)
   quiet_leaves agrees leaves tells room =
-      subst (λ (ps : List Point). StoreLeaves a.whole (lifted desc a.clock) (lifted desc b.clock) a.durable ps (a.next + 1) a.said) (quiet_points desc a (agrees.here tells room))
+      subst (λ (ps : List Point). StoreLeaves a.whole (lift_stops desc a.clock) (lift_stops desc b.clock) a.durable ps (a.next + 1) a.said) (quiet_points desc a (agrees.here tells room))
       (leaves_lifted desc a b (a.points ++ a.here ∷ []) (a.next + 1) (leaves tells room))
+
+  -- where the audit has no room for a quiet point no stop leaves it
+  pub no_point_lifted : {T : Type 0} (r noted : Result T BlockFault) → noted ≡ r → IfFull r (λ f. held.IfTold a (held.Leaves a b a.points a.next))
+      → IfFull noted (λ f. store.IfPointsTold old (StoreLeaves a.whole (lift_stops desc a.clock) (lift_stops desc b.clock) a.durable (map (point_of desc) a.points) a.next a.said))
+  no_point_lifted r noted same leaves =
+      subst (λ x. IfFull x (λ f. store.IfPointsTold old (StoreLeaves a.whole (lift_stops desc a.clock) (lift_stops desc b.clock) a.durable (map (point_of desc) a.points) a.next a.said))) (sym same)
+      (full_weaker r _ _ (λ f told tells room. leaves_lifted desc a b a.points a.next (told tells room)) leaves)
 
 -- ---- what is told hangs together
 
-pub agrees_lifted : (desc : Described) (sound : Type 0) (found last : ℕ) (a : Held) → a.here.schema ≡ spelling desc → held.BlocksAgree a → store.StoreAgrees (seen_of desc sound found last a)
-agrees_lifted desc sound found last a schema agrees = record {
+pub agrees_lifted : (desc : Described) (sound : Type 0) (found : ℕ) (pace : AuditPace) (a : Held) → a.here.schema ≡ spelling desc → held.BlocksAgree a → store.StoreAgrees (seen_of desc sound found pace a)
+agrees_lifted desc sound found pace a schema agrees = record {
   may_stop = λ tells. let x = agrees.may_stop tells in (stop_of desc x.0, (x.0, x.1, refl));
   number = refl;
   here = here_db desc a.told a.content a.here.blocks a.here.schema schema;
@@ -153,17 +161,17 @@ serves_on desc a b lasts s = record {
 }
 
 module _ {B : Type 0} {g : Ghosts B} (desc : Described) (o o' : Overlay B g) where
-  pub usable_on : IsUsable desc o → Lasts (under o) (under o') → (under o').sound → written o' ≡ [] → IsUsable desc o'
+  pub usable_on : IsUsable desc o → Lasts (under o) (under o') → (under o').sound → overlay_changes o' ≡ [] → IsUsable desc o'
   usable_on usable lasts sound none = record { sound = sound; none = none; serves = serves_on desc (under o) (under o') lasts usable.serves }
 
   -- reads keep the store as it was
   pub reads_keep : {T : Type 0} {n : ℕ} (found found' : ℕ) (r : Result T BlockFault) → IsUsable desc o → ReadsOverlay n r o o' → Unbroken r (store.Keeps (store_seen desc found o) (store_seen desc found' o'))
   reads_keep found found' r usable reads =
-      unbroken_two r (λ stays same. keeps_lifted desc (IsUsable desc o) (IsUsable desc o') found found' (g.last o.below) (g.last o'.below) (under o) (under o')
+      unbroken_two r (λ stays same. keeps_lifted desc (IsUsable desc o) (IsUsable desc o') found found' (g.pace o.below) (g.pace o'.below) (under o) (under o')
       (usable_on usable reads.looks.passes.lasts stays.sound (reads.written_still ∙ usable.none)) reads.looks.passes.lasts stays same) reads.looks.stays reads.looks.same
 
   pub reads_silent : {T : Type 0} {n : ℕ} {r : Result T BlockFault} (found found' : ℕ) → ReadsOverlay n r o o' → store.IsSilent (store_seen desc found o) (store_seen desc found' o')
-  reads_silent found found' reads = silent_lifted desc (IsUsable desc o) (IsUsable desc o') found found' (g.last o.below) (g.last o'.below) (under o) (under o') reads.looks.passes
+  reads_silent found found' reads = silent_lifted desc (IsUsable desc o) (IsUsable desc o') found found' (g.pace o.below) (g.pace o'.below) (under o) (under o') reads.looks.passes
 
   pub reads_effort : {T : Type 0} {n : ℕ} {r : Result T BlockFault} → ReadsOverlay n r o o' → effort_of (under o').uses ≡ effort_of (under o).uses
   reads_effort reads =
@@ -193,5 +201,5 @@ module _ (desc : Described) where
   stop_one x other e = λ i. record { files = (e i).files; points = points_one x.points other.points (ap (λ (y : Stop). y.points) e) i; next = (e i).next; said = (e i).said }
 
   -- What stops leave of a store is what they leave of its blocks: no two outcomes below are seen as one.
-  pub lowered : (a b : Held) {Q : Stop → Type 0} → Runs (lifted desc a.clock) (lifted desc b.clock) Q → Runs a.clock b.clock (λ x. Q (stop_of desc x))
-  lowered a b run = runs_below_as (stop_of desc) stop_one run
+  pub lower_runs : (a b : Held) {Q : Stop → Type 0} → Runs (lift_stops desc a.clock) (lift_stops desc b.clock) Q → Runs a.clock b.clock (λ x. Q (stop_of desc x))
+  lower_runs a b run = runs_below_as (stop_of desc) stop_one run

@@ -29,15 +29,15 @@ pub record Looked {T : Type 0} (result : Result T BlockFault) (old new : store.S
   pub causes : store.HasStoreCauses result old new
 
 module _ {B : Type 0} {g : Ghosts B} (desc : Described) (found found' : ℕ) (o o' : Overlay B g) where
-  pub looked : {T : Type 0} {n : ℕ} (P : ℕ → ℕ → Type 0) (r : Result T BlockFault) → found < 2 ^ 64 → found' ≡ noted_by r found → IsUsable desc o → BlocksAgree (under o) → ((x y : B) → g.same_blocks x y → g.last y ≡ g.last x) → ReadsOverlay n r o o' → HasCausesOr P r (under o) (under o')
+  pub look_noted : {T : Type 0} {n : ℕ} (P : ℕ → ℕ → Type 0) (r : Result T BlockFault) → found < 2 ^ 64 → found' ≡ noted_by r found → IsUsable desc o → BlocksAgree (under o) → ((x y : B) → g.same_blocks x y → g.pace y ≡ g.pace x) → ReadsOverlay n r o o' → HasCausesOr P r (under o) (under o')
       → ((d : Db) → db_of desc (under o).told (under o).content ≡ Some d → (f b : ℕ) → P f b → ⊥) → Looked r (store_seen desc found o) (store_seen desc found' o')
-  looked P r small noted usable agrees law reads cause none = record {
+  look_noted P r small noted usable agrees law reads cause none = record {
     keeps = reads_keep desc o o' found found' r usable reads;
     silent = reads_silent desc o o' found found' reads;
     effort = reads_effort desc o o' reads;
     undamaged = λ d told. undamaged_or desc (under o) usable.serves agrees d told P r (under o') (none d told) cause;
     mute_fault = mute_or P r (under o) (under o') cause;
     room = reads.looks.not_full;
-    causes = causes_lifted desc (IsUsable desc o) (IsUsable desc o') found found' (g.last o.below) (g.last o'.below) (under o) (under o') r reads.looks.passes.lasts (law o.below o'.below reads.same) reads.looks.uses.not_fewer
+    causes = causes_lifted desc (IsUsable desc o) (IsUsable desc o') found found' (g.pace o.below) (g.pace o'.below) (under o) (under o') r reads.looks.passes.lasts (law o.below o'.below reads.same) reads.looks.uses.not_fewer
         (causes_noted (under o) (under o') found found' small P r noted cause);
   }

@@ -14,17 +14,17 @@ use Rattle.dms_store.specs.Lifted.{db_of, faults_with}
 use Rattle.dms_store.specs.Spelled.{db_in, is_spelled, some_if}
 
 -- the count after this fault
-abbrev pub noted : BlockFault → ℕ → ℕ
-noted Disk n = n
-noted Memory n = n
-noted (Full f) n = n
-noted (Damaged f b) n = min (n + 1) (2 ^ 64 - 1)
-noted Say n = n
+abbrev pub count_damage : BlockFault → ℕ → ℕ
+count_damage Disk n = n
+count_damage Memory n = n
+count_damage (Full f) n = n
+count_damage (Damaged f b) n = min (n + 1) (2 ^ 64 - 1)
+count_damage Say n = n
 
 -- and after this answer
 abbrev pub noted_by : {T : Type 0} → Result T BlockFault → ℕ → ℕ
 noted_by (Ok x) n = n
-noted_by (Err e) n = noted e n
+noted_by (Err e) n = count_damage e n
 
 one_up : (n m : ℕ) → n < 2 ^ 64 → m ≡ min (n + 1) (2 ^ 64 - 1) → RoseOnce n m
 one_up n m small is = record { later = omega (arith, small, is); rose = omega (arith, is); once = omega (arith, is) }
@@ -33,14 +33,14 @@ with_count : (a b : Faults) (m : ℕ) → b ≡ record a { damaged = b.damaged }
 with_count a b m is = ap (λ (x : Faults). faults_with x m) is
 
 module _ (a b : Held) (n m : ℕ) (small : n < 2 ^ 64) where
-  raised_noted : (e : BlockFault) → m ≡ noted e n → Raised e a.faults b.faults → Raised e (faults_with a.faults n) (faults_with b.faults m)
+  raised_noted : (e : BlockFault) → m ≡ count_damage e n → Raised e a.faults b.faults → Raised e (faults_with a.faults n) (faults_with b.faults m)
   raised_noted Disk is h = (h.0, (λ i. record { disk = b.faults.disk; say = (ap (λ (x : Faults). x.say) h.1) i; full = (ap (λ (x : Faults). x.full) h.1) i; damaged = is i }))
   raised_noted Memory is h = (λ i. faults_with (h i) (is i))
   raised_noted (Full f) is h = (h.0, (λ i. record { disk = (ap (λ (x : Faults). x.disk) h.1) i; say = (ap (λ (x : Faults). x.say) h.1) i; full = b.faults.full; damaged = is i }))
   raised_noted (Damaged f k) is h = (one_up n m small is, with_count a.faults b.faults m h.1)
   raised_noted Say is h = (h.0, (λ i. record { disk = (ap (λ (x : Faults). x.disk) h.1) i; say = b.faults.say; full = (ap (λ (x : Faults). x.full) h.1) i; damaged = is i }))
 
-  caused_noted : (P : ℕ → ℕ → Type 0) (e : BlockFault) → m ≡ noted e n → CausedOr P e a b → Raised e (faults_with a.faults n) (faults_with b.faults m)
+  caused_noted : (P : ℕ → ℕ → Type 0) (e : BlockFault) → m ≡ count_damage e n → CausedOr P e a b → Raised e (faults_with a.faults n) (faults_with b.faults m)
   caused_noted P Disk is h = raised_noted Disk is h
   caused_noted P Memory is h = raised_noted Memory is h
   caused_noted P (Full f) is h = raised_noted (Full f) is h

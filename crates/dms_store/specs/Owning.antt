@@ -11,7 +11,7 @@ use Rattle.dms_block.specs.declared.blocks.Blocks.{Ghosts}
 use Rattle.dms_block.specs.declared.overlay.Overlay.{Overlay}
 use Rattle.dms_block.specs.Content.{Content}
 use Rattle.dms_block.specs.Held.{BlocksAgree, Held}
-use Rattle.dms_block.specs.View.{ReadsOverlay, seen, under}
+use Rattle.dms_block.specs.View.{ReadsOverlay, overlay_content, under}
 use Rattle.dms_block.specs.ViewLaws.{counts_seen, seen_still}
 use Rattle.dms_desc.specs.Lookups.{structure_of}
 use Rattle.dms_desc.specs.Shape.{Shape, Described}
@@ -26,7 +26,7 @@ use Rattle.dms_slots.specs.Seen.{BadAt, count_of, with_slot}
 use Rattle.dms_store.specs.Files.{all_of}
 use Rattle.dms_store.specs.Finding.{number_at, served_at}
 use Rattle.dms_store.specs.Lifted.{Serves}
-use Rattle.dms_store.specs.PuttingMoved.{owners_after, raised}
+use Rattle.dms_store.specs.PuttingMoved.{owners_after, own_one_more}
 use Rattle.dms_store.specs.PuttingOwners.{MayCount, OwnerSlot, owner_slot, raised_put}
 use Rattle.dms_store.specs.PuttingSlots.{StandsFiles}
 use Rattle.dms_store.specs.PuttingSteps.{SlotChanged}
@@ -104,16 +104,16 @@ module _ (desc : Described) (served : IsServed desc) (db : Db) (own : ℕ → �
           let both : (nat_le 1 n && nat_le n u.population) ≡ true = grind (arith, nat_tests, low, most) in
           λ i. is_set i && both i
 
-  counts_are : raised own set owner ≡ owners_after own set None owner
-  counts_are = let off : (set == 0) ≡ false = grind (arith, nat_tests, some) in sym (ap (λ b. cond b own (raised own set owner)) off)
+  counts_are : own_one_more own set owner ≡ owners_after own set None owner
+  counts_are = let off : (set == 0) ≡ false = grind (arith, nat_tests, some) in sym (ap (λ b. cond b own (own_one_more own set owner)) off)
 
   -- its slot is raised
   pub counts : (s : Shape) (done : Bool) (d : Content) → structure_of desc set ≡ Some s → Raises s owner done c d → (done ≡ true) × StandsFiles desc db (owners_after own set None owner) d
   counts s true d at r = (
     refl,
     subst (λ (k : ℕ → ℕ → ℕ). StandsFiles desc db k d) counts_are
-        (subst (λ n. StandsFiles desc db (raised own n owner) d) own_number
-        (subst (StandsFiles desc db (raised own s.number owner)) (sym r.is)
+        (subst (λ n. StandsFiles desc db (own_one_more own n owner) d) own_number
+        (subst (StandsFiles desc db (own_one_more own s.number owner)) (sym r.is)
         (raised_put desc db own c s owner r.slot served here is_set there.low r.was r.fits r.next files r.room))),
   )
     where
@@ -132,31 +132,31 @@ module _ (desc : Described) (served : IsServed desc) (db : Db) (own : ℕ → �
 
 -- where nothing is to be counted
 pub counts_none : (own : ℕ → ℕ → ℕ) (set owner : ℕ) → set ≡ 0 → own ≡ owners_after own set None owner
-counts_none own set owner none = let on : (set == 0) ≡ true = grind (arith, nat_tests, none) in sym (ap (λ b. cond b own (raised own set owner)) on)
+counts_none own set owner none = let on : (set == 0) ≡ true = grind (arith, nat_tests, none) in sym (ap (λ b. cond b own (own_one_more own set owner)) on)
 
 -- ---- calls
 
 -- no block of a data set is found bad
-pub none_bad_slot : {B : Type 0} {g : Ghosts B} (desc : Described) (a : Overlay B g) (n : ℕ) (s : Shape) (k : ℕ) → structure_of desc n ≡ Some s → is_data_set (Some s) ≡ true → IsTrue (under a).told → AreSlots desc (seen a) → (f i : ℕ) → BadAt s k a f i → ⊥
+pub none_bad_slot : {B : Type 0} {g : Ghosts B} (desc : Described) (a : Overlay B g) (n : ℕ) (s : Shape) (k : ℕ) → structure_of desc n ≡ Some s → is_data_set (Some s) ≡ true → IsTrue (under a).told → AreSlots desc (overlay_content a) → (f i : ℕ) → BadAt s k a f i → ⊥
 none_bad_slot desc a n s k at is_set told slots f i bad =
     let here = bad.0.0.1 told in
-    absurd (cc (all_of (is_block s) (seen a (file_of s.number)) i (slots.each n s at is_set) here.0, here.1))
+    absurd (cc (all_of (is_block s) (overlay_content a (file_of s.number)) i (slots.each n s at is_set) here.0, here.1))
 
 module _ {B : Type 0} {g : Ghosts B} (s : Shape) (number : ℕ) (a b : Overlay B g) (told : IsTrue (under a).told) where
   -- no record stands in the slot that was read
-  pub stuck_none : {T : Type 0} {n : ℕ} {x : T} → ReadsOverlay n (Ok x) a b → slot_at s (seen a (file_of s.number)) number ≡ Free → IsStuck s number (seen a) (seen b)
+  pub stuck_none : {T : Type 0} {n : ℕ} {x : T} → ReadsOverlay n (Ok x) a b → slot_at s (overlay_content a (file_of s.number)) number ≡ Free → IsStuck s number (overlay_content a) (overlay_content b)
   stuck_none reads was = record { none = λ y there room. apart y (sym was ∙ there); same = seen_still reads told }
     where
       apart : (y : Slot) → Free ≡ Used y → ⊥
       apart y h = absurd (cc)
 
   -- or its count has no room
-  pub stuck_full : {T : Type 0} {n : ℕ} {x : T} (slot : Slot) → ReadsOverlay n (Ok x) a b → slot_at s (seen a (file_of s.number)) number ≡ Used slot → (slot.owned + 1 < 2 ^ 32 → ⊥) → IsStuck s number (seen a) (seen b)
+  pub stuck_full : {T : Type 0} {n : ℕ} {x : T} (slot : Slot) → ReadsOverlay n (Ok x) a b → slot_at s (overlay_content a (file_of s.number)) number ≡ Used slot → (slot.owned + 1 < 2 ^ 32 → ⊥) → IsStuck s number (overlay_content a) (overlay_content b)
   stuck_full slot reads was full = record { none = λ y there room. full (subst (λ (z : Slot). z.owned + 1 < 2 ^ 32) (sym (used_one slot y (sym was ∙ there))) room); same = seen_still reads told }
 
   -- or it is written with one more
-  pub raised_is : {T : Type 0} {n : ℕ} {x : T} (slot : Slot) (owned : ℕ) (d : Content) → ReadsOverlay n (Ok x) a b → BlocksAgree (under a) → slot_at s (seen a (file_of s.number)) number ≡ Used slot → SlotFits s slot → block_of s.items number < count_of s a
-      → slot.owned + 1 < 2 ^ 32 → owned ≡ slot.owned + 1 → d ≡ with_slot s number (slot_bytes s.items (record slot { owned = owned })) b → IsRaised s number (seen a) d
+  pub raised_is : {T : Type 0} {n : ℕ} {x : T} (slot : Slot) (owned : ℕ) (d : Content) → ReadsOverlay n (Ok x) a b → BlocksAgree (under a) → slot_at s (overlay_content a (file_of s.number)) number ≡ Used slot → SlotFits s slot → block_of s.items number < count_of s a
+      → slot.owned + 1 < 2 ^ 32 → owned ≡ slot.owned + 1 → d ≡ with_slot s number (slot_bytes s.items (record slot { owned = owned })) b → IsRaised s number (overlay_content a) d
   raised_is slot owned d reads agrees was fits there room owned_is is = record {
     slot = slot;
     was = was;

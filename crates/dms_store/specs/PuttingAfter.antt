@@ -16,11 +16,11 @@ use Rattle.dms_desc.specs.declared.record.Record.{Record}
 use Rattle.dms_desc.specs.declared.structure.Item.{Item}
 use Rattle.dms_layout.specs.declared.slot.Slot.{Slot}
 use Rattle.dms_model.specs.Db.{Db, Place, Records, SubsetEntry, place_cmp}
-use Rattle.dms_model.specs.Stores.{linked, linked_from, values_of}
+use Rattle.dms_model.specs.Stores.{with_links_of, linked_from, values_of}
 use Rattle.dms_model.specs.Valid.{link_stands, owner_stands, refers}
 use Rattle.dms_slots.specs.SlotBlocks.{slot_opt}
 use Rattle.dms_store.specs.PuttingCounts.{insert_sum, links_linked, links_none, of_opt, sum_none}
-use Rattle.dms_store.specs.PuttingMoved.{owed}
+use Rattle.dms_store.specs.PuttingMoved.{owns_one}
 use Rattle.dms_store.specs.Rows.{rec_opt}
 use Rattle.dms_store.specs.Spelled.{counted_in, is_counted_to, is_number, links_stand, links_to, owned_in}
 use Rattle.dms_model.specs.Places.{places_total}
@@ -36,10 +36,10 @@ linked_over items owner olds rec = record { owner = owner; values = linked_from 
 
 -- The slot of what is stored for a record: it keeps the counts of the record that it replaces, and a new one has none.
 abbrev pub slot_after : List Item → Option Slot → Record → Slot
-slot_after items None rec = record { rec = linked items None rec; counted = 0; owned = 0 }
-slot_after items (Some old) rec = record { rec = linked items (Some old.rec) rec; counted = old.counted; owned = old.owned }
+slot_after items None rec = record { rec = with_links_of items None rec; counted = 0; owned = 0 }
+slot_after items (Some old) rec = record { rec = with_links_of items (Some old.rec) rec; counted = old.counted; owned = old.owned }
 
-pub slot_links : (items : List Item) (o : Option Slot) (rec : Record) → (slot_after items o rec).rec ≡ linked items (rec_opt (slot_opt o)) rec
+pub slot_links : (items : List Item) (o : Option Slot) (rec : Record) → (slot_after items o rec).rec ≡ with_links_of items (rec_opt (slot_opt o)) rec
 slot_links items None rec = refl
 slot_links items (Some old) rec = refl
 
@@ -68,12 +68,12 @@ of_old t m items (Some r) = refl
 
 -- as many counted links refer to each record
 pub counted_still : (desc : Described) (db : Db) (set number : ℕ) (old : Option Record) (rec : Record) → get db.records (set, number) ≡ old → length rec.values ≡ length (items_of (structure_of desc set))
-    → (t m : ℕ) → counted_in desc (with_record db set number (linked (items_of (structure_of desc set)) old rec)) t m ≡ counted_in desc db t m
+    → (t m : ℕ) → counted_in desc (with_record db set number (with_links_of (items_of (structure_of desc set)) old rec)) t m ≡ counted_in desc db t m
 unfolding counted_in
 counted_still desc db set number old rec is long t m =
     let items = items_of (structure_of desc set) in
     let f : Place × Record → ℕ = λ e. links_to t m (items_of (structure_of desc e.0.0)) e.1.values in
-    let sum = insert_sum f (set, number) (linked items old rec) db.records in
+    let sum = insert_sum f (set, number) (with_links_of items old rec) db.records in
     let new : links_to t m items (linked_from 0 items (values_of old) rec.values) ≡ links_to t m items (values_of old) = links_linked t m items (values_of old) rec.values long in
     let was : of_opt (λ r. links_to t m items r.values) (get db.records (set, number)) ≡ links_to t m items (values_of old) = ap (of_opt (λ r. links_to t m items r.values)) is ∙ of_old t m items old in
     omega (arith, sum, new, was)
@@ -104,7 +104,7 @@ shift a b c d n h = omega (arith, h)
 
 -- Each record owns what it owned, without the record that is replaced and with the one that is stored.
 pub owned_moved : (desc : Described) (db : Db) (set number : ℕ) (made : Record) (t m : ℕ)
-    → owned_in desc (with_record db set number made) t m + of_opt (λ r. owed (owner_of (structure_of desc set)) r.owner t m) (get db.records (set, number)) ≡ owned_in desc db t m + owed (owner_of (structure_of desc set)) made.owner t m
+    → owned_in desc (with_record db set number made) t m + of_opt (λ r. owns_one (owner_of (structure_of desc set)) r.owner t m) (get db.records (set, number)) ≡ owned_in desc db t m + owns_one (owner_of (structure_of desc set)) made.owner t m
 unfolding owned_in
 owned_moved desc db set number made t m =
     let f : Place × Record → ℕ = λ e. cond ((owner_of (structure_of desc e.0.0) == t) && (e.1.owner == m)) 1 0 in

@@ -17,7 +17,7 @@ use Rattle.dms_layout.specs.Slots.{AreKinds}
 use Rattle.dms_desc.specs.Fitting.{values_fit}
 use Rattle.dms_model.specs.Db.{Db}
 use Rattle.dms_model.specs.Fitting.{AreFitting, RecordFits}
-use Rattle.dms_model.specs.Stores.{is_closed, put_answer, put_number, put_unless, stored}
+use Rattle.dms_model.specs.Stores.{is_closed, put_answer, put_number, put_unless, record_to_store}
 use Rattle.dms_model.specs.Valid.{OfItems}
 use Rattle.dms_sets.specs.Answers.{AreJudged, IsFoundNumber, answer_is, clash_seen, closed_is}
 use Rattle.dms_sets.specs.Changes.{HasRoom, entry_opt}
@@ -32,8 +32,8 @@ use Rattle.dms_ordlist.specs.Lists.{without_in}
 use Rattle.dms_store.specs.Finding.{number_at, served_at}
 use Rattle.dms_store.specs.PuttingSlots.{structure_here}
 use Rattle.dms_store.specs.Serving.{IsServed, IsServedSet}
-use Rattle.dms_store.specs.SetPaths.{formed, set_at}
-use Rattle.dms_store.specs.Spelled.{spelled}
+use Rattle.dms_store.specs.SetPaths.{served_formed, set_at}
+use Rattle.dms_store.specs.Spelled.{database_in}
 use Rattle.dms_store.specs.SpelledLaws.{spelled_fits, spelled_stands, value_fits}
 
 -- ---- what is stored fits
@@ -67,21 +67,21 @@ own_numbers desc served j k s t p q same =
 named_at : (desc : Described) → IsServed desc → OfStructures desc (λ s. is_set_or_automatic s ≡ true → NameItems (items_over desc s) s.parts)
 named_at desc served k s at kept = (set_at desc (suc k) s served (structure_here desc.structures k s at) kept).named.items
 
-room_at : (desc : Described) (c : Content) (db : Db) (number : ℕ) (old : Option Record) → IsServed desc → spelled desc c ≡ Some db → (s : Shape) → HasRoom (without_in (entry_opt (kinds_over desc s) s number old) (entries_of desc db s))
+room_at : (desc : Described) (c : Content) (db : Db) (number : ℕ) (old : Option Record) → IsServed desc → database_in desc c ≡ Some db → (s : Shape) → HasRoom (without_in (entry_opt (kinds_over desc s) s number old) (entries_of desc db s))
 room_at desc c db number old served spelt s =
     few_room (entry_opt (kinds_over desc s) s number old) (entries_of desc db s) 1000000
     (entries_few desc db s 1000000 (λ n rec at.
-    let r = spelled_stands desc c db (formed desc served) spelt (over s, n) rec at in
+    let r = spelled_stands desc c db (served_formed desc served) spelt (over s, n) rec at in
     (r.low, omega (arith, r.most, (served_at desc (over s) r.shape served r.is).population)))) (omega arith)
 
-pub change_stands : (desc : Described) (c : Content) (db : Db) (set number : ℕ) (s : Shape) (old : Option Record) (made : Record) → IsServed desc → spelled desc c ≡ Some db → structure_of desc set ≡ Some s → number < 2 ^ 32
+pub change_stands : (desc : Described) (c : Content) (db : Db) (set number : ℕ) (s : Shape) (old : Option Record) (made : Record) → IsServed desc → database_in desc c ≡ Some db → structure_of desc set ≡ Some s → number < 2 ^ 32
     → get db.records (set, number) ≡ old → RecordFits desc set made → ChangeStands desc db set number old (Some made)
 change_stands desc c db set number s old made served spelt at small was fits = record {
   apart = own_numbers desc served;
   named = named_at desc served;
   old_is = was;
   small = small;
-  records = spelled_fits desc c db (formed desc served) spelt;
+  records = spelled_fits desc c db (served_formed desc served) spelt;
   may = comes desc set s made served at fits;
   room = λ k t there over. room_at desc c db number old served spelt t;
 }
@@ -107,13 +107,13 @@ all_judged desc db set made [] sets fits may = tt
 all_judged desc db set made (s ∷ ss) sets fits may = ((λ h. one_judged desc db set made s (sets.0 (closed_kept s set made.values h)) fits may h), all_judged desc db set made ss sets.1 fits may)
 
 -- what storing a record answers, by what the sets refuse
-pub answers : (desc : Described) (c : Content) (db : Db) (set : ℕ) (s : Shape) (number : Option ℕ) (rec : Record) → IsServed desc → spelled desc c ≡ Some db → structure_of desc set ≡ Some s → IsFoundNumber number → RecordFits desc set (stored desc db set number rec)
-    → put_answer desc db set number rec ≡ put_unless (clash_seen desc desc.structures db set number (stored desc db set number rec)) (put_number desc db set number)
+pub answers : (desc : Described) (c : Content) (db : Db) (set : ℕ) (s : Shape) (number : Option ℕ) (rec : Record) → IsServed desc → database_in desc c ≡ Some db → structure_of desc set ≡ Some s → IsFoundNumber number → RecordFits desc set (record_to_store desc db set number rec)
+    → put_answer desc db set number rec ≡ put_unless (clash_seen desc desc.structures db set number (record_to_store desc db set number rec)) (put_number desc db set number)
 unfolding put_answer
 answers desc c db set s number rec served spelt at small fits =
-    let made = stored desc db set number rec in
+    let made = record_to_store desc db set number rec in
     let may = comes desc set s made served at fits in
-    answer_is desc db set number made fits.owner small (all_judged desc db set made desc.structures served.sets (spelled_fits desc c db (formed desc served) spelt) may)
+    answer_is desc db set number made fits.owner small (all_judged desc db set made desc.structures served.sets (spelled_fits desc c db (served_formed desc served) spelt) may)
 
 pub none_refused : (o : Option ℕ) → Done ≡ answer_of o → o ≡ None
 none_refused None h = refl

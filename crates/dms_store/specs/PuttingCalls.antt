@@ -10,7 +10,7 @@ use Rattle.dms_block.specs.declared.overlay.Overlay.{Overlay}
 use Rattle.dms_block.specs.Faults.{NotFull, Unbroken}
 use Rattle.dms_block.specs.Held.{Alters, HasCauses, HasCausesOr, Stays}
 use Rattle.dms_block.specs.HeldLaws.{alters_as, alters_more, alters_on, causes_or, causes_or_on, lasts_none, looks_alters, looks_as, looks_err, looks_none, looks_on, same_none}
-use Rattle.dms_block.specs.View.{ReadsOverlay, WritesOverlay, under, written}
+use Rattle.dms_block.specs.View.{ReadsOverlay, WritesOverlay, under, overlay_changes}
 use Rattle.dms_ordlist.specs.SeenLaws.{causes_err}
 use Rattle.dms_sets.specs.Keeping.{Calm}
 
@@ -99,7 +99,7 @@ module _ {B : Type 0} {g : Ghosts B} where
   }
 
   -- the blocks below are handed what was written
-  pub hands_down : {T U : Type 0} {x : T} (m n : ℕ) (r : Result U BlockFault) (a b c : Overlay B g) → ((x y z : B) → g.same_blocks x y → g.same_blocks y z → g.same_blocks x z) → WritesAtMost m (Ok x) a b → written a ≡ [] → n ≡ length (written b)
+  pub hands_down : {T U : Type 0} {x : T} (m n : ℕ) (r : Result U BlockFault) (a b c : Overlay B g) → ((x y z : B) → g.same_blocks x y → g.same_blocks y z → g.same_blocks x z) → WritesAtMost m (Ok x) a b → overlay_changes a ≡ [] → n ≡ length (overlay_changes b)
       → Alters n n r (under b) (under c) → HasCauses r (under b) (under c) → (IsErrOf r Say → ⊥) → g.same_blocks b.below c.below → HandsDown m r a c
   hands_down m n r a b c onward enters none long alters causes silent same = record {
     reads = enters.reads + n;

@@ -12,7 +12,7 @@ use Rattle.dms_block.specs.declared.blocks.Blocks.{Ghosts}
 use Rattle.dms_block.specs.declared.overlay.Overlay.{Overlay}
 use Rattle.dms_block.specs.Content.{Content}
 use Rattle.dms_block.specs.Held.{BlocksAgree}
-use Rattle.dms_block.specs.View.{seen, seen_counts, under, written}
+use Rattle.dms_block.specs.View.{overlay_content, seen_counts, under, overlay_changes}
 use Rattle.dms_block.specs.ViewLaws.{counts_seen}
 use Rattle.dms_desc.specs.Keys.{key_of}
 use Rattle.dms_desc.specs.Kinds.{over, is_set_or_automatic}
@@ -29,11 +29,11 @@ use Rattle.dms_model.specs.declared.put.Put.{Put}
 use Rattle.dms_model.specs.declared.put.Put.TheVariants.{Stored, Duplicate as Refused, Full}
 use Rattle.dms_model.specs.Db.{Db, Records}
 use Rattle.dms_model.specs.Fitting.{AreFitting, RecordFits}
-use Rattle.dms_model.specs.Stores.{linked, kept_owner}
+use Rattle.dms_model.specs.Stores.{with_links_of, kept_owner}
 use Rattle.dms_model.specs.Valid.{is_data_set, owner_stands}
 use Rattle.dms_sets.specs.Answers.{clash_seen, closed_is}
 use Rattle.dms_sets.specs.Changes.{HasEntry, PartFits, PartsFit, has_number, is_over}
-use Rattle.dms_sets.specs.Keeping.{Calm, Usable, listed}
+use Rattle.dms_sets.specs.Keeping.{Calm, Usable, seen_list}
 use Rattle.dms_sets.specs.Sets.{items_over, kinds_over}
 use Rattle.dms_sets.specs.Spots.{ValuesFit, key_fits}
 use Rattle.dms_sets.specs.Told.{AreListed, ChangeStands, KeepsSets, MayEnter, OfStructures}
@@ -52,11 +52,11 @@ use Rattle.dms_store.specs.PuttingSteps.{SlotChanged, slot_written}
 use Rattle.dms_store.specs.Rows.{rec_opt}
 use Rattle.dms_store.specs.Serving.{IsServed}
 use Rattle.dms_store.specs.SetPaths.{set_at}
-use Rattle.dms_store.specs.Spelled.{is_whole, owned_in, spelled}
+use Rattle.dms_store.specs.Spelled.{is_whole, owned_in, database_in}
 
 -- What is left where a database was told: the record stands under its number, or a set refuses it.
 abbrev pub IsEntered : Described → Db → ℕ → ℕ → Record → Content → Put → Type 0
-IsEntered desc db set number made d (Stored n) = (n ≡ number) × (clash_seen desc desc.structures db set (Some number) made ≡ None) × (spelled desc d ≡ Some (with_record db set number made))
+IsEntered desc db set number made d (Stored n) = (n ≡ number) × (clash_seen desc desc.structures db set (Some number) made ≡ None) × (database_in desc d ≡ Some (with_record db set number made))
 IsEntered desc db set number made d (Refused s) = clash_seen desc desc.structures db set (Some number) made ≡ Some s
 IsEntered desc db set number made d Full = ⊥
 
@@ -85,14 +85,14 @@ IsJudged desc db set number made Full = clash_seen desc desc.structures db set (
 -- A database was told, and this slot stands under the number.
 pub record FindsSlot {B : Type 0} {g : Ghosts B} (desc : Described) (db : Db) (s : Shape) (number : ℕ) (o : Option Slot) (a : Overlay B g) : Type 0 where
   pub told : IsTrue (under a).told
-  pub spelt : spelled desc (under a).content ≡ Some db
-  pub was : slot_at s (seen a (file_of s.number)) number ≡ slot_opt o
+  pub spelt : database_in desc (under a).content ≡ Some db
+  pub was : slot_at s (overlay_content a (file_of s.number)) number ≡ slot_opt o
 
 -- A database was told, this slot stands under the number, and that one is what is to be written for the record.
 pub record IsPlaced {B : Type 0} {g : Ghosts B} (desc : Described) (db : Db) (s : Shape) (number : ℕ) (o : Option Slot) (rec : Record) (old : Option Record) (slot : Slot) (a : Overlay B g) : Type 0 where
   pub told : IsTrue (under a).told
-  pub spelt : spelled desc (under a).content ≡ Some db
-  pub was : slot_at s (seen a (file_of s.number)) number ≡ slot_opt o
+  pub spelt : database_in desc (under a).content ≡ Some db
+  pub was : slot_at s (overlay_content a (file_of s.number)) number ≡ slot_opt o
   pub slots : IfSome o (SlotFits s)
   pub long : length rec.values ≡ length s.items
   pub old_is : rec_opt (slot_opt o) ≡ old
@@ -170,21 +170,21 @@ counts_small s (Some old) rec f = (f.counted, f.owned)
 pub set_off : (desc : Described) (set n : ℕ) (s : Shape) → IsServed desc → structure_of desc n ≡ Some s → is_data_set (Some s) ≡ true → has_number desc.structures set s.number ≡ false
 set_off desc set n s served at is_set = not_over desc set s.number served (λ t there. ap is_set_or_automatic (same_Some t s (sym there ∙ ap (structure_of desc) (number_at desc n s served at) ∙ at)) ∙ no_kept s is_set)
 
-module _ {B : Type 0} {g : Ghosts B} (desc : Described) (served : IsServed desc) (s : Shape) (set number : ℕ) (o : Option Slot) (rec : Record) (db : Db) (a : Overlay B g) (told : IsTrue (under a).told) (agrees : BlocksAgree (under a)) (none : written a ≡ [])
-    (spelt : spelled desc (under a).content ≡ Some db) (may : MayStand desc set number s rec) (was : slot_at s (seen a (file_of s.number)) number ≡ slot_opt o) (fits : RecordFits desc set (linked s.items (rec_opt (slot_opt o)) rec)) where
+module _ {B : Type 0} {g : Ghosts B} (desc : Described) (served : IsServed desc) (s : Shape) (set number : ℕ) (o : Option Slot) (rec : Record) (db : Db) (a : Overlay B g) (told : IsTrue (under a).told) (agrees : BlocksAgree (under a)) (none : overlay_changes a ≡ [])
+    (spelt : database_in desc (under a).content ≡ Some db) (may : MayStand desc set number s rec) (was : slot_at s (overlay_content a (file_of s.number)) number ≡ slot_opt o) (fits : RecordFits desc set (with_links_of s.items (rec_opt (slot_opt o)) rec)) where
   abbrev made : Record
-  made = linked s.items (rec_opt (slot_opt o)) rec
+  made = with_links_of s.items (rec_opt (slot_opt o)) rec
 
-  below : seen a ≡ (under a).content
+  below : overlay_content a ≡ (under a).content
   below = seen_below a none
 
-  spelt_seen : spelled desc (seen a) ≡ Some db
-  spelt_seen = ap (spelled desc) below ∙ spelt
+  spelt_seen : database_in desc (overlay_content a) ≡ Some db
+  spelt_seen = ap (database_in desc) below ∙ spelt
 
-  files : SpellsFiles desc db (seen a)
-  files = spelled_files desc (seen a) db served spelt_seen
+  files : SpellsFiles desc db (overlay_content a)
+  files = spelled_files desc (overlay_content a) db served spelt_seen
 
-  pub blocks_good : list_all (is_block s) (seen a (file_of s.number)) ≡ true
+  pub blocks_good : list_all (is_block s) (overlay_content a (file_of s.number)) ≡ true
   blocks_good = (files.slots.each set s may.at may.is_set).blocks
 
   -- what is stored may have its owner
@@ -195,46 +195,46 @@ module _ {B : Type 0} {g : Ghosts B} (desc : Described) (served : IsServed desc)
   small : number < 2 ^ 32
   small = omega (arith, may.most, (served_at desc set s served may.at).population)
 
-  pub are : AreListed desc db (listed a)
+  pub are : AreListed desc db (seen_list a)
   are = are_listed desc served db a told files
 
   pub stands : (old : Option Record) → rec_opt (slot_opt o) ≡ old → ChangeStands desc db set number old (Some made)
-  stands old is = change_stands desc (seen a) db set number s old made served spelt_seen may.at small (old_is desc served db (seen a) (seen a) (seen a) set number s o rec spelt_seen may was ∙ is) fits
+  stands old is = change_stands desc (overlay_content a) db set number s old made served spelt_seen may.at small (old_is desc served db (overlay_content a) (overlay_content a) (overlay_content a) set number s o rec spelt_seen may was ∙ is) fits
 
   module _ (b z : Overlay B g) (n : ℕ) (calm : Calm (has_number desc.structures set) n a b) (slots : IfSome o (SlotFits s)) (next : block_of s.items number ≤ seen_counts a (file_of s.number)) where
-    same_file : seen b (file_of s.number) ≡ seen a (file_of s.number)
+    same_file : overlay_content b (file_of s.number) ≡ overlay_content a (file_of s.number)
     same_file = (calm.others s.number (set_off desc set set s served may.at may.is_set)).1 told
 
-    change : (o ≡ None → may_own s rec.owner ≡ true) → SlotChanged s number (slot_after s.items o rec) (seen b) (slot_put s number (slot_bytes s.items (slot_after s.items o rec)) (seen b))
+    change : (o ≡ None → may_own s rec.owner ≡ true) → SlotChanged s number (slot_after s.items o rec) (overlay_content b) (slot_put s number (slot_bytes s.items (slot_after s.items o rec)) (overlay_content b))
     change own =
         let counts = counts_small s o rec slots in
-        let long : seen_counts a (file_of s.number) ≡ length (seen a (file_of s.number)) = counts_seen a agrees told (file_of s.number) in
-        slot_written desc set number s (slot_after s.items o rec) (seen b) served may.at
+        let long : seen_counts a (file_of s.number) ≡ length (overlay_content a (file_of s.number)) = counts_seen a agrees told (file_of s.number) in
+        slot_written desc set number s (slot_after s.items o rec) (overlay_content b) served may.at
         (slot_fits desc set s (slot_after s.items o rec) made may.at (slot_links s.items o rec) fits (made_may o own slots) counts.0 counts.1) may.low (omega (arith, next, long, ap length same_file))
         (ap (list_all (is_block s)) same_file ∙ (files.slots.each set s may.at may.is_set).blocks)
 
     -- the files of data sets are still blocks of slots
-    slots_calm : AreSlots desc (seen b)
+    slots_calm : AreSlots desc (overlay_content b)
     slots_calm = record { each = λ k t there is_set. ap (list_all (is_block t)) ((calm.others t.number (set_off desc set k t served there is_set)).1 told) ∙ (files.slots.each k t there is_set).blocks }
 
-    pub slots_after : s.owner ≢ 0 → seen z ≡ slot_put s number (slot_bytes s.items (slot_after s.items o rec)) (seen b) → AreSlots desc (seen z)
+    pub slots_after : s.owner ≢ 0 → overlay_content z ≡ slot_put s number (slot_bytes s.items (slot_after s.items o rec)) (overlay_content b) → AreSlots desc (overlay_content z)
     slots_after apart is =
         let here : structure_of desc s.number ≡ Some s = ap (structure_of desc) (number_at desc set s served may.at) ∙ may.at in
         subst (AreSlots desc) (sym is)
-        (slots_changed desc s number (slot_after s.items o rec) (seen b) (slot_put s number (slot_bytes s.items (slot_after s.items o rec)) (seen b)) served here (change (λ none. owned_may s rec.owner apart)) slots_calm)
+        (slots_changed desc s number (slot_after s.items o rec) (overlay_content b) (slot_put s number (slot_bytes s.items (slot_after s.items o rec)) (overlay_content b)) served here (change (λ none. owned_may s rec.owner apart)) slots_calm)
 
     -- the record stands under its number
-    pub uncounted : OwnerStands db s o rec → KeepsSets desc db set number (Some made) (listed b) Done → seen z ≡ slot_put s number (slot_bytes s.items (slot_after s.items o rec)) (seen b) → AreWhole (written z) → (under z).content ≡ (under a).content
-        → IsUncounted desc db set number made (seen z) (Stored number)
-    uncounted owner kept is whole still = (
+    pub leaves_uncounted : OwnerStands db s o rec → KeepsSets desc db set number (Some made) (seen_list b) Done → overlay_content z ≡ slot_put s number (slot_bytes s.items (slot_after s.items o rec)) (overlay_content b) → AreWhole (overlay_changes z) → (under z).content ≡ (under a).content
+        → IsUncounted desc db set number made (overlay_content z) (Stored number)
+    leaves_uncounted owner kept is whole still = (
       refl,
       none_refused (clash_seen desc desc.structures db set (Some number) made) kept.answer_is,
-      record_step desc served db (seen a) (seen b) (seen z) set number s o rec spelt_seen may was owner.stands
+      record_step desc served db (overlay_content a) (overlay_content b) (overlay_content z) set number s o rec spelt_seen may was owner.stands
           (lists_put desc served (with_record db set number made) set n a b told calm (kept.lists refl))
-          (subst (λ (c : Content). SlotChanged s number (slot_after s.items o rec) (seen b) c) (sym is) (change (λ none. stands_may db.records s rec.owner (owner.stands none))))
-          (λ m all. changed_whole (written z) (under z).content (file_of m) whole (ap (λ (c : Content). list_all is_whole (c (file_of m))) (still ∙ sym below) ∙ all)),
+          (subst (λ (c : Content). SlotChanged s number (slot_after s.items o rec) (overlay_content b) c) (sym is) (change (λ none. stands_may db.records s rec.owner (owner.stands none))))
+          (λ m all. changed_whole (overlay_changes z) (under z).content (file_of m) whole (ap (λ (c : Content). list_all is_whole (c (file_of m))) (still ∙ sym below) ∙ all)),
     )
 
   -- or a set refuses it
-  pub refused : (b : Overlay B g) (k : ℕ) → KeepsSets desc db set number (Some made) (listed b) (Duplicate k) → IsUncounted desc db set number made (seen b) (Refused k)
-  refused b k kept = one_refused (clash_seen desc desc.structures db set (Some number) made) k kept.answer_is
+  pub refusal_leaves : (b : Overlay B g) (k : ℕ) → KeepsSets desc db set number (Some made) (seen_list b) (Duplicate k) → IsUncounted desc db set number made (overlay_content b) (Refused k)
+  refusal_leaves b k kept = one_refused (clash_seen desc desc.structures db set (Some number) made) k kept.answer_is

@@ -14,7 +14,7 @@ use Rattle.dms_layout.specs.declared.slot.Slot.{Slot}
 use Rattle.dms_layout.specs.declared.slot.SlotRead.TheVariants.{Free, Used}
 use Rattle.dms_model.specs.Db.{Db}
 use Rattle.dms_model.specs.Fitting.{RecordFits}
-use Rattle.dms_model.specs.Stores.{linked, put_after, put_answer, put_number, put_unless, stored}
+use Rattle.dms_model.specs.Stores.{with_links_of, put_after, put_answer, put_number, put_unless, record_to_store}
 use Rattle.dms_model.specs.Valid.{is_data_set, owner_stands}
 use Rattle.dms_slots.specs.SlotBlocks.{least_free, slot_at}
 use Rattle.dms_sets.specs.Answers.{IsFoundNumber, clash_seen}
@@ -27,25 +27,25 @@ use Rattle.dms_store.specs.PuttingNumbers.{free_new, none_above, number_new, num
 use Rattle.dms_store.specs.PuttingPlaced.{made_fits}
 use Rattle.dms_store.specs.Rows.{rec_opt}
 use Rattle.dms_store.specs.Serving.{IsServed}
-use Rattle.dms_store.specs.Spelled.{file_in, spelled}
+use Rattle.dms_store.specs.Spelled.{file_in, database_in}
 use Rattle.dms_desc_bytes.specs.Finding.{owner_in as owner_of}
 
-module _ (desc : Described) (served : IsServed desc) (db : Db) (c d : Content) (set : ℕ) (s : Shape) (name : Option ℕ) (number : ℕ) (rec made : Record) (spelt : spelled desc c ≡ Some db) (at : structure_of desc set ≡ Some s) (small : IsFoundNumber name)
-    (made_is : stored desc db set name rec ≡ made) (fits : RecordFits desc set made) (clash_same : clash_seen desc desc.structures db set name made ≡ clash_seen desc desc.structures db set (Some number) made) where
+module _ (desc : Described) (served : IsServed desc) (db : Db) (c d : Content) (set : ℕ) (s : Shape) (name : Option ℕ) (number : ℕ) (rec made : Record) (spelt : database_in desc c ≡ Some db) (at : structure_of desc set ≡ Some s) (small : IsFoundNumber name)
+    (made_is : record_to_store desc db set name rec ≡ made) (fits : RecordFits desc set made) (clash_same : clash_seen desc desc.structures db set name made ≡ clash_seen desc desc.structures db set (Some number) made) where
   answer_by : (o : Option ℕ) (p : Put) → clash_seen desc desc.structures db set (Some number) made ≡ o → put_number desc db set name ≡ p → put_answer desc db set name rec ≡ put_unless o p
   answer_by o p clash is =
       answers desc c db set s name rec served spelt at small (subst (RecordFits desc set) (sym made_is) fits)
       ∙ (λ i. put_unless ((ap (λ r. clash_seen desc desc.structures db set name r) made_is ∙ clash_same ∙ clash) i) (is i))
 
   -- where there is a number for it
-  pub entered_answers : (p : Put) → put_number desc db set name ≡ Stored number → stored desc db set (Some number) rec ≡ made → IsEntered desc db set number made d p → (p ≡ put_answer desc db set name rec) × IsSeenAfter desc db set rec d p
+  pub entered_answers : (p : Put) → put_number desc db set name ≡ Stored number → record_to_store desc db set (Some number) rec ≡ made → IsEntered desc db set number made d p → (p ≡ put_answer desc db set name rec) × IsSeenAfter desc db set rec d p
   entered_answers (Stored n) is after h = (
     ap (λ k. Stored k) h.0 ∙ sym (answer_by None (Stored number) h.1 is),
     h.2 ∙ (λ i. Some (with_record db set (sym h.0 i) (sym after i))) ∙ again n h.0,
   )
     where
-      again : (n : ℕ) → n ≡ number → ◌≡◌ {A = Option Db} (Some (with_record db set n (stored desc db set (Some number) rec))) (Some (put_after (Stored n) desc db set rec))
-      again n e = ap (λ k. Some (with_record db set n (stored desc db set (Some k) rec))) (sym e)
+      again : (n : ℕ) → n ≡ number → ◌≡◌ {A = Option Db} (Some (with_record db set n (record_to_store desc db set (Some number) rec))) (Some (put_after (Stored n) desc db set rec))
+      again n e = ap (λ k. Some (with_record db set n (record_to_store desc db set (Some k) rec))) (sym e)
   entered_answers (Refused k) is after h = (sym (answer_by (Some k) (Stored number) h is), tt)
   entered_answers Full is after h = absurd h
 
@@ -66,38 +66,38 @@ owner_new desc db set s rec at may = record { stands = λ none. ap (λ (o : Opti
 pub owner_old : (db : Db) (s : Shape) (slot : Slot) (rec : Record) → OwnerStands db s (Some slot) rec
 owner_old db s slot rec = record { stands = λ none. absurd (cc none) }
 
-module _ (desc : Described) (served : IsServed desc) (db : Db) (c d : Content) (set : ℕ) (s : Shape) (rec : Record) (spelt : spelled desc c ≡ Some db) (at : structure_of desc set ≡ Some s) (is_set : is_data_set (Some s) ≡ true) (fits : RecordFits desc set rec) where
-  new_made : stored desc db set None rec ≡ linked s.items None rec
-  new_made = ap (λ (o : Option Shape). linked (items_of o) None rec) at
+module _ (desc : Described) (served : IsServed desc) (db : Db) (c d : Content) (set : ℕ) (s : Shape) (rec : Record) (spelt : database_in desc c ≡ Some db) (at : structure_of desc set ≡ Some s) (is_set : is_data_set (Some s) ≡ true) (fits : RecordFits desc set rec) where
+  new_made : record_to_store desc db set None rec ≡ with_links_of s.items None rec
+  new_made = ap (λ (o : Option Shape). with_links_of (items_of o) None rec) at
 
   -- a new record
-  pub new_answers : (n : ℕ) (p : Put) → 1 ≤ n → Some n ≡ least_free s (file_in c s) → IsEntered desc db set n (linked s.items None rec) d p → (p ≡ put_answer desc db set None rec) × IsSeenAfter desc db set rec d p
+  pub new_answers : (n : ℕ) (p : Put) → 1 ≤ n → Some n ≡ least_free s (file_in c s) → IsEntered desc db set n (with_links_of s.items None rec) d p → (p ≡ put_answer desc db set None rec) × IsSeenAfter desc db set rec d p
   new_answers n p low least h =
       let none : get db.records (set, n) ≡ None = record_is desc served db c set s spelt at is_set n low ∙ ap rec_opt (free_new desc served db c set s spelt at is_set n least) in
-      entered_answers desc served db c d set s None n rec (linked s.items None rec) spelt at tt new_made (made_fits desc set s None rec at tt fits) (clash_new desc db set n (linked s.items None rec) none desc.structures)
-      p (number_new desc served db c set s spelt at is_set n least) (λ i. linked (items_of (at i)) (none i) rec) h
+      entered_answers desc served db c d set s None n rec (with_links_of s.items None rec) spelt at tt new_made (made_fits desc set s None rec at tt fits) (clash_new desc db set n (with_links_of s.items None rec) none desc.structures)
+      p (number_new desc served db c set s spelt at is_set n least) (λ i. with_links_of (items_of (at i)) (none i) rec) h
 
   -- where no number is free
-  pub none_answers : (p : Put) → None ≡ least_free s (file_in c s) → IsJudged desc db set (s.population + 1) (linked s.items None rec) p → (p ≡ put_answer desc db set None rec) × IsSeenAfter desc db set rec d p
+  pub none_answers : (p : Put) → None ≡ least_free s (file_in c s) → IsJudged desc db set (s.population + 1) (with_links_of s.items None rec) p → (p ≡ put_answer desc db set None rec) × IsSeenAfter desc db set rec d p
   none_answers p least h =
-      let made = linked s.items None rec in
+      let made = with_links_of s.items None rec in
       let fit = made_fits desc set s None rec at tt fits in
       let same = clash_new desc db set (s.population + 1) made (none_above desc served db c set s spelt at is_set) desc.structures in
       let full = number_none desc served db c set s spelt at is_set least in
       by made fit same full p h new_made
     where
       by : (made : Record) → RecordFits desc set made → clash_seen desc desc.structures db set None made ≡ clash_seen desc desc.structures db set (Some (s.population + 1)) made → put_number desc db set None ≡ Full → (q : Put) → IsJudged desc db set (s.population + 1) made q
-          → (stored desc db set None rec ≡ made) → (q ≡ put_answer desc db set None rec) × IsSeenAfter desc db set rec d q
+          → (record_to_store desc db set None rec ≡ made) → (q ≡ put_answer desc db set None rec) × IsSeenAfter desc db set rec d q
       by made fit same full (Stored n) h is = absurd h
       by made fit same full (Refused k) h is = (refused_answers desc served db c d set s None (s.population + 1) rec made spelt at tt is fit same k Full full h, tt)
       by made fit same full Full h is = (full_answers desc served db c d set s None (s.population + 1) rec made spelt at tt is fit same full h, tt)
 
   -- a record that is replaced
-  pub old_answers : (n : ℕ) (slot : Slot) (p : Put) → 1 ≤ n → n < 2 ^ 32 → slot_at s (file_in c s) n ≡ Used slot → SlotFits s slot → IsEntered desc db set n (linked s.items (Some slot.rec) rec) d p → (p ≡ put_answer desc db set (Some n) rec) × IsSeenAfter desc db set rec d p
+  pub old_answers : (n : ℕ) (slot : Slot) (p : Put) → 1 ≤ n → n < 2 ^ 32 → slot_at s (file_in c s) n ≡ Used slot → SlotFits s slot → IsEntered desc db set n (with_links_of s.items (Some slot.rec) rec) d p → (p ≡ put_answer desc db set (Some n) rec) × IsSeenAfter desc db set rec d p
   old_answers n slot p low small was slots h =
       let there : get db.records (set, n) ≡ Some slot.rec = record_is desc served db c set s spelt at is_set n low ∙ ap rec_opt was in
-      let made_is : stored desc db set (Some n) rec ≡ linked s.items (Some slot.rec) rec = λ i. linked (items_of (at i)) (there i) rec in
-      entered_answers desc served db c d set s (Some n) n rec (linked s.items (Some slot.rec) rec) spelt at small made_is (made_fits desc set s (Some slot) rec at slots fits) refl
+      let made_is : record_to_store desc db set (Some n) rec ≡ with_links_of s.items (Some slot.rec) rec = λ i. with_links_of (items_of (at i)) (there i) rec in
+      entered_answers desc served db c d set s (Some n) n rec (with_links_of s.items (Some slot.rec) rec) spelt at small made_is (made_fits desc set s (Some slot) rec at slots fits) refl
       p refl made_is h
 
   -- and one that isn't there

@@ -16,7 +16,7 @@ use Rattle.dms_desc.specs.declared.record.Record.{Record}
 use Rattle.dms_desc.specs.declared.structure.Item.{Item}
 use Rattle.dms_layout.specs.declared.slot.Slot.{Slot}
 use Rattle.dms_model.specs.Db.{Db, Place, place_cmp}
-use Rattle.dms_model.specs.Stores.{linked, linked_from, values_of, kept_owner}
+use Rattle.dms_model.specs.Stores.{with_links_of, linked_from, values_of, kept_owner}
 use Rattle.dms_model.specs.Valid.{is_data_set, owner_stands}
 use Rattle.dms_ordlist.specs.ListIn.{list_in}
 use Rattle.dms_sets.specs.Changes.{has_number, is_over}
@@ -30,8 +30,8 @@ use Rattle.dms_store.specs.PuttingSlots.{SlotsFit, FileStands, RecordsStand, Lis
 use Rattle.dms_store.specs.PuttingSteps.{SlotChanged, step}
 use Rattle.dms_store.specs.Rows.{AreNumbered, rec_in, rec_opt}
 use Rattle.dms_store.specs.Serving.{IsServed}
-use Rattle.dms_store.specs.SetPaths.{formed}
-use Rattle.dms_store.specs.Spelled.{counted_in, file_in, has_none, is_whole, links_stand, owned_in, spelled}
+use Rattle.dms_store.specs.SetPaths.{served_formed}
+use Rattle.dms_store.specs.Spelled.{counted_in, file_in, has_none, is_whole, links_stand, owned_in, database_in}
 use Rattle.dms_store.specs.SpelledLaws.{RecordStands, links_still, spelled_stands}
 use Rattle.dms_desc.specs.Kinds.{is_set_or_automatic}
 use Rattle.dms_desc_bytes.specs.Finding.{owner_in as owner_of}
@@ -125,10 +125,10 @@ pub record MayStand (desc : Described) (set number : ℕ) (s : Shape) (rec : Rec
   pub most : number ≤ s.population
   pub long : length rec.values ≡ length s.items
 
-module _ (desc : Described) (served : IsServed desc) (db : Db) (c e d : Content) (set number : ℕ) (s : Shape) (o : Option Slot) (rec : Record) (spelt : spelled desc c ≡ Some db) (may : MayStand desc set number s rec)
+module _ (desc : Described) (served : IsServed desc) (db : Db) (c e d : Content) (set number : ℕ) (s : Shape) (o : Option Slot) (rec : Record) (spelt : database_in desc c ≡ Some db) (may : MayStand desc set number s rec)
     (was : slot_at s (file_in c s) number ≡ slot_opt o) where
   abbrev made : Record
-  made = linked s.items (rec_opt (slot_opt o)) rec
+  made = with_links_of s.items (rec_opt (slot_opt o)) rec
 
   abbrev after : Db
   after = with_record db set number made
@@ -137,7 +137,7 @@ module _ (desc : Described) (served : IsServed desc) (db : Db) (c e d : Content)
   files = spelled_files desc c db served spelt
 
   stands : (p : Place) (r : Record) → get db.records p ≡ Some r → RecordStands desc db p r
-  stands p r at = spelled_stands desc c db (formed desc served) spelt p r at
+  stands p r at = spelled_stands desc c db (served_formed desc served) spelt p r at
 
   items_are : items_of (structure_of desc set) ≡ s.items
   items_are = ap items_of may.at
@@ -160,7 +160,7 @@ module _ (desc : Described) (served : IsServed desc) (db : Db) (c e d : Content)
 
   counted_same : (t m : ℕ) → counted_in desc after t m ≡ counted_in desc db t m
   counted_same t m =
-      subst (λ (is : List Item). length rec.values ≡ length is → counted_in desc (with_record db set number (linked is (rec_opt (slot_opt o)) rec)) t m ≡ counted_in desc db t m) items_are
+      subst (λ (is : List Item). length rec.values ≡ length is → counted_in desc (with_record db set number (with_links_of is (rec_opt (slot_opt o)) rec)) t m ≡ counted_in desc db t m) items_are
       (λ long. counted_still desc db set number (rec_opt (slot_opt o)) rec old_is long t m) may.long
 
   owned_same : IsFree s rec → (t m : ℕ) → 1 ≤ t → owned_in desc after t m ≡ owned_in desc db t m
@@ -291,11 +291,11 @@ module _ (desc : Described) (served : IsServed desc) (db : Db) (c e d : Content)
 
   -- a record of a disjoint data set has no owner
   free_held : IsFree s rec → owner_stands db.records s.owner rec.owner ≡ true
-  free_held free = ap (λ n. owner_stands db.records n rec.owner) free.disjoint ∙ unowned rec.owner free.unowned
+  free_held free = ap (λ n. owner_stands db.records n rec.owner) free.disjoint ∙ is_unowned rec.owner free.unowned
     where
-      unowned : (n : ℕ) → n ≡ 0 → (n == 0) ≡ true
-      unowned n h = grind (arith, nat_tests, h)
+      is_unowned : (n : ℕ) → n ≡ 0 → (n == 0) ≡ true
+      is_unowned n h = grind (arith, nat_tests, h)
 
   -- Where the data set is disjoint the content spells the database with the record.
-  pub put_spells : IsFree s rec → ListsPut desc after set c e → SlotChanged s number (slot_after s.items o rec) e d → ((n : ℕ) → list_all is_whole (c (file_of n)) ≡ true → list_all is_whole (d (file_of n)) ≡ true) → spelled desc d ≡ Some after
+  pub put_spells : IsFree s rec → ListsPut desc after set c e → SlotChanged s number (slot_after s.items o rec) e d → ((n : ℕ) → list_all is_whole (c (file_of n)) ≡ true → list_all is_whole (d (file_of n)) ≡ true) → database_in desc d ≡ Some after
   put_spells free lists change whole = spell_by desc after (owned_in desc db) d served (record_step (λ none. free_held free) lists change whole) (λ t m low. sym (owned_same free t m low))

@@ -17,8 +17,8 @@ use Rattle.dms_sets.specs.Spots.{StandsAmong, all_found}
 use Rattle.dms_store.specs.Finding.{served_at, structure_there}
 use Rattle.dms_store.specs.PuttingSlots.{spelled_files}
 use Rattle.dms_store.specs.Serving.{IsServed}
-use Rattle.dms_store.specs.SetPaths.{formed}
-use Rattle.dms_store.specs.Spelled.{owned_in, spelled}
+use Rattle.dms_store.specs.SetPaths.{served_formed}
+use Rattle.dms_store.specs.Spelled.{owned_in, database_in}
 use Rattle.dms_store.specs.SpelledLaws.{spelled_stands}
 use Rattle.dms_desc_bytes.specs.Finding.{owner_in as owner_of}
 use Rattle.dms_model.specs.Fresh.{second_true, first_true}
@@ -40,8 +40,8 @@ AreRanked n [] = Unit {0}
 AreRanked n (e ∷ es) = (n ≤ rank e.0) × AreRanked (rank e.0 + 1) es
 
 ranked_few : (n : ℕ) (es : List (Place × Record)) → AreRanked n es → AllByRecursion (λ (e : Place × Record). IsLow e.0) es → n ≤ 201000201 → n + length es ≤ 201000201
-ranked_few n [] ranked low le = omega (arith, le)
-ranked_few n (e ∷ es) ranked low le = let here = low.0 in omega (arith, ranked.0, ranked_few (rank e.0 + 1) es ranked.1 low.1 (omega (arith, here.set, here.number)))
+ranked_few n [] ranks_low low le = omega (arith, le)
+ranked_few n (e ∷ es) ranks_low low le = let here = low.0 in omega (arith, ranks_low.0, ranked_few (rank e.0 + 1) es ranks_low.1 low.1 (omega (arith, here.set, here.number)))
 
 less_rank : (s n t m : ℕ) → T (is_lt (ordering_then (nat_cmp s t) (nat_cmp n m))) → n ≤ 1000000 → s * 1000001 + n + 1 ≤ t * 1000001 + m
 less_rank s n t m h low = grind (arith, nat_tests, h, low)
@@ -53,9 +53,9 @@ ranked_above k (e ∷ es) below order here low = (
   ranked_above e.0 es (first_true _ _ order) (second_true _ _ order) low.0 low.1,
 )
 
-ranked : (es : List (Place × Record)) → T (is_sorted place_cmp es) → AllByRecursion (λ (e : Place × Record). IsLow e.0) es → AreRanked 0 es
-ranked [] order low = tt
-ranked (e ∷ es) order low = (omega arith, ranked_above e.0 es (first_true _ _ order) (second_true _ _ order) low.0 low.1)
+ranks_low : (es : List (Place × Record)) → T (is_sorted place_cmp es) → AllByRecursion (λ (e : Place × Record). IsLow e.0) es → AreRanked 0 es
+ranks_low [] order low = tt
+ranks_low (e ∷ es) order low = (omega arith, ranked_above e.0 es (first_true _ _ order) (second_true _ _ order) low.0 low.1)
 
 all_low : (es fs : List (Place × Record)) → AllByRecursion (StandsAmong es) fs → ((p : Place) (r : Record) → find place_cmp p es ≡ Some r → IsLow p) → AllByRecursion (λ (e : Place × Record). IsLow e.0) fs
 all_low es [] found h = tt
@@ -63,10 +63,10 @@ all_low es (e ∷ fs) found h = (h e.0 e.1 found.0, all_low es fs found.1 h)
 
 -- ---- the records of a database that is spelled
 
-module _ (desc : Described) (served : IsServed desc) (c : Content) (db : Db) (spelt : spelled desc c ≡ Some db) where
+module _ (desc : Described) (served : IsServed desc) (c : Content) (db : Db) (spelt : database_in desc c ≡ Some db) where
   place_low : (p : Place) (r : Record) → get db.records p ≡ Some r → IsLow p
   place_low p r at =
-      let x = spelled_stands desc c db (formed desc served) spelt p r at in
+      let x = spelled_stands desc c db (served_formed desc served) spelt p r at in
       record {
         set = omega (arith, slice_get_within desc.structures (p.0 - 1) x.shape (structure_there desc.structures p.0 x.shape x.is), served.count);
         number = omega (arith, x.most, (served_at desc p.0 x.shape served x.is).population);
@@ -76,7 +76,7 @@ module _ (desc : Described) (served : IsServed desc) (c : Content) (db : Db) (sp
   records_few =
       let es = entries db.records in
       let low = all_low es es (all_found es (entries_sorted db.records)) (λ p r at. place_low p r (get-entries db.records p ∙ at)) in
-      omega (arith, ranked_few 0 es (ranked es (entries_sorted db.records) low) low (omega arith))
+      omega (arith, ranked_few 0 es (ranks_low es (entries_sorted db.records) low) low (omega arith))
 
   -- a record owns at most as many as there are
   pub owned_few : (t m : ℕ) → owned_in desc db t m ≤ 201000201

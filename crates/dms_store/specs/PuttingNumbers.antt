@@ -19,8 +19,8 @@ use Rattle.dms_store.specs.PuttingFresh.{free_there, fresh_is, full_is}
 use Rattle.dms_store.specs.PuttingSlots.{SpellsFiles, some_slots, spelled_files}
 use Rattle.dms_store.specs.Rows.{rec_in, rec_opt}
 use Rattle.dms_store.specs.Serving.{IsServed}
-use Rattle.dms_store.specs.SetPaths.{formed}
-use Rattle.dms_store.specs.Spelled.{file_in, spelled}
+use Rattle.dms_store.specs.SetPaths.{served_formed}
+use Rattle.dms_store.specs.Spelled.{file_in, database_in}
 use Rattle.dms_store.specs.SpelledLaws.{spelled_stands}
 
 some_within : (b : Bool) (most k n : ℕ) → nat_le k most ≡ b → ◌≡◌ {A = Option ℕ} (cond b (Some k) None) (Some n) → (k ≡ n) × (nat_le k most ≡ true)
@@ -31,7 +31,7 @@ none_within : (b : Bool) (most k : ℕ) → nat_le k most ≡ b → ◌≡◌ {A
 none_within true most k is h = absurd (cc)
 none_within false most k is h = is
 
-module _ (desc : Described) (served : IsServed desc) (db : Db) (c : Content) (set : ℕ) (s : Shape) (spelt : spelled desc c ≡ Some db) (at : structure_of desc set ≡ Some s) (is_set : is_data_set (Some s) ≡ true) where
+module _ (desc : Described) (served : IsServed desc) (db : Db) (c : Content) (set : ℕ) (s : Shape) (spelt : database_in desc c ≡ Some db) (at : structure_of desc set ≡ Some s) (is_set : is_data_set (Some s) ≡ true) where
   files : SpellsFiles desc db c
   files = spelled_files desc c db served spelt
 
@@ -44,7 +44,7 @@ module _ (desc : Described) (served : IsServed desc) (db : Db) (c : Content) (se
 
   most_number : (p : Place) (r : Record) → get db.records p ≡ Some r → p.0 ≡ set → p.1 ≤ s.population
   most_number p r there own =
-      let x = spelled_stands desc c db (formed desc served) spelt p r there in
+      let x = spelled_stands desc c db (served_formed desc served) spelt p r there in
       let same : x.shape ≡ s = same_Some x.shape s (sym x.is ∙ ap (structure_of desc) own ∙ at) in
       omega (arith, x.most, ap (λ (t : Shape). t.population) same)
 

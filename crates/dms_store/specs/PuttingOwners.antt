@@ -18,7 +18,7 @@ use Rattle.dms_layout.specs.declared.slot.Slot.{Slot}
 use Rattle.dms_layout.specs.declared.slot.SlotRead.{SlotRead}
 use Rattle.dms_layout.specs.declared.slot.SlotRead.TheVariants.{Free, Used, Bad}
 use Rattle.dms_model.specs.Db.{Db, Place, place_cmp}
-use Rattle.dms_model.specs.Stores.{kept_owner, linked}
+use Rattle.dms_model.specs.Stores.{kept_owner, with_links_of}
 use Rattle.dms_model.specs.Valid.{is_data_set, owner_stands}
 use Rattle.dms_ordlist.specs.ListIn.{list_in}
 use Rattle.dms_sets.specs.Padded.{entry_width}
@@ -29,12 +29,12 @@ use Rattle.dms_store.specs.PuttingAfter.{owned_moved, owner_more, with_record}
 use Rattle.dms_store.specs.PuttingCounts.{of_opt}
 use Rattle.dms_store.specs.PuttingLaws.{MayStand, old_is}
 use Rattle.dms_store.specs.PuttingMany.{owned_few}
-use Rattle.dms_store.specs.PuttingMoved.{own_at, own_here, own_off, owed, owed_opt, owner_kept, owners_after, owners_are, raised}
+use Rattle.dms_store.specs.PuttingMoved.{own_at, own_here, own_off, owns_one, owed_opt, owner_kept, owners_after, owners_are, own_one_more}
 use Rattle.dms_store.specs.PuttingSlots.{SlotsFit, RecordsStand, ListsSpell, OneFits, SlotStands, StandsFiles, spell_by}
 use Rattle.dms_store.specs.PuttingSteps.{SlotChanged, slot_written, step}
 use Rattle.dms_store.specs.Rows.{rec_in, rec_opt}
 use Rattle.dms_store.specs.Serving.{IsServed}
-use Rattle.dms_store.specs.Spelled.{file_in, has_none, is_whole, owned_in, spelled}
+use Rattle.dms_store.specs.Spelled.{file_in, has_none, is_whole, owned_in, database_in}
 use Rattle.dms_model.specs.Places.{places_same}
 use Rattle.dms_desc_bytes.specs.Finding.{owner_in as owner_of}
 use Rattle.dms_model.specs.MemberLaws.{equal_of}
@@ -80,8 +80,8 @@ blocks_whole s (b ∷ bs) h =
 
 module _ (desc : Described) (db : Db) (own : ℕ → ℕ → ℕ) (c d : Content) (u : Shape) (m k : ℕ) (x : Slot) (served : IsServed desc) (at : structure_of desc u.number ≡ Some u) (is_set : is_data_set (Some u) ≡ true) (low : 1 ≤ m)
     (was : slot_at u (file_in c u) m ≡ Used x) (change : SlotChanged u m (record x { owned = k }) c d) (files : StandsFiles desc db own c) where
-  abbrev moved : ℕ → ℕ → ℕ
-  moved = own_at own u.number m k
+  abbrev owners_moved : ℕ → ℕ → ℕ
+  owners_moved = own_at own u.number m k
 
   its_slot : SlotStands desc db own u m x
   its_slot = (files.slots.each u.number u at is_set).slots m x low was
@@ -97,14 +97,14 @@ module _ (desc : Described) (db : Db) (own : ℕ → ℕ → ℕ) (c d : Content
       by true e = ap (get db.records) (places_same p (u.number, m) (equal_of (place_cmp p (u.number, m)) e)) ∙ record_there
       by false e = refl
 
-  others_stand : (t : Shape) (n : ℕ) (y : Slot) → 1 ≤ t.number → (t.number ≡ u.number → n ≡ m → ⊥) → SlotStands desc db own t n y → SlotStands desc db moved t n y
+  others_stand : (t : Shape) (n : ℕ) (y : Slot) → 1 ≤ t.number → (t.number ≡ u.number → n ≡ m → ⊥) → SlotStands desc db own t n y → SlotStands desc db owners_moved t n y
   others_stand t n y one apart h = record { most = h.most; owner = h.owner; links = h.links; counted = h.counted; owned = h.owned ∙ sym (own_off own u.number m k t.number n apart) }
 
-  new_stands : SlotStands desc db moved u m (record x { owned = k })
+  new_stands : SlotStands desc db owners_moved u m (record x { owned = k })
   new_stands = record { most = its_slot.most; owner = its_slot.owner; links = its_slot.links; counted = its_slot.counted; owned = sym (own_here own u.number m k) }
 
-  slots_after : RecordsStand desc db moved d
-  slots_after = step desc served db db own moved c d u.number m u (record x { owned = k }) at is_set low change same_get others_stand new_stands files.slots
+  slots_after : RecordsStand desc db owners_moved d
+  slots_after = step desc served db db own owners_moved c d u.number m u (record x { owned = k }) at is_set low change same_get others_stand new_stands files.slots
 
   file_off : (n : ℕ) (t : Shape) → structure_of desc n ≡ Some t → is_data_set (Some t) ≡ false → file_in d t ≡ file_in c t
   file_off n t there off = change.files (file_of t.number) (λ same. apart (sym (ap (λ (y : Shape). is_data_set (Some y)) (same_Some t u (sym there ∙ ap (structure_of desc) (number_same same) ∙ at)) ∙ is_set) ∙ off))
@@ -146,7 +146,7 @@ module _ (desc : Described) (db : Db) (own : ℕ → ℕ → ℕ) (c d : Content
       nothing h = absurd (cc)
 
   -- One slot counts otherwise, and the files have the same records.
-  pub count_step : StandsFiles desc db moved d
+  pub count_step : StandsFiles desc db owners_moved d
   count_step = record { slots = slots_after; lists = lists_after; fit = fit_after; entries = files.entries }
 
 -- the counts of a slot that fits
@@ -165,7 +165,7 @@ module _ (desc : Described) (db : Db) (own : ℕ → ℕ → ℕ) (c : Content) 
   counts = ((files.slots.each u.number u at is_set).slots m x low was).owned
 
   -- one more
-  pub raised_put : x.owned + 1 < 2 ^ 32 → StandsFiles desc db (raised own u.number m) (slot_put u m (slot_bytes u.items (record x { owned = x.owned + 1 })) c)
+  pub raised_put : x.owned + 1 < 2 ^ 32 → StandsFiles desc db (own_one_more own u.number m) (slot_put u m (slot_bytes u.items (record x { owned = x.owned + 1 })) c)
   raised_put small = subst (λ n. StandsFiles desc db (own_at own u.number m (n + 1)) (slot_put u m (slot_bytes u.items (record x { owned = x.owned + 1 })) c)) counts (count_put (x.owned + 1) small)
 
 -- ---- an owner that stands has a slot
@@ -205,15 +205,15 @@ module _ (desc : Described) (db : Db) (own : ℕ → ℕ → ℕ) (c : Content) 
 
 -- ---- the database with the record
 
-module _ (desc : Described) (served : IsServed desc) (db : Db) (c : Content) (set number : ℕ) (s : Shape) (o : Option Slot) (rec : Record) (spelt : spelled desc c ≡ Some db) (may : MayStand desc set number s rec)
+module _ (desc : Described) (served : IsServed desc) (db : Db) (c : Content) (set number : ℕ) (s : Shape) (o : Option Slot) (rec : Record) (spelt : database_in desc c ≡ Some db) (may : MayStand desc set number s rec)
     (was : slot_at s (file_in c s) number ≡ slot_opt o) where
   abbrev made : Record
-  made = linked s.items (rec_opt (slot_opt o)) rec
+  made = with_links_of s.items (rec_opt (slot_opt o)) rec
 
   abbrev after : Db
   after = with_record db set number made
 
-  old_owed : (x : Option Slot) (t m : ℕ) → of_opt (λ r. owed s.owner r.owner t m) (rec_opt (slot_opt x)) ≡ owed_opt s.owner (owner_opt x) t m
+  old_owed : (x : Option Slot) (t m : ℕ) → of_opt (λ r. owns_one s.owner r.owner t m) (rec_opt (slot_opt x)) ≡ owed_opt s.owner (owner_opt x) t m
   old_owed None t m = refl
   old_owed (Some slot) t m = refl
 
@@ -222,13 +222,13 @@ module _ (desc : Described) (served : IsServed desc) (db : Db) (c : Content) (se
   owner_is (Some slot) = refl
 
   -- what storing the record moves
-  one_moved : (t m : ℕ) → owned_in desc after t m + owed_opt s.owner (owner_opt o) t m ≡ owned_in desc db t m + owed s.owner (owner_kept (owner_opt o) rec.owner) t m
+  one_moved : (t m : ℕ) → owned_in desc after t m + owed_opt s.owner (owner_opt o) t m ≡ owned_in desc db t m + owns_one s.owner (owner_kept (owner_opt o) rec.owner) t m
   one_moved t m =
       let there = old_is desc served db c c c set number s o rec spelt may was in
       let to : owner_of (structure_of desc set) ≡ s.owner = ap owner_of may.at in
-      let before : of_opt (λ r. owed (owner_of (structure_of desc set)) r.owner t m) (get db.records (set, number)) ≡ owed_opt s.owner (owner_opt o) t m =
-      (λ i. of_opt (λ r. owed (to i) r.owner t m) (there i)) ∙ old_owed o t m in
-      let now : owed (owner_of (structure_of desc set)) made.owner t m ≡ owed s.owner (owner_kept (owner_opt o) rec.owner) t m = (λ i. owed (to i) (owner_is o i) t m) in
+      let before : of_opt (λ r. owns_one (owner_of (structure_of desc set)) r.owner t m) (get db.records (set, number)) ≡ owed_opt s.owner (owner_opt o) t m =
+      (λ i. of_opt (λ r. owns_one (to i) r.owner t m) (there i)) ∙ old_owed o t m in
+      let now : owns_one (owner_of (structure_of desc set)) made.owner t m ≡ owns_one s.owner (owner_kept (owner_opt o) rec.owner) t m = (λ i. owns_one (to i) (owner_is o i) t m) in
       omega (arith, owned_moved desc db set number made t m, before, now)
 
   -- The owner may count a new record.
@@ -236,5 +236,5 @@ module _ (desc : Described) (served : IsServed desc) (db : Db) (c : Content) (se
   may_count held = record { stands = owner_more db set number made s.owner rec.owner held; room = omega (arith, owned_few desc served c db spelt s.owner rec.owner) }
 
   -- Once it does, the content spells the database with the record.
-  pub spell : (d : Content) → StandsFiles desc after (owners_after (owned_in desc db) s.owner (owner_opt o) rec.owner) d → spelled desc d ≡ Some after
+  pub spell : (d : Content) → StandsFiles desc after (owners_after (owned_in desc db) s.owner (owner_opt o) rec.owner) d → database_in desc d ≡ Some after
   spell d counted = spell_by desc after (owners_after (owned_in desc db) s.owner (owner_opt o) rec.owner) d served counted (owners_are (owned_in desc db) (owned_in desc after) s.owner rec.owner (owner_opt o) one_moved)

@@ -11,7 +11,7 @@ use Rattle.dms_block.specs.declared.blocks.Blocks.{Ghosts}
 use Rattle.dms_block.specs.declared.overlay.Overlay.{Overlay}
 use Rattle.dms_block.specs.Content.{Content}
 use Rattle.dms_block.specs.Held.{BlocksAgree}
-use Rattle.dms_block.specs.View.{ReadsOverlay, seen, seen_counts, under, written}
+use Rattle.dms_block.specs.View.{ReadsOverlay, overlay_content, seen_counts, under, overlay_changes}
 use Rattle.dms_block.specs.ViewLaws.{seen_still}
 use Rattle.dms_desc.specs.Lookups.{items_of, structure_of}
 use Rattle.dms_desc.specs.Shape.{Shape, Described}
@@ -24,11 +24,11 @@ use Rattle.dms_model.specs.declared.put.Put.TheVariants.{Stored, Duplicate as Re
 use Rattle.dms_model.specs.Db.{Db}
 use Rattle.dms_model.specs.Fitting.{AreFitting, IsNumber, RecordFits, is_number}
 use Rattle.dms_model.specs.FitLaws.{linked_fits, null_fits}
-use Rattle.dms_model.specs.Stores.{linked, kept_owner}
+use Rattle.dms_model.specs.Stores.{with_links_of, kept_owner}
 use Rattle.dms_model.specs.Valid.{is_data_set}
 use Rattle.dms_sets.specs.Answers.{clash_seen}
 use Rattle.dms_sets.specs.Changes.{has_number}
-use Rattle.dms_sets.specs.Keeping.{Calm, listed}
+use Rattle.dms_sets.specs.Keeping.{Calm, seen_list}
 use Rattle.dms_sets.specs.Told.{AreListed, ChangeStands, KeepsSets}
 use Rattle.dms_sets.specs.declared.answer.SetAnswer.TheVariants.{Done, Duplicate}
 use Rattle.dms_slots.specs.SlotBlocks.{block_of, file_of, is_block, slot_at, slot_opt, slot_put}
@@ -39,7 +39,7 @@ use Rattle.dms_store.specs.Lifted.{IsUsable, db_of}
 use Rattle.dms_store.specs.Owning.{AreSlots}
 use Rattle.dms_store.specs.PuttingAfter.{slot_after, slot_links, with_record}
 use Rattle.dms_store.specs.PuttingAnswers.{change_stands, fit_all, none_refused, one_refused}
-use Rattle.dms_store.specs.PuttingEnters.{FindsSlot, IsEntered, IsJudged, IsPlaced, IsUncounted, OwnerStands, are, blocks_good, refused, set_off, slots_after, stands, uncounted}
+use Rattle.dms_store.specs.PuttingEnters.{FindsSlot, IsEntered, IsJudged, IsPlaced, IsUncounted, OwnerStands, are, blocks_good, refusal_leaves, set_off, slots_after, stands, leaves_uncounted}
 use Rattle.dms_store.specs.PuttingLaws.{MayStand}
 use Rattle.dms_store.specs.PuttingNumbers.{none_above}
 use Rattle.dms_store.specs.PuttingOver.{AreWhole, are_listed}
@@ -48,14 +48,14 @@ use Rattle.dms_store.specs.PuttingOwners.{MayCount, may_count, owner_opt, spell}
 use Rattle.dms_store.specs.PuttingSlots.{StandsFiles, spelled_files}
 use Rattle.dms_store.specs.Rows.{rec_opt}
 use Rattle.dms_store.specs.Serving.{IsServed}
-use Rattle.dms_store.specs.Spelled.{owned_in, spelled}
+use Rattle.dms_store.specs.Spelled.{owned_in, database_in}
 use Rattle.dms_store.specs.Undamaged.{no_bad_slot}
 
 -- what is stored for a record that fits, links as they stood, fits
-pub made_fits : (desc : Described) (set : ℕ) (s : Shape) (o : Option Slot) (rec : Record) → structure_of desc set ≡ Some s → IfSome o (SlotFits s) → RecordFits desc set rec → RecordFits desc set (linked s.items (rec_opt (slot_opt o)) rec)
+pub made_fits : (desc : Described) (set : ℕ) (s : Shape) (o : Option Slot) (rec : Record) → structure_of desc set ≡ Some s → IfSome o (SlotFits s) → RecordFits desc set rec → RecordFits desc set (with_links_of s.items (rec_opt (slot_opt o)) rec)
 made_fits desc set s o rec at old fits = record {
   owner = low o old;
-  values = subst (λ (q : Option Shape). AreFitting (items_of q) (linked s.items (rec_opt (slot_opt o)) rec).values) (sym at) (by o old (subst (λ (q : Option Shape). AreFitting (items_of q) rec.values) at fits.values));
+  values = subst (λ (q : Option Shape). AreFitting (items_of q) (with_links_of s.items (rec_opt (slot_opt o)) rec).values) (sym at) (by o old (subst (λ (q : Option Shape). AreFitting (items_of q) rec.values) at fits.values));
 }
   where
     low : (x : Option Slot) → IfSome x (SlotFits s) → kept_owner (rec_opt (slot_opt x)) rec.owner < 2 ^ 32
@@ -65,7 +65,7 @@ made_fits desc set s o rec at old fits = record {
     olds : (x : Record) → RecordFits desc set x → AreFitting s.items x.values
     olds x f = subst (λ (q : Option Shape). AreFitting (items_of q) x.values) at f.values
 
-    by : (x : Option Slot) → IfSome x (SlotFits s) → AreFitting s.items rec.values → AreFitting s.items (linked s.items (rec_opt (slot_opt x)) rec).values
+    by : (x : Option Slot) → IfSome x (SlotFits s) → AreFitting s.items rec.values → AreFitting s.items (with_links_of s.items (rec_opt (slot_opt x)) rec).values
     by None f g = linked_fits s.items [] rec.values g (λ k item there. null_fits item.kind) tt
     by (Some slot) f g = let h = olds slot.rec (record_fits_opt desc set s (Some slot) at f) in linked_fits s.items slot.rec.values rec.values g h.fit h.plain
 
@@ -81,13 +81,13 @@ module _ {B : Type 0} {g : Ghosts B} (desc : Described) (a : Overlay B g) (usabl
   may : MayStand desc s.number number s rec
   may = record { at = at; is_set = is_set; low = low; most = most; long = p.long }
 
-  pub made_is : slot.rec ≡ linked s.items (rec_opt (slot_opt o)) rec
+  pub made_is : slot.rec ≡ with_links_of s.items (rec_opt (slot_opt o)) rec
   made_is = ap (λ (x : Slot). x.rec) p.slot_is ∙ slot_links s.items o rec
 
-  made_fit : RecordFits desc s.number (linked s.items (rec_opt (slot_opt o)) rec)
+  made_fit : RecordFits desc s.number (with_links_of s.items (rec_opt (slot_opt o)) rec)
   made_fit = subst (RecordFits desc s.number) made_is fits
 
-  pub listed_at : AreListed desc db (listed a)
+  pub listed_at : AreListed desc db (seen_list a)
   listed_at = are desc usable.serves.served s s.number number o rec db a p.told agrees usable.none p.spelt may p.was made_fit
 
   pub stands_at : ChangeStands desc db s.number number old (Some slot.rec)
@@ -97,46 +97,46 @@ module _ {B : Type 0} {g : Ghosts B} (desc : Described) (a : Overlay B g) (usabl
   pub not_bad : (b : Overlay B g) (n k f i : ℕ) → Calm (has_number desc.structures s.number) n a b → BadAt s k b f i → ⊥
   not_bad b n k f i calm bad =
       let told : IsTrue (under b).told = calm.told ∙ p.told in
-      let same : seen b (file_of s.number) ≡ seen a (file_of s.number) = (calm.others s.number (set_off desc s.number s.number s usable.serves.served at is_set)).1 p.told in
+      let same : overlay_content b (file_of s.number) ≡ overlay_content a (file_of s.number) = (calm.others s.number (set_off desc s.number s.number s usable.serves.served at is_set)).1 p.told in
       let here = bad.0.0.1 told in
       let good = ap (list_all (is_block s)) same ∙ blocks_good desc usable.serves.served s s.number number o rec db a p.told agrees usable.none p.spelt may p.was made_fit in
-      absurd (cc (all_of (is_block s) (seen b (file_of s.number)) i good here.0, here.1))
+      absurd (cc (all_of (is_block s) (overlay_content b (file_of s.number)) i good here.0, here.1))
 
   -- the files with the record, before its owner counts it
-  module _ (b z : Overlay B g) (n : ℕ) (calm : Calm (has_number desc.structures s.number) n a b) (next : block_of s.items number ≤ seen_counts a (file_of s.number)) (is : seen z ≡ slot_put s number (slot_bytes s.items slot) (seen b)) where
-    put_is : seen z ≡ slot_put s number (slot_bytes s.items (slot_after s.items o rec)) (seen b)
-    put_is = is ∙ ap (λ (x : Slot). slot_put s number (slot_bytes s.items x) (seen b)) p.slot_is
+  module _ (b z : Overlay B g) (n : ℕ) (calm : Calm (has_number desc.structures s.number) n a b) (next : block_of s.items number ≤ seen_counts a (file_of s.number)) (is : overlay_content z ≡ slot_put s number (slot_bytes s.items slot) (overlay_content b)) where
+    put_is : overlay_content z ≡ slot_put s number (slot_bytes s.items (slot_after s.items o rec)) (overlay_content b)
+    put_is = is ∙ ap (λ (x : Slot). slot_put s number (slot_bytes s.items x) (overlay_content b)) p.slot_is
 
-    pub slots_at : s.owner ≢ 0 → AreSlots desc (seen z)
+    pub slots_at : s.owner ≢ 0 → AreSlots desc (overlay_content z)
     slots_at apart = slots_after desc usable.serves.served s s.number number o rec db a p.told agrees usable.none p.spelt may p.was made_fit b z n calm p.slots next apart put_is
 
-    pub uncounted_at : OwnerStands db s o rec → KeepsSets desc db s.number number (Some slot.rec) (listed b) Done → AreWhole (written z) → (under z).content ≡ (under a).content → IsUncounted desc db s.number number slot.rec (seen z) (Stored number)
+    pub uncounted_at : OwnerStands db s o rec → KeepsSets desc db s.number number (Some slot.rec) (seen_list b) Done → AreWhole (overlay_changes z) → (under z).content ≡ (under a).content → IsUncounted desc db s.number number slot.rec (overlay_content z) (Stored number)
     uncounted_at owner kept whole still =
-        subst (λ (r : Record). IsUncounted desc db s.number number r (seen z) (Stored number)) (sym made_is)
-        (uncounted desc usable.serves.served s s.number number o rec db a p.told agrees usable.none p.spelt may p.was made_fit b z n calm p.slots next owner
-        (subst (λ (r : Record). KeepsSets desc db s.number number (Some r) (listed b) Done) made_is kept) put_is whole still)
+        subst (λ (r : Record). IsUncounted desc db s.number number r (overlay_content z) (Stored number)) (sym made_is)
+        (leaves_uncounted desc usable.serves.served s s.number number o rec db a p.told agrees usable.none p.spelt may p.was made_fit b z n calm p.slots next owner
+        (subst (λ (r : Record). KeepsSets desc db s.number number (Some r) (seen_list b) Done) made_is kept) put_is whole still)
 
-  pub refused_at : (b : Overlay B g) (k : ℕ) → KeepsSets desc db s.number number (Some slot.rec) (listed b) (Duplicate k) → IsUncounted desc db s.number number slot.rec (seen b) (Refused k)
+  pub refused_at : (b : Overlay B g) (k : ℕ) → KeepsSets desc db s.number number (Some slot.rec) (seen_list b) (Duplicate k) → IsUncounted desc db s.number number slot.rec (overlay_content b) (Refused k)
   refused_at b k kept =
-      subst (λ (r : Record). IsUncounted desc db s.number number r (seen b) (Refused k)) (sym made_is)
-      (refused desc usable.serves.served s s.number number o rec db a p.told agrees usable.none p.spelt may p.was made_fit b k
-      (subst (λ (r : Record). KeepsSets desc db s.number number (Some r) (listed b) (Duplicate k)) made_is kept))
+      subst (λ (r : Record). IsUncounted desc db s.number number r (overlay_content b) (Refused k)) (sym made_is)
+      (refusal_leaves desc usable.serves.served s s.number number o rec db a p.told agrees usable.none p.spelt may p.was made_fit b k
+      (subst (λ (r : Record). KeepsSets desc db s.number number (Some r) (seen_list b) (Duplicate k)) made_is kept))
 
   -- ---- the owner's count
 
-  spelt_seen : spelled desc (seen a) ≡ Some db
-  spelt_seen = ap (spelled desc) (seen_below a usable.none) ∙ p.spelt
+  spelt_seen : database_in desc (overlay_content a) ≡ Some db
+  spelt_seen = ap (database_in desc) (seen_below a usable.none) ∙ p.spelt
 
   abbrev after : Db
   after = with_record db s.number number slot.rec
 
-  after_is : after ≡ with_record db s.number number (linked s.items (rec_opt (slot_opt o)) rec)
+  after_is : after ≡ with_record db s.number number (with_links_of s.items (rec_opt (slot_opt o)) rec)
   after_is = ap (with_record db s.number number) made_is
 
   -- what is counted so spells the database with the record
-  pub spelled_at : (d : Content) → StandsFiles desc after (owners_after (owned_in desc db) s.owner (owner_opt o) rec.owner) d → spelled desc d ≡ Some after
+  pub spelled_at : (d : Content) → StandsFiles desc after (owners_after (owned_in desc db) s.owner (owner_opt o) rec.owner) d → database_in desc d ≡ Some after
   spelled_at d files =
-      spell desc usable.serves.served db (seen a) s.number number s o rec spelt_seen may p.was d
+      spell desc usable.serves.served db (overlay_content a) s.number number s o rec spelt_seen may p.was d
       (subst (λ (x : Db). StandsFiles desc x (owners_after (owned_in desc db) s.owner (owner_opt o) rec.owner) d) after_is files)
       ∙ ap (λ (x : Db). Some x) (sym after_is)
 
@@ -161,9 +161,9 @@ module _ {B : Type 0} {g : Ghosts B} (desc : Described) (a : Overlay B g) (usabl
     pub may_count_at : MayCount after (owned_in desc db) s.owner slot.rec.owner
     may_count_at =
         subst (λ m. MayCount after (owned_in desc db) s.owner m) (sym own_owner)
-        (subst (λ (x : Db). MayCount x (owned_in desc db) s.owner rec.owner) (sym after_is) (may_count desc usable.serves.served db (seen a) s.number number s o rec spelt_seen may p.was (owner.stands none_there)))
+        (subst (λ (x : Db). MayCount x (owned_in desc db) s.owner rec.owner) (sym after_is) (may_count desc usable.serves.served db (overlay_content a) s.number number s o rec spelt_seen may p.was (owner.stands none_there)))
 
-    pub counted_at : (d : Content) → StandsFiles desc after (owners_after (owned_in desc db) s.owner None slot.rec.owner) d → spelled desc d ≡ Some after
+    pub counted_at : (d : Content) → StandsFiles desc after (owners_after (owned_in desc db) s.owner None slot.rec.owner) d → database_in desc d ≡ Some after
     counted_at d files =
         spelled_at d
         (subst (λ m. StandsFiles desc after (owners_after (owned_in desc db) s.owner (owner_opt o) m) d) own_owner
@@ -183,50 +183,50 @@ number_fits desc set number s at low most = ap (λ o. is_number o number) at ∙
     in_range : (n p : ℕ) → 1 ≤ n → n ≤ p → (nat_le 1 n && nat_le n p) ≡ true
     in_range n p low most = grind (arith, nat_tests)
 
-pub placed : {B : Type 0} {g : Ghosts B} (desc : Described) (db : Db) (s : Shape) (number : ℕ) (o : Option Slot) (rec : Record) (old : Option Record) (slot : Slot) (a : Overlay B g) → FindsSlot desc db s number o a → structure_of desc s.number ≡ Some s → IfSome o (SlotFits s) → RecordFits desc s.number rec
+pub places_slot : {B : Type 0} {g : Ghosts B} (desc : Described) (db : Db) (s : Shape) (number : ℕ) (o : Option Slot) (rec : Record) (old : Option Record) (slot : Slot) (a : Overlay B g) → FindsSlot desc db s number o a → structure_of desc s.number ≡ Some s → IfSome o (SlotFits s) → RecordFits desc s.number rec
     → rec_opt (slot_opt o) ≡ old → slot ≡ slot_after s.items o rec → IsPlaced desc db s number o rec old slot a
-placed desc db s number o rec old slot a found at slots fits old_is slot_is = record { told = found.told; spelt = found.spelt; was = found.was; slots = slots; long = long_of desc s.number s rec at fits; old_is = old_is; slot_is = slot_is }
+places_slot desc db s number o rec old slot a found at slots fits old_is slot_is = record { told = found.told; spelt = found.spelt; was = found.was; slots = slots; long = long_of desc s.number s rec at fits; old_is = old_is; slot_is = slot_is }
 
 -- ---- where no number is free
 
 module _ {B : Type 0} {g : Ghosts B} (desc : Described) (a : Overlay B g) (usable : IsUsable desc a) (s : Shape) (number : ℕ) (at : structure_of desc s.number ≡ Some s) (is_set : is_data_set (Some s) ≡ true) (above : number ≡ s.population + 1) (slot : Slot) (rec : Record)
-    (slot_is : slot ≡ slot_after s.items None rec) (fits : RecordFits desc s.number rec) (db : Db) (told : IsTrue (under a).told) (spelt : spelled desc (under a).content ≡ Some db) where
-  rec_is : slot.rec ≡ linked s.items None rec
+    (slot_is : slot ≡ slot_after s.items None rec) (fits : RecordFits desc s.number rec) (db : Db) (told : IsTrue (under a).told) (spelt : database_in desc (under a).content ≡ Some db) where
+  rec_is : slot.rec ≡ with_links_of s.items None rec
   rec_is = ap (λ (x : Slot). x.rec) slot_is
 
-  pub listed_none : AreListed desc db (listed a)
-  listed_none = are_listed desc usable.serves.served db a told (spelled_files desc (seen a) db usable.serves.served (ap (spelled desc) (seen_below a usable.none) ∙ spelt))
+  pub listed_none : AreListed desc db (seen_list a)
+  listed_none = are_listed desc usable.serves.served db a told (spelled_files desc (overlay_content a) db usable.serves.served (ap (database_in desc) (seen_below a usable.none) ∙ spelt))
 
   pub stands_none : ChangeStands desc db s.number number None (Some slot.rec)
   stands_none =
       change_stands desc (under a).content db s.number number s None slot.rec usable.serves.served spelt at (omega (arith, above, (served_at desc s.number s usable.serves.served at).population))
       (ap (λ n. get db.records (s.number, n)) above ∙ none_above desc usable.serves.served db (under a).content s.number s spelt at is_set) (after_fits desc s.number s None rec slot at tt fits slot_is)
 
-  clash_is : clash_seen desc desc.structures db s.number (Some (s.population + 1)) (linked s.items None rec) ≡ clash_seen desc desc.structures db s.number (Some number) slot.rec
+  clash_is : clash_seen desc desc.structures db s.number (Some (s.population + 1)) (with_links_of s.items None rec) ≡ clash_seen desc desc.structures db s.number (Some number) slot.rec
   clash_is = λ i. clash_seen desc desc.structures db s.number (Some (sym above i)) (sym rec_is i)
 
-  pub refused_none : (b : Overlay B g) (k : ℕ) → KeepsSets desc db s.number number (Some slot.rec) (listed b) (Duplicate k) → IsJudged desc db s.number (s.population + 1) (linked s.items None rec) (Refused k)
+  pub refused_none : (b : Overlay B g) (k : ℕ) → KeepsSets desc db s.number number (Some slot.rec) (seen_list b) (Duplicate k) → IsJudged desc db s.number (s.population + 1) (with_links_of s.items None rec) (Refused k)
   refused_none b k kept = clash_is ∙ one_refused (clash_seen desc desc.structures db s.number (Some number) slot.rec) k kept.answer_is
 
-  pub full_none : (b : Overlay B g) → KeepsSets desc db s.number number (Some slot.rec) (listed b) Done → IsJudged desc db s.number (s.population + 1) (linked s.items None rec) Full
+  pub full_none : (b : Overlay B g) → KeepsSets desc db s.number number (Some slot.rec) (seen_list b) Done → IsJudged desc db s.number (s.population + 1) (with_links_of s.items None rec) Full
   full_none b kept = clash_is ∙ none_refused (clash_seen desc desc.structures db s.number (Some number) slot.rec) kept.answer_is
 
 -- ---- no block of slots is bad
 
-pub db_told : (desc : Described) (told : Bool) (c : Content) (db : Db) → IsTrue told → spelled desc c ≡ Some db → db_of desc told c ≡ Some db
+pub db_told : (desc : Described) (told : Bool) (c : Content) (db : Db) → IsTrue told → database_in desc c ≡ Some db → db_of desc told c ≡ Some db
 db_told desc told c db is spelt = ap (λ b. db_of desc b c) is ∙ spelt
 
-pub none_bad : {B : Type 0} {g : Ghosts B} (desc : Described) (a : Overlay B g) (s : Shape) (db : Db) → IsUsable desc a → structure_of desc s.number ≡ Some s → is_data_set (Some s) ≡ true → IsTrue (under a).told → spelled desc (under a).content ≡ Some db → (f k : ℕ) → BadIn s a f k → ⊥
+pub none_bad : {B : Type 0} {g : Ghosts B} (desc : Described) (a : Overlay B g) (s : Shape) (db : Db) → IsUsable desc a → structure_of desc s.number ≡ Some s → is_data_set (Some s) ≡ true → IsTrue (under a).told → database_in desc (under a).content ≡ Some db → (f k : ℕ) → BadIn s a f k → ⊥
 none_bad desc a s db usable at is_set told spelt f k bad = no_bad_slot desc a usable db (db_told desc (under a).told (under a).content db told spelt) s.number f k (ap is_data_set at ∙ is_set) (s, at, bad)
 
 -- ---- after a read
 
-module _ {B : Type 0} {g : Ghosts B} (desc : Described) (a b : Overlay B g) (usable : IsUsable desc a) (db : Db) (told : IsTrue (under a).told) (spelt : spelled desc (under a).content ≡ Some db) {T : Type 0} {n : ℕ} {x : T} (reads : ReadsOverlay n (Ok x) a b) where
+module _ {B : Type 0} {g : Ghosts B} (desc : Described) (a b : Overlay B g) (usable : IsUsable desc a) (db : Db) (told : IsTrue (under a).told) (spelt : database_in desc (under a).content ≡ Some db) {T : Type 0} {n : ℕ} {x : T} (reads : ReadsOverlay n (Ok x) a b) where
   pub told_on : IsTrue (under b).told
   told_on = reads.looks.passes.lasts.told ∙ told
 
-  pub spelt_on : spelled desc (under b).content ≡ Some db
-  spelt_on = ap (spelled desc) (reads.looks.same.content told) ∙ spelt
+  pub spelt_on : database_in desc (under b).content ≡ Some db
+  spelt_on = ap (database_in desc) (reads.looks.same.content told) ∙ spelt
 
   pub found_on : (s : Shape) (number : ℕ) (o : Option Slot) → slot_at s ((under a).content (file_of s.number)) number ≡ slot_opt o → FindsSlot desc db s number o b
   found_on s number o was = record {

@@ -27,7 +27,7 @@ use Rattle.dms_store.specs.Files.{file_at, list_at, slots_at, both_files}
 use Rattle.dms_store.specs.Finding.{number_at, served_at}
 use Rattle.dms_store.specs.Rows.{get_in, rec_in}
 use Rattle.dms_store.specs.Serving.{IsServed}
-use Rattle.dms_store.specs.Spelled.{counted_in, db_in, file_in, file_spells, files_fit, files_spell, has_none, is_list_of, is_spelled, is_whole, links_stand, lists_eq, owned_in, rows_from, rows_in, slot_stands, slots_stand, some_if, spelled}
+use Rattle.dms_store.specs.Spelled.{counted_in, db_in, file_in, file_spells, files_fit, files_spell, has_none, is_list_of, is_spelled, is_whole, links_stand, lists_eq, owned_in, rows_from, rows_in, slot_stands, slots_stand, some_if, database_in}
 use Rattle.dms_store.specs.SpelledLaws.{spells, no_manual}
 use Rattle.dms_desc.specs.Kinds.{is_set_or_automatic}
 use Rattle.dms_model.specs.Places.{places_same, places_total}
@@ -205,7 +205,7 @@ pub record SpellsFiles (desc : Described) (db : Db) (c : Content) : Type 0 where
   pub fit : SlotsFit desc c
   pub entries : db.entries ≡ []
 
-pub spelled_files : (desc : Described) (c : Content) (db : Db) → IsServed desc → spelled desc c ≡ Some db → SpellsFiles desc db c
+pub spelled_files : (desc : Described) (c : Content) (db : Db) → IsServed desc → database_in desc c ≡ Some db → SpellsFiles desc db c
 spelled_files desc c db served h =
     let s = spells desc c db h in
     subst (λ (d : Db). SpellsFiles desc d c) s.is
@@ -286,7 +286,7 @@ module _ (desc : Described) (db : Db) (own : ℕ → ℕ → ℕ) (c : Content) 
 
 -- Files that stand so spell the database.
 pub spelled_again : (desc : Described) (db : Db) (own : ℕ → ℕ → ℕ) (c : Content) → IsServed desc → RecordsStand desc db own c → ((set n : ℕ) → 1 ≤ set → own set n ≡ owned_in desc db set n) → db.entries ≡ [] → ListsSpell desc db c → SlotsFit desc c
-    → spelled desc c ≡ Some db
+    → database_in desc c ≡ Some db
 unfolding is_spelled
 spelled_again desc db own c served slots owned none lists fit =
     let is = db_again desc db own c served slots none in
@@ -298,5 +298,5 @@ spelled_again desc db own c served slots owned none lists fit =
     λ i. some_if (test i) (is i)
 
 -- So do files that have its records, where they count what each record owns.
-pub spell_by : (desc : Described) (db : Db) (own : ℕ → ℕ → ℕ) (c : Content) → IsServed desc → StandsFiles desc db own c → ((set n : ℕ) → 1 ≤ set → own set n ≡ owned_in desc db set n) → spelled desc c ≡ Some db
+pub spell_by : (desc : Described) (db : Db) (own : ℕ → ℕ → ℕ) (c : Content) → IsServed desc → StandsFiles desc db own c → ((set n : ℕ) → 1 ≤ set → own set n ≡ owned_in desc db set n) → database_in desc c ≡ Some db
 spell_by desc db own c served files owned = spelled_again desc db own c served files.slots owned files.entries files.lists files.fit

@@ -14,7 +14,7 @@ use Rattle.dms_block.specs.Content.{Content}
 use Rattle.dms_block.specs.Faults.{IfFull, Unbroken, Undamaged}
 use Rattle.dms_block.specs.Held.{BlocksAgree, HasCausesOr, Held}
 use Rattle.dms_block.specs.HeldLaws.{unbroken_map}
-use Rattle.dms_block.specs.View.{under, written}
+use Rattle.dms_block.specs.View.{under, overlay_changes}
 use Rattle.dms_desc.specs.Shape.{Shape, Described, shape_of}
 use Rattle.dms_desc.specs.declared.structure.Structure.{Structure}
 use Rattle.dms_desc.specs.declared.record.Record.{Record}
@@ -28,7 +28,7 @@ use Rattle.dms_store.specs.LiftedLaws.{causes_lifted, db_same, keeps_points_lift
 use Rattle.dms_store.specs.Noted.{causes_noted, noted_by}
 use Rattle.dms_store.specs.Putting.{Answers, FullStored, MayStore}
 use Rattle.dms_store.specs.PuttingCalls.{HandsDown}
-use Rattle.dms_store.specs.Spelled.{spelled}
+use Rattle.dms_store.specs.Spelled.{database_in}
 use Rattle.dms_store.specs.Undamaged.{not_set, undamaged_or}
 
 -- A call that may change so many blocks: what is durable stays durable, without memory nothing has changed, and a fault has its cause.
@@ -59,7 +59,7 @@ mute_or P (Err (Damaged f n)) a b h is = absurd (cc)
 mute_or P (Err Say) a b h is = h
 
 -- a told database is that which a told content spells
-told_db : (desc : Described) (told : Bool) (c : Content) (d : Db) → db_of desc told c ≡ Some d → IsTrue told × (spelled desc c ≡ Some d)
+told_db : (desc : Described) (told : Bool) (c : Content) (d : Db) → db_of desc told c ≡ Some d → IsTrue told × (database_in desc c ≡ Some d)
 told_db desc true c d h = (refl, h)
 told_db desc false c d h = absurd (cc)
 
@@ -79,19 +79,19 @@ pub few_structures : (desc : Described) (ss : List Structure) (set : ℕ) → de
 few_structures desc ss set are is = omega (arith, some_structure desc set is, ap (λ (l : List Shape). length l) are, length-map ss shape_of)
 
 module _ {B : Type 0} {g : Ghosts B} (desc : Described) (found found' : ℕ) (o o' : Overlay B g) where
-  pub changed : {T : Type 0} (m k : ℕ) (r : Result T BlockFault) → m ≤ k → found < 2 ^ 64 → found' ≡ noted_by r found → IsUsable desc o → BlocksAgree (under o) → ((x y : B) → g.same_blocks x y → g.last y ≡ g.last x) → written o' ≡ [] → HandsDown m r o o'
-      → ((db : Db) → IsTrue (under o).told → spelled desc (under o).content ≡ Some db → HasCausesOr (λ f b. ⊥) r (under o) (under o')) → ChangesAtMost k r (store_seen desc found o) (store_seen desc found' o')
-  changed m k r le small noted usable agrees law none hands below =
+  pub change_noted : {T : Type 0} (m k : ℕ) (r : Result T BlockFault) → m ≤ k → found < 2 ^ 64 → found' ≡ noted_by r found → IsUsable desc o → BlocksAgree (under o) → ((x y : B) → g.same_blocks x y → g.pace y ≡ g.pace x) → overlay_changes o' ≡ [] → HandsDown m r o o'
+      → ((db : Db) → IsTrue (under o).told → database_in desc (under o).content ≡ Some db → HasCausesOr (λ f b. ⊥) r (under o) (under o')) → ChangesAtMost k r (store_seen desc found o) (store_seen desc found' o')
+  change_noted m k r le small noted usable agrees law none hands below =
       let lasts = hands.alters.passes.lasts in
       let uses = hands.alters.uses in
       record {
         memory = λ is. db_same desc (under o).told (under o').told (under o).content (under o').content lasts.told (hands.alters.memory is).content;
-        keeps = unbroken_map r (λ stays. keeps_points_lifted desc (IsUsable desc o) (IsUsable desc o') found found' (g.last o.below) (g.last o'.below) (under o) (under o') (usable_on desc o o' usable lasts stays.sound none) lasts stays) hands.alters.stays;
-        silent = silent_lifted desc (IsUsable desc o) (IsUsable desc o') found found' (g.last o.below) (g.last o'.below) (under o) (under o') hands.alters.passes;
+        keeps = unbroken_map r (λ stays. keeps_points_lifted desc (IsUsable desc o) (IsUsable desc o') found found' (g.pace o.below) (g.pace o'.below) (under o) (under o') (usable_on desc o o' usable lasts stays.sound none) lasts stays) hands.alters.stays;
+        silent = silent_lifted desc (IsUsable desc o) (IsUsable desc o') found found' (g.pace o.below) (g.pace o'.below) (under o) (under o') hands.alters.passes;
         effort = record { least = uses.not_less; spent = omega (arith, uses.spent, le); syncs = uses.syncs; outs = uses.outs };
         undamaged = λ d told. let t = told_db desc (under o).told (under o).content d told in undamaged_or desc (under o) usable.serves agrees d told (λ f b. ⊥) r (under o') (λ f b h. h) (below d t.0 t.1);
         mute_fault = mute_or (λ f b. ⊤) r (under o) (under o') hands.causes;
-        causes = causes_lifted desc (IsUsable desc o) (IsUsable desc o') found found' (g.last o.below) (g.last o'.below) (under o) (under o') r lasts (law o.below o'.below hands.same) uses.not_fewer (causes_noted (under o) (under o') found found' small (λ f b. ⊤) r noted hands.causes);
+        causes = causes_lifted desc (IsUsable desc o) (IsUsable desc o') found found' (g.pace o.below) (g.pace o'.below) (under o) (under o') r lasts (law o.below o'.below hands.same) uses.not_fewer (causes_noted (under o) (under o') found found' small (λ f b. ⊤) r noted hands.causes);
       }
 
   -- the database after it

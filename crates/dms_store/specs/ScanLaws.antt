@@ -16,7 +16,7 @@ use Rattle.dms_desc.specs.declared.record.Record.{Record}
 use Rattle.dms_desc.specs.Keys.{key_cmp}
 use Rattle.dms_desc.specs.Lookups.{structure_of}
 use Rattle.dms_desc.specs.Shape.{Shape, Described}
-use Rattle.dms_desc.specs.Sorted.{sorted, place_in, first, last, or_else}
+use Rattle.dms_desc.specs.Sorted.{sort, place_in, first, last, or_else}
 use Rattle.dms_layout.specs.declared.slot.SlotRead.{SlotRead}
 use Rattle.dms_layout.specs.declared.slot.SlotRead.TheVariants.{Free, Used, Bad}
 use Rattle.dms_model.specs.declared.spot.Spot.{Spot}
@@ -74,11 +74,11 @@ module _ (s : Shape) (is : IsDataSetShape s) (owner : ℕ) where
       let rest = spots_are (n + 1) rs more none in
       ap (λ b. cond b (spot_of s.parts ((s.number, n), slot.rec) ∷ spots_of s [] owner (rows_from s.number (n + 1) rs ++ more)) (spots_of s [] owner (rows_from s.number (n + 1) rs ++ more))) (own_belongs s owner n slot.rec is)
       ∙ (λ i. cond (owner == slot.rec.owner) (spot_of (is.keyless i) ((s.number, n), slot.rec) ∷ rest i) (rest i))
-      ∙ taken (owner == slot.rec.owner) (spot n slot.rec) (spots_from owner (n + 1) rs)
+      ∙ take_spot (owner == slot.rec.owner) (spot n slot.rec) (spots_from owner (n + 1) rs)
     where
-      taken : (b : Bool) (x : Spot) (xs : List Spot) → cond b (x ∷ xs) xs ≡ with_spot (cond b (Some x) None) xs
-      taken true x xs = refl
-      taken false x xs = refl
+      take_spot : (b : Bool) (x : Spot) (xs : List Spot) → cond b (x ∷ xs) xs ≡ with_spot (cond b (Some x) None) xs
+      take_spot true x xs = refl
+      take_spot false x xs = refl
   spots_are n (Bad ∷ rs) more none = spots_are (n + 1) rs more none
 
   spots_none : (set n : ℕ) (rs : List SlotRead) (more : List (Place × Record)) → s.number ≢ set → spots_of s [] owner (rows_from set n rs ++ more) ≡ spots_of s [] owner more
@@ -142,13 +142,13 @@ module _ (owner : ℕ) where
   place_low x n (Used slot ∷ rs) low = place_if (owner == slot.rec.owner) x (spot n slot.rec) (spots_from owner (n + 1) rs) low (place_low x (n + 1) rs (omega (arith, low)))
   place_low x n (Bad ∷ rs) low = place_low x (n + 1) rs (omega (arith, low))
 
-sorted_if : (b : Bool) (y : Spot) (xs : List Spot) → place_in (is_before []) y xs ≡ y ∷ xs → sorted (is_before []) xs ≡ xs
-    → sorted (is_before []) (with_spot (cond b (Some y) None) xs) ≡ with_spot (cond b (Some y) None) xs
+sorted_if : (b : Bool) (y : Spot) (xs : List Spot) → place_in (is_before []) y xs ≡ y ∷ xs → sort (is_before []) xs ≡ xs
+    → sort (is_before []) (with_spot (cond b (Some y) None) xs) ≡ with_spot (cond b (Some y) None) xs
 sorted_if true y xs placed rest = ap (place_in (is_before []) y) rest ∙ placed
 sorted_if false y xs placed rest = rest
 
 module _ (owner : ℕ) where
-  sorted_are : (n : ℕ) (rs : List SlotRead) → sorted (is_before []) (spots_from owner n rs) ≡ spots_from owner n rs
+  sorted_are : (n : ℕ) (rs : List SlotRead) → sort (is_before []) (spots_from owner n rs) ≡ spots_from owner n rs
   sorted_are n [] = refl
   sorted_are n (Free ∷ rs) = sorted_are (n + 1) rs
   sorted_are n (Used slot ∷ rs) =
@@ -210,14 +210,14 @@ module _ (owner : ℕ) where
   all_pass m n (Bad ∷ rs) le = all_pass m (n + 1) rs (omega (arith, le))
 
   -- the first from a number on
-  skipped : (i n m : ℕ) (rs : List SlotRead) → m ≡ n + i → first (λ x. nat_le m x.number) (spots_from owner n rs) ≡ first_used owner m (drop i rs)
-  skipped zero n m rs is = all_pass m n rs (omega (arith, is)) ∙ ap (λ j. first_used owner j rs) (let e : n ≡ m = omega (arith, is) in e)
-  skipped (suc i) n m [] is = refl
-  skipped (suc i) n m (Free ∷ rs) is = skipped i (n + 1) m rs (omega (arith, is))
-  skipped (suc i) n m (Used slot ∷ rs) is =
+  skip_before : (i n m : ℕ) (rs : List SlotRead) → m ≡ n + i → first (λ x. nat_le m x.number) (spots_from owner n rs) ≡ first_used owner m (drop i rs)
+  skip_before zero n m rs is = all_pass m n rs (omega (arith, is)) ∙ ap (λ j. first_used owner j rs) (let e : n ≡ m = omega (arith, is) in e)
+  skip_before (suc i) n m [] is = refl
+  skip_before (suc i) n m (Free ∷ rs) is = skip_before i (n + 1) m rs (omega (arith, is))
+  skip_before (suc i) n m (Used slot ∷ rs) is =
       let t : nat_le m n ≡ false = grind (arith, nat_tests, is) in
-      first_no (λ x. nat_le m x.number) (spot n slot.rec) (spots_from owner (n + 1) rs) (owner == slot.rec.owner) t ∙ skipped i (n + 1) m rs (omega (arith, is))
-  skipped (suc i) n m (Bad ∷ rs) is = skipped i (n + 1) m rs (omega (arith, is))
+      first_no (λ x. nat_le m x.number) (spot n slot.rec) (spots_from owner (n + 1) rs) (owner == slot.rec.owner) t ∙ skip_before i (n + 1) m rs (omega (arith, is))
+  skip_before (suc i) n m (Bad ∷ rs) is = skip_before i (n + 1) m rs (omega (arith, is))
 
   none_low : (m n : ℕ) (rs : List SlotRead) → m ≤ n → last (λ x. nat_lt x.number m) (spots_from owner n rs) ≡ None
   none_low m n [] le = refl
@@ -274,10 +274,10 @@ none_test a = grind (arith, nat_tests)
 
 module _ (owner : ℕ) where
   behind : (from : Bound) (m : ℕ) (rs : List SlotRead) → start_of from ≡ Some m → first (is_after_bound [] from) (spots_from owner 1 rs) ≡ first_used owner (1 + m) (drop m rs)
-  behind Start m rs is = first_same owner _ _ 1 rs (omega arith) (λ x le. one_test x.number le) ∙ skipped owner 0 1 (1 + 0) rs (omega arith) ∙ ap (λ j. first_used owner (1 + j) (drop j rs)) (same_Some 0 m is)
+  behind Start m rs is = first_same owner _ _ 1 rs (omega arith) (λ x le. one_test x.number le) ∙ skip_before owner 0 1 (1 + 0) rs (omega arith) ∙ ap (λ j. first_used owner (1 + j) (drop j rs)) (same_Some 0 m is)
   behind End m rs is = absurd (cc is)
-  behind (At key n) m rs is = first_same owner _ _ 1 rs (omega arith) (λ x le. at_test x.number n) ∙ skipped owner n 1 (1 + n) rs refl ∙ ap (λ j. first_used owner (1 + j) (drop j rs)) (same_Some n m is)
-  behind (From key) m rs is = first_same owner _ _ 1 rs (omega arith) (λ x le. from_all key x ∙ one_test x.number le) ∙ skipped owner 0 1 (1 + 0) rs (omega arith) ∙ ap (λ j. first_used owner (1 + j) (drop j rs)) (same_Some 0 m is)
+  behind (At key n) m rs is = first_same owner _ _ 1 rs (omega arith) (λ x le. at_test x.number n) ∙ skip_before owner n 1 (1 + n) rs refl ∙ ap (λ j. first_used owner (1 + j) (drop j rs)) (same_Some n m is)
+  behind (From key) m rs is = first_same owner _ _ 1 rs (omega arith) (λ x le. from_all key x ∙ one_test x.number le) ∙ skip_before owner 0 1 (1 + 0) rs (omega arith) ∙ ap (λ j. first_used owner (1 + j) (drop j rs)) (same_Some 0 m is)
 
   behind_none : (from : Bound) (xs : List Spot) → start_of from ≡ None → first (is_after_bound [] from) xs ≡ None
   behind_none Start xs is = absurd (cc is)
@@ -306,7 +306,7 @@ pub record IsSetPath (desc : Described) (path : ℕ) (s : Shape) : Type 0 where
   pub set : is_data_set (Some s) ≡ true
   pub keyless : s.parts ≡ []
 
-no_entries : (desc : Described) (s : Shape) (c : Content) (owner : ℕ) → members s (db_in desc c) owner ≡ sorted (is_before s.parts) (spots_of s [] owner (entries (db_in desc c).records))
+no_entries : (desc : Described) (s : Shape) (c : Content) (owner : ℕ) → members s (db_in desc c) owner ≡ sort (is_before s.parts) (spots_of s [] owner (entries (db_in desc c).records))
 unfolding db_in
 no_entries desc s c owner = refl
 
@@ -317,9 +317,9 @@ module _ (desc : Described) (path : ℕ) (s : Shape) (at : IsSetPath desc path s
   members_are : members s (db_in desc c) owner ≡ spots_from owner 1 (slots_of s (file_in c s))
   members_are =
       no_entries desc s c owner
-      ∙ ap (λ es. sorted (is_before s.parts) (spots_of s [] owner es)) (entries_in desc c at.numbered)
-      ∙ ap (sorted (is_before s.parts)) (spots_in s own owner c 1 (path - 1) desc.structures at.numbered at.set (structure_there desc.structures path s at.is))
-      ∙ ap (λ ps. sorted (is_before ps) (spots_from owner 1 (slots_of s (file_in c s)))) at.keyless
+      ∙ ap (λ es. sort (is_before s.parts) (spots_of s [] owner es)) (entries_in desc c at.numbered)
+      ∙ ap (sort (is_before s.parts)) (spots_in s own owner c 1 (path - 1) desc.structures at.numbered at.set (structure_there desc.structures path s at.is))
+      ∙ ap (λ ps. sort (is_before ps) (spots_from owner 1 (slots_of s (file_in c s)))) at.keyless
       ∙ sorted_are owner 1 (slots_of s (file_in c s))
 
   pub first_at : (from : Bound) (m : ℕ) → start_of from ≡ Some m → first_member desc (db_in desc c) path owner from ≡ first_used owner (1 + m) (drop m (slots_of s (file_in c s)))

@@ -31,7 +31,7 @@ use Rattle.dms_sets.specs.Sets.{entries_of, items_over, kinds_over}
 use Rattle.dms_store.specs.Finding.{served_at, structure_there}
 use Rattle.dms_store.specs.Rows.{AreNumbered}
 use Rattle.dms_store.specs.Serving.{IsServed, IsServedSet, IsServedShape}
-use Rattle.dms_store.specs.Spelled.{db_in, is_spelled, spelled, some_if}
+use Rattle.dms_store.specs.Spelled.{db_in, is_spelled, database_in, some_if}
 use Rattle.dms_store.specs.SpelledLaws.{IsFormed, spelled_fits}
 
 -- ---- a description that is served is formed
@@ -43,12 +43,12 @@ module _ (all : List Shape) where
   numbered_there : (k : ℕ) (ss : List Shape) → AllAt k ss → AreNumbered (k + 1) ss → AllByRecursion (λ s. structure_at all s.number ≡ Some s) ss
   numbered_there k [] there numbered = tt
   numbered_there k (s ∷ ss) there numbered = (
-    ap (structure_at all) numbered.0 ∙ found k (λ u. there 0 s refl),
+    ap (structure_at all) numbered.0 ∙ finds_set k (λ u. there 0 s refl),
     numbered_there (k + 1) ss (λ i t at. ap (slice_get all) (let e : (k + 1) + i ≡ k + suc i = omega arith in e) ∙ there (suc i) t at) numbered.1,
   )
     where
-      found : (k : ℕ) → (Unit {0} → slice_get all (k + 0) ≡ Some s) → structure_at all (k + 1) ≡ Some s
-      found k h =
+      finds_set : (k : ℕ) → (Unit {0} → slice_get all (k + 0) ≡ Some s) → structure_at all (k + 1) ≡ Some s
+      finds_set k h =
           let t : ((k + 1) == 0) ≡ false = grind (arith, nat_tests) in
           let e : (k + 1) - 1 ≡ k + 0 = omega arith in
           ap (λ b. cond b None (slice_get all ((k + 1) - 1))) t ∙ ap (slice_get all) e ∙ h tt
@@ -61,8 +61,8 @@ populations_all : (ss : List Shape) → AllByRecursion IsServedShape ss → AllB
 populations_all [] all = tt
 populations_all (s ∷ ss) all = ((let p = all.0.population in let h : s.population < 2 ^ 32 = omega (arith, p) in h), populations_all ss all.1)
 
-pub formed : (desc : Described) → IsServed desc → IsFormed desc
-formed desc served = record {
+pub served_formed : (desc : Described) → IsServed desc → IsFormed desc
+served_formed desc served = record {
   numbers = numbered_there desc.structures 0 desc.structures (λ i s at. ap (slice_get desc.structures) (let e : 0 + i ≡ i = omega arith in e) ∙ at) served.numbered;
   kinds = kinds_all desc.structures served.each;
   populations = populations_all desc.structures served.each;
@@ -136,18 +136,18 @@ may_look desc path s served at owner bound may =
 -- The first member of a set or automatic subset behind a bound, and the last one before it, are those of one look at the list
 -- of its file.
 module _ (desc : Described) (path : ℕ) (s : Shape) (c : Content) (served : IsServed desc) (at : structure_of desc path ≡ Some s) (kept : is_set_or_automatic s ≡ true) (spelt : is_spelled desc c ≡ true) (owner : ℕ) (bound : Bound) (may : MayStart desc path owner bound) where
-  fitted : bounds.BoundKeyFits (kinds_over desc s) s.parts bound × BoundSmall (kinds_over desc s) s.parts bound
-  fitted = may_look desc path s served at owner bound may
+  fits_bound : bounds.BoundKeyFits (kinds_over desc s) s.parts bound × BoundSmall (kinds_over desc s) s.parts bound
+  fits_bound = may_look desc path s served at owner bound may
 
-  is_told : spelled desc c ≡ Some (db_in desc c)
+  is_told : database_in desc c ≡ Some (db_in desc c)
   is_told = ap (λ t. some_if t (db_in desc c)) spelt
 
   pub first_look : first_member desc (db_in desc c) path owner bound ≡ spot_by s (db_in desc c) owner (first_from (from_bytes (kinds_over desc s) s.parts owner bound) (entries_of desc (db_in desc c) s))
   first_look =
       first_member_by desc (db_in desc c) path s owner bound at may.owned (kept_apart s kept) (set_at desc path s served at kept).named
-      (spelled_fits desc c (db_in desc c) (formed desc served) is_told) fitted.0 fitted.1
+      (spelled_fits desc c (db_in desc c) (served_formed desc served) is_told) fits_bound.0 fits_bound.1
 
   pub last_look : last_member desc (db_in desc c) path owner bound ≡ spot_by s (db_in desc c) owner (last_to (to_bytes (kinds_over desc s) s.parts owner bound) (entries_of desc (db_in desc c) s))
   last_look =
       last_member_by desc (db_in desc c) path s owner bound at may.owned (kept_apart s kept) (set_at desc path s served at kept).named
-      (spelled_fits desc c (db_in desc c) (formed desc served) is_told) fitted.0
+      (spelled_fits desc c (db_in desc c) (served_formed desc served) is_told) fits_bound.0

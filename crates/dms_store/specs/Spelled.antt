@@ -151,5 +151,5 @@ some_if true db = Some db
 some_if false db = None
 
 -- The database that a content spells, if it spells one. So it spells one at most.
-abbrev pub spelled : Described → Content → Option Db
-spelled desc c = some_if (is_spelled desc c) (db_in desc c)
+abbrev pub database_in : Described → Content → Option Db
+database_in desc c = some_if (is_spelled desc c) (db_in desc c)

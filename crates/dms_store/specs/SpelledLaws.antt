@@ -35,8 +35,8 @@ use Rattle.dms_sets.specs.Listing.{listing}
 use Rattle.dms_sets.specs.Padded.{entry_width}
 use Rattle.dms_sets.specs.Sets.{entries_of, kinds_over, entry_of}
 use Rattle.dms_sets.specs.Spots.{ValuesFit, RecordHasSpot, RecordsHaveSpots}
-use Rattle.dms_slots.specs.SlotBlocks.{file_of, slots_of, slots_in, slots_by, cut, is_block, per_block}
-use Rattle.dms_store.specs.Spelled.{rows_from, file_in, rows_in, db_in, counted_in, owned_in, links_stand, slot_stands, slots_stand, is_list_of, has_none, file_spells, files_spell, is_whole, files_fit, is_spelled, some_if, spelled}
+use Rattle.dms_slots.specs.SlotBlocks.{file_of, slots_of, slots_in, slots_by, slot_chunks, is_block, per_block}
+use Rattle.dms_store.specs.Spelled.{rows_from, file_in, rows_in, db_in, counted_in, owned_in, links_stand, slot_stands, slots_stand, is_list_of, has_none, file_spells, files_spell, is_whole, files_fit, is_spelled, some_if, database_in}
 use Rattle.dms_desc.specs.Kinds.{is_set_or_automatic}
 use Rattle.dms_model.specs.Places.{places_same, places_total}
 use Rattle.dms_model.specs.MemberLaws.{equal_of}
@@ -110,7 +110,7 @@ module _ (c : Content) (none : (f : ℕ) → c f ≡ []) (desc : Described) wher
       ∙ (λ i. files_empty desc.structures i && fit_empty 200 1 i)
 
   -- it spells the database of no record
-  pub empty_spelled : spelled desc c ≡ Some empty_db
+  pub empty_spelled : database_in desc c ≡ Some empty_db
   empty_spelled = (λ i. some_if (is_spelled_empty i) (db_empty c none desc i))
 
 -- ---- links
@@ -174,7 +174,7 @@ all_append : {A : Type 0} (P : A → Type 0) (xs ys : List A) → AllByRecursion
 all_append P [] ys a b = b
 all_append P (x ∷ xs) ys a b = (a.0, all_append P xs ys a.1 b)
 
-cut_fits : (s : Shape) (k : ℕ) (bytes : List ℕ) → AllByRecursion (UsedFits s) (cut s k bytes)
+cut_fits : (s : Shape) (k : ℕ) (bytes : List ℕ) → AllByRecursion (UsedFits s) (slot_chunks s k bytes)
 cut_fits s zero bytes = tt
 cut_fits s (suc k) bytes = ((λ slot h. (used_fits s (take (slot_width s.items) bytes) slot h).0), cut_fits s k (drop (slot_width s.items) bytes))
 
@@ -271,7 +271,7 @@ spells_if true desc c db h e = record { test = h; is = some_db (db_in desc c) db
     some_db x y h = cc
 spells_if false desc c db h e = absurd (cc)
 
-pub spells : (desc : Described) (c : Content) (db : Db) → spelled desc c ≡ Some db → Spells desc c db
+pub spells : (desc : Described) (c : Content) (db : Db) → database_in desc c ≡ Some db → Spells desc c db
 spells desc c db h = spells_if (is_spelled desc c) desc c db refl h
 
 files_of : (desc : Described) (c : Content) → is_spelled desc c ≡ true → files_spell desc (db_in desc c) c desc.structures ≡ true
@@ -288,7 +288,7 @@ unfolding db_in
 stands_db desc c formed h place rec at = stands_in desc c formed h place rec at
 
 -- each record of a database that is spelled stands in its data set
-pub spelled_stands : (desc : Described) (c : Content) (db : Db) → IsFormed desc → spelled desc c ≡ Some db → (place : Place) (rec : Record) → get db.records place ≡ Some rec → RecordStands desc db place rec
+pub spelled_stands : (desc : Described) (c : Content) (db : Db) → IsFormed desc → database_in desc c ≡ Some db → (place : Place) (rec : Record) → get db.records place ≡ Some rec → RecordStands desc db place rec
 spelled_stands desc c db formed h =
     let s = spells desc c db h in
     subst (λ (d : Db). (place : Place) (rec : Record) → get d.records place ≡ Some rec → RecordStands desc d place rec) s.is (stands_db desc c formed s.test)
@@ -314,7 +314,7 @@ record_fits desc db place rec r =
     }
 
 -- the records of a database that is spelled fit
-pub spelled_fits : (desc : Described) (c : Content) (db : Db) → IsFormed desc → spelled desc c ≡ Some db → RecordsHaveSpots desc db
+pub spelled_fits : (desc : Described) (c : Content) (db : Db) → IsFormed desc → database_in desc c ≡ Some db → RecordsHaveSpots desc db
 spelled_fits desc c db formed h place rec at = record_fits desc db place rec (spelled_stands desc c db formed h place rec at)
 
 -- all data sets are disjoint
@@ -322,7 +322,7 @@ abbrev pub AreDisjoint : Described → Type 0
 AreDisjoint desc = (n : ℕ) (shape : Shape) → structure_of desc n ≡ Some shape → is_data_set (Some shape) ≡ true → shape.owner ≡ 0
 
 -- where all data sets are disjoint, a database that is spelled has no embedded record, and no entry of a manual subset
-pub spelled_flat : (desc : Described) (c : Content) (db : Db) → IsFormed desc → AreDisjoint desc → spelled desc c ≡ Some db → IsFlat desc db
+pub spelled_flat : (desc : Described) (c : Content) (db : Db) → IsFormed desc → AreDisjoint desc → database_in desc c ≡ Some db → IsFlat desc db
 spelled_flat desc c db formed disjoint h =
     record {
       entries = subst (λ (d : Db). d.entries ≡ []) (spells desc c db h).is (no_manual desc c);

@@ -9,7 +9,7 @@ use Rattle.dms_block.specs.declared.overlay.Overlay.{Overlay}
 use Rattle.dms_block.specs.Content.{Content}
 use Rattle.dms_block.specs.Faults.{Undamaged}
 use Rattle.dms_block.specs.Held.{BlocksAgree, HasCauses, HasCausesOr, Held, IsShort}
-use Rattle.dms_block.specs.View.{seen, under}
+use Rattle.dms_block.specs.View.{overlay_content, under}
 use Rattle.dms_desc.specs.Lookups.{structure_of}
 use Rattle.dms_desc.specs.Shape.{Shape, Described}
 use Rattle.dms_model.specs.Db.{Db}
@@ -69,7 +69,7 @@ module _ {B : Type 0} {g : Ghosts B} (desc : Described) (o : Overlay B g) (usabl
       let s : Shape = bad.0 in
       let own : is_data_set (Some s) ≡ true = sym (ap is_data_set bad.1) ∙ is_set in
       let here = bad.2.0.1 both.0 in
-      let same : seen o (file_of s.number) ≡ (under o).content (file_of s.number) = ap (λ (c : Content). c (file_of s.number)) (seen_below o usable.none) in
+      let same : overlay_content o (file_of s.number) ≡ (under o).content (file_of s.number) = ap (λ (c : Content). c (file_of s.number)) (seen_below o usable.none) in
       let low : b < length ((under o).content (file_of s.number)) = subst (λ (bs : List (List ℕ)). b < length bs) same here.0 in
       let good = block_at desc (under o).content set s b both.1 bad.1 own low in
       let bad_one = subst (λ (bs : List (List ℕ)). is_block s (get_or bs b []) ≡ false) same here.1 in

@@ -1,7 +1,7 @@
 ghost use Rattle.std.specs.Prelude.{◌≡◌, ◌++◌, ◌+◌, ◌≤◌, ◌<◌, ◌^◌, IfOk, OnOk, length, replicate};
 ghost use Rattle.std.specs.Int.{w32, to_be_bytes};
 ghost use Rattle.dms_key.specs.KeyBytes.{key_bytes};
-ghost use Rattle.dms_ordlist.specs.Lists.{padded};
+ghost use Rattle.dms_ordlist.specs.Lists.{pad_bound};
 ghost use Rattle.dms_sets.specs.Entries.{entry_bytes};
 ghost use Rattle.dms_sets.specs.Padded.{BoundSmall, entry_width, from_bytes, to_bytes};
 
@@ -29,9 +29,9 @@ fn fill(out: &mut Bytes, count: usize) -> Result<(), Memory>
 }
 
 // Bytes with zeros behind them, as long as an entry of a set.
-fn padded(mut bytes: Bytes, kinds: &[ItemKind], parts: &[KeyPart]) -> Result<Bytes, Memory>
+fn pad_bound(mut bytes: Bytes, kinds: &[ItemKind], parts: &[KeyPart]) -> Result<Bytes, Memory>
     requires few { length parts.now ≤ 16 }
-    ensures { IfOk result (λ b. b ≡ padded (entry_width kinds.now parts.now) bytes) }
+    ensures { IfOk result (λ b. b ≡ pad_bound (entry_width kinds.now parts.now) bytes) }
 {
     let count = entry_width(kinds, parts).saturating_sub(bytes.as_slice().len());
     fill(&mut bytes, count)?;
@@ -42,7 +42,7 @@ fn padded(mut bytes: Bytes, kinds: &[ItemKind], parts: &[KeyPart]) -> Result<Byt
 fn owner_bytes(alloc: Global, owner: u64) -> Result<Bytes, Memory>
     ensures { IfOk result (λ b. b ≡ to_be_bytes w32 owner) }
 {
-    Bytes::copied(alloc, &owner.to_be_bytes()[4..])
+    Bytes::copy_of(alloc, &owner.to_be_bytes()[4..])
 }
 
 // An owner's number, and a key or its first values.
@@ -88,7 +88,7 @@ pub fn from_bytes(
     ensures { BoundSmall kinds.now parts.now from.now → IfOk result (λ o. o ≡ from_bytes kinds.now parts.now owner from.now) }
 {
     match from {
-        Bound::Start => Ok(Some(padded(owner_bytes(alloc, owner)?, kinds, parts)?)),
+        Bound::Start => Ok(Some(pad_bound(owner_bytes(alloc, owner)?, kinds, parts)?)),
         Bound::End => Ok(None),
         Bound::At(key, n) => {
             let next = (*n).saturating_add(1);
@@ -96,7 +96,7 @@ pub fn from_bytes(
         }
         Bound::From(key) => {
             let front = front(alloc, kinds, parts, owner, key.as_slice())?;
-            Ok(Some(padded(front, kinds, parts)?))
+            Ok(Some(pad_bound(front, kinds, parts)?))
         }
     }
 }
@@ -115,11 +115,11 @@ pub fn to_bytes(
 {
     match to {
         Bound::Start => Ok(None),
-        Bound::End => Ok(Some(padded(owner_bytes(alloc, owner + 1)?, kinds, parts)?)),
+        Bound::End => Ok(Some(pad_bound(owner_bytes(alloc, owner + 1)?, kinds, parts)?)),
         Bound::At(key, n) => { Ok(Some(entry_at(alloc, kinds, parts, owner, key.as_slice(), *n)?)) }
         Bound::From(key) => {
             let front = front(alloc, kinds, parts, owner, key.as_slice())?;
-            Ok(Some(padded(front, kinds, parts)?))
+            Ok(Some(pad_bound(front, kinds, parts)?))
         }
     }
 }

@@ -2,7 +2,7 @@ ghost use Rattle.std.specs.Prelude.{◌≡◌, ◌≤◌, ◌<◌, ◌^◌, true
 ghost use Rattle.dms_block.specs.Held.{HasCausesOr};
 ghost use Rattle.dms_block.specs.View.{ReadsOverlay, under};
 ghost use Rattle.dms_desc.specs.Lookups.{structure_of};
-ghost use Rattle.dms_desc.specs.Shape.{described, shape_of};
+ghost use Rattle.dms_desc.specs.Shape.{as_described, shape_of};
 ghost use Rattle.dms_model.specs.Fitting.{SpotFits};
 ghost use Rattle.dms_model.specs.Members.{spot_of};
 ghost use Rattle.dms_model.specs.Stores.{Tells};
@@ -69,15 +69,15 @@ pub fn member_at<B: Blocks>(
     owner: u64,
     found: &[u8],
 ) -> Result<Option<Spot>, BlockFault>
-    requires usable { IsUsable (described desc.now) over.old }
+    requires usable { IsUsable (as_described desc.now) over.old }
     requires kept { is_set_or_automatic (shape_of s.now) ≡ true }
-    requires there { structure_of (described desc.now) s.now.number ≡ Some (shape_of s.now) }
-    requires kinds { kinds.now ≡ kinds_over (described desc.now) (shape_of s.now) }
+    requires there { structure_of (as_described desc.now) s.now.number ≡ Some (shape_of s.now) }
+    requires kinds { kinds.now ≡ kinds_over (as_described desc.now) (shape_of s.now) }
     requires owner { owner < 2 ^ 32 }
-    ensures found { Tells (db_of (described desc.now) (under over.old).told (under over.old).content) result (λ d. spot_by (shape_of s.now) d owner (Some found.now)) }
-    ensures fits { IfOk result (λ o. IfSome o (SpotFits (described desc.now) s.now.number)) }
+    ensures found { Tells (db_of (as_described desc.now) (under over.old).told (under over.old).content) result (λ d. spot_by (shape_of s.now) d owner (Some found.now)) }
+    ensures fits { IfOk result (λ o. IfSome o (SpotFits (as_described desc.now) s.now.number)) }
     ensures reads { ReadsOverlay 1 result over.old over.new }
-    ensures causes { HasCausesOr (BadEntry (described desc.now) (shape_of s.now) found.now over.old) result (under over.old) (under over.new) }
+    ensures causes { HasCausesOr (BadEntry (as_described desc.now) (shape_of s.now) found.now over.old) result (under over.old) (under over.new) }
 {
     let number = number_in(found);
     match get(over, alloc, desc, s.set, number)? {

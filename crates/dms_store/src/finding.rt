@@ -2,7 +2,7 @@ ghost use Rattle.std.specs.Prelude.{◌≡◌, ◌≤◌, IfOk, IfSome, IsTrue, 
 ghost use Rattle.dms_block.specs.Held.{HasCausesOr};
 ghost use Rattle.dms_block.specs.View.{ReadsOverlay, under};
 ghost use Rattle.dms_desc.specs.Lookups.{structure_of};
-ghost use Rattle.dms_desc.specs.Shape.{described, shape_of};
+ghost use Rattle.dms_desc.specs.Shape.{as_described, shape_of};
 ghost use Rattle.dms_layout.specs.Slots.{slot_width};
 ghost use Rattle.dms_model.specs.Fitting.{IsDataSet, SpotFits, population_of};
 ghost use Rattle.dms_model.specs.Members.{first_member, last_member};
@@ -94,12 +94,12 @@ pub fn first_record<B: Blocks>(
     owner: u64,
     from: &Bound,
 ) -> Result<Option<Spot>, BlockFault>
-    requires usable { IsUsable (described desc.now) over.old }
-    requires path { IsDataSet (described desc.now) path }
-    ensures found { Tells (db_of (described desc.now) (under over.old).told (under over.old).content) result (λ d. first_member (described desc.now) d path owner from.now) }
-    ensures fits { IfOk result (λ o. IfSome o (SpotFits (described desc.now) path)) }
-    ensures reads { ReadsOverlay (population_of (structure_of (described desc.now) path)) result over.old over.new }
-    ensures causes { HasCausesOr (BadSlot (described desc.now) path over.old) result (under over.old) (under over.new) }
+    requires usable { IsUsable (as_described desc.now) over.old }
+    requires path { IsDataSet (as_described desc.now) path }
+    ensures found { Tells (db_of (as_described desc.now) (under over.old).told (under over.old).content) result (λ d. first_member (as_described desc.now) d path owner from.now) }
+    ensures fits { IfOk result (λ o. IfSome o (SpotFits (as_described desc.now) path)) }
+    ensures reads { ReadsOverlay (population_of (structure_of (as_described desc.now) path)) result over.old over.new }
+    ensures causes { HasCausesOr (BadSlot (as_described desc.now) path over.old) result (under over.old) (under over.new) }
 {
     match desc.structure(path) {
         None => Ok(None),
@@ -116,12 +116,12 @@ pub fn last_record<B: Blocks>(
     owner: u64,
     to: &Bound,
 ) -> Result<Option<Spot>, BlockFault>
-    requires usable { IsUsable (described desc.now) over.old }
-    requires path { IsDataSet (described desc.now) path }
-    ensures found { Tells (db_of (described desc.now) (under over.old).told (under over.old).content) result (λ d. last_member (described desc.now) d path owner to.now) }
-    ensures fits { IfOk result (λ o. IfSome o (SpotFits (described desc.now) path)) }
-    ensures reads { ReadsOverlay (population_of (structure_of (described desc.now) path)) result over.old over.new }
-    ensures causes { HasCausesOr (BadSlot (described desc.now) path over.old) result (under over.old) (under over.new) }
+    requires usable { IsUsable (as_described desc.now) over.old }
+    requires path { IsDataSet (as_described desc.now) path }
+    ensures found { Tells (db_of (as_described desc.now) (under over.old).told (under over.old).content) result (λ d. last_member (as_described desc.now) d path owner to.now) }
+    ensures fits { IfOk result (λ o. IfSome o (SpotFits (as_described desc.now) path)) }
+    ensures reads { ReadsOverlay (population_of (structure_of (as_described desc.now) path)) result over.old over.new }
+    ensures causes { HasCausesOr (BadSlot (as_described desc.now) path over.old) result (under over.old) (under over.new) }
 {
     match desc.structure(path) {
         None => Ok(None),

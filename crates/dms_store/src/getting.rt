@@ -2,7 +2,7 @@ ghost use Rattle.std.specs.Prelude.{◌≡◌, IfOk, IfSome, Some};
 ghost use Rattle.std.specs.FinMap.{get};
 ghost use Rattle.dms_block.specs.Held.{HasCausesOr};
 ghost use Rattle.dms_block.specs.View.{ReadsOverlay, under};
-ghost use Rattle.dms_desc.specs.Shape.{described, shape_of};
+ghost use Rattle.dms_desc.specs.Shape.{as_described, shape_of};
 ghost use Rattle.dms_model.specs.Fitting.{IsDataSet, IsNumber, RecordFits, is_number};
 ghost use Rattle.dms_model.specs.Stores.{Tells};
 ghost use Rattle.dms_slots.specs.SlotBlocks.{slot_opt};
@@ -41,13 +41,13 @@ pub fn get<B: Blocks>(
     set: u16,
     number: u64,
 ) -> Result<Option<Record>, BlockFault>
-    requires usable { IsUsable (described desc.now) over.old }
-    requires set { IsDataSet (described desc.now) set }
-    ensures found { Tells (db_of (described desc.now) (under over.old).told (under over.old).content) result (λ d. get d.records (set, number)) }
-    ensures fits { IfOk result (λ o. IfSome o (RecordFits (described desc.now) set)) }
-    ensures number { IfOk result (λ o. IfSome o (λ r. IsNumber (described desc.now) set number)) }
+    requires usable { IsUsable (as_described desc.now) over.old }
+    requires set { IsDataSet (as_described desc.now) set }
+    ensures found { Tells (db_of (as_described desc.now) (under over.old).told (under over.old).content) result (λ d. get d.records (set, number)) }
+    ensures fits { IfOk result (λ o. IfSome o (RecordFits (as_described desc.now) set)) }
+    ensures number { IfOk result (λ o. IfSome o (λ r. IsNumber (as_described desc.now) set number)) }
     ensures reads { ReadsOverlay 1 result over.old over.new }
-    ensures causes { HasCausesOr (BadSlot (described desc.now) set over.old) result (under over.old) (under over.new) }
+    ensures causes { HasCausesOr (BadSlot (as_described desc.now) set over.old) result (under over.old) (under over.new) }
 {
     match desc.structure(set) {
         None => Ok(None),

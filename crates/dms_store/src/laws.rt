@@ -8,23 +8,23 @@ ghost use Rattle.dms_laws.specs.Sound.{IsFlat};
 ghost use Rattle.dms_model.specs.Db.{Db, Place, empty_db};
 ghost use Rattle.dms_sets.specs.Spots.{RecordsHaveSpots};
 ghost use Rattle.dms_store.specs.Serving.{IsServed};
-ghost use Rattle.dms_store.specs.Spelled.{spelled};
+ghost use Rattle.dms_store.specs.Spelled.{database_in};
 ghost use Rattle.dms_store.specs.SpelledLaws.{IsFormed, AreDisjoint, RecordStands};
 
 /// A law: files without blocks spell the database of no record.
 pub fn empty_law()
-    ensures { (desc : Described) (c : Content) → ((f : ℕ) → c f ≡ []) → spelled desc c ≡ Some empty_db }
+    ensures { (desc : Described) (c : Content) → ((f : ℕ) → c f ≡ []) → database_in desc c ≡ Some empty_db }
 {}
 
 /// A law: files spell one database at most. Each of its records is of a data set, has a number from 1 to POPULATION,
 /// and stands in a slot that fits and counts what refers to it. All its values fit, and where all data sets are
 /// disjoint it has no embedded record and no entry of a manual subset.
 pub fn spelled_law()
-    ensures one { (desc : Described) (c : Content) (a b : Db) → spelled desc c ≡ Some a → spelled desc c ≡ Some b → a ≡ b }
-    ensures records { (desc : Described) (c : Content) (db : Db) → IsFormed desc → spelled desc c ≡ Some db
+    ensures one { (desc : Described) (c : Content) (a b : Db) → database_in desc c ≡ Some a → database_in desc c ≡ Some b → a ≡ b }
+    ensures records { (desc : Described) (c : Content) (db : Db) → IsFormed desc → database_in desc c ≡ Some db
         → (place : Place) (rec : Record) → get db.records place ≡ Some rec → RecordStands desc db place rec }
-    ensures fits { (desc : Described) (c : Content) (db : Db) → IsFormed desc → spelled desc c ≡ Some db → RecordsHaveSpots desc db }
-    ensures flat { (desc : Described) (c : Content) (db : Db) → IsFormed desc → AreDisjoint desc → spelled desc c ≡ Some db → IsFlat desc db }
+    ensures fits { (desc : Described) (c : Content) (db : Db) → IsFormed desc → database_in desc c ≡ Some db → RecordsHaveSpots desc db }
+    ensures flat { (desc : Described) (c : Content) (db : Db) → IsFormed desc → AreDisjoint desc → database_in desc c ≡ Some db → IsFlat desc db }
 {}
 
 /// A law: each description that a schema can have is one that a store on blocks can keep a database under.

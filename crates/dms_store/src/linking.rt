@@ -5,7 +5,7 @@ ghost use Rattle.dms_store.specs.PuttingAfter.{linked_over, slot_after};
 use dms_base::{Memory, Value};
 use dms_desc::{Record, Structure};
 use dms_layout::Slot;
-use dms_model::linked;
+use dms_model::with_links_of;
 use std::alloc::Global;
 
 // A record's values, with this owner and the links as they stood.
@@ -20,7 +20,7 @@ fn linked_over(
 {
     Ok(Record {
         owner,
-        values: linked(alloc, s.items.as_slice(), olds, rec.values.as_slice())?,
+        values: with_links_of(alloc, s.items.as_slice(), olds, rec.values.as_slice())?,
     })
 }
 

@@ -1,11 +1,11 @@
 ghost use Rattle.std.specs.Prelude.{◌≡◌, ◌<◌, ◌^◌};
-ghost use Rattle.dms_store.specs.Noted.{noted, noted_by};
+ghost use Rattle.dms_store.specs.Noted.{count_damage, noted_by};
 
 use dms_block::BlockFault;
 
 // One more, where the fault is that a block is damaged.
 fn count(found: u64, fault: &BlockFault) -> u64
-    ensures { result ≡ noted fault.now found }
+    ensures { result ≡ count_damage fault.now found }
 {
     match fault {
         BlockFault::Damaged(_, _) => found.saturating_add(1),

@@ -1,7 +1,7 @@
 ghost use Rattle.std.specs.Prelude.{◌≡◌, ◌≤◌, ℕ, true, None, IfOk, IsTrue, length};
 ghost use Rattle.dms_block.specs.Held.{HasCausesOr};
-ghost use Rattle.dms_block.specs.View.{seen, under};
-ghost use Rattle.dms_desc.specs.Shape.{described, shape_of};
+ghost use Rattle.dms_block.specs.View.{overlay_content, under};
+ghost use Rattle.dms_desc.specs.Shape.{as_described, shape_of};
 ghost use Rattle.dms_layout.specs.Slots.{slot_width};
 ghost use Rattle.dms_model.specs.Db.{Db};
 ghost use Rattle.dms_slots.specs.Seen.{BadAt};
@@ -34,7 +34,7 @@ fn raise<B: Blocks>(
     requires number { 1 ≤ number }
     requires most { number ≤ 1000000 }
     ensures writes { WritesAtMost 1 result over.old over.new }
-    ensures raised { IfOk result (λ done. IsTrue (under over.old).told → Raises (shape_of s.now) number done (seen over.old) (seen over.new)) }
+    ensures raised { IfOk result (λ done. IsTrue (under over.old).told → Raises (shape_of s.now) number done (overlay_content over.old) (overlay_content over.new)) }
     ensures causes { HasCausesOr (BadAt (shape_of s.now) (block_of s.now.items number) over.old) result (under over.old) (under over.new) }
 {
     match read_slot(over, alloc, s, number) {
@@ -74,11 +74,11 @@ pub fn count_owner<B: Blocks>(
     owner: u64,
 ) -> Result<bool, BlockFault>
     requires sound { (under over.old).sound }
-    requires serves { Serves (described desc.now) (under over.old) }
+    requires serves { Serves (as_described desc.now) (under over.old) }
     ensures writes { WritesAtMost 1 result over.old over.new }
-    ensures below { IsTrue (under over.old).told → IfOwned set (AreSlots (described desc.now) (seen over.old)) → HasCausesOr (λ f b. ⊥) result (under over.old) (under over.new) }
-    ensures counted { IfOk result (λ done. (db : Db) (own : ℕ → ℕ → ℕ) → IsTrue (under over.old).told → StandsFiles (described desc.now) db own (seen over.old)
-        → IfOwned set (MayCount db own set owner) → (done ≡ true) × StandsFiles (described desc.now) db (owners_after own set None owner) (seen over.new)) }
+    ensures below { IsTrue (under over.old).told → IfOwned set (AreSlots (as_described desc.now) (overlay_content over.old)) → HasCausesOr (λ f b. ⊥) result (under over.old) (under over.new) }
+    ensures counted { IfOk result (λ done. (db : Db) (own : ℕ → ℕ → ℕ) → IsTrue (under over.old).told → StandsFiles (as_described desc.now) db own (overlay_content over.old)
+        → IfOwned set (MayCount db own set owner) → (done ≡ true) × StandsFiles (as_described desc.now) db (owners_after own set None owner) (overlay_content over.new)) }
 {
     if set == 0 {
         return Ok(true);

@@ -2,7 +2,7 @@ ghost use Rattle.std.specs.Prelude.{◌≡◌, ◌+◌, ◌<◌, ◌^◌, true, 
 ghost use Rattle.dms_block.specs.Held.{HasCausesOr};
 ghost use Rattle.dms_block.specs.View.{ReadsOverlay, seen_counts, under};
 ghost use Rattle.dms_desc.specs.Lookups.{structure_of};
-ghost use Rattle.dms_desc.specs.Shape.{described, shape_of};
+ghost use Rattle.dms_desc.specs.Shape.{as_described, shape_of};
 ghost use Rattle.dms_model.specs.Fitting.{IsStructure, MayStart, SpotFits};
 ghost use Rattle.dms_model.specs.Members.{first_member, last_member};
 ghost use Rattle.dms_model.specs.Stores.{Tells};
@@ -25,7 +25,7 @@ use std::alloc::Global;
 // The kinds of the items of a set's data set.
 fn kinds_over(alloc: Global, desc: &Description, s: &Structure) -> Result<Vec<ItemKind>, Memory>
     requires kept { is_set_or_automatic (shape_of s.now) ≡ true }
-    ensures { IfOk result (λ v. v.items ≡ kinds_over (described desc.now) (shape_of s.now)) }
+    ensures { IfOk result (λ v. v.items ≡ kinds_over (as_described desc.now) (shape_of s.now)) }
 {
     match desc.structure(s.set) {
         None => Ok(Vec::new(alloc)),
@@ -42,15 +42,15 @@ fn first_listed<B: Blocks>(
     owner: u64,
     from: &Bound,
 ) -> Result<Option<Spot>, BlockFault>
-    requires usable { IsUsable (described desc.now) over.old }
+    requires usable { IsUsable (as_described desc.now) over.old }
     requires kept { is_set_or_automatic (shape_of s.now) ≡ true }
-    requires there { structure_of (described desc.now) s.now.number ≡ Some (shape_of s.now) }
+    requires there { structure_of (as_described desc.now) s.now.number ≡ Some (shape_of s.now) }
     requires owner { owner < 2 ^ 32 }
-    ensures found { MayStart (described desc.now) s.now.number owner from.now → Tells (db_of (described desc.now) (under over.old).told (under over.old).content) result
-        (λ d. first_member (described desc.now) d s.now.number owner from.now) }
-    ensures fits { IfOk result (λ o. IfSome o (SpotFits (described desc.now) s.now.number)) }
+    ensures found { MayStart (as_described desc.now) s.now.number owner from.now → Tells (db_of (as_described desc.now) (under over.old).told (under over.old).content) result
+        (λ d. first_member (as_described desc.now) d s.now.number owner from.now) }
+    ensures fits { IfOk result (λ o. IfSome o (SpotFits (as_described desc.now) s.now.number)) }
     ensures reads { ReadsOverlay (2 + seen_counts over.old (file_of s.now.number)) result over.old over.new }
-    ensures causes { HasCausesOr (BadPath (described desc.now) s.now.number over.old) result (under over.old) (under over.new) }
+    ensures causes { HasCausesOr (BadPath (as_described desc.now) s.now.number over.old) result (under over.old) (under over.new) }
 {
     let kinds = kinds_over(alloc, desc, s)?;
     match first_entry(over, alloc, s, kinds.as_slice(), owner, from) {
@@ -79,15 +79,15 @@ fn last_listed<B: Blocks>(
     owner: u64,
     to: &Bound,
 ) -> Result<Option<Spot>, BlockFault>
-    requires usable { IsUsable (described desc.now) over.old }
+    requires usable { IsUsable (as_described desc.now) over.old }
     requires kept { is_set_or_automatic (shape_of s.now) ≡ true }
-    requires there { structure_of (described desc.now) s.now.number ≡ Some (shape_of s.now) }
+    requires there { structure_of (as_described desc.now) s.now.number ≡ Some (shape_of s.now) }
     requires owner { owner < 2 ^ 32 }
-    ensures found { MayStart (described desc.now) s.now.number owner to.now → Tells (db_of (described desc.now) (under over.old).told (under over.old).content) result
-        (λ d. last_member (described desc.now) d s.now.number owner to.now) }
-    ensures fits { IfOk result (λ o. IfSome o (SpotFits (described desc.now) s.now.number)) }
+    ensures found { MayStart (as_described desc.now) s.now.number owner to.now → Tells (db_of (as_described desc.now) (under over.old).told (under over.old).content) result
+        (λ d. last_member (as_described desc.now) d s.now.number owner to.now) }
+    ensures fits { IfOk result (λ o. IfSome o (SpotFits (as_described desc.now) s.now.number)) }
     ensures reads { ReadsOverlay (2 + seen_counts over.old (file_of s.now.number)) result over.old over.new }
-    ensures causes { HasCausesOr (BadPath (described desc.now) s.now.number over.old) result (under over.old) (under over.new) }
+    ensures causes { HasCausesOr (BadPath (as_described desc.now) s.now.number over.old) result (under over.old) (under over.new) }
 {
     let kinds = kinds_over(alloc, desc, s)?;
     match last_entry(over, alloc, s, kinds.as_slice(), owner, to) {
@@ -116,14 +116,14 @@ pub fn first_from<B: Blocks>(
     owner: u64,
     from: &Bound,
 ) -> Result<Option<Spot>, BlockFault>
-    requires usable { IsUsable (described desc.now) over.old }
-    requires path { IsStructure (described desc.now) path }
+    requires usable { IsUsable (as_described desc.now) over.old }
+    requires path { IsStructure (as_described desc.now) path }
     requires owner { owner < 2 ^ 32 }
-    ensures found { MayStart (described desc.now) path owner from.now → Tells (db_of (described desc.now) (under over.old).told (under over.old).content) result
-        (λ d. first_member (described desc.now) d path owner from.now) }
-    ensures fits { IfOk result (λ o. IfSome o (SpotFits (described desc.now) path)) }
-    ensures reads { ReadsOverlay (most_reads (described desc.now) path over.old) result over.old over.new }
-    ensures causes { HasCausesOr (BadPath (described desc.now) path over.old) result (under over.old) (under over.new) }
+    ensures found { MayStart (as_described desc.now) path owner from.now → Tells (db_of (as_described desc.now) (under over.old).told (under over.old).content) result
+        (λ d. first_member (as_described desc.now) d path owner from.now) }
+    ensures fits { IfOk result (λ o. IfSome o (SpotFits (as_described desc.now) path)) }
+    ensures reads { ReadsOverlay (most_reads (as_described desc.now) path over.old) result over.old over.new }
+    ensures causes { HasCausesOr (BadPath (as_described desc.now) path over.old) result (under over.old) (under over.new) }
 {
     match desc.structure(path) {
         None => Ok(None),
@@ -148,14 +148,14 @@ pub fn last_to<B: Blocks>(
     owner: u64,
     to: &Bound,
 ) -> Result<Option<Spot>, BlockFault>
-    requires usable { IsUsable (described desc.now) over.old }
-    requires path { IsStructure (described desc.now) path }
+    requires usable { IsUsable (as_described desc.now) over.old }
+    requires path { IsStructure (as_described desc.now) path }
     requires owner { owner < 2 ^ 32 }
-    ensures found { MayStart (described desc.now) path owner to.now → Tells (db_of (described desc.now) (under over.old).told (under over.old).content) result
-        (λ d. last_member (described desc.now) d path owner to.now) }
-    ensures fits { IfOk result (λ o. IfSome o (SpotFits (described desc.now) path)) }
-    ensures reads { ReadsOverlay (most_reads (described desc.now) path over.old) result over.old over.new }
-    ensures causes { HasCausesOr (BadPath (described desc.now) path over.old) result (under over.old) (under over.new) }
+    ensures found { MayStart (as_described desc.now) path owner to.now → Tells (db_of (as_described desc.now) (under over.old).told (under over.old).content) result
+        (λ d. last_member (as_described desc.now) d path owner to.now) }
+    ensures fits { IfOk result (λ o. IfSome o (SpotFits (as_described desc.now) path)) }
+    ensures reads { ReadsOverlay (most_reads (as_described desc.now) path over.old) result over.old over.new }
+    ensures causes { HasCausesOr (BadPath (as_described desc.now) path over.old) result (under over.old) (under over.new) }
 {
     match desc.structure(path) {
         None => Ok(None),

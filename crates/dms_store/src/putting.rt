@@ -5,13 +5,13 @@ ghost use Rattle.std.specs.declared.option.Option.{Option};
 ghost use Rattle.dms_block.specs.Content.{Content};
 ghost use Rattle.dms_block.specs.Faults.{IfFull};
 ghost use Rattle.dms_block.specs.Held.{HasCausesOr};
-ghost use Rattle.dms_block.specs.View.{seen, under, written};
+ghost use Rattle.dms_block.specs.View.{overlay_content, under, overlay_changes};
 ghost use Rattle.dms_desc.specs.Lookups.{structure_of};
-ghost use Rattle.dms_desc.specs.Shape.{Shape, Described, described, shape_of};
+ghost use Rattle.dms_desc.specs.Shape.{Shape, Described, as_described, shape_of};
 ghost use Rattle.dms_model.specs.Db.{Db};
 ghost use Rattle.dms_layout.specs.Slots.{SlotFits};
 ghost use Rattle.dms_model.specs.Fitting.{IsDataSet, IsNumber, PutFits, RecordFits};
-ghost use Rattle.dms_model.specs.Stores.{linked};
+ghost use Rattle.dms_model.specs.Stores.{with_links_of};
 ghost use Rattle.dms_model.specs.Valid.{is_data_set};
 ghost use Rattle.dms_slots.specs.Seen.{count_of};
 ghost use Rattle.dms_slots.specs.SlotBlocks.{block_of, file_of, slot_at, slot_opt};
@@ -26,7 +26,7 @@ ghost use Rattle.dms_store.specs.PuttingOver.{AreWhole};
 ghost use Rattle.dms_store.specs.PuttingSteps.{SlotChanged};
 ghost use Rattle.dms_store.specs.Rows.{rec_opt};
 ghost use Rattle.dms_store.specs.Serving.{IsServed};
-ghost use Rattle.dms_store.specs.Spelled.{file_in, is_whole, spelled};
+ghost use Rattle.dms_store.specs.Spelled.{file_in, is_whole, database_in};
 
 use crate::linking::slot_after;
 use crate::owning::count_owner;
@@ -42,11 +42,11 @@ use std::alloc::Global;
 /// record are changed, it spells the database with what is stored for the record. The slot keeps its counts.
 pub fn put_law()
     ensures { (desc : Described) (db : Db) (c e d : Content) (set number : ℕ) (s : Shape) (o : Option Slot) (rec : Record)
-        → IsServed desc → spelled desc c ≡ Some db → MayStand desc set number s rec → IsFree s rec → slot_at s (file_in c s) number ≡ slot_opt o
-        → ListsPut desc (with_record db set number (linked s.items (rec_opt (slot_opt o)) rec)) set c e
+        → IsServed desc → database_in desc c ≡ Some db → MayStand desc set number s rec → IsFree s rec → slot_at s (file_in c s) number ≡ slot_opt o
+        → ListsPut desc (with_record db set number (with_links_of s.items (rec_opt (slot_opt o)) rec)) set c e
         → SlotChanged s number (slot_after s.items o rec) e d
         → ((n : ℕ) → list_all is_whole (c (file_of n)) ≡ true → list_all is_whole (d (file_of n)) ≡ true)
-        → spelled desc d ≡ Some (with_record db set number (linked s.items (rec_opt (slot_opt o)) rec)) }
+        → database_in desc d ≡ Some (with_record db set number (with_links_of s.items (rec_opt (slot_opt o)) rec)) }
 {}
 
 fn see_block(block: &Block)
@@ -74,22 +74,22 @@ fn write_at<B: Blocks>(
     old: Option<&Record>,
     slot: &Slot,
 ) -> Result<Put, BlockFault>
-    requires usable { IsUsable (described desc.now) over.old }
-    requires at { structure_of (described desc.now) s.now.number ≡ Some (shape_of s.now) }
+    requires usable { IsUsable (as_described desc.now) over.old }
+    requires at { structure_of (as_described desc.now) s.now.number ≡ Some (shape_of s.now) }
     requires set { is_data_set (Some (shape_of s.now)) ≡ true }
     requires low { 1 ≤ number }
     requires most { number ≤ s.now.population }
     requires next { block_of s.now.items number ≤ count_of (shape_of s.now) over.old }
-    requires old { IfSome (option_copied old) (RecordFits (described desc.now) s.now.number) }
-    requires new { RecordFits (described desc.now) s.now.number slot.now.rec }
-    ensures fits { IfOk result (PutFits (described desc.now) s.now.number) }
+    requires old { IfSome (option_copied old) (RecordFits (as_described desc.now) s.now.number) }
+    requires new { RecordFits (as_described desc.now) s.now.number slot.now.rec }
+    ensures fits { IfOk result (PutFits (as_described desc.now) s.now.number) }
     ensures enters { WritesAtMost (9 * length desc.now.structures + 1) result over.old over.new }
-    ensures below { (db : Db) (o : Option Slot) (rec : Record) → IsPlaced (described desc.now) db (shape_of s.now) number o rec (option_copied old.entry) slot.now over.old
+    ensures below { (db : Db) (o : Option Slot) (rec : Record) → IsPlaced (as_described desc.now) db (shape_of s.now) number o rec (option_copied old.entry) slot.now over.old
         → HasCausesOr (λ f b. ⊥) result (under over.old) (under over.new) }
-    ensures slots { IfOk result (λ p. (db : Db) (o : Option Slot) (rec : Record) → IsPlaced (described desc.now) db (shape_of s.now) number o rec (option_copied old.entry) slot.now over.old
-        → IfOwned s.now.owner (IfStored p (AreSlots (described desc.now) (seen over.new)))) }
-    ensures entered { IfOk result (λ p. (db : Db) (o : Option Slot) (rec : Record) → IsPlaced (described desc.now) db (shape_of s.now) number o rec (option_copied old.entry) slot.now over.old
-        → OwnerStands db (shape_of s.now) o rec → IsUncounted (described desc.now) db s.now.number number slot.now.rec (seen over.new) p) }
+    ensures slots { IfOk result (λ p. (db : Db) (o : Option Slot) (rec : Record) → IsPlaced (as_described desc.now) db (shape_of s.now) number o rec (option_copied old.entry) slot.now over.old
+        → IfOwned s.now.owner (IfStored p (AreSlots (as_described desc.now) (overlay_content over.new)))) }
+    ensures entered { IfOk result (λ p. (db : Db) (o : Option Slot) (rec : Record) → IsPlaced (as_described desc.now) db (shape_of s.now) number o rec (option_copied old.entry) slot.now over.old
+        → OwnerStands db (shape_of s.now) o rec → IsUncounted (as_described desc.now) db s.now.number number slot.now.rec (overlay_content over.new) p) }
 {
     match change(over, alloc, desc, s.number, number, old, Some(&slot.rec)) {
         Err(e) => Err(e),
@@ -113,19 +113,19 @@ fn write_new<B: Blocks>(
     number: u64,
     slot: &Slot,
 ) -> Result<Put, BlockFault>
-    requires usable { IsUsable (described desc.now) over.old }
-    requires at { structure_of (described desc.now) s.now.number ≡ Some (shape_of s.now) }
+    requires usable { IsUsable (as_described desc.now) over.old }
+    requires at { structure_of (as_described desc.now) s.now.number ≡ Some (shape_of s.now) }
     requires set { is_data_set (Some (shape_of s.now)) ≡ true }
     requires low { 1 ≤ number }
     requires most { number ≤ s.now.population }
     requires next { block_of s.now.items number ≤ count_of (shape_of s.now) over.old }
-    requires new { RecordFits (described desc.now) s.now.number slot.now.rec }
-    ensures fits { IfOk result (PutFits (described desc.now) s.now.number) }
+    requires new { RecordFits (as_described desc.now) s.now.number slot.now.rec }
+    ensures fits { IfOk result (PutFits (as_described desc.now) s.now.number) }
     ensures enters { WritesAtMost (9 * length desc.now.structures + 2) result over.old over.new }
-    ensures below { (db : Db) (o : Option Slot) (rec : Record) → IsPlaced (described desc.now) db (shape_of s.now) number o rec None slot.now over.old
+    ensures below { (db : Db) (o : Option Slot) (rec : Record) → IsPlaced (as_described desc.now) db (shape_of s.now) number o rec None slot.now over.old
         → HasCausesOr (λ f b. ⊥) result (under over.old) (under over.new) }
-    ensures entered { IfOk result (λ p. (db : Db) (o : Option Slot) (rec : Record) → IsPlaced (described desc.now) db (shape_of s.now) number o rec None slot.now over.old
-        → OwnerStands db (shape_of s.now) o rec → IsEntered (described desc.now) db s.now.number number slot.now.rec (seen over.new) p) }
+    ensures entered { IfOk result (λ p. (db : Db) (o : Option Slot) (rec : Record) → IsPlaced (as_described desc.now) db (shape_of s.now) number o rec None slot.now over.old
+        → OwnerStands db (shape_of s.now) o rec → IsEntered (as_described desc.now) db s.now.number number slot.now.rec (overlay_content over.new) p) }
 {
     match write_at(over, alloc, desc, s, number, None, slot) {
         Err(e) => Err(e),
@@ -149,21 +149,21 @@ fn store_at<B: Blocks>(
     old: Option<&Slot>,
     rec: &Record,
 ) -> Result<Put, BlockFault>
-    requires usable { IsUsable (described desc.now) over.old }
-    requires at { structure_of (described desc.now) s.now.number ≡ Some (shape_of s.now) }
+    requires usable { IsUsable (as_described desc.now) over.old }
+    requires at { structure_of (as_described desc.now) s.now.number ≡ Some (shape_of s.now) }
     requires set { is_data_set (Some (shape_of s.now)) ≡ true }
     requires low { 1 ≤ number }
     requires most { number ≤ s.now.population }
     requires next { block_of s.now.items number ≤ count_of (shape_of s.now) over.old }
     requires old { IfSome (option_copied old) (SlotFits (shape_of s.now)) }
-    requires new { RecordFits (described desc.now) s.now.number rec.now }
-    ensures fits { IfOk result (PutFits (described desc.now) s.now.number) }
+    requires new { RecordFits (as_described desc.now) s.now.number rec.now }
+    ensures fits { IfOk result (PutFits (as_described desc.now) s.now.number) }
     ensures enters { WritesAtMost (9 * length desc.now.structures + 2) result over.old over.new }
-    ensures below { (db : Db) → FindsSlot (described desc.now) db (shape_of s.now) number (option_copied old.entry) over.old
+    ensures below { (db : Db) → FindsSlot (as_described desc.now) db (shape_of s.now) number (option_copied old.entry) over.old
         → HasCausesOr (λ f b. ⊥) result (under over.old) (under over.new) }
-    ensures entered { IfOk result (λ p. (db : Db) → FindsSlot (described desc.now) db (shape_of s.now) number (option_copied old.entry) over.old
+    ensures entered { IfOk result (λ p. (db : Db) → FindsSlot (as_described desc.now) db (shape_of s.now) number (option_copied old.entry) over.old
         → OwnerStands db (shape_of s.now) (option_copied old.entry) rec.now
-        → IsEntered (described desc.now) db s.now.number number (linked s.now.items (rec_opt (slot_opt (option_copied old.entry))) rec.now) (seen over.new) p) }
+        → IsEntered (as_described desc.now) db s.now.number number (with_links_of s.now.items (rec_opt (slot_opt (option_copied old.entry))) rec.now) (overlay_content over.new) p) }
 {
     let slot = slot_after(alloc, s, old, rec)?;
     match old {
@@ -181,17 +181,17 @@ fn judge<B: Blocks>(
     number: u64,
     rec: &Record,
 ) -> Result<Put, BlockFault>
-    requires usable { IsUsable (described desc.now) over.old }
-    requires at { structure_of (described desc.now) s.now.number ≡ Some (shape_of s.now) }
+    requires usable { IsUsable (as_described desc.now) over.old }
+    requires at { structure_of (as_described desc.now) s.now.number ≡ Some (shape_of s.now) }
     requires set { is_data_set (Some (shape_of s.now)) ≡ true }
     requires above { number ≡ s.now.population + 1 }
-    requires new { RecordFits (described desc.now) s.now.number rec.now }
-    ensures fits { IfOk result (PutFits (described desc.now) s.now.number) }
+    requires new { RecordFits (as_described desc.now) s.now.number rec.now }
+    ensures fits { IfOk result (PutFits (as_described desc.now) s.now.number) }
     ensures enters { WritesAtMost (9 * length desc.now.structures + 2) result over.old over.new }
-    ensures below { (db : Db) → IsTrue (under over.old).told → spelled (described desc.now) (under over.old).content ≡ Some db
+    ensures below { (db : Db) → IsTrue (under over.old).told → database_in (as_described desc.now) (under over.old).content ≡ Some db
         → HasCausesOr (λ f b. ⊥) result (under over.old) (under over.new) }
-    ensures judged { IfOk result (λ p. (db : Db) → IsTrue (under over.old).told → spelled (described desc.now) (under over.old).content ≡ Some db
-        → IsJudged (described desc.now) db s.now.number (s.now.population + 1) (linked s.now.items None rec.now) p) }
+    ensures judged { IfOk result (λ p. (db : Db) → IsTrue (under over.old).told → database_in (as_described desc.now) (under over.old).content ≡ Some db
+        → IsJudged (as_described desc.now) db s.now.number (s.now.population + 1) (with_links_of s.now.items None rec.now) p) }
 {
     let slot = slot_after(alloc, s, None, rec)?;
     match change(over, alloc, desc, s.number, number, None, Some(&slot.rec)) {
@@ -209,16 +209,16 @@ fn put_new<B: Blocks>(
     s: &Structure,
     rec: &Record,
 ) -> Result<Put, BlockFault>
-    requires usable { IsUsable (described desc.now) over.old }
-    requires at { structure_of (described desc.now) s.now.number ≡ Some (shape_of s.now) }
+    requires usable { IsUsable (as_described desc.now) over.old }
+    requires at { structure_of (as_described desc.now) s.now.number ≡ Some (shape_of s.now) }
     requires set { is_data_set (Some (shape_of s.now)) ≡ true }
-    requires new { RecordFits (described desc.now) s.now.number rec.now }
-    ensures fits { IfOk result (PutFits (described desc.now) s.now.number) }
+    requires new { RecordFits (as_described desc.now) s.now.number rec.now }
+    ensures fits { IfOk result (PutFits (as_described desc.now) s.now.number) }
     ensures enters { WritesAtMost (9 * length desc.now.structures + 2) result over.old over.new }
-    ensures below { (db : Db) → IsTrue (under over.old).told → spelled (described desc.now) (under over.old).content ≡ Some db
+    ensures below { (db : Db) → IsTrue (under over.old).told → database_in (as_described desc.now) (under over.old).content ≡ Some db
         → HasCausesOr (λ f b. ⊥) result (under over.old) (under over.new) }
     ensures answers { IfOk result (λ p. IsTrue (under over.old).told
-        → AnswersOver (described desc.now) (under over.old).content (seen over.new) s.now.number None rec.now p) }
+        → AnswersOver (as_described desc.now) (under over.old).content (overlay_content over.new) s.now.number None rec.now p) }
 {
     match take_least(over, alloc, s) {
         Err(e) => Err(e),
@@ -236,18 +236,18 @@ fn put_old<B: Blocks>(
     number: u64,
     rec: &Record,
 ) -> Result<Put, BlockFault>
-    requires usable { IsUsable (described desc.now) over.old }
-    requires at { structure_of (described desc.now) s.now.number ≡ Some (shape_of s.now) }
+    requires usable { IsUsable (as_described desc.now) over.old }
+    requires at { structure_of (as_described desc.now) s.now.number ≡ Some (shape_of s.now) }
     requires set { is_data_set (Some (shape_of s.now)) ≡ true }
     requires low { 1 ≤ number }
     requires most { number ≤ s.now.population }
-    requires new { RecordFits (described desc.now) s.now.number rec.now }
-    ensures fits { IfOk result (PutFits (described desc.now) s.now.number) }
+    requires new { RecordFits (as_described desc.now) s.now.number rec.now }
+    ensures fits { IfOk result (PutFits (as_described desc.now) s.now.number) }
     ensures enters { WritesAtMost (9 * length desc.now.structures + 2) result over.old over.new }
-    ensures below { (db : Db) → IsTrue (under over.old).told → spelled (described desc.now) (under over.old).content ≡ Some db
+    ensures below { (db : Db) → IsTrue (under over.old).told → database_in (as_described desc.now) (under over.old).content ≡ Some db
         → HasCausesOr (λ f b. ⊥) result (under over.old) (under over.new) }
     ensures answers { IfOk result (λ p. IsTrue (under over.old).told
-        → AnswersOver (described desc.now) (under over.old).content (seen over.new) s.now.number (Some number) rec.now p) }
+        → AnswersOver (as_described desc.now) (under over.old).content (overlay_content over.new) s.now.number (Some number) rec.now p) }
 {
     match read_slot(over, alloc, s, number) {
         Err(e) => Err(e),
@@ -265,17 +265,17 @@ fn put_in<B: Blocks>(
     number: Option<u64>,
     rec: &Record,
 ) -> Result<Put, BlockFault>
-    requires usable { IsUsable (described desc.now) over.old }
-    requires at { structure_of (described desc.now) s.now.number ≡ Some (shape_of s.now) }
+    requires usable { IsUsable (as_described desc.now) over.old }
+    requires at { structure_of (as_described desc.now) s.now.number ≡ Some (shape_of s.now) }
     requires set { is_data_set (Some (shape_of s.now)) ≡ true }
     requires number { IfSome number (λ n. (1 ≤ n) × (n ≤ s.now.population)) }
-    requires new { RecordFits (described desc.now) s.now.number rec.now }
-    ensures fits { IfOk result (PutFits (described desc.now) s.now.number) }
+    requires new { RecordFits (as_described desc.now) s.now.number rec.now }
+    ensures fits { IfOk result (PutFits (as_described desc.now) s.now.number) }
     ensures enters { WritesAtMost (9 * length desc.now.structures + 2) result over.old over.new }
-    ensures below { (db : Db) → IsTrue (under over.old).told → spelled (described desc.now) (under over.old).content ≡ Some db
+    ensures below { (db : Db) → IsTrue (under over.old).told → database_in (as_described desc.now) (under over.old).content ≡ Some db
         → HasCausesOr (λ f b. ⊥) result (under over.old) (under over.new) }
     ensures answers { IfOk result (λ p. IsTrue (under over.old).told
-        → AnswersOver (described desc.now) (under over.old).content (seen over.new) s.now.number number rec.now p) }
+        → AnswersOver (as_described desc.now) (under over.old).content (overlay_content over.new) s.now.number number rec.now p) }
 {
     match number {
         None => put_new(over, alloc, desc, s, rec),
@@ -292,16 +292,16 @@ fn put_over<B: Blocks>(
     number: Option<u64>,
     rec: &Record,
 ) -> Result<Put, BlockFault>
-    requires usable { IsUsable (described desc.now) over.old }
-    requires set { IsDataSet (described desc.now) set }
-    requires number { IfSome number (IsNumber (described desc.now) set) }
-    requires fits { RecordFits (described desc.now) set rec.now }
-    ensures fits { IfOk result (PutFits (described desc.now) set) }
+    requires usable { IsUsable (as_described desc.now) over.old }
+    requires set { IsDataSet (as_described desc.now) set }
+    requires number { IfSome number (IsNumber (as_described desc.now) set) }
+    requires fits { RecordFits (as_described desc.now) set rec.now }
+    ensures fits { IfOk result (PutFits (as_described desc.now) set) }
     ensures enters { WritesAtMost (9 * length desc.now.structures + 2) result over.old over.new }
-    ensures below { (db : Db) → IsTrue (under over.old).told → spelled (described desc.now) (under over.old).content ≡ Some db
+    ensures below { (db : Db) → IsTrue (under over.old).told → database_in (as_described desc.now) (under over.old).content ≡ Some db
         → HasCausesOr (λ f b. ⊥) result (under over.old) (under over.new) }
     ensures answers { IfOk result (λ p. IsTrue (under over.old).told
-        → AnswersOver (described desc.now) (under over.old).content (seen over.new) set number rec.now p) }
+        → AnswersOver (as_described desc.now) (under over.old).content (overlay_content over.new) set number rec.now p) }
 {
     match desc.structure(set) {
         None => Ok(Put::Full),
@@ -320,19 +320,19 @@ pub fn put<B: Blocks>(
     number: Option<u64>,
     rec: &Record,
 ) -> Result<Put, BlockFault>
-    requires usable { IsUsable (described desc.now) over.old }
-    requires set { IsDataSet (described desc.now) set }
-    requires number { IfSome number (IsNumber (described desc.now) set) }
-    requires fits { RecordFits (described desc.now) set rec.now }
-    ensures fits { IfOk result (PutFits (described desc.now) set) }
-    ensures written { written over.new ≡ [] }
+    requires usable { IsUsable (as_described desc.now) over.old }
+    requires set { IsDataSet (as_described desc.now) set }
+    requires number { IfSome number (IsNumber (as_described desc.now) set) }
+    requires fits { RecordFits (as_described desc.now) set rec.now }
+    ensures fits { IfOk result (PutFits (as_described desc.now) set) }
+    ensures written { overlay_changes over.new ≡ [] }
     ensures hands_down { HandsDown (9 * length desc.now.structures + 2) result over.old over.new }
-    ensures below { (db : Db) → IsTrue (under over.old).told → spelled (described desc.now) (under over.old).content ≡ Some db
+    ensures below { (db : Db) → IsTrue (under over.old).told → database_in (as_described desc.now) (under over.old).content ≡ Some db
         → HasCausesOr (λ f b. ⊥) result (under over.old) (under over.new) }
-    ensures full { IfFull result (λ f. f ≡ B.last over.old.below) }
-    ensures stored { IsTrue (under over.old).told → FullStored (described desc.now) (under over.old).content set number rec.now result }
+    ensures full { IfFull result (λ f. f ≡ (B.pace over.old.below).last) }
+    ensures stored { IsTrue (under over.old).told → FullStored (as_described desc.now) (under over.old).content set number rec.now result }
     ensures answers { IfOk result (λ p. IsTrue (under over.old).told
-        → Answers (described desc.now) (under over.old).content (under over.new).content set number rec.now p) }
+        → Answers (as_described desc.now) (under over.old).content (under over.new).content set number rec.now p) }
 {
     match put_over(over, alloc, desc, set, number, rec) {
         Err(e) => {

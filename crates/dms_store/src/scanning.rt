@@ -25,7 +25,7 @@ pub fn slot_count<B: Blocks>(over: &Overlay<B>, s: &Structure) -> u64
 }
 
 // The record of a slot as a member, where it is this owner's.
-fn owned(alloc: Global, owner: u64, number: u64, slot: Option<Slot>) -> Option<Spot>
+fn owned_spot(alloc: Global, owner: u64, number: u64, slot: Option<Slot>) -> Option<Spot>
     ensures { result ≡ owned_spot owner number (slot_opt slot) }
 {
     match slot {
@@ -63,7 +63,7 @@ fn owned_at<B: Blocks>(
 {
     match read_slot(over, alloc, s, number) {
         Err(e) => Err(e),
-        Ok(slot) => Ok(owned(alloc, owner, number, slot)),
+        Ok(slot) => Ok(owned_spot(alloc, owner, number, slot)),
     }
 }
 

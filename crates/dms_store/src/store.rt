@@ -1,7 +1,8 @@
-ghost use Rattle.std.specs.Prelude.{◌≡◌, ◌<◌, ◌+◌, ◌^◌, ◌++◌, [], ◌∷◌, Some, IfOk, IfSome, IfErr, OnOk, IsErrOf, IsOkUnless, ◌*◌, length};
+ghost use Rattle.std.specs.Prelude.{◌≡◌, ◌<◌, ◌+◌, ◌^◌, ◌++◌, [], ◌∷◌, Some, IfOk, IfSome, IfErr, OnOk, IsErrOf, IsOkUnless, ◌*◌, length, true};
 ghost use Rattle.dms_block.specs.Faults.{IfFull, Undamaged};
+ghost use Rattle.dms_block.specs.Held.{is_due};
 ghost use Rattle.dms_block.specs.Texts.{Prints};
-ghost use Rattle.dms_desc.specs.Shape.{described};
+ghost use Rattle.dms_desc.specs.Shape.{as_described};
 ghost use Rattle.dms_model.specs.Db.{Db};
 ghost use Rattle.dms_model.specs.Fitting.{IsDataSet, IsNumber, IsStructure, MayStart, PutFits, RecordFits, SpotFits};
 ghost use Rattle.dms_model.specs.Members.{first_member, last_member};
@@ -34,10 +35,10 @@ pub struct BlockStore<B: Blocks> {
 impl<B: Blocks> BlockStore<B> {
     /// The database that blocks spell, under a copy of the description. Where memory is refused the blocks come back.
     pub fn new(alloc: Global, desc: &Description, below: B) -> Result<BlockStore<B>, (Memory, B)>
-        ensures desc { IfOk result (λ s. described s.desc ≡ described desc.now) }
+        ensures desc { IfOk result (λ s. as_described s.desc ≡ as_described desc.now) }
         ensures below { IfOk result (λ s. s.over.below ≡ below) }
         ensures found { IfOk result (λ s. s.found ≡ 0) }
-        ensures usable { (B.held below).sound → Serves (described desc.now) (B.held below) → IfOk result (λ s. IsUsable (described s.desc) s.over) }
+        ensures usable { (B.held below).sound → Serves (as_described desc.now) (B.held below) → IfOk result (λ s. IsUsable (as_described s.desc) s.over) }
         ensures below_back { IfErr result (λ e. e.1 ≡ below) }
     {
         match desc.copy(alloc) {
@@ -64,11 +65,11 @@ impl<B: Blocks> BlockStore<B> {
         set: u16,
         number: u64,
     ) -> Result<Option<Record>, BlockFault>
-        requires sound { IsUsable (described self.old.desc) self.old.over }
-        requires set { IsDataSet (described self.old.desc) set }
+        requires sound { IsUsable (as_described self.old.desc) self.old.over }
+        requires set { IsDataSet (as_described self.old.desc) set }
         ensures desc { self.new.desc ≡ self.old.desc }
         ensures found { Tells (seen_by self.old).db result (λ d. get d.records (set, number)) }
-        ensures fits { IfOk result (λ o. IfSome o (RecordFits (described self.old.desc) set)) }
+        ensures fits { IfOk result (λ o. IfSome o (RecordFits (as_described self.old.desc) set)) }
         ensures looked { Looked result (seen_by self.old) (seen_by self.new) }
         ensures same { B.same_blocks self.old.over.below self.new.over.below }
     {
@@ -86,12 +87,12 @@ impl<B: Blocks> BlockStore<B> {
         owner: u64,
         from: &Bound,
     ) -> Result<Option<Spot>, BlockFault>
-        requires sound { IsUsable (described self.old.desc) self.old.over }
-        requires path { IsStructure (described self.old.desc) path }
+        requires sound { IsUsable (as_described self.old.desc) self.old.over }
+        requires path { IsStructure (as_described self.old.desc) path }
         requires owner { owner < 2 ^ 32 }
         ensures desc { self.new.desc ≡ self.old.desc }
-        ensures found { MayStart (described self.old.desc) path owner from.now → Tells (seen_by self.old).db result (λ d. first_member (described self.old.desc) d path owner from.now) }
-        ensures fits { IfOk result (λ o. IfSome o (SpotFits (described self.old.desc) path)) }
+        ensures found { MayStart (as_described self.old.desc) path owner from.now → Tells (seen_by self.old).db result (λ d. first_member (as_described self.old.desc) d path owner from.now) }
+        ensures fits { IfOk result (λ o. IfSome o (SpotFits (as_described self.old.desc) path)) }
         ensures looked { Looked result (seen_by self.old) (seen_by self.new) }
         ensures same { B.same_blocks self.old.over.below self.new.over.below }
     {
@@ -109,12 +110,12 @@ impl<B: Blocks> BlockStore<B> {
         owner: u64,
         to: &Bound,
     ) -> Result<Option<Spot>, BlockFault>
-        requires sound { IsUsable (described self.old.desc) self.old.over }
-        requires path { IsStructure (described self.old.desc) path }
+        requires sound { IsUsable (as_described self.old.desc) self.old.over }
+        requires path { IsStructure (as_described self.old.desc) path }
         requires owner { owner < 2 ^ 32 }
         ensures desc { self.new.desc ≡ self.old.desc }
-        ensures found { MayStart (described self.old.desc) path owner to.now → Tells (seen_by self.old).db result (λ d. last_member (described self.old.desc) d path owner to.now) }
-        ensures fits { IfOk result (λ o. IfSome o (SpotFits (described self.old.desc) path)) }
+        ensures found { MayStart (as_described self.old.desc) path owner to.now → Tells (seen_by self.old).db result (λ d. last_member (as_described self.old.desc) d path owner to.now) }
+        ensures fits { IfOk result (λ o. IfSome o (SpotFits (as_described self.old.desc) path)) }
         ensures looked { Looked result (seen_by self.old) (seen_by self.new) }
         ensures same { B.same_blocks self.old.over.below self.new.over.below }
     {
@@ -123,8 +124,9 @@ impl<B: Blocks> BlockStore<B> {
     }
 
     /// Makes a quiet point, and answers its number. Takes no memory. Where the next number is 2^64 - 1 it stays so.
+    /// Where the audit has no room no stop leaves the new point.
     pub fn quiet(&mut self) -> Result<u64, BlockFault>
-        requires { IsUsable (described self.old.desc) self.old.over }
+        requires { IsUsable (as_described self.old.desc) self.old.over }
         ensures desc { self.new.desc ≡ self.old.desc }
         ensures number { (seen_by self.old).next + 1 < 2 ^ 64 → IfOk result (λ n. n ≡ (seen_by self.old).next) }
         ensures made { OnOk result (QuietMade (seen_by self.old) (seen_by self.new)) }
@@ -135,15 +137,16 @@ impl<B: Blocks> BlockStore<B> {
         ensures effort { (seen_by self.new).effort ≡ (seen_by self.old).effort }
         ensures undamaged { (d : Db) → (seen_by self.old).db ≡ Some d → Undamaged result }
         ensures mute_fault { IsErrOf result BlockFault.Say → ⊥ }
-        ensures full { IfFull result (λ f. f ≡ (seen_by self.old).last) }
+        ensures full { IfFull result (λ f. f ≡ (seen_by self.old).pace.last) }
+        ensures no_point { let s = seen_by self.old in IfFull result (λ f. IfPointsTold s (StoreLeaves s.whole s.clock (seen_by self.new).clock s.durable s.points s.next s.said)) }
         ensures causes { HasStoreCauses result (seen_by self.old) (seen_by self.new) }
     {
         note(&mut self.found, self.over.below.quiet())
     }
 
-    /// Makes all quiet points so far durable. Takes no memory.
+    /// Makes all quiet points so far durable. Takes no memory. The audit may have no room only where a control point is due.
     pub fn sync(&mut self) -> Result<(), BlockFault>
-        requires { IsUsable (described self.old.desc) self.old.over }
+        requires { IsUsable (as_described self.old.desc) self.old.over }
         ensures desc { self.new.desc ≡ self.old.desc }
         ensures made { OnOk result (PointsDurable (seen_by self.old) (seen_by self.new)) }
         ensures memory { IsErrOf result BlockFault.Memory → ⊥ }
@@ -152,7 +155,8 @@ impl<B: Blocks> BlockStore<B> {
         ensures effort { Syncs result (seen_by self.old).effort (seen_by self.new).effort }
         ensures undamaged { (d : Db) → (seen_by self.old).db ≡ Some d → Undamaged result }
         ensures mute_fault { IsErrOf result BlockFault.Say → ⊥ }
-        ensures full { IfFull result (λ f. f ≡ (seen_by self.old).last) }
+        ensures full { IfFull result (λ f. f ≡ (seen_by self.old).pace.last) }
+        ensures due { IfFull result (λ f. is_due (seen_by self.old).pace.every (seen_by self.old).effort.syncs ≡ true) }
         ensures causes { HasStoreCauses result (seen_by self.old) (seen_by self.new) }
     {
         note(&mut self.found, self.over.below.sync())
@@ -161,7 +165,7 @@ impl<B: Blocks> BlockStore<B> {
     /// Goes back to the last quiet point, or to the database that it began with.
     /// Answers the blocks' fault, which is never Say, and not Damaged where they spell a database.
     pub fn back_out(&mut self, alloc: Global) -> Result<(), BlockFault>
-        requires { IsUsable (described self.old.desc) self.old.over }
+        requires { IsUsable (as_described self.old.desc) self.old.over }
         ensures desc { self.new.desc ≡ self.old.desc }
         ensures db { OnOk result ((seen_by self.new).db ≡ (seen_by self.old).mark) }
         ensures keeps { OnOk result (KeepsPoints (seen_by self.old) (seen_by self.new)) }
@@ -178,7 +182,7 @@ impl<B: Blocks> BlockStore<B> {
 
     /// Prints. Takes no memory of its own. A failed call prints the first bytes or none.
     pub fn say(&mut self, bytes: &[u8]) -> Result<(), BlockFault>
-        requires { IsUsable (described self.old.desc) self.old.over }
+        requires { IsUsable (as_described self.old.desc) self.old.over }
         ensures desc { self.new.desc ≡ self.old.desc }
         ensures text { OnOk result (Prints (seen_by self.old).said (seen_by self.new).said bytes.now) }
         ensures part { SaysPart (seen_by self.old) (seen_by self.new) bytes.now }
@@ -201,16 +205,16 @@ impl<B: Blocks> BlockStore<B> {
         number: Option<u64>,
         rec: &Record,
     ) -> Result<Put, BlockFault>
-        requires sound { IsUsable (described self.old.desc) self.old.over }
-        requires set { IsDataSet (described self.old.desc) set }
-        requires number { IfSome number (IsNumber (described self.old.desc) set) }
-        requires fits { RecordFits (described self.old.desc) set rec.now }
+        requires sound { IsUsable (as_described self.old.desc) self.old.over }
+        requires set { IsDataSet (as_described self.old.desc) set }
+        requires number { IfSome number (IsNumber (as_described self.old.desc) set) }
+        requires fits { RecordFits (as_described self.old.desc) set rec.now }
         ensures desc { self.new.desc ≡ self.old.desc }
-        ensures fits { IfOk result (PutFits (described self.old.desc) set) }
-        ensures put { IfOk result (Stores (described self.old.desc) (seen_by self.old).db (seen_by self.new).db set number rec.now) }
-        ensures full { IfFull result (λ f. f ≡ (seen_by self.old).last) }
-        ensures stored { FullWhere (described self.old.desc) (seen_by self.old).db set number rec.now result }
-        ensures changed { ChangesAtMost (64 * length (described self.old.desc).structures) result (seen_by self.old) (seen_by self.new) }
+        ensures fits { IfOk result (PutFits (as_described self.old.desc) set) }
+        ensures put { IfOk result (Stores (as_described self.old.desc) (seen_by self.old).db (seen_by self.new).db set number rec.now) }
+        ensures full { IfFull result (λ f. f ≡ (seen_by self.old).pace.last) }
+        ensures stored { FullWhere (as_described self.old.desc) (seen_by self.old).db set number rec.now result }
+        ensures changed { ChangesAtMost (64 * length (as_described self.old.desc).structures) result (seen_by self.old) (seen_by self.new) }
         ensures same { B.same_blocks self.old.over.below self.new.over.below }
     {
         let stored = putting::put(&mut self.over, alloc, &self.desc, set, number, rec);

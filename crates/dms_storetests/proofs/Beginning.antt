@@ -12,7 +12,7 @@ use Rattle.dms_memblocks.specs.View.{IsNew}
 use Rattle.dms_model.specs.Db.{empty_db}
 use Rattle.dms_store.specs.Lifted.{Serves, db_of}
 use Rattle.dms_store.specs.Serving.{IsServed}
-use Rattle.dms_store.specs.Spelled.{spelled}
+use Rattle.dms_store.specs.Spelled.{database_in}
 
 owned : (n : ℕ) → 1 ≤ n → n ≤ 200 → (nat_lt 30000 (30000 + n) && nat_le (30000 + n) 30200) ≡ true
 owned n low most =
@@ -33,6 +33,6 @@ serves_new desc h served new schema = record {
 }
 
 -- what is gone back to spells the same database
-pub mark_new : (desc : Described) (h : Held) → ((c : Content) → ((f : ℕ) → c f ≡ []) → spelled desc c ≡ Some empty_db) → IsNew 200 h → (told : Bool) → db_of desc told h.mark ≡ db_of desc told h.content
+pub mark_new : (desc : Described) (h : Held) → ((c : Content) → ((f : ℕ) → c f ≡ []) → database_in desc c ≡ Some empty_db) → IsNew 200 h → (told : Bool) → db_of desc told h.mark ≡ db_of desc told h.content
 mark_new desc h empty new true = empty h.mark new.mark ∙ sym (empty h.content new.content)
 mark_new desc h empty new false = refl

@@ -1,5 +1,5 @@
 ghost use Rattle.std.specs.Prelude.{IfSome};
-ghost use Rattle.dms_desc.specs.Shape.{described};
+ghost use Rattle.dms_desc.specs.Shape.{as_described};
 ghost use Rattle.dms_desc_bytes.specs.WellFormed.{IsWellFormed};
 ghost use Rattle.dms_storetests.specs.Beginnings.{StartsAtMark};
 
@@ -20,7 +20,7 @@ use std::alloc::Global;
 
 /// The description of a schema.
 pub fn description(alloc: Global, text: &[u8]) -> Option<Description>
-    ensures { IfSome result (λ d. IsWellFormed (described d)) }
+    ensures { IfSome result (λ d. IsWellFormed (as_described d)) }
 {
     well_formed_law();
     let Ok(schema) = parse(alloc, text) else {
@@ -39,8 +39,8 @@ fn run_over<St: Store + Drop>(
     store: St,
     script: &[u8],
 ) -> Option<St>
-    requires begins { StartsAtMark (described desc.now) (St.seen store) }
-    requires formed { IsWellFormed (described desc.now) }
+    requires begins { StartsAtMark (as_described desc.now) (St.seen store) }
+    requires formed { IsWellFormed (as_described desc.now) }
 {
     let Ok(bytes) = Vec::from_slice(alloc, script) else {
         return None;
@@ -62,7 +62,7 @@ fn run_over<St: Store + Drop>(
 
 /// What a script answers over a list of records.
 pub fn over_list(alloc: Global, desc: &Description, script: &[u8]) -> Option<Vec<u8>>
-    requires { IsWellFormed (described desc.now) }
+    requires { IsWellFormed (as_described desc.now) }
 {
     let Ok(site) = MemSite::new(alloc, Vec::new(alloc), None) else {
         return None;
@@ -71,13 +71,13 @@ pub fn over_list(alloc: Global, desc: &Description, script: &[u8]) -> Option<Vec
         return None;
     };
     let site = run_over(alloc, desc, store, script)?.into_site();
-    Vec::from_slice(alloc, site.said()).ok()
+    Vec::from_slice(alloc, site.text()).ok()
 }
 
 /// A store on blocks without a record.
 fn block_store(alloc: Global, desc: &Description) -> Option<BlockStore<MemBlocks>>
-    requires { IsWellFormed (described desc.now) }
-    ensures { IfSome result (λ s. StartsAtMark (described desc.now) (⟦<BlockStore<MemBlocks> as Store>⟧.seen s)) }
+    requires { IsWellFormed (as_described desc.now) }
+    ensures { IfSome result (λ s. StartsAtMark (as_described desc.now) (⟦<BlockStore<MemBlocks> as Store>⟧.seen s)) }
 {
     empty_law();
     served_law();
@@ -95,7 +95,7 @@ fn block_store(alloc: Global, desc: &Description) -> Option<BlockStore<MemBlocks
 
 /// What a script answers over blocks.
 pub fn over_blocks(alloc: Global, desc: &Description, script: &[u8]) -> Option<Vec<u8>>
-    requires { IsWellFormed (described desc.now) }
+    requires { IsWellFormed (as_described desc.now) }
 {
     let store = block_store(alloc, desc)?;
     let blocks = run_over(alloc, desc, store, script)?.into_below();

@@ -17,7 +17,7 @@ use Rattle.dms_model.specs.declared.verb.Setting.{Setting}
 use Rattle.dms_model.specs.Areas.{InitialsFit, ProgramsFit, WorkFits, WorksFit}
 use Rattle.dms_model.specs.AreaLaws.{backed_works, created_works, found_works, new_works, no_owner, none_fits, put_works, stored_works}
 use Rattle.dms_model.specs.Fitting.{IsNumber, RecordFits, SpotFits}
-use Rattle.dms_model.specs.Session.{area_values, backed_out, carried, filled, found_program, idle, let_go, new_program, owner_for, Values', with_values, with_work, area_of, current_of}
+use Rattle.dms_model.specs.Session.{area_values, backed_out, activate, fill_values, found_program, idle, let_go, new_program, owner_for, Values', with_values, with_work, area_of, current_of}
 use Rattle.dms_model.specs.Spoken.{IsOuter, IsPlainLiteral}
 use Rattle.dms_model.specs.Verbs.{IsSettingOf}
 use Rattle.dms_laws.proofs.Lists.{all_mapped, all_pushed, all_set}
@@ -55,7 +55,7 @@ same_at (p ∷ ps) zero x y low at at' = at ∙ sym at'
 same_at (p ∷ ps) (suc i) x y low at at' = same_at ps i x y (omega (arith, low)) at at'
 
 -- CREATE
-pub created_as : (desc : Described) (x y : Program) (set owner : ℕ) (values : List Value) → y ≡ carried (let_go (with_work x set (record { current = None; area = Some (New values owner) })) set)
+pub created_as : (desc : Described) (x y : Program) (set owner : ℕ) (values : List Value) → y ≡ activate (let_go (with_work x set (record { current = None; area = Some (New values owner) })) set)
     → values ≡ map (λ (t : Item). t.initial) (items_of (structure_of desc set)) → owner_for desc x set ≡ Some owner → InitialsFit desc → IsOuter (structure_of desc set) → WorksFit desc x → WorksFit desc y
 created_as desc x y set owner values is values_is own initials outer fit =
     subst (WorksFit desc) (sym is)
@@ -67,16 +67,16 @@ plain_texts items (t ∷ ts) h = (h.0.plain, plain_texts items ts h.1)
 
 -- PUT
 pub put_as : (desc : Described) (x y : Program) (set : ℕ) (a new : Area) (items : List Item) (settings : List Setting) (old values : List Value)
-    → y ≡ carried (with_work x set (record { current = current_of x set; area = Some new })) → new ≡ with_values a values → filled items settings old ≡ Values' values → items ≡ items_of (structure_of desc set) → old ≡ area_values a
+    → y ≡ activate (with_work x set (record { current = current_of x set; area = Some new })) → new ≡ with_values a values → fill_values items settings old ≡ Values' values → items ≡ items_of (structure_of desc set) → old ≡ area_values a
     → area_of x set ≡ Some a → IsOuter (structure_of desc set) → AllByRecursion (IsSettingOf (items_of (structure_of desc set))) settings → WorksFit desc x → WorksFit desc y
 put_as desc x y set a new items settings old values is new_is made items_is old_is has outer takes fit =
-    let made' : filled (items_of (structure_of desc set)) settings (area_values a) ≡ Values' values = (λ j. filled (sym items_is j) settings (sym old_is j)) ∙ made in
+    let made' : fill_values (items_of (structure_of desc set)) settings (area_values a) ≡ Values' values = (λ j. fill_values (sym items_is j) settings (sym old_is j)) ∙ made in
     subst (WorksFit desc) (sym is)
     (subst (λ (b : Area). WorksFit desc (with_work x set (record { current = current_of x set; area = Some b }))) (sym new_is)
     (put_works desc x set a settings values outer (plain_texts (items_of (structure_of desc set)) settings takes) has made' fit))
 
 -- FIND
-pub found_as : (desc : Described) (x y : Program) (path set : ℕ) (r : Spot) → y ≡ carried (found_program x set r) → set ≡ set_of desc path → SpotFits desc path r → WorksFit desc x → WorksFit desc y
+pub found_as : (desc : Described) (x y : Program) (path set : ℕ) (r : Spot) → y ≡ activate (found_program x set r) → set ≡ set_of desc path → SpotFits desc path r → WorksFit desc x → WorksFit desc y
 found_as desc x y path set r is set_is spot fit =
     subst (WorksFit desc) (sym is) (subst (λ (n : ℕ). WorksFit desc (found_program x n r)) (sym set_is) (found_works desc x path r spot fit))
 

@@ -14,8 +14,8 @@ use Rattle.std.proofs.lemmas.Result.{IfOk-weaker}
 use Rattle.std.proofs.lemmas.Bool.{false≢true}
 use Rattle.dms_block.specs.declared.block_fault.BlockFault.{BlockFault}
 use Rattle.dms_block.specs.Faults.{Undamaged}
-use Rattle.dms_model.specs.Points.{StopFiles, Point, Quiet, Stop, LeavesPrefix, StopTextIs, told, known, StoreLeaves, PointsStayDurable}
-use Rattle.dms_model.specs.Session.{Session, Outcome, answered, settle, someone_works}
+use Rattle.dms_model.specs.Points.{StopFiles, Point, Quiet, Stop, LeavesPrefix, StopTextIs, told_point, known_point, StoreLeaves, PointsStayDurable}
+use Rattle.dms_model.specs.Session.{Session, Outcome, after_answer, settle, someone_works}
 use Rattle.dms_storeverbs.specs.Apart.{Alone}
 use Rattle.dms_storeverbs.specs.View.{View, StandsFor, MatchesOutcome, PerformsCall, Room, view_of, LeavesQuiets, MakesPoints}
 
@@ -55,17 +55,17 @@ pub nothing : (W : StopFiles → Type 0) (c : Clock Stop) (durable : ℕ) (point
 nothing W c durable points next said quiets = runs_none c _
 
 -- one quiet point was made, or was not
-pub one : {W : StopFiles → Type 0} {durable next : ℕ} {points : List Point} {stop : Stop} (p : Point) (q : Quiet) → told p ≡ known q → LeavesPrefix W durable (points ++ p ∷ []) (next + 1) stop → LeavesQuiets W durable points next (q ∷ []) stop
+pub one : {W : StopFiles → Type 0} {durable next : ℕ} {points : List Point} {stop : Stop} (p : Point) (q : Quiet) → told_point p ≡ known_point q → LeavesPrefix W durable (points ++ p ∷ []) (next + 1) stop → LeavesQuiets W durable points next (q ∷ []) stop
 one {points = points} p q same front = record { made = q ∷ []; rest = []; all = points ++ p ∷ []; front_of = refl; grew = record { more = p ∷ []; is = refl; spells = ap (λ (x : ℕ × Option Db). x ∷ []) same }; front = front }
 
-pub told_known : (b : Seen) (s : Session) → StoreAgrees b → b.next ≡ s.next → b.db ≡ Some s.db → told b.here ≡ known (s.next, s.db)
+pub told_known : (b : Seen) (s : Session) → StoreAgrees b → b.next ≡ s.next → b.db ≡ Some s.db → told_point b.here ≡ known_point (s.next, s.db)
 told_known b s agrees n d = λ i. ((agrees.number ∙ n) i, agrees.here s.db d i)
 
-pub made_one : (answer : Answer) {durable durable' : ℕ} {points points' : List Point} (p : Point) (q : Quiet) → told p ≡ known q → answer.sync ≡ None → PointsStayDurable (points ++ p ∷ []) durable points' durable' → MakesPoints answer durable points (q ∷ []) durable' points'
+pub made_one : (answer : Answer) {durable durable' : ℕ} {points points' : List Point} (p : Point) (q : Quiet) → told_point p ≡ known_point q → answer.sync ≡ None → PointsStayDurable (points ++ p ∷ []) durable points' durable' → MakesPoints answer durable points (q ∷ []) durable' points'
 made_one answer p q same none stays = record { grew = record { more = p ∷ []; is = stays.0; spells = ap (λ (x : ℕ × Option Db). x ∷ []) same }; later = stays.1; synced = λ n is. absurd (let no : ◌≡◌ {A = Option ℕ} None (Some n) = sym none ∙ is in cc) }
 
 -- the quiet point of a call, of which a stop may leave nothing yet
-module _ (here : Point) (q : Quiet) (same : told here ≡ known q) (quiets : List Quiet) (is : quiets ≡ q ∷ []) {W : StopFiles → Type 0} {durable next : ℕ} {points : List Point} {said : Option (List ℕ)} where
+module _ (here : Point) (q : Quiet) (same : told_point here ≡ known_point q) (quiets : List Quiet) (is : quiets ≡ q ∷ []) {W : StopFiles → Type 0} {durable next : ℕ} {points : List Point} {said : Option (List ℕ)} where
   pub quieted : {a b : Clock Stop} → StoreLeaves W a b durable (points ++ here ∷ []) (next + 1) said → Runs a b (λ stop. LeavesQuiets W durable points next quiets stop × StopTextIs said stop)
   quieted run = runs_weaken run (λ x p. (subst (λ (qs : List Quiet). LeavesQuiets W durable points next qs x) (sym is) (one here q same p.0), p.1))
 
@@ -84,6 +84,11 @@ settled_quiets s nobody = rw nobody (if_same s.pending _ _ ((s.next, s.db) ∷ [
 pub then_settles : {V W : StopFiles → Type 0} {a b c : Clock Stop} {durable durable' next next' : ℕ} {points points' : List Point} {said said' : Option (List ℕ)} (quiets : List Quiet) → ((files : StopFiles) → V files → W files) → StoreLeaves W a b durable points next said → PointsStayDurable points durable points' durable' → next' ≡ next → said' ≡ said → Runs b c (λ stop. LeavesQuiets V durable' points' next' quiets stop × StopTextIs said' stop) → Runs a c (λ stop. LeavesQuiets W durable points next quiets stop × StopTextIs said stop)
 then_settles {durable = durable} {durable' = durable'} {next = next} {next' = next'} {points = points} {points' = points'} quiets whole first stayed number text last =
     runs_on (still quiets first) last (λ x p. (let left = p.0 in record { made = left.made; rest = left.rest; all = left.all; front_of = left.front_of; grew = record { more = left.grew.more; is = left.grew.is ∙ ap (λ (ps : List Point). ps ++ left.grew.more) stayed.0; spells = left.grew.spells }; front = lower whole stayed.1 (omega (arith, number)) left.front }, λ t e. p.1 t (text ∙ e)))
+
+-- one that makes none behind it
+pub then_stays : {V W : StopFiles → Type 0} {a b c : Clock Stop} {durable durable' next next' : ℕ} {points points' : List Point} {said said' : Option (List ℕ)} → ((files : StopFiles) → V files → W files) → StoreLeaves W a b durable points next said → PointsStayDurable points durable points' durable' → next' ≡ next → said' ≡ said → StoreLeaves V b c durable' points' next' said' → StoreLeaves W a c durable points next said
+then_stays {V} {durable' = durable'} {next' = next'} whole first stayed number text last =
+    runs_on first last (λ x p. (lower whole stayed.1 (omega (arith, number)) (subst (λ (ps : List Point). LeavesPrefix V durable' ps next' x) stayed.0 p.0), λ t e. p.1 t (text ∙ e)))
 
 pub then_made : {answer : Answer} {durable durable' durable'' : ℕ} {points points' points'' : List Point} (quiets : List Quiet) → PointsStayDurable points durable points' durable' → MakesPoints answer durable' points' quiets durable'' points'' → MakesPoints answer durable points quiets durable'' points''
 then_made quiets stayed made = record { grew = record { more = made.grew.more; is = made.grew.is ∙ ap (λ (ps : List Point). ps ++ made.grew.more) stayed.0; spells = made.grew.spells }; later = omega (arith, stayed.1, made.later); synced = made.synced }
@@ -130,5 +135,5 @@ then_did {o} {old = old} {result = result} whole silent points s next room tells
 }
 
 -- a call whose program wasn't answered in the end
-pub unanswered_did : {o : Outcome} {old new : Seen} {then now : View} {before result : Result Answer BlockFault} (name : List ℕ) → IsErr result → Undamaged result → PerformsCall o old new then before → PerformsCall (answered name o) old new now result
+pub unanswered_did : {o : Outcome} {old new : Seen} {then now : View} {before result : Result Answer BlockFault} (name : List ℕ) → IsErr result → Undamaged result → PerformsCall o old new then before → PerformsCall (after_answer name o) old new now result
 unanswered_did {result = result} name err undamaged did = record { answers = if_err result _ err; made = λ t. if_err result _ err; undamaged = undamaged; leaves = did.leaves }

@@ -19,7 +19,7 @@ use Rattle.dms_desc.specs.Lookups.{structure_of, items_of, set_of}
 use Rattle.dms_model.specs.Stores.{put_after}
 use Rattle.dms_model.specs.StoreLaws.{keep_any}
 use Rattle.dms_model.specs.declared.reply.Reply.{Reply}
-use Rattle.dms_model.specs.Session.{Session, Outcome, StoreResult, Refused, Keeps, Filled, Misfit, Values', refuse, done, shows, settle, keep, store_step, after_store, begin_step, after_begin, begun, replies, stored_program, end_step, after_end, abort_step, find_step, find_for, after_find, found_by, create_step, create_for, owner_for, put_step, put_area, after_put, filled, get_step, get_area, close_step, open_as, open_in, open_step, verb_step, step_at, answered, carried_out, step, with_program, restart_of, someone_works, is_inquiry, opens, changes, path_of, new_program, place_of, carried, entered, left, without, idle, found_program, let_go, area_values, record_of, area_of}
+use Rattle.dms_model.specs.Session.{Session, Outcome, StoreResult, Refused, Keeps, Filled, Misfit, Values', refuse, succeeds, shows, settle, keep, store_step, after_store, begin_step, after_begin, begin_transaction, replies, stored_program, end_step, after_end, abort_step, find_step, find_for, after_find, found_by, create_step, create_for, owner_for, put_step, put_area, after_put, fill_values, get_step, get_area, close_step, open_as, open_in, open_step, verb_step, step_at, after_answer, carried_out, step, with_program, restart_of, someone_works, is_inquiry, opens, changes, path_of, new_program, place_of, activate, enter_transaction, leave_transaction, without, idle, found_program, let_go, area_values, record_of, area_of}
 use Rattle.dms_model.specs.BackOut.{asks_back_out}
 use Rattle.dms_model.specs.Traits.{traits}
 use Rattle.dms_storeverbs.specs.Laws.{MakesNone, MakesWhereQuiet, falls_quiet, QuietRule}
@@ -128,18 +128,18 @@ module _ (s : Session) (i : ℕ) (p : Program) (at : slice_get s.programs i ≡ 
 
   store_steady : (k : StoreResult) → SameWork k → StaysSteady s (after_store k i s)
   store_steady (Refused r) same = steady_replies s r
-  store_steady (Keeps q db) same = steady_shows s _ [] refl refl (λ w. set_works s.programs i p (carried q) at same ∙ w)
+  store_steady (Keeps q db) same = steady_shows s _ [] refl refl (λ w. set_works s.programs i p (activate q) at same ∙ w)
 
   after_begin_steady : (k : StoreResult) → StaysSteady s (after_begin k i s)
   after_begin_steady (Refused r) = steady_replies s r
-  after_begin_steady (Keeps q db) = steady_shows s _ [] refl refl (λ w. set_enters s.programs i p (entered q) at refl)
+  after_begin_steady (Keeps q db) = steady_shows s _ [] refl refl (λ w. set_enters s.programs i p (enter_transaction q) at refl)
 
   pub let_go_works : (q : Program) (set : ℕ) → (let_go q set).in_transaction ≡ q.in_transaction
   let_go_works q set = cond_works q.in_transaction q.in_transaction _ _ refl refl
 
   pub find_steady : (r : Option Spot) (desc : Described) (x : ℕ) → StaysSteady s (after_find r desc i p s x)
   find_steady None desc x = steady_refuse s _ _
-  find_steady (Some r) desc x = steady_at (carried (found_program p (set_of desc x) r)) [] (let_go_works _ (set_of desc x))
+  find_steady (Some r) desc x = steady_at (activate (found_program p (set_of desc x) r)) [] (let_go_works _ (set_of desc x))
 
   pub find_for_steady : (o : Option ℕ) (desc : Described) (path : Path) → StaysSteady s (find_for o desc i p s path)
   find_for_steady None desc path = steady_refuse s _ _
@@ -155,13 +155,13 @@ module _ (s : Session) (i : ℕ) (p : Program) (at : slice_get s.programs i ≡ 
 
   pub put_steady : (a : Option Area) (desc : Described) (set : ℕ) (settings : List Setting) → StaysSteady s (put_area a desc i p s set settings)
   put_steady None desc set settings = steady_refuse s _ _
-  put_steady (Some a) desc set settings = after_put_steady (filled (items_of (structure_of desc set)) settings (area_values a)) set a
+  put_steady (Some a) desc set settings = after_put_steady (fill_values (items_of (structure_of desc set)) settings (area_values a)) set a
 
   pub get_steady : (a : Option Area) (desc : Described) (set : ℕ) (numbers : List ℕ) → StaysSteady s (get_area a desc i p s set numbers)
   get_steady None desc set numbers = steady_refuse s _ _
-  get_steady (Some a) desc set numbers = steady_at (carried p) _ refl
+  get_steady (Some a) desc set numbers = steady_at (activate p) _ refl
 
-  pub close_steady : (b : Bool) → p.in_transaction ≡ b → StaysSteady s (cond b (refuse s AuditError p.name) (done (record s { programs = without i s.programs })))
+  pub close_steady : (b : Bool) → p.in_transaction ≡ b → StaysSteady s (cond b (refuse s AuditError p.name) (succeeds (record s { programs = without i s.programs })))
   close_steady true is = steady_refuse s _ _
   close_steady false is = steady_shows s _ [] refl refl (λ w. without_works s.programs i p at is ∙ w)
 
@@ -170,7 +170,7 @@ module _ (s : Session) (i : ℕ) (p : Program) (at : slice_get s.programs i ≡ 
 
 settle_at : (verb : Verb) (s t : Session) (w b : Bool) → asks_back_out verb ≡ false → someone_works s.programs ≡ true → t.next ≡ s.next → t.mark ≡ s.mark → (s.pending ≡ true → t.pending ≡ true) → someone_works t.programs ≡ w → t.pending ≡ b → MakesWhereQuiet (falls_quiet verb s (settle t).session) s (settle t)
 unfolding settle
-settle_at verb s t true b other works number mark pending e f = rw e (by_steady verb s (done t) (steady_shows s t [] number mark (λ h. e)))
+settle_at verb s t true b other works number mark pending e f = rw e (by_steady verb s (succeeds t) (steady_shows s t [] number mark (λ h. e)))
 settle_at verb s t false true other works number mark pending e f =
     rw (e, f, other, works, idle_works t.programs, e) (record { quiets = ap (λ (n : ℕ). (n, t.db) ∷ []) number; next = ap (λ (n : ℕ). n + 1) number; mark = refl; idle = idle_twice t.programs; taken = refl; synced = λ h. ap (λ (n : ℕ). Some n) number; own = λ n i. let e : t.next ≡ n = cc in sym e ∙ number })
 settle_at verb s t false false other works number mark pending e f =
@@ -183,7 +183,7 @@ or_pending false b c h = absurd (cc)
 end_rule : (desc : Described) (s : Session) (i : ℕ) (p : Program) (verb : Verb) (k : StoreResult) (sync : Bool) → asks_back_out verb ≡ false → someone_works s.programs ≡ true → MakesWhereQuiet (falls_quiet verb s (after_end k desc i s sync).session) s (after_end k desc i s sync)
 end_rule desc s i p verb (Refused r) sync other works = by_steady verb s (replies s r) (steady_replies s r)
 end_rule desc s i p verb (Keeps q db) sync other works =
-    let t : Session = record s { db = db; programs = slice_set s.programs i (left q); pending = s.pending || sync || nat_le desc.syncpoint (one_more s.since); since = one_more s.since } in
+    let t : Session = record s { db = db; programs = slice_set s.programs i (leave_transaction q); pending = s.pending || sync || nat_le desc.syncpoint (one_more s.since); since = one_more s.since } in
     settle_at verb s t (someone_works t.programs) t.pending other works refl refl (or_pending s.pending sync (nat_le desc.syncpoint (one_more s.since))) refl refl
 
 end_at : (desc : Described) (s : Session) (i : ℕ) (p : Program) (at : slice_get s.programs i ≡ Some p) (b audit sync : Bool) → p.in_transaction ≡ b → MakesWhereQuiet (falls_quiet (End audit sync) s (cond b (after_end (cond audit (keep desc p s.db (restart_of desc)) (Keeps p s.db)) desc i s sync) (refuse s AuditError p.name)).session) s (cond b (after_end (cond audit (keep desc p s.db (restart_of desc)) (Keeps p s.db)) desc i s sync) (refuse s AuditError p.name))
@@ -204,14 +204,14 @@ verb_rule desc i p s (Create set) at = by_steady (Create set) s _ (create_for_st
 verb_rule desc i p s (PutItems set settings) at = by_steady (PutItems set settings) s _ (put_steady s i p at (area_of p set) desc set settings)
 verb_rule desc i p s (Get set items) at = by_steady (Get set items) s _ (get_steady s i p at (area_of p set) desc set items)
 verb_rule desc i p s (Store set) at = by_steady (Store set) s _ (store_rule s i p at p.in_transaction desc set)
-verb_rule desc i p s (Begin audit) at = by_steady (Begin audit) s _ (steady_if s p.in_transaction (refuse s AuditError p.name) (after_begin (begun desc p s audit) i s) (steady_refuse s AuditError p.name) (after_begin_steady s i p at (begun desc p s audit)))
+verb_rule desc i p s (Begin audit) at = by_steady (Begin audit) s _ (steady_if s p.in_transaction (refuse s AuditError p.name) (after_begin (begin_transaction desc p s audit) i s) (steady_refuse s AuditError p.name) (after_begin_steady s i p at (begin_transaction desc p s audit)))
 verb_rule desc i p s (End audit sync) at = end_at desc s i p at p.in_transaction audit sync refl
 verb_rule desc i p s Abort at = none_if s p.in_transaction _ _ (record { quiets = refl; next = refl; mark = refl; unsynced = refl }) (record { quiets = refl; next = refl; mark = refl; unsynced = refl })
 
 open_as_steady : (desc : Described) (s : Session) (name : List ℕ) (mode : Mode) → StaysSteady s (open_as desc s name mode)
 open_as_steady desc s name mode =
     let opened : Session = record s { programs = s.programs ++ new_program desc name mode ∷ [] } in
-    steady_if s (nat_le 64 (length s.programs)) (refuse s LimitError name) (done opened) (steady_refuse s LimitError name) (steady_shows s opened [] refl refl (push_works s.programs (new_program desc name mode)))
+    steady_if s (nat_le 64 (length s.programs)) (refuse s LimitError name) (succeeds opened) (steady_refuse s LimitError name) (steady_shows s opened [] refl refl (push_works s.programs (new_program desc name mode)))
 
 open_in_steady : (o : Option Mode) (desc : Described) (s : Session) (name : List ℕ) → StaysSteady s (open_in o desc s name)
 open_in_steady None desc s name = steady_refuse s _ _
@@ -231,7 +231,7 @@ step_at_rule desc (Some p) i s name v at =
     (makes_if v s p.owes_abort (due_outcome s i p name) _ (by_steady v s (due_outcome s i p name) (record { none = record { quiets = refl; next = refl; mark = refl; unsynced = refl }; works = λ w. set_works s.programs i p (record p { owes_abort = false }) at refl ∙ w }))
     (makes_if v s (is_inquiry p.mode && changes v) _ _ (by_steady v s _ (steady_refuse s _ _)) (verb_rule desc i p s v at)))
 
-answered_makes : (b : Bool) (s : Session) (name : List ℕ) (o : Outcome) → MakesWhereQuiet b s o → MakesWhereQuiet b s (answered name o)
+answered_makes : (b : Bool) (s : Session) (name : List ℕ) (o : Outcome) → MakesWhereQuiet b s o → MakesWhereQuiet b s (after_answer name o)
 answered_makes true s name o h = record { quiets = h.quiets; next = h.next; mark = h.mark; idle = h.idle; taken = h.taken; synced = h.synced; own = h.own }
 answered_makes false s name o h = record { quiets = h.quiets; next = h.next; mark = h.mark; unsynced = h.unsynced }
 

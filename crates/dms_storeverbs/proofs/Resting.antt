@@ -11,7 +11,7 @@ use Rattle.dms_model.specs.declared.spot.Spot.{Spot}
 use Rattle.dms_model.specs.declared.verb.Path.{Path}
 use Rattle.dms_model.specs.declared.verb.Setting.{Setting}
 use Rattle.dms_desc.specs.Lookups.{structure_of, items_of}
-use Rattle.dms_model.specs.Session.{Session, Outcome, StoreResult, Refused, Keeps, Filled, Misfit, Values', refuse, done, settle, keep, store_step, after_store, begin_step, after_begin, begun, end_step, after_end, abort_step, find_step, find_for, after_find, found_by, create_step, create_for, owner_for, put_step, put_area, after_put, filled, get_step, get_area, close_step, open_in, open_step, verb_step, step_at, carried_out, step, restart_of, someone_works, is_inquiry, opens, changes, path_of, place_of, carried, entered, left, without, area_values, area_of}
+use Rattle.dms_model.specs.Session.{Session, Outcome, StoreResult, Refused, Keeps, Filled, Misfit, Values', refuse, succeeds, settle, keep, store_step, after_store, begin_step, after_begin, begin_transaction, end_step, after_end, abort_step, find_step, find_for, after_find, found_by, create_step, create_for, owner_for, put_step, put_area, after_put, fill_values, get_step, get_area, close_step, open_in, open_step, verb_step, step_at, carried_out, step, restart_of, someone_works, is_inquiry, opens, changes, path_of, place_of, activate, enter_transaction, leave_transaction, without, area_values, area_of}
 use Rattle.dms_model.specs.declared.program.Mode.{Mode}
 use Rattle.dms_model.specs.Traits.{traits}
 use Rattle.dms_storeverbs.specs.Laws.{Rests, RestRule}
@@ -39,23 +39,23 @@ resting_if s false x y p q = q
 
 settle_rests : (s t : Session) (w b : Bool) → someone_works t.programs ≡ w → t.pending ≡ b → Resting s (settle t)
 unfolding settle
-settle_rests s t true b works pending = rw works (working s (done t) works)
+settle_rests s t true b works pending = rw works (working s (succeeds t) works)
 settle_rests s t false true works pending = rw (works, pending) (λ is idle. refl)
 settle_rests s t false false works pending = rw (works, pending) (λ is idle. refl)
 
 module _ (s : Session) (i : ℕ) (p : Program) (at : slice_get s.programs i ≡ Some p) where
   store_rests : (k : StoreResult) → SameWork s i p at k → p.in_transaction ≡ true → Resting s (after_store k i s)
   store_rests (Refused reply) same is = λ r. r
-  store_rests (Keeps q db) same is = working s (after_store (Keeps q db) i s) (set_enters s.programs i p (carried q) at (same ∙ is))
+  store_rests (Keeps q db) same is = working s (after_store (Keeps q db) i s) (set_enters s.programs i p (activate q) at (same ∙ is))
 
   begin_rests : (k : StoreResult) → Resting s (after_begin k i s)
   begin_rests (Refused reply) = λ r. r
-  begin_rests (Keeps q db) = working s (after_begin (Keeps q db) i s) (set_enters s.programs i p (entered q) at refl)
+  begin_rests (Keeps q db) = working s (after_begin (Keeps q db) i s) (set_enters s.programs i p (enter_transaction q) at refl)
 
   end_rests : (k : StoreResult) (desc : Described) (sync : Bool) → Resting s (after_end k desc i s sync)
   end_rests (Refused reply) desc sync = λ r. r
   end_rests (Keeps q db) desc sync =
-      let t : Session = record s { db = db; programs = slice_set s.programs i (left q); pending = s.pending || sync || nat_le desc.syncpoint (one_more s.since); since = one_more s.since } in
+      let t : Session = record s { db = db; programs = slice_set s.programs i (leave_transaction q); pending = s.pending || sync || nat_le desc.syncpoint (one_more s.since); since = one_more s.since } in
       settle_rests s t (someone_works t.programs) t.pending refl refl
 
   store_at : (b : Bool) → p.in_transaction ≡ b → (desc : Described) (set : ℕ) → Resting s (cond b (after_store (keep desc p s.db set) i s) (refuse s AuditError p.name))
@@ -80,13 +80,13 @@ module _ (s : Session) (i : ℕ) (p : Program) (at : slice_get s.programs i ≡ 
 
   put_rests : (a : Option Area) (desc : Described) (set : ℕ) (settings : List Setting) → Resting s (put_area a desc i p s set settings)
   put_rests None desc set settings = λ r. r
-  put_rests (Some a) desc set settings = after_put_rests (filled (items_of (structure_of desc set)) settings (area_values a)) set a
+  put_rests (Some a) desc set settings = after_put_rests (fill_values (items_of (structure_of desc set)) settings (area_values a)) set a
 
   get_rests : (a : Option Area) (desc : Described) (set : ℕ) (numbers : List ℕ) → Resting s (get_area a desc i p s set numbers)
   get_rests None desc set numbers = λ r. r
   get_rests (Some a) desc set numbers = resting s _ (get_steady s i p at (Some a) desc set numbers) refl
 
-  close_rests : (b : Bool) → p.in_transaction ≡ b → Resting s (cond b (refuse s AuditError p.name) (done (record s { programs = without i s.programs })))
+  close_rests : (b : Bool) → p.in_transaction ≡ b → Resting s (cond b (refuse s AuditError p.name) (succeeds (record s { programs = without i s.programs })))
   close_rests true is = λ r. r
   close_rests false is = resting s _ (close_steady s i p at false is) refl
 
@@ -100,7 +100,7 @@ verb_rests desc i p s (Create set) at = create_for_rests s i p at (owner_for des
 verb_rests desc i p s (PutItems set settings) at = put_rests s i p at (area_of p set) desc set settings
 verb_rests desc i p s (Get set items) at = get_rests s i p at (area_of p set) desc set items
 verb_rests desc i p s (Store set) at = store_at s i p at p.in_transaction refl desc set
-verb_rests desc i p s (Begin audit) at = resting_if s p.in_transaction (refuse s AuditError p.name) (after_begin (begun desc p s audit) i s) (λ r. r) (begin_rests s i p at (begun desc p s audit))
+verb_rests desc i p s (Begin audit) at = resting_if s p.in_transaction (refuse s AuditError p.name) (after_begin (begin_transaction desc p s audit) i s) (λ r. r) (begin_rests s i p at (begin_transaction desc p s audit))
 verb_rests desc i p s (End audit sync) at = resting_if s p.in_transaction _ _ (end_rests s i p at (cond audit (keep desc p s.db (restart_of desc)) (Keeps p s.db)) desc sync) (λ r. r)
 verb_rests desc i p s Abort at = resting_if s p.in_transaction _ _ (λ is idle. refl) (λ r. r)
 

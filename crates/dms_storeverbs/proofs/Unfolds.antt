@@ -14,7 +14,7 @@ use Rattle.dms_model.specs.declared.spot.Spot.{Spot}
 use Rattle.dms_model.specs.declared.verb.Verb.{Verb}
 use Rattle.dms_model.specs.declared.verb.Path.{Path}
 use Rattle.dms_desc.specs.Lookups.{structure_of, name_of, set_of}
-use Rattle.dms_model.specs.Session.{Session, Outcome, StoreResult, Refused, area_answer, area_of, area_refusals, begun, begun_with, first_held, has_some, or_no_area, storing, unless, refuse, done, keep, store_step, after_store, begin_step, after_begin, awaited, end_step, after_end, find_step, find_for, after_find, found_by, owner_for, refuse_unowned, found_program, with_program, carried, path_of, restart_of, carried_out, step_at, open_step, place_of}
+use Rattle.dms_model.specs.Session.{Session, Outcome, StoreResult, Refused, area_answer, area_of, area_refusals, begin_transaction, begun_with, first_held, has_some, or_no_area, storing, unless, refuse, succeeds, keep, store_step, after_store, begin_step, after_begin, begin_blockers, end_step, after_end, find_step, find_for, after_find, found_by, owner_for, refuse_unowned, found_program, with_program, activate, path_of, restart_of, carried_out, step_at, open_step, place_of}
 use Rattle.dms_storeverbs.specs.Keeping.{kept_if}
 
 pub there_is : {A : Type 0} (xs : List A) (i : ℕ) → i < length xs → (x : A) × (slice_get xs i ≡ Some x)
@@ -29,9 +29,9 @@ store_goes desc i p s set works = rw works refl
 end_if : (a : Bool) (x y : Outcome) → a ≡ false → cond a x y ≡ y
 end_if a x y p = rw p refl
 
-begin_of : (desc : Described) (i : ℕ) (p : Program) (s : Session) (audit : Bool) (k : StoreResult) → p.in_transaction ≡ false → begun desc p s audit ≡ k → begin_step desc i p s audit ≡ after_begin k i s
+begin_of : (desc : Described) (i : ℕ) (p : Program) (s : Session) (audit : Bool) (k : StoreResult) → p.in_transaction ≡ false → begin_transaction desc p s audit ≡ k → begin_step desc i p s audit ≡ after_begin k i s
 unfolding begin_step
-begin_of desc i p s audit k idle is = end_if p.in_transaction (refuse s AuditError p.name) (after_begin (begun desc p s audit) i s) idle ∙ ap (λ (x : StoreResult). after_begin x i s) is
+begin_of desc i p s audit k idle is = end_if p.in_transaction (refuse s AuditError p.name) (after_begin (begin_transaction desc p s audit) i s) idle ∙ ap (λ (x : StoreResult). after_begin x i s) is
 
 yes_held : (b : Bool) (r : Reply) (o : Option Reply) (k : StoreResult) → b ≡ true → unless (cond b (Some r) o) k ≡ Refused r
 yes_held b r o k is = rw is refl
@@ -45,8 +45,8 @@ begun_lacks true who o answer desc p db set lacks = yes_held (not (is_some o)) (
 begun_lacks false who o answer desc p db set lacks = absurd (cc)
 
 pub begin_lacks : (desc : Described) (i : ℕ) (p : Program) (s : Session) (audit : Bool) → p.in_transaction ≡ false → (audit && not (is_some (area_of p (restart_of desc)))) ≡ true → begin_step desc i p s audit ≡ refuse s NoRecord (name_of (structure_of desc (restart_of desc)))
-unfolding begun
-begin_lacks desc i p s audit idle lacks = begin_of desc i p s audit _ idle (begun_lacks audit (awaited s) (area_of p (restart_of desc)) (area_answer desc p s.db (restart_of desc)) desc p s.db (restart_of desc) lacks)
+unfolding begin_transaction
+begin_lacks desc i p s audit idle lacks = begin_of desc i p s audit _ idle (begun_lacks audit (begin_blockers s) (area_of p (restart_of desc)) (area_answer desc p s.db (restart_of desc)) desc p s.db (restart_of desc) lacks)
 
 -- its wait
 begun_waits : (audit : Bool) (who : List (List ℕ)) (o : Option Area) (answer : Put) (desc : Described) (p : Program) (db : Db) (set : ℕ) → (audit && not (is_some o)) ≡ false → (who ≡ [] → ⊥) → begun_with audit who o answer desc p db set ≡ Refused (Waits who)
@@ -54,9 +54,9 @@ begun_waits audit [] o answer desc p db set has some = absurd (some refl)
 begun_waits true (q ∷ qs) o answer desc p db set has some = ap (λ (x : Option Reply). unless x (storing (or_no_area o) answer desc p db set)) (not_held (not (is_some o)) (Exception NoRecord (name_of (structure_of desc set))) (Some (Waits (q ∷ qs))) has)
 begun_waits false (q ∷ qs) o answer desc p db set has some = refl
 
-pub begin_waits : (desc : Described) (i : ℕ) (p : Program) (s : Session) (audit : Bool) → p.in_transaction ≡ false → (audit && not (is_some (area_of p (restart_of desc)))) ≡ false → (awaited s ≡ [] → ⊥) → begin_step desc i p s audit ≡ record { session = s; reply = Waits (awaited s); sync = None; quiets = [] }
-unfolding begun
-begin_waits desc i p s audit idle has some = begin_of desc i p s audit _ idle (begun_waits audit (awaited s) (area_of p (restart_of desc)) (area_answer desc p s.db (restart_of desc)) desc p s.db (restart_of desc) has some)
+pub begin_waits : (desc : Described) (i : ℕ) (p : Program) (s : Session) (audit : Bool) → p.in_transaction ≡ false → (audit && not (is_some (area_of p (restart_of desc)))) ≡ false → (begin_blockers s ≡ [] → ⊥) → begin_step desc i p s audit ≡ record { session = s; reply = Waits (begin_blockers s); sync = None; quiets = [] }
+unfolding begin_transaction
+begin_waits desc i p s audit idle has some = begin_of desc i p s audit _ idle (begun_waits audit (begin_blockers s) (area_of p (restart_of desc)) (area_answer desc p s.db (restart_of desc)) desc p s.db (restart_of desc) has some)
 
 -- and the rest, which is that of storing
 begun_goes : (audit : Bool) (desc : Described) (p : Program) (db : Db) → begun_with audit [] (area_of p (restart_of desc)) (area_answer desc p db (restart_of desc)) desc p db (restart_of desc) ≡ kept_if audit desc p db
@@ -64,8 +64,8 @@ unfolding keep
 begun_goes true desc p db = refl
 begun_goes false desc p db = refl
 
-pub begin_goes : (desc : Described) (i : ℕ) (p : Program) (s : Session) (audit : Bool) → p.in_transaction ≡ false → awaited s ≡ [] → begin_step desc i p s audit ≡ after_begin (kept_if audit desc p s.db) i s
-unfolding begun
+pub begin_goes : (desc : Described) (i : ℕ) (p : Program) (s : Session) (audit : Bool) → p.in_transaction ≡ false → begin_blockers s ≡ [] → begin_step desc i p s audit ≡ after_begin (kept_if audit desc p s.db) i s
+unfolding begin_transaction
 begin_goes desc i p s audit idle nobody =
     begin_of desc i p s audit _ idle (ap (λ (who : List (List ℕ)). begun_with audit who (area_of p (restart_of desc)) (area_answer desc p s.db (restart_of desc)) desc p s.db (restart_of desc)) nobody ∙ begun_goes audit desc p s.db)
 
@@ -85,7 +85,7 @@ pub find_none : (desc : Described) (i : ℕ) (p : Program) (s : Session) (path :
 unfolding find_step
 find_none desc i p s path owner own none = ap (λ (o : Option ℕ). find_for o desc i p s path) own ∙ ap (λ (r : Option Spot). after_find r desc i p s (path_of path)) none
 
-pub find_some : (desc : Described) (i : ℕ) (p : Program) (s : Session) (path : Path) (owner : ℕ) (r : Spot) → owner_for desc p (path_of path) ≡ Some owner → found_by desc s.db owner path ≡ Some r → find_step desc i p s path ≡ done (with_program s i (carried (found_program p (set_of desc (path_of path)) r)))
+pub find_some : (desc : Described) (i : ℕ) (p : Program) (s : Session) (path : Path) (owner : ℕ) (r : Spot) → owner_for desc p (path_of path) ≡ Some owner → found_by desc s.db owner path ≡ Some r → find_step desc i p s path ≡ succeeds (with_program s i (activate (found_program p (set_of desc (path_of path)) r)))
 unfolding find_step
 find_some desc i p s path owner r own some = ap (λ (o : Option ℕ). find_for o desc i p s path) own ∙ ap (λ (t : Option Spot). after_find t desc i p s (path_of path)) some
 

@@ -37,10 +37,10 @@ abbrev pub WasKept : ℕ → (Program → Db → StoreResult) → List Program �
 WasKept i rule programs old answer new = (p : Program) → slice_get programs i ≡ Some p → (s : Session) → StandsFor old s → IsExclusive s → KeptIs (rule p s.db) i s answer new
 
 -- the program's area is stored
-abbrev pub IsKept : StoreResult → Type 0
-IsKept (Refused reply) = ⊥
-IsKept (Keeps p db) = ⊤
+abbrev pub KeepsRecord : StoreResult → Type 0
+KeepsRecord (Refused reply) = ⊥
+KeepsRecord (Keeps p db) = ⊤
 
 -- Where the audit had no room, what this rule gives of program i is stored: it refuses nothing.
 abbrev pub FullWhereKept : ℕ → (Program → Db → StoreResult) → List Program → View → {T : Type 0} → Result T BlockFault → Type 0
-FullWhereKept i rule programs old result = (p : Program) → slice_get programs i ≡ Some p → (s : Session) → StandsFor old s → IsExclusive s → IfFull result (λ f. IsKept (rule p s.db))
+FullWhereKept i rule programs old result = (p : Program) → slice_get programs i ≡ Some p → (s : Session) → StandsFor old s → IsExclusive s → IfFull result (λ f. KeepsRecord (rule p s.db))

@@ -13,7 +13,7 @@ use Rattle.dms_model.specs.declared.put.Put.TheVariants.{Stored, Duplicate, Full
 use Rattle.dms_model.specs.Db.{Db}
 use Rattle.dms_desc.specs.Lookups.{items_of, structure_of, name_of}
 use Rattle.dms_model.specs.Stores.{put_answer, put_after}
-use Rattle.dms_model.specs.Session.{StoreResult, Refused, Keeps, keep, missing_from, verified, with_work, with_lock, Filled, Misfit, Values'}
+use Rattle.dms_model.specs.Session.{StoreResult, Refused, Keeps, keep, missing_from, meets_verify, with_work, with_lock, Filled, Misfit, Values'}
 use Rattle.dms_base.specs.declared.value.Value.{Value}
 use Rattle.dms_storeverbs.specs.declared.storing.JudgedRecord.{JudgedRecord}
 use Rattle.dms_storeverbs.specs.declared.storing.JudgedRecord.TheVariants.{Refused as Not, Ready}
@@ -41,7 +41,7 @@ pub record IsReady (desc : Described) (p : Program) (set : ℕ) (number : Option
   pub unowned : made.owner ≡ 0
   pub fits : RecordFits desc set made
   pub required : missing_from 0 (items_of (structure_of desc set)) made.values ≡ None
-  pub verified : verified (structure_of desc set) made.values ≡ true
+  pub verified : meets_verify (structure_of desc set) made.values ≡ true
 
 abbrev pub AreReady : JudgedRecord → Described → Program → ℕ → Type 0
 AreReady (Not r) desc p set = ⊤

@@ -1,6 +1,6 @@
 ghost use Rattle.std.specs.Prelude.{◌≡◌, ◌<◌, Some, None, true, false, IfOk, IsOk, IfSome, length, slice_get};
 ghost use Rattle.std.specs.List.{AllByRecursion};
-ghost use Rattle.dms_desc.specs.Shape.{Described, described};
+ghost use Rattle.dms_desc.specs.Shape.{Described, as_described};
 ghost use Rattle.dms_model.specs.Programs.{Program};
 ghost use Rattle.dms_desc.specs.Lookups.{items_of, structure_of};
 ghost use Rattle.dms_model.specs.Areas.{InitialsFit, ProgramsFit};
@@ -16,7 +16,7 @@ ghost use Rattle.dms_laws.specs.Exclusive.{is_done};
 use crate::areas;
 use crate::filling::{fill, get_text, initial_values, with_values};
 use crate::programs::{mode, new_program, owes_abort, pay_abort, program_name, works};
-use crate::refusal::{done, refused};
+use crate::refusal::{refuse, succeed};
 use crate::schema::owner_of;
 use dms_base::{Category, Memory, Name};
 use dms_desc::Description;
@@ -42,16 +42,16 @@ fn open_as(
     name: &Name,
     mode: Mode,
 ) -> Result<Answer, Memory>
-    requires fit { ProgramsFit (described desc.now) programs.old.items }
-    ensures apart { Apart (λ s. open_as (described desc.now) s name.now mode) programs.old.items result programs.new.items }
+    requires fit { ProgramsFit (as_described desc.now) programs.old.items }
+    ensures apart { Apart (λ s. open_as (as_described desc.now) s name.now mode) programs.old.items result programs.new.items }
     ensures unsynced { IfOk result (λ a. a.sync ≡ None) }
-    ensures fit { ProgramsFit (described desc.now) programs.new.items }
+    ensures fit { ProgramsFit (as_described desc.now) programs.new.items }
 {
     if programs.len() >= 64 {
-        return Ok(refused(Category::LimitError, *name));
+        return Ok(refuse(Category::LimitError, *name));
     }
     programs.push(new_program(alloc, desc, name, mode)?)?;
-    Ok(done(alloc))
+    Ok(succeed(alloc))
 }
 
 /// A verb of a program that isn't open.
@@ -63,16 +63,16 @@ pub fn open(
     name: &Name,
     verb: &Verb,
 ) -> Result<Answer, Memory>
-    requires fit { ProgramsFit (described desc.now) programs.old.items }
-    ensures apart { Apart (λ s. open_step (described desc.now) s name.now verb.now) programs.old.items result programs.new.items }
+    requires fit { ProgramsFit (as_described desc.now) programs.old.items }
+    ensures apart { Apart (λ s. open_step (as_described desc.now) s name.now verb.now) programs.old.items result programs.new.items }
     ensures no_memory { takes_none verb.now ≡ true → IsOk result }
     ensures no_wait { takes_none verb.now ≡ true → IfOk result (λ a. is_waits a.reply ≡ false) }
     ensures no_back_out { asks_back_out verb.now ≡ true → IfOk result (λ a. is_done a.reply ≡ false) }
     ensures unsynced { IfOk result (λ a. a.sync ≡ None) }
-    ensures fit { ProgramsFit (described desc.now) programs.new.items }
+    ensures fit { ProgramsFit (as_described desc.now) programs.new.items }
 {
     match opens(verb) {
-        None => Ok(refused(Category::OpenError, *name)),
+        None => Ok(refuse(Category::OpenError, *name)),
         Some(mode) => open_as(alloc, desc, programs, name, mode),
     }
 }
@@ -119,14 +119,14 @@ pub fn admit(programs: &mut Vec<Program>, i: usize, name: &Name, verb: &Verb) ->
     ensures admits { (desc : Described) (p : Program) → slice_get programs.old.items i ≡ Some p → Admits result desc p i name.now verb.now programs.old.items programs.new.items }
 {
     if opens(verb).is_some() {
-        return Some(refused(Category::OpenError, *name));
+        return Some(refuse(Category::OpenError, *name));
     }
     if owes_abort(&programs[i]) {
         pay_abort(&mut programs[i]);
-        return Some(refused(Category::Abort, *name));
+        return Some(refuse(Category::Abort, *name));
     }
     if is_inquiry(mode(&programs[i])) && changes(verb) {
-        return Some(refused(Category::ReadOnly, *name));
+        return Some(refuse(Category::ReadOnly, *name));
     }
     None
 }
@@ -140,10 +140,10 @@ pub fn close(alloc: Global, programs: &mut Vec<Program>, i: usize) -> Result<Ans
     ensures unsynced { IfOk result (λ a. a.sync ≡ None) }
 {
     if works(&programs[i]) {
-        return Ok(refused(Category::AuditError, program_name(&programs[i])));
+        return Ok(refuse(Category::AuditError, program_name(&programs[i])));
     }
     let _closed = programs.remove(i);
-    Ok(done(alloc))
+    Ok(succeed(alloc))
 }
 
 /// CREATE.
@@ -156,19 +156,19 @@ pub fn create(
     set: u16,
 ) -> Result<Answer, Memory>
     requires place { i < length programs.old.items }
-    requires fit { ProgramsFit (described desc.now) programs.old.items }
-    requires initial { InitialsFit (described desc.now) }
-    requires outer { IsOuter (structure_of (described desc.now) set) }
-    ensures apart { (p : Program) → slice_get programs.old.items i ≡ Some p → Apart (λ s. create_step (described desc.now) i p s set) programs.old.items result programs.new.items }
-    ensures fit { ProgramsFit (described desc.now) programs.new.items }
+    requires fit { ProgramsFit (as_described desc.now) programs.old.items }
+    requires initial { InitialsFit (as_described desc.now) }
+    requires outer { IsOuter (structure_of (as_described desc.now) set) }
+    ensures apart { (p : Program) → slice_get programs.old.items i ≡ Some p → Apart (λ s. create_step (as_described desc.now) i p s set) programs.old.items result programs.new.items }
+    ensures fit { ProgramsFit (as_described desc.now) programs.new.items }
     ensures unsynced { IfOk result (λ a. a.sync ≡ None) }
 {
     let Some(owner) = areas::owner_for(desc, &programs[i], set) else {
-        return Ok(refused(Category::NoRecord, desc.name_of(owner_of(desc, set))));
+        return Ok(refuse(Category::NoRecord, desc.name_of(owner_of(desc, set))));
     };
     let values = initial_values(alloc, desc.items_of(set))?;
     areas::create(&mut programs[i], set, values, owner);
-    Ok(done(alloc))
+    Ok(succeed(alloc))
 }
 
 /// PUT.
@@ -182,23 +182,23 @@ pub fn put(
     settings: &Settings,
 ) -> Result<Answer, Memory>
     requires place { i < length programs.old.items }
-    requires fit { ProgramsFit (described desc.now) programs.old.items }
-    requires outer { IsOuter (structure_of (described desc.now) set) }
-    requires settings { AllByRecursion (IsSettingOf (items_of (structure_of (described desc.now) set))) settings.now }
-    ensures apart { (p : Program) → slice_get programs.old.items i ≡ Some p → Apart (λ s. put_step (described desc.now) i p s set settings.now) programs.old.items result programs.new.items }
-    ensures fit { ProgramsFit (described desc.now) programs.new.items }
+    requires fit { ProgramsFit (as_described desc.now) programs.old.items }
+    requires outer { IsOuter (structure_of (as_described desc.now) set) }
+    requires settings { AllByRecursion (IsSettingOf (items_of (structure_of (as_described desc.now) set))) settings.now }
+    ensures apart { (p : Program) → slice_get programs.old.items i ≡ Some p → Apart (λ s. put_step (as_described desc.now) i p s set settings.now) programs.old.items result programs.new.items }
+    ensures fit { ProgramsFit (as_described desc.now) programs.new.items }
     ensures unsynced { IfOk result (λ a. a.sync ≡ None) }
 {
     let Some(area) = areas::area_at(&programs[i], set) else {
-        return Ok(refused(Category::NoRecord, desc.name_of(set)));
+        return Ok(refuse(Category::NoRecord, desc.name_of(set)));
     };
-    let mut values = areas::copied(alloc, area)?;
+    let mut values = areas::copy_area(alloc, area)?;
     if let Some(item) = fill(alloc, desc.items_of(set), settings.as_slice(), &mut values)? {
-        return Ok(refused(Category::DataError, item));
+        return Ok(refuse(Category::DataError, item));
     }
     let new = with_values(area, values);
     areas::put(&mut programs[i], set, new);
-    Ok(done(alloc))
+    Ok(succeed(alloc))
 }
 
 /// GET.
@@ -212,13 +212,13 @@ pub fn get(
     numbers: &ItemNumbers,
 ) -> Result<Answer, Memory>
     requires place { i < length programs.old.items }
-    requires fit { ProgramsFit (described desc.now) programs.old.items }
-    ensures apart { (p : Program) → slice_get programs.old.items i ≡ Some p → Apart (λ s. get_step (described desc.now) i p s set numbers.now) programs.old.items result programs.new.items }
-    ensures fit { ProgramsFit (described desc.now) programs.new.items }
+    requires fit { ProgramsFit (as_described desc.now) programs.old.items }
+    ensures apart { (p : Program) → slice_get programs.old.items i ≡ Some p → Apart (λ s. get_step (as_described desc.now) i p s set numbers.now) programs.old.items result programs.new.items }
+    ensures fit { ProgramsFit (as_described desc.now) programs.new.items }
     ensures unsynced { IfOk result (λ a. a.sync ≡ None) }
 {
     let Some(area) = areas::area_at(&programs[i], set) else {
-        return Ok(refused(Category::NoRecord, desc.name_of(set)));
+        return Ok(refuse(Category::NoRecord, desc.name_of(set)));
     };
     let values = areas::area_values(area);
     let text = get_text(alloc, desc.items_of(set), values, numbers.as_slice())?;

@@ -3,8 +3,8 @@ ghost use Rattle.std.specs.List.{list_any};
 ghost use Rattle.std.specs.Option.{option_copied};
 ghost use Rattle.dms_desc.specs.Conds.{is_null, or_null};
 ghost use Rattle.dms_desc.specs.declared.structure.Item.{Item};
-ghost use Rattle.dms_model.specs.Session.{work_of, or_none, is_lock, holds, let_go, with_work, with_lock, found_program, area_values, area_owner, area_number, is_free, record_of, left, carried, entered, missing_from, owner_for, area_of, current_of};
-ghost use Rattle.dms_desc.specs.Shape.{described};
+ghost use Rattle.dms_model.specs.Session.{work_of, or_none, is_lock, holds, let_go, with_work, with_lock, found_program, area_values, area_owner, area_number, is_free, record_of, leave_transaction, activate, enter_transaction, missing_from, owner_for, area_of, current_of};
+ghost use Rattle.dms_desc.specs.Shape.{as_described};
 ghost use Rattle.dms_model.specs.Programs.{Area, New, Old};
 ghost use Rattle.dms_storeverbs.specs.Storing.{with_stored};
 
@@ -58,7 +58,7 @@ pub fn current_at(program: &Program, set: u16) -> Option<u64>
 /// The number of the record that owns what a program finds or makes in a structure, 0 where the structure stands in no data set; none
 /// where the program has no current record of that data set.
 pub fn owner_for(desc: &Description, program: &Program, x: u16) -> Option<u64>
-    ensures { result ≡ owner_for (described desc.now) program.now x }
+    ensures { result ≡ owner_for (as_described desc.now) program.now x }
 {
     let to = owner_of(desc, x);
     if to == 0 {
@@ -106,7 +106,7 @@ pub fn area_number(area: &Area, current: Option<u64>) -> Option<u64>
 }
 
 /// A copy of an area's values. Answers Err where memory is refused.
-pub fn copied(alloc: Global, area: &Area) -> Result<Values, Memory>
+pub fn copy_area(alloc: Global, area: &Area) -> Result<Values, Memory>
     ensures { IfOk result (λ v. v ≡ area_values area.now) }
 {
     match &area.kind {
@@ -131,7 +131,7 @@ pub fn record_of(alloc: Global, area: &Area) -> Result<Record, Memory>
 {
     Ok(Record {
         owner: area_owner(area),
-        values: copied(alloc, area)?,
+        values: copy_area(alloc, area)?,
     })
 }
 
@@ -196,7 +196,7 @@ fn let_go(program: &mut Program, set: u16)
 
 /// A found record becomes current, and the area a copy of it.
 pub fn find(program: &mut Program, set: u16, spot: Spot)
-    ensures { program.new ≡ carried (found_program program.old set spot) }
+    ensures { program.new ≡ activate (found_program program.old set spot) }
 {
     let work = Work {
         current: Some(spot.number),
@@ -209,7 +209,7 @@ pub fn find(program: &mut Program, set: u16, spot: Spot)
 
 /// No record is current, and the area is a new one, of a record with this owner.
 pub fn create(program: &mut Program, set: u16, values: Values, owner: u64)
-    ensures { program.new ≡ carried (let_go (with_work program.old set (record { current = None; area = Some (New values owner) })) set) }
+    ensures { program.new ≡ activate (let_go (with_work program.old set (record { current = None; area = Some (New values owner) })) set) }
 {
     let work = Work {
         current: None,
@@ -222,7 +222,7 @@ pub fn create(program: &mut Program, set: u16, values: Values, owner: u64)
 
 /// The area of a data set changes, and the current record stays.
 pub fn put(program: &mut Program, set: u16, area: Area)
-    ensures { program.new ≡ carried (with_work program.old set (record { current = current_of program.old set; area = Some area })) }
+    ensures { program.new ≡ activate (with_work program.old set (record { current = current_of program.old set; area = Some area })) }
 {
     let work = Work {
         current: current_at(program, set),
@@ -245,7 +245,12 @@ fn lock(program: &mut Program, set: u16, number: u64) -> Result<(), Memory>
 
 /// A record was stored under a number: it is current and locked, and the area a copy of it. After `Memory` the program is as
 /// it was.
-pub fn stored(program: &mut Program, set: u16, number: u64, values: Values) -> Result<(), Memory>
+pub fn note_stored(
+    program: &mut Program,
+    set: u16,
+    number: u64,
+    values: Values,
+) -> Result<(), Memory>
     ensures ok { OnOk result (program.new ≡ with_stored program.old set number values) }
     ensures err { OnErr result (program.new ≡ program.old) }
 {
@@ -260,14 +265,14 @@ pub fn stored(program: &mut Program, set: u16, number: u64, values: Values) -> R
 
 /// A verb of the program was carried out.
 pub fn carry(program: &mut Program)
-    ensures { program.new ≡ carried program.old }
+    ensures { program.new ≡ activate program.old }
 {
     program.active = true;
 }
 
 /// The program is in transaction state.
 pub fn enter(program: &mut Program)
-    ensures { program.new ≡ entered program.old }
+    ensures { program.new ≡ enter_transaction program.old }
 {
     program.in_transaction = true;
     program.active = true;
@@ -275,7 +280,7 @@ pub fn enter(program: &mut Program)
 
 /// The program leaves transaction state, and its locks are freed.
 pub fn leave(program: &mut Program)
-    ensures { program.new ≡ left program.old }
+    ensures { program.new ≡ leave_transaction program.old }
 {
     program.in_transaction = false;
     program.locks.free_all();

@@ -4,11 +4,11 @@ ghost use Rattle.dms_base.specs.Spelling.{text_for};
 ghost use Rattle.dms_desc.specs.declared.structure.Item.{Item};
 ghost use Rattle.dms_desc.specs.Conds.{item_of};
 ghost use Rattle.dms_model.specs.Programs.{Area};
-ghost use Rattle.dms_model.specs.Session.{filled, item_name, item_text, more_text, get_text, with_values};
+ghost use Rattle.dms_model.specs.Session.{fill_values, item_name, item_text, more_text, get_text, with_values};
 ghost use Rattle.dms_storeverbs.specs.Storing.{FillsItems};
 
 use crate::areas::{new_area, old_area};
-use crate::keys::fitted;
+use crate::keys::fit_literal;
 use dms_base::{Bytes, ItemKind, Memory, Name, Value, text_for};
 use dms_desc::{Item, Values};
 use dms_model::{Area, AreaKind, Setting};
@@ -42,10 +42,10 @@ pub fn fill(
     settings: &[Setting],
     values: &mut Values,
 ) -> Result<Option<Name>, Memory>
-    ensures { IfOk result (λ item. FillsItems item values.new (filled items.now settings.now values.old)) }
+    ensures { IfOk result (λ item. FillsItems item values.new (fill_values items.now settings.now values.old)) }
 {
     for setting in settings {
-        match fitted(alloc, items, setting.item, &setting.literal)? {
+        match fit_literal(alloc, items, setting.item, &setting.literal)? {
             None => return Ok(Some(item_name(items, setting.item))),
             Some(value) => values.set((setting.item as usize).saturating_sub(1), value),
         }

@@ -1,5 +1,5 @@
 ghost use Rattle.std.specs.Prelude.{◌≡◌, false, ◌≤◌, length, map, replicate, IfOk, [], if◌then◌else◌, ◌||◌, nat_le};
-ghost use Rattle.dms_desc.specs.Shape.{described};
+ghost use Rattle.dms_desc.specs.Shape.{as_described};
 ghost use Rattle.dms_model.specs.Session.{place_of, someone_works, workers, idle, backed_out, no_work, new_program};
 ghost use Rattle.dms_storeverbs.specs.Keeping.{Awaits};
 ghost use Rattle.dms_block.specs.Held.{one_more};
@@ -79,7 +79,11 @@ pub fn workers(alloc: Global, programs: &[Program]) -> Result<Names, Memory>
 
 /// For whom a BEGIN-TRANSACTION waits: while a syncpoint is pending for the programs in transaction state,
 /// where there are any, and else for nobody. Answers Err where memory is refused.
-pub fn awaited(alloc: Global, pending: bool, programs: &[Program]) -> Result<Option<Names>, Memory>
+pub fn begin_blockers(
+    alloc: Global,
+    pending: bool,
+    programs: &[Program],
+) -> Result<Option<Names>, Memory>
     ensures { IfOk result (λ names. Awaits names (if pending then workers programs.now else [])) }
 {
     if !pending {
@@ -167,7 +171,7 @@ pub fn new_program(
     name: &Name,
     mode: Mode,
 ) -> Result<Program, Memory>
-    ensures { IfOk result (λ p. p ≡ new_program (described desc.now) name.now mode) }
+    ensures { IfOk result (λ p. p ≡ new_program (as_described desc.now) name.now mode) }
 {
     let works = no_works(alloc, desc.structures.as_slice().len())?;
     Ok(Program {

@@ -13,7 +13,7 @@ pub struct Refusal {
 }
 
 /// A verb was carried out, and shows nothing.
-pub fn done(alloc: Global) -> Answer
+pub fn succeed(alloc: Global) -> Answer
     ensures reply { result.reply ≡ Reply.Done [] }
     ensures sync { result.sync ≡ None }
 {
@@ -24,7 +24,7 @@ pub fn done(alloc: Global) -> Answer
 }
 
 /// A verb was refused.
-pub fn refused(category: Category, name: Name) -> Answer
+pub fn refuse(category: Category, name: Name) -> Answer
     ensures reply { result.reply ≡ Reply.Exception category name }
     ensures sync { result.sync ≡ None }
 {

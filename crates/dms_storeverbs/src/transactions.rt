@@ -1,6 +1,6 @@
-ghost use Rattle.std.specs.Prelude.{◌≡◌, ◌≤◌, ◌<◌, true, false, Some, None, IfOk, OnOk, IsErrOf, slice_get, length, if◌then◌else◌};
+ghost use Rattle.std.specs.Prelude.{◌≡◌, ◌≤◌, ◌<◌, true, false, Some, None, IfOk, OnOk, IsErrOf, slice_get, length};
 ghost use Rattle.dms_desc.specs.Lookups.{structure_of};
-ghost use Rattle.dms_desc.specs.Shape.{described};
+ghost use Rattle.dms_desc.specs.Shape.{as_described};
 ghost use Rattle.dms_model.specs.Programs.{Program};
 ghost use Rattle.dms_model.specs.Seen.{IsMute, IsSilent, Spends, StaysDurable};
 ghost use Rattle.dms_model.specs.Session.{Session, keep, restart_of, settle, store_step, begin_step, end_step, abort_step, is_waits};
@@ -10,10 +10,10 @@ ghost use Rattle.dms_block.specs.Faults.{IfFull, NotFull, Undamaged};
 ghost use Rattle.dms_model.specs.Db.{Db};
 ghost use Rattle.dms_storeverbs.specs.Costs.{Costs, limit_if};
 ghost use Rattle.dms_storeverbs.specs.Keeping.{FullWhereKept, WasKept, kept_if};
-ghost use Rattle.dms_storeverbs.specs.Rooms.{FullFor, FullForQuiet};
-ghost use Rattle.dms_storeverbs.specs.View.{Does, DoesWhere, EngineLasts, Room, seen, view};
+ghost use Rattle.dms_storeverbs.specs.Rooms.{FullFor, FullForQuiet, NoPointWhere};
+ghost use Rattle.dms_storeverbs.specs.View.{Does, DoesWhere, EngineLasts, MayStep, Room, engine_view, view};
 
-use crate::refusal::{Refusal, done, refused};
+use crate::refusal::{Refusal, refuse, succeed};
 use crate::schema::restart_of;
 use crate::storing::{JudgedRecord, judge_record};
 use crate::{Engine, areas, programs};
@@ -26,18 +26,18 @@ impl<St: Store> Engine<St> {
     /// Stores a program's area of a data set, by the list of refusals that STORE, BEGIN and END share.
     #[tactic(auto, using(std::proofs::lemmas::Option::gets))]
     fn keep(&mut self, alloc: Global, i: usize, set: u16) -> Result<Option<Refusal>, BlockFault>
-        requires outer { IsOuter (structure_of (described self.old.desc) set) }
+        requires outer { IsOuter (structure_of (as_described self.old.desc) set) }
         requires place { i < length self.old.programs.items }
-        requires sound { (seen self.old).sound }
-        ensures kept { IfOk result (λ r. WasKept i (λ p db. keep (described self.old.desc) p db set) self.old.programs.items (view self.old) r (view self.new)) }
+        requires sound { (engine_view self.old).sound }
+        ensures kept { IfOk result (λ r. WasKept i (λ p db. keep (as_described self.old.desc) p db set) self.old.programs.items (view self.old) r (view self.new)) }
         ensures count { OnOk result (length self.new.programs.items ≡ length self.old.programs.items) }
-        ensures points { OnOk result (StaysDurable (seen self.old) (seen self.new)) }
-        ensures silent { IsSilent (seen self.old) (seen self.new) }
-        ensures undamaged { (d : Db) → (seen self.old).db ≡ Some d → Undamaged result }
-        ensures spends { Spends (limit_if true (seen self.old).desc) (seen self.old).effort (seen self.new).effort }
+        ensures points { OnOk result (StaysDurable (engine_view self.old) (engine_view self.new)) }
+        ensures silent { IsSilent (engine_view self.old) (engine_view self.new) }
+        ensures undamaged { (d : Db) → (engine_view self.old).db ≡ Some d → Undamaged result }
+        ensures spends { Spends (limit_if true (engine_view self.old).desc) (engine_view self.old).effort (engine_view self.new).effort }
         ensures mute_fault { IsErrOf result BlockFault.Say → ⊥ }
-        ensures file { IfFull result (λ f. f ≡ (seen self.old).last) }
-        ensures full { FullWhereKept i (λ p db. keep (described self.old.desc) p db set) self.old.programs.items (view self.old) result }
+        ensures file { IfFull result (λ f. f ≡ (engine_view self.old).pace.last) }
+        ensures full { FullWhereKept i (λ p db. keep (as_described self.old.desc) p db set) self.old.programs.items (view self.old) result }
         ensures lasts { EngineLasts result self.old self.new }
     {
         let (number, rec) = match judge_record(alloc, &self.desc, &self.programs[i], set)? {
@@ -46,7 +46,7 @@ impl<St: Store> Engine<St> {
         };
         match self.store.put(alloc, set, number, &rec)? {
             Put::Stored(number) => {
-                areas::stored(&mut self.programs[i], set, number, rec.values)?;
+                areas::note_stored(&mut self.programs[i], set, number, rec.values)?;
                 Ok(None)
             }
             Put::Duplicate(other) => Ok(Some(Refusal {
@@ -68,19 +68,19 @@ impl<St: Store> Engine<St> {
         i: usize,
         audit: bool,
     ) -> Result<Option<Refusal>, BlockFault>
-        requires restart { IsOuter (structure_of (described self.old.desc) (restart_of (described self.old.desc))) }
+        requires restart { IsOuter (structure_of (as_described self.old.desc) (restart_of (as_described self.old.desc))) }
         requires place { i < length self.old.programs.items }
-        requires sound { (seen self.old).sound }
-        ensures kept { IfOk result (λ r. WasKept i (kept_if audit (described self.old.desc)) self.old.programs.items (view self.old) r (view self.new)) }
+        requires sound { (engine_view self.old).sound }
+        ensures kept { IfOk result (λ r. WasKept i (kept_if audit (as_described self.old.desc)) self.old.programs.items (view self.old) r (view self.new)) }
         ensures count { OnOk result (length self.new.programs.items ≡ length self.old.programs.items) }
-        ensures points { OnOk result (StaysDurable (seen self.old) (seen self.new)) }
-        ensures silent { IsSilent (seen self.old) (seen self.new) }
-        ensures undamaged { (d : Db) → (seen self.old).db ≡ Some d → Undamaged result }
-        ensures spends { Spends (limit_if audit (seen self.old).desc) (seen self.old).effort (seen self.new).effort }
+        ensures points { OnOk result (StaysDurable (engine_view self.old) (engine_view self.new)) }
+        ensures silent { IsSilent (engine_view self.old) (engine_view self.new) }
+        ensures undamaged { (d : Db) → (engine_view self.old).db ≡ Some d → Undamaged result }
+        ensures spends { Spends (limit_if audit (engine_view self.old).desc) (engine_view self.old).effort (engine_view self.new).effort }
         ensures no_memory { audit ≡ false → IsErrOf result BlockFault.Memory → ⊥ }
         ensures mute_fault { IsErrOf result BlockFault.Say → ⊥ }
-        ensures file { IfFull result (λ f. f ≡ (seen self.old).last) }
-        ensures full { FullWhereKept i (kept_if audit (described self.old.desc)) self.old.programs.items (view self.old) result }
+        ensures file { IfFull result (λ f. f ≡ (engine_view self.old).pace.last) }
+        ensures full { FullWhereKept i (kept_if audit (as_described self.old.desc)) self.old.programs.items (view self.old) result }
         ensures none { audit ≡ false → NotFull result }
         ensures lasts { EngineLasts result self.old self.new }
     {
@@ -95,24 +95,25 @@ impl<St: Store> Engine<St> {
     /// memory.
     #[tactic(auto, using(std::proofs::lemmas::Option::gets), unfolding(dms_model::specs::Session::settle))]
     fn settle(&mut self, alloc: Global) -> Result<Answer, BlockFault>
-        requires sound { (seen self.old).sound }
+        requires sound { (engine_view self.old).sound }
         ensures step { DoesWhere (λ s. Room s.next) self.old self.new result (λ s. settle s) }
-        ensures mute { IsMute (seen self.old) (seen self.new) }
-        ensures costs { Costs (limit_if false (seen self.old).desc) false result (seen self.old).effort (seen self.new).effort }
+        ensures mute { IsMute (engine_view self.old) (engine_view self.new) }
+        ensures costs { Costs (limit_if false (engine_view self.old).desc) false result (engine_view self.old).effort (engine_view self.new).effort }
         ensures no_memory { IsErrOf result BlockFault.Memory → ⊥ }
         ensures no_wait { IfOk result (λ a. is_waits a.reply ≡ false) }
         ensures mute_fault { IsErrOf result BlockFault.Say → ⊥ }
-        ensures file { IfFull result (λ f. f ≡ (seen self.old).last) }
+        ensures file { IfFull result (λ f. f ≡ (engine_view self.old).pace.last) }
         ensures full { FullForQuiet self.old result }
+        ensures no_point { NoPointWhere (λ s. Room s.next) self.old self.new result (λ s. settle s) }
         ensures lasts { EngineLasts result self.old self.new }
     {
         if programs::someone_works(self.programs.as_slice()) {
-            return Ok(done(alloc));
+            return Ok(succeed(alloc));
         }
         let number = self.store.quiet()?;
         programs::clear_active(self.programs.as_mut_slice());
         if !self.pending {
-            return Ok(done(alloc));
+            return Ok(succeed(alloc));
         }
         self.store.sync()?;
         self.pending = false;
@@ -126,29 +127,30 @@ impl<St: Store> Engine<St> {
     /// STORE.
     #[tactic(auto, using(std::proofs::lemmas::Option::gets), unfolding(dms_model::specs::Session::store_step))]
     pub(crate) fn store(&mut self, alloc: Global, i: usize, set: u16) -> Result<Answer, BlockFault>
-        requires outer { IsOuter (structure_of (described self.old.desc) set) }
+        requires outer { IsOuter (structure_of (as_described self.old.desc) set) }
         requires place { i < length self.old.programs.items }
-        requires sound { (seen self.old).sound }
-        ensures step { (p : Program) → slice_get self.old.programs.items i ≡ Some p → Does self.old self.new result (λ s. store_step (described self.old.desc) i p s set) }
-        ensures mute { IsMute (seen self.old) (seen self.new) }
-        ensures costs { Costs (limit_if true (seen self.old).desc) false result (seen self.old).effort (seen self.new).effort }
-        ensures idle { IfOk result (λ a. is_waits a.reply ≡ true → (seen self.new).effort.spent ≤ (seen self.old).effort.spent) }
+        requires sound { (engine_view self.old).sound }
+        ensures step { (p : Program) → slice_get self.old.programs.items i ≡ Some p → Does self.old self.new result (λ s. store_step (as_described self.old.desc) i p s set) }
+        ensures mute { IsMute (engine_view self.old) (engine_view self.new) }
+        ensures costs { Costs (limit_if true (engine_view self.old).desc) false result (engine_view self.old).effort (engine_view self.new).effort }
+        ensures idle { IfOk result (λ a. is_waits a.reply ≡ true → (engine_view self.new).effort.spent ≤ (engine_view self.old).effort.spent) }
         ensures mute_fault { IsErrOf result BlockFault.Say → ⊥ }
-        ensures file { IfFull result (λ f. f ≡ (seen self.old).last) }
-        ensures full { (p : Program) → slice_get self.old.programs.items i ≡ Some p → FullFor self.old result (Verb.Store set) (λ s. store_step (described self.old.desc) i p s set) }
+        ensures file { IfFull result (λ f. f ≡ (engine_view self.old).pace.last) }
+        ensures full { (p : Program) → slice_get self.old.programs.items i ≡ Some p → FullFor self.old result (Verb.Store set) (λ s. store_step (as_described self.old.desc) i p s set) }
+        ensures no_point { (p : Program) → slice_get self.old.programs.items i ≡ Some p → NoPointWhere MayStep self.old self.new result (λ s. store_step (as_described self.old.desc) i p s set) }
         ensures lasts { EngineLasts result self.old self.new }
     {
         if !programs::works(&self.programs[i]) {
-            return Ok(refused(
+            return Ok(refuse(
                 Category::AuditError,
                 programs::program_name(&self.programs[i]),
             ));
         }
         if let Some(refusal) = self.keep(alloc, i, set)? {
-            return Ok(refused(refusal.category, refusal.name));
+            return Ok(refuse(refusal.category, refusal.name));
         }
         areas::carry(&mut self.programs[i]);
-        Ok(done(alloc))
+        Ok(succeed(alloc))
     }
 
     /// BEGIN-TRANSACTION.
@@ -159,29 +161,30 @@ impl<St: Store> Engine<St> {
         i: usize,
         audit: bool,
     ) -> Result<Answer, BlockFault>
-        requires restart { IsOuter (structure_of (described self.old.desc) (restart_of (described self.old.desc))) }
+        requires restart { IsOuter (structure_of (as_described self.old.desc) (restart_of (as_described self.old.desc))) }
         requires place { i < length self.old.programs.items }
-        requires sound { (seen self.old).sound }
-        ensures step { (p : Program) → slice_get self.old.programs.items i ≡ Some p → Does self.old self.new result (λ s. begin_step (described self.old.desc) i p s audit) }
-        ensures mute { IsMute (seen self.old) (seen self.new) }
-        ensures costs { Costs (limit_if audit (seen self.old).desc) false result (seen self.old).effort (seen self.new).effort }
-        ensures idle { IfOk result (λ a. is_waits a.reply ≡ true → (seen self.new).effort.spent ≤ (seen self.old).effort.spent) }
+        requires sound { (engine_view self.old).sound }
+        ensures step { (p : Program) → slice_get self.old.programs.items i ≡ Some p → Does self.old self.new result (λ s. begin_step (as_described self.old.desc) i p s audit) }
+        ensures mute { IsMute (engine_view self.old) (engine_view self.new) }
+        ensures costs { Costs (limit_if audit (engine_view self.old).desc) false result (engine_view self.old).effort (engine_view self.new).effort }
+        ensures idle { IfOk result (λ a. is_waits a.reply ≡ true → (engine_view self.new).effort.spent ≤ (engine_view self.old).effort.spent) }
         ensures mute_fault { IsErrOf result BlockFault.Say → ⊥ }
-        ensures file { IfFull result (λ f. f ≡ (seen self.old).last) }
-        ensures full { (p : Program) → slice_get self.old.programs.items i ≡ Some p → FullFor self.old result (Verb.Begin audit) (λ s. begin_step (described self.old.desc) i p s audit) }
+        ensures file { IfFull result (λ f. f ≡ (engine_view self.old).pace.last) }
+        ensures full { (p : Program) → slice_get self.old.programs.items i ≡ Some p → FullFor self.old result (Verb.Begin audit) (λ s. begin_step (as_described self.old.desc) i p s audit) }
+        ensures no_point { (p : Program) → slice_get self.old.programs.items i ≡ Some p → NoPointWhere MayStep self.old self.new result (λ s. begin_step (as_described self.old.desc) i p s audit) }
         ensures lasts { EngineLasts result self.old self.new }
     {
         if programs::works(&self.programs[i]) {
-            return Ok(refused(
+            return Ok(refuse(
                 Category::AuditError,
                 programs::program_name(&self.programs[i]),
             ));
         }
         let restart = restart_of(&self.desc);
         if areas::lacks(&self.programs[i], restart, audit) {
-            return Ok(refused(Category::NoRecord, self.desc.name_of(restart)));
+            return Ok(refuse(Category::NoRecord, self.desc.name_of(restart)));
         }
-        let awaited = programs::awaited(alloc, self.pending, self.programs.as_slice())?;
+        let awaited = programs::begin_blockers(alloc, self.pending, self.programs.as_slice())?;
         if let Some(names) = awaited {
             return Ok(Answer {
                 reply: Reply::Waits(names),
@@ -189,10 +192,10 @@ impl<St: Store> Engine<St> {
             });
         }
         if let Some(refusal) = self.keep_restart(alloc, i, audit)? {
-            return Ok(refused(refusal.category, refusal.name));
+            return Ok(refuse(refusal.category, refusal.name));
         }
         areas::enter(&mut self.programs[i]);
-        Ok(done(alloc))
+        Ok(succeed(alloc))
     }
 
     /// END-TRANSACTION.
@@ -204,27 +207,28 @@ impl<St: Store> Engine<St> {
         audit: bool,
         sync: bool,
     ) -> Result<Answer, BlockFault>
-        requires restart { IsOuter (structure_of (described self.old.desc) (restart_of (described self.old.desc))) }
+        requires restart { IsOuter (structure_of (as_described self.old.desc) (restart_of (as_described self.old.desc))) }
         requires place { i < length self.old.programs.items }
-        requires sound { (seen self.old).sound }
-        ensures step { (p : Program) → slice_get self.old.programs.items i ≡ Some p → Does self.old self.new result (λ s. end_step (described self.old.desc) i p s audit sync) }
-        ensures mute { IsMute (seen self.old) (seen self.new) }
-        ensures costs { Costs (limit_if audit (seen self.old).desc) false result (seen self.old).effort (seen self.new).effort }
+        requires sound { (engine_view self.old).sound }
+        ensures step { (p : Program) → slice_get self.old.programs.items i ≡ Some p → Does self.old self.new result (λ s. end_step (as_described self.old.desc) i p s audit sync) }
+        ensures mute { IsMute (engine_view self.old) (engine_view self.new) }
+        ensures costs { Costs (limit_if audit (engine_view self.old).desc) false result (engine_view self.old).effort (engine_view self.new).effort }
         ensures no_memory { audit ≡ false → IsErrOf result BlockFault.Memory → ⊥ }
         ensures no_wait { IfOk result (λ a. is_waits a.reply ≡ false) }
         ensures mute_fault { IsErrOf result BlockFault.Say → ⊥ }
-        ensures file { IfFull result (λ f. f ≡ (seen self.old).last) }
-        ensures full { (p : Program) → slice_get self.old.programs.items i ≡ Some p → FullFor self.old result (Verb.End audit sync) (λ s. end_step (described self.old.desc) i p s audit sync) }
+        ensures file { IfFull result (λ f. f ≡ (engine_view self.old).pace.last) }
+        ensures full { (p : Program) → slice_get self.old.programs.items i ≡ Some p → FullFor self.old result (Verb.End audit sync) (λ s. end_step (as_described self.old.desc) i p s audit sync) }
+        ensures no_point { (p : Program) → slice_get self.old.programs.items i ≡ Some p → NoPointWhere MayStep self.old self.new result (λ s. end_step (as_described self.old.desc) i p s audit sync) }
         ensures lasts { EngineLasts result self.old self.new }
     {
         if !programs::works(&self.programs[i]) {
-            return Ok(refused(
+            return Ok(refuse(
                 Category::AuditError,
                 programs::program_name(&self.programs[i]),
             ));
         }
         if let Some(refusal) = self.keep_restart(alloc, i, audit)? {
-            return Ok(refused(refusal.category, refusal.name));
+            return Ok(refuse(refusal.category, refusal.name));
         }
         areas::leave(&mut self.programs[i]);
         self.since = programs::one_more(self.since);
@@ -236,23 +240,24 @@ impl<St: Store> Engine<St> {
     #[tactic(auto, using(std::proofs::lemmas::Option::gets), unfolding(dms_model::specs::Session::abort_step))]
     pub(crate) fn abort(&mut self, alloc: Global, i: usize) -> Result<Answer, BlockFault>
         requires place { i < length self.old.programs.items }
-        requires sound { (seen self.old).sound }
+        requires sound { (engine_view self.old).sound }
         ensures step { (p : Program) → slice_get self.old.programs.items i ≡ Some p → Does self.old self.new result (λ s. abort_step i p s) }
-        ensures mute { IsMute (seen self.old) (seen self.new) }
-        ensures costs { Costs (limit_if false (seen self.old).desc) true result (seen self.old).effort (seen self.new).effort }
+        ensures mute { IsMute (engine_view self.old) (engine_view self.new) }
+        ensures costs { Costs (limit_if false (engine_view self.old).desc) true result (engine_view self.old).effort (engine_view self.new).effort }
         ensures mute_fault { IsErrOf result BlockFault.Say → ⊥ }
         ensures file { IfFull result (λ f. f ≡ 9999) }
         ensures full { (p : Program) → slice_get self.old.programs.items i ≡ Some p → FullFor self.old result Verb.Abort (λ s. abort_step i p s) }
+        ensures no_point { (p : Program) → slice_get self.old.programs.items i ≡ Some p → NoPointWhere MayStep self.old self.new result (λ s. abort_step i p s) }
         ensures lasts { EngineLasts result self.old self.new }
     {
         let name = programs::program_name(&self.programs[i]);
         if !programs::works(&self.programs[i]) {
-            return Ok(refused(Category::AuditError, name));
+            return Ok(refuse(Category::AuditError, name));
         }
         self.store.back_out(alloc)?;
         programs::back_out(self.programs.as_mut_slice(), &name);
         self.pending = false;
         self.since = 0;
-        Ok(done(alloc))
+        Ok(succeed(alloc))
     }
 }

@@ -1,5 +1,5 @@
-ghost use Rattle.std.specs.Prelude.{◌≡◌, ◌≤◌, ◌<◌, ◌+◌, ◌^◌, true, false, Some, None, IfOk, IfSome, OnOk, IsErrOf, slice_get, length, if◌then◌else◌};
-ghost use Rattle.dms_desc.specs.Shape.{described};
+ghost use Rattle.std.specs.Prelude.{◌≡◌, ◌≤◌, ◌<◌, ◌+◌, ◌^◌, true, false, Some, None, IfOk, IfSome, OnOk, IsErrOf, slice_get, length};
+ghost use Rattle.dms_desc.specs.Shape.{as_described};
 ghost use Rattle.dms_model.specs.Programs.{Program};
 ghost use Rattle.dms_model.specs.Db.{Db};
 ghost use Rattle.dms_model.specs.BackOut.{asks_back_out};
@@ -11,11 +11,11 @@ ghost use Rattle.dms_model.specs.Session.{Session, find_step, found_by, path_of,
 ghost use Rattle.dms_model.specs.Verbs.{IsPathOf, IsVerbOf};
 ghost use Rattle.dms_block.specs.Faults.{IfFull, NotFull, Undamaged};
 ghost use Rattle.dms_storeverbs.specs.Costs.{Costs, block_limit, changes, full_file, takes_none};
-ghost use Rattle.dms_storeverbs.specs.Rooms.{FullFor};
-ghost use Rattle.dms_storeverbs.specs.View.{Does, EngineLasts, SameSession, seen};
+ghost use Rattle.dms_storeverbs.specs.Rooms.{FullFor, NoPointWhere};
+ghost use Rattle.dms_storeverbs.specs.View.{Does, EngineLasts, MayStep, SameSession, engine_view};
 
 use crate::keys::{agreeing, key_values};
-use crate::refusal::{done, refused};
+use crate::refusal::{refuse, succeed};
 use crate::schema::owner_of;
 use crate::{Engine, apart, areas, programs};
 use dms_base::{Category, Literal, Name};
@@ -33,17 +33,17 @@ impl<St: Store> Engine<St> {
         owner: u64,
         literals: &[Literal],
     ) -> Result<Option<Spot>, BlockFault>
-        requires sound { (seen self.old).sound }
+        requires sound { (engine_view self.old).sound }
         requires owner { owner + 1 < 2 ^ 32 }
-        requires path { IsStructure (described self.old.desc) x }
-        ensures fits { IfOk result (λ o. IfSome o (SpotFits (described self.old.desc) x)) }
-        ensures found { IfOk result (λ r. (d : Db) → (seen self.old).db ≡ Some d → r ≡ found_by (described self.old.desc) d owner (At x literals.now)) }
+        requires path { IsStructure (as_described self.old.desc) x }
+        ensures fits { IfOk result (λ o. IfSome o (SpotFits (as_described self.old.desc) x)) }
+        ensures found { IfOk result (λ r. (d : Db) → (engine_view self.old).db ≡ Some d → r ≡ found_by (as_described self.old.desc) d owner (At x literals.now)) }
         ensures stands { OnOk result (SameSession self.old self.new) }
         ensures programs { self.new.programs.items ≡ self.old.programs.items }
-        ensures points { OnOk result (StaysDurable (seen self.old) (seen self.new)) }
-        ensures silent { IsSilent (seen self.old) (seen self.new) }
-        ensures undamaged { (d : Db) → (seen self.old).db ≡ Some d → Undamaged result }
-        ensures effort { (seen self.new).effort ≡ (seen self.old).effort }
+        ensures points { OnOk result (StaysDurable (engine_view self.old) (engine_view self.new)) }
+        ensures silent { IsSilent (engine_view self.old) (engine_view self.new) }
+        ensures undamaged { (d : Db) → (engine_view self.old).db ≡ Some d → Undamaged result }
+        ensures effort { (engine_view self.new).effort ≡ (engine_view self.old).effort }
         ensures mute_fault { IsErrOf result BlockFault.Say → ⊥ }
         ensures room { NotFull result }
         ensures lasts { EngineLasts result self.old self.new }
@@ -62,18 +62,23 @@ impl<St: Store> Engine<St> {
 
     /// The member that a path names, among those of an owner.
     #[tactic(auto, using(std::proofs::lemmas::Option::gets), unfolding(dms_model::specs::Session::found_by))]
-    fn found(&mut self, alloc: Global, owner: u64, path: &Path) -> Result<Option<Spot>, BlockFault>
-        requires sound { (seen self.old).sound }
+    fn find_spot(
+        &mut self,
+        alloc: Global,
+        owner: u64,
+        path: &Path,
+    ) -> Result<Option<Spot>, BlockFault>
+        requires sound { (engine_view self.old).sound }
         requires owner { owner + 1 < 2 ^ 32 }
-        requires path { IsPathOf (described self.old.desc) path.now }
-        ensures fits { IfOk result (λ o. IfSome o (SpotFits (described self.old.desc) (path_of path.now))) }
-        ensures found { IfOk result (λ r. (d : Db) → (seen self.old).db ≡ Some d → r ≡ found_by (described self.old.desc) d owner path.now) }
+        requires path { IsPathOf (as_described self.old.desc) path.now }
+        ensures fits { IfOk result (λ o. IfSome o (SpotFits (as_described self.old.desc) (path_of path.now))) }
+        ensures found { IfOk result (λ r. (d : Db) → (engine_view self.old).db ≡ Some d → r ≡ found_by (as_described self.old.desc) d owner path.now) }
         ensures stands { OnOk result (SameSession self.old self.new) }
         ensures programs { self.new.programs.items ≡ self.old.programs.items }
-        ensures points { OnOk result (StaysDurable (seen self.old) (seen self.new)) }
-        ensures silent { IsSilent (seen self.old) (seen self.new) }
-        ensures undamaged { (d : Db) → (seen self.old).db ≡ Some d → Undamaged result }
-        ensures effort { (seen self.new).effort ≡ (seen self.old).effort }
+        ensures points { OnOk result (StaysDurable (engine_view self.old) (engine_view self.new)) }
+        ensures silent { IsSilent (engine_view self.old) (engine_view self.new) }
+        ensures undamaged { (d : Db) → (engine_view self.old).db ≡ Some d → Undamaged result }
+        ensures effort { (engine_view self.new).effort ≡ (engine_view self.old).effort }
         ensures mute_fault { IsErrOf result BlockFault.Say → ⊥ }
         ensures room { NotFull result }
         ensures lasts { EngineLasts result self.old self.new }
@@ -88,12 +93,12 @@ impl<St: Store> Engine<St> {
     /// FIND.
     #[tactic(auto, using(std::proofs::lemmas::Option::gets), unfolding(dms_model::specs::Session::find_step))]
     fn find(&mut self, alloc: Global, i: usize, path: &Path) -> Result<Answer, BlockFault>
-        requires path { IsPathOf (described self.old.desc) path.now }
+        requires path { IsPathOf (as_described self.old.desc) path.now }
         requires place { i < length self.old.programs.items }
-        requires sound { (seen self.old).sound }
-        ensures step { (p : Program) → slice_get self.old.programs.items i ≡ Some p → Does self.old self.new result (λ s. find_step (described self.old.desc) i p s path.now) }
-        ensures mute { IsMute (seen self.old) (seen self.new) }
-        ensures costs { Costs 0 false result (seen self.old).effort (seen self.new).effort }
+        requires sound { (engine_view self.old).sound }
+        ensures step { (p : Program) → slice_get self.old.programs.items i ≡ Some p → Does self.old self.new result (λ s. find_step (as_described self.old.desc) i p s path.now) }
+        ensures mute { IsMute (engine_view self.old) (engine_view self.new) }
+        ensures costs { Costs 0 false result (engine_view self.old).effort (engine_view self.new).effort }
         ensures mute_fault { IsErrOf result BlockFault.Say → ⊥ }
         ensures room { NotFull result }
         ensures lasts { EngineLasts result self.old self.new }
@@ -103,36 +108,37 @@ impl<St: Store> Engine<St> {
         let set = self.desc.set_of(x);
         let Some(owner) = areas::owner_for(&self.desc, &self.programs[i], x) else {
             let owned = self.desc.name_of(owner_of(&self.desc, x));
-            return Ok(refused(Category::NoRecord, owned));
+            return Ok(refuse(Category::NoRecord, owned));
         };
-        let Some(spot) = self.found(alloc, owner, path)? else {
-            return Ok(refused(Category::NotFound, name));
+        let Some(spot) = self.find_spot(alloc, owner, path)? else {
+            return Ok(refuse(Category::NotFound, name));
         };
         areas::find(&mut self.programs[i], set, spot);
-        Ok(done(alloc))
+        Ok(succeed(alloc))
     }
 
     /// The verb of an open program that owes no ABORT and may do it.
     #[tactic(auto, using(std::proofs::lemmas::Option::gets), unfolding(dms_model::specs::Session::verb_step))]
     fn verb(&mut self, alloc: Global, i: usize, verb: &Verb) -> Result<Answer, BlockFault>
-        requires verb { IsVerbOf (described self.old.desc) verb.now }
+        requires verb { IsVerbOf (as_described self.old.desc) verb.now }
         requires place { i < length self.old.programs.items }
-        requires sound { (seen self.old).sound }
-        ensures step { (p : Program) → slice_get self.old.programs.items i ≡ Some p → Does self.old self.new result (λ s. verb_step (described self.old.desc) i p s verb.now) }
-        ensures mute { IsMute (seen self.old) (seen self.new) }
-        ensures costs { Costs (block_limit (seen self.old).desc verb.now) (asks_back_out verb.now) result (seen self.old).effort (seen self.new).effort }
+        requires sound { (engine_view self.old).sound }
+        ensures step { (p : Program) → slice_get self.old.programs.items i ≡ Some p → Does self.old self.new result (λ s. verb_step (as_described self.old.desc) i p s verb.now) }
+        ensures mute { IsMute (engine_view self.old) (engine_view self.new) }
+        ensures costs { Costs (block_limit (engine_view self.old).desc verb.now) (asks_back_out verb.now) result (engine_view self.old).effort (engine_view self.new).effort }
         ensures no_memory { takes_none verb.now ≡ true → IsErrOf result BlockFault.Memory → ⊥ }
         ensures no_wait { takes_none verb.now ≡ true → IfOk result (λ a. is_waits a.reply ≡ false) }
-        ensures idle { IfOk result (λ a. is_waits a.reply ≡ true → (seen self.new).effort.spent ≤ (seen self.old).effort.spent) }
+        ensures idle { IfOk result (λ a. is_waits a.reply ≡ true → (engine_view self.new).effort.spent ≤ (engine_view self.old).effort.spent) }
         ensures mute_fault { IsErrOf result BlockFault.Say → ⊥ }
         ensures room { changes verb.now ≡ false → NotFull result }
-        ensures file { IfFull result (λ f. f ≡ full_file verb.now (seen self.old).last) }
-        ensures full { (p : Program) → slice_get self.old.programs.items i ≡ Some p → FullFor self.old result verb.now (λ s. verb_step (described self.old.desc) i p s verb.now) }
+        ensures file { IfFull result (λ f. f ≡ full_file verb.now (engine_view self.old).pace.last) }
+        ensures full { (p : Program) → slice_get self.old.programs.items i ≡ Some p → FullFor self.old result verb.now (λ s. verb_step (as_described self.old.desc) i p s verb.now) }
+        ensures no_point { (p : Program) → slice_get self.old.programs.items i ≡ Some p → NoPointWhere MayStep self.old self.new result (λ s. verb_step (as_described self.old.desc) i p s verb.now) }
         ensures lasts { EngineLasts result self.old self.new }
     {
         match verb {
             Verb::OpenUpdate | Verb::OpenInquiry => {
-                Ok(refused(
+                Ok(refuse(
                     Category::OpenError,
                     programs::program_name(&self.programs[i]),
                 ))
@@ -171,18 +177,19 @@ impl<St: Store> Engine<St> {
         program: &Name,
         verb: &Verb,
     ) -> Result<Answer, BlockFault>
-        requires verb { IsVerbOf (described self.old.desc) verb.now }
-        requires sound { (seen self.old).sound }
-        ensures step { Does self.old self.new result (λ s. carried_out (described self.old.desc) s program.now verb.now) }
-        ensures mute { IsMute (seen self.old) (seen self.new) }
-        ensures costs { Costs (block_limit (seen self.old).desc verb.now) (asks_back_out verb.now) result (seen self.old).effort (seen self.new).effort }
+        requires verb { IsVerbOf (as_described self.old.desc) verb.now }
+        requires sound { (engine_view self.old).sound }
+        ensures step { Does self.old self.new result (λ s. carried_out (as_described self.old.desc) s program.now verb.now) }
+        ensures mute { IsMute (engine_view self.old) (engine_view self.new) }
+        ensures costs { Costs (block_limit (engine_view self.old).desc verb.now) (asks_back_out verb.now) result (engine_view self.old).effort (engine_view self.new).effort }
         ensures no_memory { takes_none verb.now ≡ true → IsErrOf result BlockFault.Memory → ⊥ }
         ensures no_wait { takes_none verb.now ≡ true → IfOk result (λ a. is_waits a.reply ≡ false) }
-        ensures idle { IfOk result (λ a. is_waits a.reply ≡ true → (seen self.new).effort.spent ≤ (seen self.old).effort.spent) }
+        ensures idle { IfOk result (λ a. is_waits a.reply ≡ true → (engine_view self.new).effort.spent ≤ (engine_view self.old).effort.spent) }
         ensures mute_fault { IsErrOf result BlockFault.Say → ⊥ }
         ensures room { changes verb.now ≡ false → NotFull result }
-        ensures file { IfFull result (λ f. f ≡ full_file verb.now (seen self.old).last) }
-        ensures full { FullFor self.old result verb.now (λ s. carried_out (described self.old.desc) s program.now verb.now) }
+        ensures file { IfFull result (λ f. f ≡ full_file verb.now (engine_view self.old).pace.last) }
+        ensures full { FullFor self.old result verb.now (λ s. carried_out (as_described self.old.desc) s program.now verb.now) }
+        ensures no_point { NoPointWhere MayStep self.old self.new result (λ s. carried_out (as_described self.old.desc) s program.now verb.now) }
         ensures lasts { EngineLasts result self.old self.new }
     {
         let i = programs::place_of(self.programs.as_slice(), program);
@@ -198,19 +205,21 @@ impl<St: Store> Engine<St> {
     /// One step of a program: its verb, one that a line can spell, is carried out, and its answer ends its wait or begins one.
     /// Answers the store's fault, which is never Say, and Full for STORE, BEGIN, END and ABORT alone; and Memory where memory is refused. Where
     /// the store holds a database, Full comes only of a verb that would be done and store a record or make a quiet point, or of such an ABORT.
+    /// No stop then leaves the verb's quiet point, unless a control point was due at the sync of its syncpoint.
     #[tactic(auto, using(std::proofs::lemmas::Option::gets), unfolding(dms_model::specs::Session::step))]
     pub fn call(&mut self, alloc: Global, program: &Name, verb: &Verb) -> Result<Answer, BlockFault>
-        requires verb { IsVerbOf (described self.old.desc) verb.now }
-        requires sound { (seen self.old).sound }
-        ensures step { Does self.old self.new result (λ s. step (described self.old.desc) s program.now verb.now) }
-        ensures mute { IsMute (seen self.old) (seen self.new) }
-        ensures costs { Costs (block_limit (seen self.old).desc verb.now) (asks_back_out verb.now) result (seen self.old).effort (seen self.new).effort }
+        requires verb { IsVerbOf (as_described self.old.desc) verb.now }
+        requires sound { (engine_view self.old).sound }
+        ensures step { Does self.old self.new result (λ s. step (as_described self.old.desc) s program.now verb.now) }
+        ensures mute { IsMute (engine_view self.old) (engine_view self.new) }
+        ensures costs { Costs (block_limit (engine_view self.old).desc verb.now) (asks_back_out verb.now) result (engine_view self.old).effort (engine_view self.new).effort }
         ensures no_memory { takes_none verb.now ≡ true → IsErrOf result BlockFault.Memory → ⊥ }
-        ensures idle { IfOk result (λ a. is_waits a.reply ≡ true → (seen self.new).effort.spent ≤ (seen self.old).effort.spent) }
+        ensures idle { IfOk result (λ a. is_waits a.reply ≡ true → (engine_view self.new).effort.spent ≤ (engine_view self.old).effort.spent) }
         ensures mute_fault { IsErrOf result BlockFault.Say → ⊥ }
         ensures room { changes verb.now ≡ false → NotFull result }
-        ensures file { IfFull result (λ f. f ≡ full_file verb.now (seen self.old).last) }
-        ensures full { FullFor self.old result verb.now (λ s. step (described self.old.desc) s program.now verb.now) }
+        ensures file { IfFull result (λ f. f ≡ full_file verb.now (engine_view self.old).pace.last) }
+        ensures full { FullFor self.old result verb.now (λ s. step (as_described self.old.desc) s program.now verb.now) }
+        ensures no_point { NoPointWhere MayStep self.old self.new result (λ s. step (as_described self.old.desc) s program.now verb.now) }
         ensures lasts { EngineLasts result self.old self.new }
     {
         let answer = self.carry_out(alloc, program, verb)?;

@@ -17,7 +17,7 @@ use Rattle.dms_tokens.proofs.WordScan.{stopped, never, scans, is_byte}
 use Rattle.dms_tokens.proofs.NumberScan.{NoDigit, NumberScan, number_scan, number_is, nil_digit, no_digit}
 use Rattle.dms_tokens.proofs.StringScan.{ClosesString, Breaks, StringScan, string_scan, doubled_plain, doubled_quote, no_quote}
 use Rattle.dms_tokens.proofs.Shapes.{class_of, letter_class, digit_class, sign_class, TokenShape, shape_of, nothing_spelled, shape_class, word_is, Tail, number_shape_is, Signs, plus_is, minus_is, string_is, sign_is, equal_is, less_with, less_is, greater_with, greater_is}
-use Rattle.dms_base.specs.Texts.{doubled}
+use Rattle.dms_base.specs.Texts.{double_quotes}
 use Rattle.dms_base.specs.Words.{is_digit}
 
 -- a text's first token
@@ -263,19 +263,19 @@ minus_case place (b ∷ bs) =
 abbrev IsClosedString : List ℕ → Type 0
 IsClosedString rest = (bs : List ℕ) → rest ≡ 34 ∷ bs → ⊥
 
-shorter : (y : ℕ) (ys r q : List ℕ) → 34 ∷ r ≡ doubled (y ∷ ys) ++ (34 ∷ q) → IsClosedString r → ⊥
+shorter : (y : ℕ) (ys r q : List ℕ) → 34 ∷ r ≡ double_quotes (y ∷ ys) ++ (34 ∷ q) → IsClosedString r → ⊥
 shorter y ys r q e c =
     elim (cases_Bool (y == 34)) [
-      | inl t ↦ let f : 34 ∷ r ≡ 34 ∷ (34 ∷ (doubled ys ++ (34 ∷ q))) = e ∙ ap (λ (xs : List ℕ). xs ++ (34 ∷ q)) (doubled_quote y ys t) in c (doubled ys ++ (34 ∷ q)) (cc)
-      | inr n ↦ no_quote y (doubled ys ++ (34 ∷ q)) r n (sym (e ∙ ap (λ (xs : List ℕ). xs ++ (34 ∷ q)) (doubled_plain y ys n)))
+      | inl t ↦ let f : 34 ∷ r ≡ 34 ∷ (34 ∷ (double_quotes ys ++ (34 ∷ q))) = e ∙ ap (λ (xs : List ℕ). xs ++ (34 ∷ q)) (doubled_quote y ys t) in c (double_quotes ys ++ (34 ∷ q)) (cc)
+      | inr n ↦ no_quote y (double_quotes ys ++ (34 ∷ q)) r n (sym (e ∙ ap (λ (xs : List ℕ). xs ++ (34 ∷ q)) (doubled_plain y ys n)))
     ]
 
 abbrev TokenPairs : List ℕ → List ℕ → List ℕ → List ℕ → Type 0
-TokenPairs xs ys r q = doubled xs ++ (34 ∷ r) ≡ doubled ys ++ (34 ∷ q) → (xs ≡ ys) × (r ≡ q)
+TokenPairs xs ys r q = double_quotes xs ++ (34 ∷ r) ≡ double_quotes ys ++ (34 ∷ q) → (xs ≡ ys) × (r ≡ q)
 
 both_quotes : (x y : ℕ) (xs ys r q : List ℕ) → x == 34 ≡ true → y == 34 ≡ true → TokenPairs xs ys r q → TokenPairs (x ∷ xs) (y ∷ ys) r q
 both_quotes x y xs ys r q s t next e =
-    let f : 34 ∷ 34 ∷ (doubled xs ++ (34 ∷ r)) ≡ 34 ∷ 34 ∷ (doubled ys ++ (34 ∷ q)) = sym (ap (λ (zs : List ℕ). zs ++ (34 ∷ r)) (doubled_quote x xs s)) ∙ e ∙ ap (λ (zs : List ℕ). zs ++ (34 ∷ q)) (doubled_quote y ys t) in
+    let f : 34 ∷ 34 ∷ (double_quotes xs ++ (34 ∷ r)) ≡ 34 ∷ 34 ∷ (double_quotes ys ++ (34 ∷ q)) = sym (ap (λ (zs : List ℕ). zs ++ (34 ∷ r)) (doubled_quote x xs s)) ∙ e ∙ ap (λ (zs : List ℕ). zs ++ (34 ∷ q)) (doubled_quote y ys t) in
     let k = next (cc) in
     let h : x ≡ y = (Decides-eqb x 34).0 s ∙ sym ((Decides-eqb y 34).0 t) in
     let a = k.0 in
@@ -283,15 +283,15 @@ both_quotes x y xs ys r q s t next e =
 
 both_plain : (x y : ℕ) (xs ys r q : List ℕ) → x == 34 ≡ false → y == 34 ≡ false → TokenPairs xs ys r q → TokenPairs (x ∷ xs) (y ∷ ys) r q
 both_plain x y xs ys r q s t next e =
-    let f : x ∷ (doubled xs ++ (34 ∷ r)) ≡ y ∷ (doubled ys ++ (34 ∷ q)) = sym (ap (λ (zs : List ℕ). zs ++ (34 ∷ r)) (doubled_plain x xs s)) ∙ e ∙ ap (λ (zs : List ℕ). zs ++ (34 ∷ q)) (doubled_plain y ys t) in
+    let f : x ∷ (double_quotes xs ++ (34 ∷ r)) ≡ y ∷ (double_quotes ys ++ (34 ∷ q)) = sym (ap (λ (zs : List ℕ). zs ++ (34 ∷ r)) (doubled_plain x xs s)) ∙ e ∙ ap (λ (zs : List ℕ). zs ++ (34 ∷ q)) (doubled_plain y ys t) in
     let k = next (cc) in
     let h : x ≡ y = cc in
     let a = k.0 in
     (cc, k.1)
 
-one_quote : (x y : ℕ) (xs ys r q : List ℕ) → x == 34 ≡ true → y == 34 ≡ false → doubled (x ∷ xs) ++ (34 ∷ r) ≡ doubled (y ∷ ys) ++ (34 ∷ q) → ⊥
+one_quote : (x y : ℕ) (xs ys r q : List ℕ) → x == 34 ≡ true → y == 34 ≡ false → double_quotes (x ∷ xs) ++ (34 ∷ r) ≡ double_quotes (y ∷ ys) ++ (34 ∷ q) → ⊥
 one_quote x y xs ys r q s t e =
-    no_quote y (doubled ys ++ (34 ∷ q)) (34 ∷ (doubled xs ++ (34 ∷ r))) t (sym (ap (λ (zs : List ℕ). zs ++ (34 ∷ q)) (doubled_plain y ys t)) ∙ sym e ∙ ap (λ (zs : List ℕ). zs ++ (34 ∷ r)) (doubled_quote x xs s))
+    no_quote y (double_quotes ys ++ (34 ∷ q)) (34 ∷ (double_quotes xs ++ (34 ∷ r))) t (sym (ap (λ (zs : List ℕ). zs ++ (34 ∷ q)) (doubled_plain y ys t)) ∙ sym e ∙ ap (λ (zs : List ℕ). zs ++ (34 ∷ r)) (doubled_quote x xs s))
 
 pairs_by : (x y : ℕ) (xs ys r q : List ℕ) → TokenPairs xs ys r q → TokenPairs (x ∷ xs) (y ∷ ys) r q
 pairs_by x y xs ys r q next e =
@@ -323,31 +323,31 @@ nil_closed bs e = cc
 front_closed : (rest m back : List ℕ) → IsClosedString rest → rest ≡ m ++ back → IsClosedString m
 front_closed rest m back c e bs f = c (bs ++ back) (e ∙ ap (λ (xs : List ℕ). xs ++ back) f)
 
-string_ends : (text rest m back : List ℕ) (t : Token) → IsClosedString rest → rest ≡ m ++ back → SpellsToken ((34 ∷ (doubled text ++ 34 ∷ [])) ++ m) t → m ≡ []
+string_ends : (text rest m back : List ℕ) (t : Token) → IsClosedString rest → rest ≡ m ++ back → SpellsToken ((34 ∷ (double_quotes text ++ 34 ∷ [])) ++ m) t → m ≡ []
 string_ends text rest m back t c e d =
-    let k = string_is 34 ((doubled text ++ 34 ∷ []) ++ m) t (shape_of 34 ((doubled text ++ 34 ∷ []) ++ m) t d) refl in
-    let same : doubled k.text ++ (34 ∷ []) ≡ doubled text ++ (34 ∷ m) = sym k.all ∙ append_assoc (doubled text) (34 ∷ []) m in
+    let k = string_is 34 ((double_quotes text ++ 34 ∷ []) ++ m) t (shape_of 34 ((double_quotes text ++ 34 ∷ []) ++ m) t d) refl in
+    let same : double_quotes k.text ++ (34 ∷ []) ≡ double_quotes text ++ (34 ∷ m) = sym k.all ∙ append_assoc (double_quotes text) (34 ∷ []) m in
     sym (closed_pair k.text text [] m nil_closed (front_closed rest m back c e) same).1
 
 string_taken : (place : ℕ) (bs : List ℕ) → ClosesString 0 bs → TakenToken place (34 ∷ bs)
 string_taken place bs s = record {
-  front = 34 ∷ (doubled s.more ++ 34 ∷ []);
+  front = 34 ∷ (double_quotes s.more ++ 34 ∷ []);
   rest = s.rest;
   token = Quoted s.more;
-  cut = ap (λ (xs : List ℕ). 34 ∷ xs) (s.body.cut ∙ sym (append_assoc (doubled s.more) (34 ∷ []) s.rest));
+  cut = ap (λ (xs : List ℕ). 34 ∷ xs) (s.body.cut ∙ sym (append_assoc (double_quotes s.more) (34 ∷ []) s.rest));
   longest = record {
     spelled = a_string s.more s.body.printable (let l = s.body.few in omega arith);
     longest = λ m back t e d. string_ends s.more s.rest m back t s.body.closed e d;
     closed = λ text back e f. s.body.closed back f;
   };
-  reads = quote_first place bs ∙ s.reads place (place + 1) [] refl ∙ (let c : place + 1 + length (doubled s.more ++ 34 ∷ []) ≡ place + suc (length (doubled s.more ++ 34 ∷ [])) = omega arith in rw c refl);
+  reads = quote_first place bs ∙ s.reads place (place + 1) [] refl ∙ (let c : place + 1 + length (double_quotes s.more ++ 34 ∷ []) ≡ place + suc (length (double_quotes s.more ++ 34 ∷ [])) = omega arith in rw c refl);
 }
 
 string_none : (bs : List ℕ) → Breaks 0 bs → (g rest : List ℕ) (u : Token) → bs ≡ g ++ rest → TokenShape 34 g u → IsLongest (34 ∷ g) rest u → ⊥
 string_none bs s g rest u e sh l =
     let k = string_is 34 g u sh refl in
     s.none k.text rest (record {
-      cut = e ∙ ap (λ (xs : List ℕ). xs ++ rest) k.all ∙ append_assoc (doubled k.text) (34 ∷ []) rest;
+      cut = e ∙ ap (λ (xs : List ℕ). xs ++ rest) k.all ∙ append_assoc (double_quotes k.text) (34 ∷ []) rest;
       printable = k.printable;
       few = let f = k.few in omega arith;
       closed = λ back f. l.closed g back refl f;

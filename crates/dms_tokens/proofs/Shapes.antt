@@ -13,7 +13,7 @@ use Rattle.dms_tokens.specs.Spelling.{goes_on, behind_point, number_of, op_text,
 use Rattle.dms_tokens.specs.Spelling.IsSigned.{no_sign, with_plus, with_minus}
 use Rattle.dms_tokens.specs.Spelling.SpellsToken.{a_word, a_number, a_string, a_sign, a_comparison}
 use Rattle.dms_tokens.proofs.WordScan.{is_byte}
-use Rattle.dms_base.specs.Texts.{doubled}
+use Rattle.dms_base.specs.Texts.{double_quotes}
 use Rattle.dms_base.specs.Words.{is_digit}
 use Rattle.dms_base.specs.Text.{is_printable}
 
@@ -90,7 +90,7 @@ pub data TokenShape : ℕ → List ℕ → Token → Type 0 where
   number_shape : (b : ℕ) (ws fs : List ℕ) → is_digit b ≡ true → list_all is_digit ws ≡ true → list_all is_digit fs ≡ true → TokenShape b (ws ++ behind_point fs) (number_of false false (b ∷ ws) fs)
   plus_shape : (b : ℕ) (ws fs : List ℕ) → is_digit b ≡ true → list_all is_digit ws ≡ true → list_all is_digit fs ≡ true → TokenShape 43 (b ∷ (ws ++ behind_point fs)) (number_of true false (b ∷ ws) fs)
   minus_shape : (b : ℕ) (ws fs : List ℕ) → is_digit b ≡ true → list_all is_digit ws ≡ true → list_all is_digit fs ≡ true → TokenShape 45 (b ∷ (ws ++ behind_point fs)) (number_of true true (b ∷ ws) fs)
-  string_shape : (text : List ℕ) → list_all is_printable text ≡ true → length text ≤ 200 → TokenShape 34 (doubled text ++ 34 ∷ []) (Quoted text)
+  string_shape : (text : List ℕ) → list_all is_printable text ≡ true → length text ≤ 200 → TokenShape 34 (double_quotes text ++ 34 ∷ []) (Quoted text)
   sign_shape : (b : ℕ) → is_sign b ≡ true → TokenShape b [] (Sign b)
   equal_shape : TokenShape 61 [] (Compare Equal)
   less_shape : TokenShape 60 [] (Compare Less)
@@ -121,7 +121,7 @@ op_shaped GreaterEqual = record { first = 62; others = 61 ∷ []; all = refl; sh
 shaped : (xs : List ℕ) (t : Token) → SpellsToken xs t → Shaped xs t
 shaped _ _ (a_word b bs l g) = record { first = b; others = bs; all = refl; shape = word_shape b bs l g }
 shaped _ _ (a_number s g m b ws fs d i j k) = number_shaped s g m b ws fs d i j k
-shaped _ _ (a_string text p l) = record { first = 34; others = doubled text ++ 34 ∷ []; all = refl; shape = string_shape text p l }
+shaped _ _ (a_string text p l) = record { first = 34; others = double_quotes text ++ 34 ∷ []; all = refl; shape = string_shape text p l }
 shaped _ _ (a_sign b i) = record { first = b; others = []; all = refl; shape = sign_shape b i }
 shaped _ _ (a_comparison op) = op_shaped op
 
@@ -230,7 +230,7 @@ minus_is _ _ _ greater_equal_shape h = absurd (omega arith)
 -- what stands behind a string's first quote
 pub record Strings (bs : List ℕ) (t : Token) : Type 0 where
   pub text : List ℕ
-  pub all : bs ≡ doubled text ++ 34 ∷ []
+  pub all : bs ≡ double_quotes text ++ 34 ∷ []
   pub printable : list_all is_printable text ≡ true
   pub few : length text ≤ 200
   pub token : t ≡ Quoted text

@@ -9,18 +9,18 @@ use Rattle.dms_tokens.specs.declared.token.Token.TheVariants.{Quoted, Bad}
 use Rattle.dms_tokens.specs.declared.reading.Reading.TheVariants.{Between, Quoted as InQuotes}
 use Rattle.dms_tokens.specs.Tokens.{lexeme, tokens_from, byte_turn, quoted_byte, quote_byte, character, end_turn}
 use Rattle.dms_tokens.proofs.WordScan.{stopped, never, is_byte}
-use Rattle.dms_base.specs.Texts.{doubled}
+use Rattle.dms_base.specs.Texts.{double_quotes}
 use Rattle.dms_base.specs.Text.{is_printable}
 
-pub doubled_plain : (b : ℕ) (bs : List ℕ) → b == 34 ≡ false → doubled (b ∷ bs) ≡ b ∷ doubled bs
+pub doubled_plain : (b : ℕ) (bs : List ℕ) → b == 34 ≡ false → double_quotes (b ∷ bs) ≡ b ∷ double_quotes bs
 doubled_plain b bs f = rw f refl
 
-pub doubled_quote : (b : ℕ) (bs : List ℕ) → b == 34 ≡ true → doubled (b ∷ bs) ≡ 34 ∷ 34 ∷ doubled bs
+pub doubled_quote : (b : ℕ) (bs : List ℕ) → b == 34 ≡ true → double_quotes (b ∷ bs) ≡ 34 ∷ 34 ∷ double_quotes bs
 doubled_quote b bs f = rw f refl
 
 -- a text begins with these characters, a quote that ends them and nothing that goes on with them; so many were read before
 pub record Body (n : ℕ) (text more rest : List ℕ) : Type 0 where
-  pub cut : text ≡ doubled more ++ (34 ∷ rest)
+  pub cut : text ≡ double_quotes more ++ (34 ∷ rest)
   pub printable : list_all is_printable more ≡ true
   pub few : n + length more ≤ 200
   pub closed : (bs : List ℕ) → rest ≡ 34 ∷ bs → ⊥
@@ -29,7 +29,7 @@ pub record ClosesString (n : ℕ) (text : List ℕ) : Type 0 where
   pub more : List ℕ
   pub rest : List ℕ
   pub body : Body n text more rest
-  pub reads : (start place : ℕ) (kept : List ℕ) → length kept ≡ n → tokens_from (InQuotes start kept) place text ≡ lexeme (Quoted (kept ++ more)) start ∷ tokens_from Between (place + length (doubled more ++ 34 ∷ [])) rest
+  pub reads : (start place : ℕ) (kept : List ℕ) → length kept ≡ n → tokens_from (InQuotes start kept) place text ≡ lexeme (Quoted (kept ++ more)) start ∷ tokens_from Between (place + length (double_quotes more ++ 34 ∷ [])) rest
 
 -- the string isn't one
 pub record Breaks (n : ℕ) (text : List ℕ) : Type 0 where
@@ -50,16 +50,16 @@ plain_up b bs n more rest f p k = record {
 
 plain_tail : (b : ℕ) (bs : List ℕ) (n m : ℕ) (ms rest : List ℕ) → m == 34 ≡ false → Body n (b ∷ bs) (m ∷ ms) rest → (is_printable b ≡ true) × Body (n + 1) bs ms rest
 plain_tail b bs n m ms rest g k =
-    let e : b ∷ bs ≡ m ∷ (doubled ms ++ (34 ∷ rest)) = k.cut ∙ ap (λ (xs : List ℕ). xs ++ (34 ∷ rest)) (doubled_plain m ms g) in
+    let e : b ∷ bs ≡ m ∷ (double_quotes ms ++ (34 ∷ rest)) = k.cut ∙ ap (λ (xs : List ℕ). xs ++ (34 ∷ rest)) (doubled_plain m ms g) in
     let same : m ≡ b = cc in
-    let others : bs ≡ doubled ms ++ (34 ∷ rest) = cc in
+    let others : bs ≡ double_quotes ms ++ (34 ∷ rest) = cc in
     (rw (← same) (and_parts (is_printable m) _ k.printable).0, record { cut = others; printable = (and_parts (is_printable m) _ k.printable).1; few = let l = k.few in omega arith; closed = k.closed })
 
 plain_down : (b : ℕ) (bs : List ℕ) (n : ℕ) (more rest : List ℕ) → b == 34 ≡ false → Body n (b ∷ bs) more rest → (ms : List ℕ) × (is_printable b ≡ true) × Body (n + 1) bs ms rest
 plain_down b bs n [] rest f k = absurd (no_quote b bs rest f k.cut)
 plain_down b bs n (m ∷ ms) rest f k =
     elim (cases_Bool (m == 34)) [
-      | inl q ↦ absurd (no_quote b bs (34 ∷ (doubled ms ++ (34 ∷ rest))) f (k.cut ∙ ap (λ (xs : List ℕ). xs ++ (34 ∷ rest)) (doubled_quote m ms q)))
+      | inl q ↦ absurd (no_quote b bs (34 ∷ (double_quotes ms ++ (34 ∷ rest))) f (k.cut ∙ ap (λ (xs : List ℕ). xs ++ (34 ∷ rest)) (doubled_quote m ms q)))
       | inr g ↦ let t = plain_tail b bs n m ms rest g k in (ms, t.0, t.1)
     ]
 
@@ -79,7 +79,7 @@ plain_closes b bs n f p l s = record {
   rest = s.rest;
   body = plain_up b bs n s.more s.rest f p s.body;
   reads = λ start place kept e. plain_read b bs start place kept f p (has_room kept n e l) ∙ s.reads start (place + 1) (kept ++ b ∷ []) (one_longer kept b n e)
-      ∙ (let k : place + 1 + length (doubled s.more ++ 34 ∷ []) ≡ place + suc (length (doubled s.more ++ 34 ∷ [])) = omega arith in rw (append_assoc kept (b ∷ []) s.more, doubled_plain b s.more f, k) refl);
+      ∙ (let k : place + 1 + length (double_quotes s.more ++ 34 ∷ []) ≡ place + suc (length (double_quotes s.more ++ 34 ∷ [])) = omega arith in rw (append_assoc kept (b ∷ []) s.more, doubled_plain b s.more f, k) refl);
 }
 
 plain_breaks : (b : ℕ) (bs : List ℕ) (n : ℕ) → b == 34 ≡ false → is_printable b ≡ true → nat_lt n 200 ≡ true → Breaks (n + 1) bs → Breaks n (b ∷ bs)
@@ -127,9 +127,9 @@ double_down bs n [] rest k = absurd (k.closed bs (let e : 34 ∷ 34 ∷ bs ≡ 3
 double_down bs n (m ∷ ms) rest k =
     elim (cases_Bool (m == 34)) [
       | inl q ↦
-          let e : 34 ∷ 34 ∷ bs ≡ 34 ∷ (34 ∷ (doubled ms ++ (34 ∷ rest))) = k.cut ∙ ap (λ (xs : List ℕ). xs ++ (34 ∷ rest)) (doubled_quote m ms q) in
+          let e : 34 ∷ 34 ∷ bs ≡ 34 ∷ (34 ∷ (double_quotes ms ++ (34 ∷ rest))) = k.cut ∙ ap (λ (xs : List ℕ). xs ++ (34 ∷ rest)) (doubled_quote m ms q) in
           (ms, record { cut = cc; printable = (and_parts (is_printable m) _ k.printable).1; few = let l = k.few in omega arith; closed = k.closed })
-      | inr g ↦ absurd (no_quote m (doubled ms ++ (34 ∷ rest)) (34 ∷ bs) g (sym (k.cut ∙ ap (λ (xs : List ℕ). xs ++ (34 ∷ rest)) (doubled_plain m ms g))))
+      | inr g ↦ absurd (no_quote m (double_quotes ms ++ (34 ∷ rest)) (34 ∷ bs) g (sym (k.cut ∙ ap (λ (xs : List ℕ). xs ++ (34 ∷ rest)) (doubled_plain m ms g))))
     ]
 
 double_read : (bs : List ℕ) (start place : ℕ) (kept : List ℕ) → nat_lt (length kept) 200 ≡ true → tokens_from (InQuotes start kept) place (34 ∷ 34 ∷ bs) ≡ tokens_from (InQuotes start (kept ++ 34 ∷ [])) (place + 1 + 1) bs
@@ -142,7 +142,7 @@ double_closes bs n l s = record {
   rest = s.rest;
   body = double_up bs n s.more s.rest s.body;
   reads = λ start place kept e. double_read bs start place kept (has_room kept n e l) ∙ s.reads start (place + 1 + 1) (kept ++ 34 ∷ []) (one_longer kept 34 n e)
-      ∙ (let k : place + 1 + 1 + length (doubled s.more ++ 34 ∷ []) ≡ place + suc (suc (length (doubled s.more ++ 34 ∷ []))) = omega arith in rw (append_assoc kept (34 ∷ []) s.more, k) refl);
+      ∙ (let k : place + 1 + 1 + length (double_quotes s.more ++ 34 ∷ []) ≡ place + suc (suc (length (double_quotes s.more ++ 34 ∷ []))) = omega arith in rw (append_assoc kept (34 ∷ []) s.more, k) refl);
 }
 
 double_breaks : (bs : List ℕ) (n : ℕ) → nat_lt n 200 ≡ true → Breaks (n + 1) bs → Breaks n (34 ∷ 34 ∷ bs)
@@ -198,8 +198,8 @@ nil_none : (n : ℕ) (more rest : List ℕ) → Body n [] more rest → ⊥
 nil_none n [] rest k = let e : [] ≡ 34 ∷ rest = k.cut in cc
 nil_none n (m ∷ ms) rest k =
     elim (cases_Bool (m == 34)) [
-      | inl q ↦ let e : [] ≡ 34 ∷ (34 ∷ (doubled ms ++ (34 ∷ rest))) = k.cut ∙ ap (λ (xs : List ℕ). xs ++ (34 ∷ rest)) (doubled_quote m ms q) in cc
-      | inr g ↦ let e : [] ≡ m ∷ (doubled ms ++ (34 ∷ rest)) = k.cut ∙ ap (λ (xs : List ℕ). xs ++ (34 ∷ rest)) (doubled_plain m ms g) in cc
+      | inl q ↦ let e : [] ≡ 34 ∷ (34 ∷ (double_quotes ms ++ (34 ∷ rest))) = k.cut ∙ ap (λ (xs : List ℕ). xs ++ (34 ∷ rest)) (doubled_quote m ms q) in cc
+      | inr g ↦ let e : [] ≡ m ∷ (double_quotes ms ++ (34 ∷ rest)) = k.cut ∙ ap (λ (xs : List ℕ). xs ++ (34 ∷ rest)) (doubled_plain m ms g) in cc
     ]
 
 nil_breaks : (n : ℕ) → Breaks n []

@@ -8,7 +8,7 @@ use Rattle.dms_tokens.specs.declared.token.Token.TheVariants.{Word, Number, Deci
 use Rattle.dms_tokens.specs.declared.token.Lexeme.{Lexeme}
 use Rattle.dms_tokens.specs.Lexing.{is_blank, is_plain, upper, is_letter, is_sign}
 use Rattle.dms_tokens.specs.Tokens.{lexeme}
-use Rattle.dms_base.specs.Texts.{doubled}
+use Rattle.dms_base.specs.Texts.{double_quotes}
 use Rattle.dms_base.specs.Words.{is_digit}
 use Rattle.dms_base.specs.Text.{is_printable}
 
@@ -52,7 +52,7 @@ op_text GreaterEqual = codes ">="
 pub data SpellsToken : List ℕ → Token → Type 0 where
   a_word : (b : ℕ) (bs : List ℕ) → is_letter b ≡ true → goes_on false bs ≡ true → SpellsToken (b ∷ bs) (Word (map upper (b ∷ bs)))
   a_number : (sign : List ℕ) (signed minus : Bool) (b : ℕ) (whole fraction : List ℕ) → IsSigned sign signed minus → is_digit b ≡ true → list_all is_digit whole ≡ true → list_all is_digit fraction ≡ true → SpellsToken (sign ++ (b ∷ (whole ++ behind_point fraction))) (number_of signed minus (b ∷ whole) fraction)
-  a_string : (text : List ℕ) → list_all is_printable text ≡ true → length text ≤ 200 → SpellsToken (34 ∷ (doubled text ++ 34 ∷ [])) (Quoted text)
+  a_string : (text : List ℕ) → list_all is_printable text ≡ true → length text ≤ 200 → SpellsToken (34 ∷ (double_quotes text ++ 34 ∷ [])) (Quoted text)
   a_sign : (b : ℕ) → is_sign b ≡ true → SpellsToken (b ∷ []) (Sign b)
   a_comparison : (op : Op) → SpellsToken (op_text op) (Compare op)
 

@@ -90,7 +90,7 @@ fn fresh_byte(alloc: Global, place: u32, b: u8, out: &mut Lexemes) -> Result<Rea
         return Ok(Reading::Comment);
     }
     if is_letter(b) {
-        return Ok(Reading::Word(place, Bytes::copied(alloc, &[upper(b)])?));
+        return Ok(Reading::Word(place, Bytes::copy_of(alloc, &[upper(b)])?));
     }
     if is_digit(b) {
         return Ok(Reading::Whole(place, first_digit(false, false, b)));
@@ -151,7 +151,7 @@ fn word_byte(
         return Ok(Reading::Word(start, word));
     }
     if b == b'-' {
-        return Ok(Reading::Dashes(start, word, place, Bytes::copied(alloc, &[b'-'])?));
+        return Ok(Reading::Dashes(start, word, place, Bytes::copy_of(alloc, &[b'-'])?));
     }
     emit(out, Token::Word(word), start)?;
     fresh_byte(alloc, place, b, out)

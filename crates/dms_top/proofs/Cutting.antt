@@ -6,7 +6,7 @@ use Rattle.std.proofs.lemmas.List.{append-nil, take_at}
 use Rattle.dms_desc.specs.Shape.{Described}
 use Rattle.dms_feed.specs.Lines.{raw_lines}
 use Rattle.dms_model.specs.Db.{empty_db}
-use Rattle.dms_plain.specs.Told.{told}
+use Rattle.dms_plain.specs.Told.{text_if}
 use Rattle.dms_runner.specs.Answers.{lines_run, script_run}
 use Rattle.dms_runner.specs.Events.{text_of}
 use Rattle.dms_runner.specs.Running.{AreEnded, bytes_of, text_of_lines, CutInput}
@@ -20,12 +20,12 @@ use Rattle.dms_top.specs.Taking.{LeavesLines, IsBehind, CutText}
 
 -- the same texts
 pub cut_moved : (d d' : Described) (all : List ℕ) (left left' : Option (List ℕ)) (b : Bool) (before after before' after' : List ℕ) → left ≡ left' → after ≡ after' → before ≡ before' → d ≡ d'
-    → CutInput d' empty_db 1 all left' (told b before') (told b after') → CutInput d empty_db 1 all left (told b before) (told b after)
+    → CutInput d' empty_db 1 all left' (text_if b before') (text_if b after') → CutInput d empty_db 1 all left (text_if b before) (text_if b after)
 cut_moved d d' all left left' b before after before' after' l a o e p =
-    subst (λ (x : Option (List ℕ)). CutInput d empty_db 1 all x (told b before) (told b after)) (sym l)
-    (subst (λ (x : List ℕ). CutInput d empty_db 1 all left' (told b before) (told b x)) (sym a)
-    (subst (λ (x : List ℕ). CutInput d empty_db 1 all left' (told b x) (told b after')) (sym o)
-    (subst (λ (x : Described). CutInput x empty_db 1 all left' (told b before') (told b after')) (sym e) p)))
+    subst (λ (x : Option (List ℕ)). CutInput d empty_db 1 all x (text_if b before) (text_if b after)) (sym l)
+    (subst (λ (x : List ℕ). CutInput d empty_db 1 all left' (text_if b before) (text_if b x)) (sym a)
+    (subst (λ (x : List ℕ). CutInput d empty_db 1 all left' (text_if b x) (text_if b after')) (sym o)
+    (subst (λ (x : Described). CutInput x empty_db 1 all left' (text_if b before') (text_if b after')) (sym e) p)))
 
 pub cut_described : (d d' : Described) (all : List ℕ) (left : Option (List ℕ)) (before after : Option (List ℕ)) → d ≡ d' → CutTry d' all left before after → CutTry d all left before after
 cut_described d d' all left before after e p = subst (λ (x : Described). CutTry x all left before after) (sym e) p

@@ -9,17 +9,17 @@ use Rattle.dms_feed.specs.Feeds.{Remains}
 use Rattle.dms_status.specs.declared.status.Status.TheVariants.{SchemaRefused}
 use Rattle.dms_status.specs.declared.status.SchemaFault.{SchemaFault}
 use Rattle.dms_status.specs.declared.status.SchemaFault.TheVariants.{Parse}
-use Rattle.dms_top.specs.Judging.{judged}
+use Rattle.dms_top.specs.Judging.{judge_schema}
 
 same_fault : (e f : SchemaFault) → SchemaRefused e ≡ SchemaRefused f → e ≡ f
 same_fault e f is = cc
 
 -- a text of more than 1,000,000 bytes is refused for that
-long_text : (text : List ℕ) → 1000000 < length text → judged text ≡ Err (Parse (TooMany 1000000))
-unfolding judged schema_of
+long_text : (text : List ℕ) → 1000000 < length text → judge_schema text ≡ Err (Parse (TooMany 1000000))
+unfolding judge_schema schema_of
 long_text text long = let e : nat_lt 1000000 (length text) ≡ true = grind (arith, nat_tests) in rw e refl
 
-pub long_judged : (text : List ℕ) (f : SchemaFault) → SchemaRefused (Parse (TooMany 1000000)) ≡ SchemaRefused f → 1000000 < length text → judged text ≡ Err f
+pub long_judged : (text : List ℕ) (f : SchemaFault) → SchemaRefused (Parse (TooMany 1000000)) ≡ SchemaRefused f → 1000000 < length text → judge_schema text ≡ Err f
 long_judged text f is long = long_text text long ∙ ap (λ (e : SchemaFault). Err e) (same_fault _ f is)
 
 pub refused_is : (e f : SchemaFault) (j : Result Described SchemaFault) → SchemaRefused e ≡ SchemaRefused f → j ≡ Err e → j ≡ Err f

@@ -7,7 +7,7 @@ use Rattle.dms_model.specs.Db.{empty_db}
 use Rattle.dms_block.specs.Texts.{Prints, PrintsPrefix}
 use Rattle.dms_model.specs.Session.{fresh_session}
 use Rattle.dms_storeverbs.specs.View.{View, StandsFor}
-use Rattle.dms_plain.specs.Told.{told}
+use Rattle.dms_plain.specs.Told.{text_if}
 use Rattle.dms_runner.specs.Answers.{answers_text, lines_run, script_events, script_run}
 use Rattle.dms_runner.specs.Events.{RunEvent, SaidWhole, text_of}
 use Rattle.dms_runner.specs.Running.{AnswersWhole, bytes_of}
@@ -17,11 +17,11 @@ use Rattle.dms_status.specs.declared.status.LimitKind.{LimitKind}
 use Rattle.dms_top.specs.Answering.{Printed, PrintedFront, PrintedPrefix, PrintedWhole, WithinLimits, PassesLimit, judged_events, judged_text}
 
 -- a text that is told
-pub told_prints : (b : Bool) (before after text : List ℕ) → b ≡ true → Prints (told b before) (told b after) text → Printed before after text
+pub told_prints : (b : Bool) (before after text : List ℕ) → b ≡ true → Prints (text_if b before) (text_if b after) text → Printed before after text
 told_prints true before after text is prints = same_Some _ _ (prints before refl)
 told_prints false before after text is prints = absurd (cc)
 
-pub told_front : (b : Bool) (before after text : List ℕ) → b ≡ true → PrintsPrefix (told b before) (told b after) text → PrintedPrefix before after text
+pub told_front : (b : Bool) (before after text : List ℕ) → b ≡ true → PrintsPrefix (text_if b before) (text_if b after) text → PrintedPrefix before after text
 told_front true before after text is prints = let p = prints before refl in (p.0, same_Some _ _ p.1)
 told_front false before after text is prints = absurd (cc)
 
@@ -46,10 +46,10 @@ pub printed_moved : (before after text before' after' text' : List ℕ) → afte
 printed_moved before after text before' after' text' a b t p = a ∙ p ∙ ap (λ (x : List ℕ). x ++ text') (sym b) ∙ ap (λ (x : List ℕ). before ++ x) (sym t)
 
 pub passes_moved : (k : LimitKind) (d d' : Described) (lines : List (List ℕ)) (b : Bool) (before after before' after' : List ℕ) → after ≡ after' → before ≡ before' → d ≡ d'
-    → PassesLimit k d' lines (told b before') (told b after') → PassesLimit k d lines (told b before) (told b after)
+    → PassesLimit k d' lines (text_if b before') (text_if b after') → PassesLimit k d lines (text_if b before) (text_if b after)
 passes_moved k d d' lines b before after before' after' a o e p =
-    subst (λ (x : List ℕ). PassesLimit k d lines (told b before) (told b x)) (sym a)
-    (subst (λ (x : List ℕ). PassesLimit k d lines (told b x) (told b after')) (sym o) (subst (λ (x : Described). PassesLimit k x lines (told b before') (told b after')) (sym e) p))
+    subst (λ (x : List ℕ). PassesLimit k d lines (text_if b before) (text_if b x)) (sym a)
+    (subst (λ (x : List ℕ). PassesLimit k d lines (text_if b x) (text_if b after')) (sym o) (subst (λ (x : Described). PassesLimit k x lines (text_if b before') (text_if b after')) (sym e) p))
 
 pub within_moved : (d d' : Described) (lines : List (List ℕ)) → d ≡ d' → WithinLimits d' lines → WithinLimits d lines
 within_moved d d' lines e w = subst (λ (x : Described). WithinLimits x lines) (sym e) w
@@ -80,7 +80,7 @@ not_refused (Err x) d e p q = absurd (cc)
 
 -- whole events
 
-pub told_whole : (b : Bool) (before after : List ℕ) (events : List RunEvent) → b ≡ true → SaidWhole (told b before) (told b after) events → PrintedWhole before after events
+pub told_whole : (b : Bool) (before after : List ℕ) (events : List RunEvent) → b ≡ true → SaidWhole (text_if b before) (text_if b after) events → PrintedWhole before after events
 told_whole b before after events is whole = (whole.0, told_prints b before after (text_of (take whole.0 events)) is whole.1)
 
 pub nothing_whole : (before after : List ℕ) (events : List RunEvent) → after ≡ before → PrintedWhole before after events

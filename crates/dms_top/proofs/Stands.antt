@@ -10,7 +10,7 @@ use Rattle.dms_desc_bytes.specs.Spelling.{spelling}
 use Rattle.dms_descfile.specs.DescriptionFile.{IsSealed}
 use Rattle.dms_site.specs.Files.{Files, Left, stored_of}
 use Rattle.dms_model.specs.Db.{empty_db}
-use Rattle.dms_store.specs.Spelled.{spelled}
+use Rattle.dms_store.specs.Spelled.{database_in}
 use Rattle.dms_history.specs.Events.{AllBlocks, Stored, Counts, Event, control}
 use Rattle.dms_history.specs.Entries.{Entry, schema_part, control_point, counts_in}
 use Rattle.dms_history.specs.Lists.{has}
@@ -19,9 +19,9 @@ use Rattle.dms_history.specs.History.{history, last_point, next_number}
 use Rattle.dms_history.specs.Ranges.{Logged, event, told_events, live_logged}
 use Rattle.dms_history.specs.LawsOfRanges.{HasImages}
 use Rattle.dms_history.specs.Schemas.{Parts, no_parts, after_entry, is_whole, schema_entries, parts_of_schema}
-use Rattle.dms_history.specs.SchemaAt.{schema_of, schema_at, joined}
+use Rattle.dms_history.specs.SchemaAt.{schema_of, schema_at, join_parts}
 use Rattle.dms_history.specs.Agrees.{EventsAgree}
-use Rattle.dms_history.specs.EntryEvents.{said_by, logged_from, logged, events, history_of, live_of, is_place, live_entries_from, live_entries, BeginsAlone, Agrees}
+use Rattle.dms_history.specs.EntryEvents.{said_by, logged_from, events_in, events, history_of, live_of, is_place, live_entries_from, live_entries, BeginsAlone, Agrees}
 use Rattle.dms_history.specs.Here.{here}
 use Rattle.dms_history.specs.Pick.{Dumps, blocks_at, count_at, content_of, pick}
 use Rattle.dms_history.specs.LawsOfEntries.{ControlSealed}
@@ -69,7 +69,7 @@ some_parts n some = omega (arith, some)
 enough_parts : (n : ℕ) → n ≤ 4000 * part_count n
 enough_parts n = omega arith
 
-joined_bodies : (k : ℕ) (bytes : List ℕ) → length bytes ≤ 4000 * k → joined (bodies_of k bytes) ≡ bytes
+joined_bodies : (k : ℕ) (bytes : List ℕ) → length bytes ≤ 4000 * k → join_parts (bodies_of k bytes) ≡ bytes
 joined_bodies zero [] few = refl
 joined_bodies zero (b ∷ bs) few = absurd (omega (arith, few))
 joined_bodies (suc k) bytes few =
@@ -143,7 +143,7 @@ unfolding told_events
 no_events = refl
 
 module _ (found : MadeIsFound) (sealed_control : ControlSealed) (first_agrees : FirstAgrees) (each : EachSchema) (of_new : SchemaOfNew)
-    (empty : (desc : Described) (c : AllBlocks) → ((f : ℕ) → c f ≡ []) → spelled desc c ≡ Some empty_db) where
+    (empty : (desc : Described) (c : AllBlocks) → ((f : ℕ) → c f ≡ []) → database_in desc c ≡ Some empty_db) where
   module _ (tag : ℕ) (d : Described) (old files : Files) (sealed : IsSealed (old 1) d) (made : IsMade tag d old files) where
     abbrev n : ℕ
     n = length d.structures
@@ -152,9 +152,9 @@ module _ (found : MadeIsFound) (sealed_control : ControlSealed) (first_agrees : 
     unfolding bodies
     body = first_body (part_count (length (spelling d))) (spelling d) (some_parts (length (spelling d)) (some_bytes d))
 
-    whole : joined (body.one ∷ body.rest) ≡ spelling d
+    whole : join_parts (body.one ∷ body.rest) ≡ spelling d
     unfolding bodies
-    whole = ap joined (sym body.is) ∙ joined_bodies (part_count (length (spelling d))) (spelling d) (enough_parts (length (spelling d)))
+    whole = ap join_parts (sym body.is) ∙ joined_bodies (part_count (length (spelling d))) (spelling d) (enough_parts (length (spelling d)))
 
     entries_are : first_entries d ≡ schema_entries (body.one ∷ body.rest) ++ control_point 0 1 (zero_counts n 1) ∷ []
     unfolding first_entries
@@ -163,8 +163,8 @@ module _ (found : MadeIsFound) (sealed_control : ControlSealed) (first_agrees : 
     events_are : events (first_entries d) ≡ first_event n
     events_are = ap events entries_are ∙ sealed_control [] body.one body.rest 0 1 (zero_counts n 1) ∙ ap (λ (l : List Event). l ++ first_event n) no_events
 
-    logged_are : logged (first_entries d) ≡ logged (schema_entries (body.one ∷ body.rest) ++ control_point 0 1 [] ∷ [])
-    logged_are = ap logged entries_are ∙ same_logged n no_parts (schema_entries (body.one ∷ body.rest))
+    logged_are : events_in (first_entries d) ≡ events_in (schema_entries (body.one ∷ body.rest) ++ control_point 0 1 [] ∷ [])
+    logged_are = ap events_in entries_are ∙ same_logged n no_parts (schema_entries (body.one ∷ body.rest))
 
     agrees : (b : Bool) (dumps : Dumps) (stored : Stored) → Agrees b (first_entries d) dumps stored
     agrees b dumps stored =
@@ -184,7 +184,7 @@ module _ (found : MadeIsFound) (sealed_control : ControlSealed) (first_agrees : 
         ∙ (of_new (schema_entries (body.one ∷ body.rest)) 0 (ap (has (is_place 0)) parts_live ∙ no_place 0 1 (length (body.one ∷ body.rest)) (body.one ∷ body.rest))).1 1 (zero_counts n 1)
         ∙ ap schema_of parts_live ∙ (each []).whole body.one body.rest ∙ ap Some whole
 
-    spells : (counted : Stored) → spelled d (blocks_at (live_of (first_entries d)) counted 0) ≡ Some empty_db
+    spells : (counted : Stored) → database_in d (blocks_at (live_of (first_entries d)) counted 0) ≡ Some empty_db
     spells counted = empty d (blocks_at (live_of (first_entries d)) counted 0)
         (λ f. ap (λ (l : List Event). blocks_at (history l).live counted 0 f) events_are ∙ blocks_first n counted f)
 

@@ -16,7 +16,7 @@ use Rattle.dms_status.specs.declared.status.Status.{Status}
 use Rattle.dms_status.specs.declared.status.Status.TheVariants.{SayFault}
 use Rattle.dms_status.specs.declared.status.LimitKind.{LimitKind}
 use Rattle.dms_status.specs.declared.status.LimitKind.TheVariants.{AuditFile, Lines, Bytes, Held}
-use Rattle.dms_top.specs.Judging.{judged}
+use Rattle.dms_top.specs.Judging.{judge_schema}
 use Rattle.dms_top.specs.Premises.{OfTriedScript}
 use Rattle.dms_top.specs.Schema.{schema_text, script_part}
 
@@ -31,7 +31,7 @@ judged_text (Ok d) lines = answers_text d empty_db 1 lines
 judged_text (Err e) lines = []
 
 abbrev pub try_text : List ℕ → List ℕ
-try_text input = judged_text (judged (schema_text input)) (script_of input)
+try_text input = judged_text (judge_schema (schema_text input)) (script_of input)
 
 -- the text grew by these bytes
 abbrev pub Printed : List ℕ → List ℕ → List ℕ → Type 0
@@ -47,7 +47,7 @@ judged_events (Ok d) lines = script_events d empty_db 1 lines
 judged_events (Err e) lines = []
 
 abbrev pub try_events : List ℕ → List RunEvent
-try_events input = judged_events (judged (schema_text input)) (script_of input)
+try_events input = judged_events (judge_schema (schema_text input)) (script_of input)
 
 -- the text grew by that of the first so many of these events, each one whole
 abbrev pub PrintedWhole : List ℕ → List ℕ → List RunEvent → Type 0

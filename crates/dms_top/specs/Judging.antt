@@ -6,7 +6,7 @@ use Rattle.dasdl_phrases.specs.declared.fault.ParseFault.{ParseFault}
 use Rattle.dasdl_parse.specs.declared.schema.Schema.{Schema}
 use Rattle.dasdl_parse.specs.Grammar.{schema_of}
 use Rattle.dasdl_compile.specs.declared.fault.CompileFault.{CompileFault}
-use Rattle.dasdl_compile.specs.Compile.{compiled}
+use Rattle.dasdl_compile.specs.Compile.{compile_schema}
 use Rattle.dms_desc.specs.Shape.{Described}
 use Rattle.dms_status.specs.declared.status.SchemaFault.{SchemaFault}
 use Rattle.dms_status.specs.declared.status.SchemaFault.TheVariants.{Parse, Compile}
@@ -17,8 +17,8 @@ compiled_as (Err e) = Err (Compile e)
 
 abbrev pub parsed_as : Result Schema ParseFault → Result Described SchemaFault
 parsed_as (Err e) = Err (Parse e)
-parsed_as (Ok s) = compiled_as (compiled s.parameters s.declarations)
+parsed_as (Ok s) = compiled_as (compile_schema s.parameters s.declarations)
 
 -- the description that a text spells, or its first fault
-unfoldable pub judged : List ℕ → Result Described SchemaFault
-judged text = parsed_as (schema_of text)
+unfoldable pub judge_schema : List ℕ → Result Described SchemaFault
+judge_schema text = parsed_as (schema_of text)

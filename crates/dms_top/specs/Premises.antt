@@ -10,7 +10,7 @@ use Rattle.dms_descfile.specs.DescriptionFile.{IsSealed}
 use Rattle.dms_feed.specs.Feeds.{Remains}
 use Rattle.dms_site.specs.Files.{Files}
 use Rattle.dms_status.specs.declared.status.SchemaFault.{SchemaFault}
-use Rattle.dms_top.specs.Judging.{judged}
+use Rattle.dms_top.specs.Judging.{judge_schema}
 use Rattle.dms_top.specs.Schema.{schema_text}
 use Rattle.dms_top.specs.Words.{IsTry, IsCompile, IsPrintAudit, IsRun, initialize_tag}
 
@@ -48,7 +48,7 @@ OfInput left P = (all : List ℕ) → left ≡ Some all → P all
 
 -- it holds of the description that the whole input is a schema of
 abbrev pub OfSchema : Option (List ℕ) → (Described → Type 0) → Type 0
-OfSchema left P = (all : List ℕ) (d : Described) → left ≡ Some all → judged all ≡ Ok d → P d
+OfSchema left P = (all : List ℕ) (d : Described) → left ≡ Some all → judge_schema all ≡ Ok d → P d
 
 -- it holds of the description that file 1 is, sealed
 abbrev pub OfSealed : Files → (Described → Type 0) → Type 0
@@ -56,15 +56,15 @@ OfSealed files P = (d : Described) → IsSealed (files 1) d → P d
 
 -- it holds where the whole input is no schema
 abbrev pub OfNoSchema : Option (List ℕ) → Type 0 → Type 0
-OfNoSchema left P = (all : List ℕ) (e : SchemaFault) → left ≡ Some all → judged all ≡ Err e → P
+OfNoSchema left P = (all : List ℕ) (e : SchemaFault) → left ≡ Some all → judge_schema all ≡ Err e → P
 
 -- it holds of the input of `try`, and of the description of its schema
 abbrev pub OfTriedScript : Option (List ℕ) → (Described → List ℕ → Type 0) → Type 0
-OfTriedScript left P = (all : List ℕ) (d : Described) → left ≡ Some all → judged (schema_text all) ≡ Ok d → P d all
+OfTriedScript left P = (all : List ℕ) (d : Described) → left ≡ Some all → judge_schema (schema_text all) ≡ Ok d → P d all
 
 -- it holds of an input of `try` whose schema is refused
 abbrev pub OfNoScript : Option (List ℕ) → (List ℕ → Type 0) → Type 0
-OfNoScript left P = (all : List ℕ) (e : SchemaFault) → left ≡ Some all → judged (schema_text all) ≡ Err e → P all
+OfNoScript left P = (all : List ℕ) (e : SchemaFault) → left ≡ Some all → judge_schema (schema_text all) ≡ Err e → P all
 
 -- it holds of all that is held of the input and that its source has left
 abbrev pub OfRest : List ℕ → Option (List ℕ) → (List ℕ → Type 0) → Type 0

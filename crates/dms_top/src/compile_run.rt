@@ -1,5 +1,5 @@
 ghost use Rattle.std.specs.Prelude.{◌≡◌, ◌≢◌, ◌≤◌, [], ℕ, Some, Ok, Err, IfOk, IsOk, IsTrue, length};
-ghost use Rattle.dms_desc.specs.Shape.{Described, described};
+ghost use Rattle.dms_desc.specs.Shape.{Described, as_described};
 ghost use Rattle.dms_desc_bytes.specs.Spelling.{spelling};
 ghost use Rattle.dms_descfile.specs.DescriptionFile.{sealed_file, IsSealed, IsUnsealed};
 ghost use Rattle.dms_descfile.specs.Becoming.{Creates};
@@ -8,7 +8,7 @@ ghost use Rattle.dms_site.specs.Files.{Same, Only};
 ghost use Rattle.dms_status.specs.declared.status.LimitKind.{LimitKind as Kind};
 ghost use Rattle.dms_status.specs.declared.status.SchemaFault.{SchemaFault as Refusal};
 ghost use Rattle.dms_top.specs.Compiling.{compiled_text, SaysLine, IsSpoken, IsBefore, IsOfFile, CreatesSome, SaysSealed, SiteAndTextStay};
-ghost use Rattle.dms_top.specs.Judging.{judged};
+ghost use Rattle.dms_top.specs.Judging.{judge_schema};
 ghost use Rattle.dms_top.specs.Premises.{OfInput, OfSchema, OfSealed, OfNoSchema};
 ghost use Rattle.dms_audfile.specs.Counting.{CountedAt};
 ghost use Rattle.dms_top.specs.Words.{IsOfCompile, IsPast, IsUntouched};
@@ -29,7 +29,7 @@ use std::alloc::Global;
 fn compiled_text(alloc: Global, count: usize) -> Result<Bytes, Memory>
     ensures { IfOk result (λ text. text ≡ compiled_text count) }
 {
-    let mut text = Bytes::copied(alloc, b"COMPILED ")?;
+    let mut text = Bytes::copy_of(alloc, b"COMPILED ")?;
     let digits = format!(in alloc; "{count}")?;
     text.extend(digits.as_str().as_bytes())?;
     text.extend(b" STRUCTURES\n")?;
@@ -38,18 +38,18 @@ fn compiled_text(alloc: Global, count: usize) -> Result<Bytes, Memory>
 
 /// Seals a description, and prints a line.
 fn seal_and_say<S: Site>(alloc: Global, site: &mut S, desc: &Description, line: &[u8]) -> Status
-    requires { length (spelling (described desc.now)) ≤ 65535 }
+    requires { length (spelling (as_described desc.now)) ≤ 65535 }
     ensures of_file { IsOfFile result }
     ensures statuses { IsOfCompile result }
     ensures exists { result ≢ Status.Exists }
-    ensures sealed { IsSpoken result → IsTrue S.tells → S.files site.new 1 ≡ sealed_file (described desc.now) }
+    ensures sealed { IsSpoken result → IsTrue S.tells → S.files site.new 1 ≡ sealed_file (as_described desc.now) }
     ensures others { IsTrue S.tells → (g : ℕ) → g ≢ 1 → S.files site.new g ≡ S.files site.old g }
     ensures before { IsBefore result → IsTrue S.tells → S.files site.new ≡ S.files site.old }
     ensures stays { IsBefore result → Steps Same (S.clock site.old) (S.clock site.new) }
     ensures says { IsTrue S.tells_said → SaysLine result line.now (S.said site.old) (S.said site.new) }
-    ensures creates { IsTrue S.tells → Creates (sealed_file (described desc.now)) (S.files site.old) (S.clock site.old) (S.clock site.new) }
+    ensures creates { IsTrue S.tells → Creates (sealed_file (as_described desc.now)) (S.files site.old) (S.clock site.old) (S.clock site.new) }
     ensures stable { IsSpoken result → IsTrue S.tells → Only (S.files site.new) (S.clock site.new) }
-    ensures says_sealed { IsTrue S.tells → SaysSealed (sealed_file (described desc.now)) (S.clock site.old) (S.clock site.new) }
+    ensures says_sealed { IsTrue S.tells → SaysSealed (sealed_file (as_described desc.now)) (S.clock site.old) (S.clock site.new) }
     ensures same_site { S.same_site site.old site.new }
     ensures disk { CountedAt (result ≡ Status.DiskFault) (S.disk_faults site.old) (S.disk_faults site.new) }
     ensures say { CountedAt (result ≡ Status.SayFault) (S.say_faults site.old) (S.say_faults site.new) }
@@ -67,19 +67,19 @@ fn seal_and_say<S: Site>(alloc: Global, site: &mut S, desc: &Description, line: 
 
 /// Seals a description where the site holds none, and says so.
 fn create<S: Site>(alloc: Global, site: &mut S, desc: &Description) -> Status
-    requires { length (spelling (described desc.now)) ≤ 65535 }
+    requires { length (spelling (as_described desc.now)) ≤ 65535 }
     ensures of_file { IsOfFile result }
     ensures statuses { IsOfCompile result }
     ensures exists { result ≡ Status.Exists → IsTrue S.tells → (d : Described) × IsSealed (S.files site.old 1) d }
     ensures unsealed { IsSpoken result → IsTrue S.tells → IsUnsealed (S.files site.old 1) }
-    ensures sealed { IsSpoken result → IsTrue S.tells → S.files site.new 1 ≡ sealed_file (described desc.now) }
+    ensures sealed { IsSpoken result → IsTrue S.tells → S.files site.new 1 ≡ sealed_file (as_described desc.now) }
     ensures others { IsTrue S.tells → (g : ℕ) → g ≢ 1 → S.files site.new g ≡ S.files site.old g }
     ensures before { IsBefore result → IsTrue S.tells → S.files site.new ≡ S.files site.old }
     ensures stays { IsBefore result → Steps Same (S.clock site.old) (S.clock site.new) }
     ensures says { IsTrue S.tells_said → SaysLine result (compiled_text (length desc.now.structures)) (S.said site.old) (S.said site.new) }
-    ensures creates { IsTrue S.tells → Creates (sealed_file (described desc.now)) (S.files site.old) (S.clock site.old) (S.clock site.new) }
+    ensures creates { IsTrue S.tells → Creates (sealed_file (as_described desc.now)) (S.files site.old) (S.clock site.old) (S.clock site.new) }
     ensures stable { IsSpoken result → IsTrue S.tells → Only (S.files site.new) (S.clock site.new) }
-    ensures says_sealed { IsTrue S.tells → SaysSealed (sealed_file (described desc.now)) (S.clock site.old) (S.clock site.new) }
+    ensures says_sealed { IsTrue S.tells → SaysSealed (sealed_file (as_described desc.now)) (S.clock site.old) (S.clock site.new) }
     ensures kept { IsTrue S.tells → OfSealed (S.files site.old) (λ d. SiteAndTextStay S.Site site.old site.new) }
     ensures same_site { S.same_site site.old site.new }
     ensures disk { CountedAt (result ≡ Status.DiskFault) (S.disk_faults site.old) (S.disk_faults site.new) }
@@ -108,8 +108,8 @@ pub fn compile_input<S: Site, I: Source>(alloc: Global, site: &mut S, input: &mu
     ensures untouched { IsUntouched result → site.new ≡ site.old }
     ensures input_fault { result ≡ Status.InputFault → site.new ≡ site.old }
     ensures refused_text { OfNoSchema (I.left input.old) (site.new ≡ site.old) }
-    ensures refused { (f : Refusal) → result ≡ Status.SchemaRefused f → OfInput (I.left input.old) (λ all. judged all ≡ Err f) }
-    ensures accepted { IsPast result → OfInput (I.left input.old) (λ all. IsOk (judged all)) }
+    ensures refused { (f : Refusal) → result ≡ Status.SchemaRefused f → OfInput (I.left input.old) (λ all. judge_schema all ≡ Err f) }
+    ensures accepted { IsPast result → OfInput (I.left input.old) (λ all. IsOk (judge_schema all)) }
     ensures end { IsPast result → OfInput (I.left input.old) (λ all. I.left input.new ≡ Some []) }
     ensures exists { result ≡ Status.Exists → IsTrue S.tells → (d : Described) × IsSealed (S.files site.old 1) d }
     ensures unsealed { IsSpoken result → IsTrue S.tells → IsUnsealed (S.files site.old 1) }

@@ -1,6 +1,6 @@
 ghost use Rattle.std.specs.Prelude.{Ok, Err};
-ghost use Rattle.dasdl_compile.specs.Compile.{compiled};
-ghost use Rattle.dms_top.specs.Judging.{compiled_as, judged};
+ghost use Rattle.dasdl_compile.specs.Compile.{compile_schema};
+ghost use Rattle.dms_top.specs.Judging.{compiled_as, judge_schema};
 ghost use Rattle.dms_top.specs.JudgedSchema.{AnswersJudging};
 
 use dasdl_compile::{CompileFault, compile};
@@ -18,8 +18,8 @@ pub enum JudgedSchema {
     Memory,
 }
 
-fn compiled(alloc: Global, schema: &Schema) -> JudgedSchema
-    ensures { AnswersJudging result (compiled_as (compiled schema.now.parameters schema.now.declarations)) }
+fn compile_schema(alloc: Global, schema: &Schema) -> JudgedSchema
+    ensures { AnswersJudging result (compiled_as (compile_schema schema.now.parameters schema.now.declarations)) }
 {
     match compile(alloc, schema) {
         Ok(desc) => JudgedSchema::Description(desc),
@@ -29,12 +29,12 @@ fn compiled(alloc: Global, schema: &Schema) -> JudgedSchema
 }
 
 /// The description that a text spells, or its first fault.
-#[tactic(auto, unfolding(crate::specs::Judging::judged))]
+#[tactic(auto, unfolding(crate::specs::Judging::judge_schema))]
 pub fn judge(alloc: Global, text: &[u8]) -> JudgedSchema
-    ensures { AnswersJudging result (judged text.now) }
+    ensures { AnswersJudging result (judge_schema text.now) }
 {
     match parse(alloc, text) {
-        Ok(schema) => compiled(alloc, &schema),
+        Ok(schema) => compile_schema(alloc, &schema),
         Err(ParseFault::Memory) => JudgedSchema::Memory,
         Err(fault) => JudgedSchema::Refused(SchemaFault::Parse(fault)),
     }

@@ -35,7 +35,7 @@ fn a_stop_leaves_no_half_description(rt: HostRuntime) -> Result<(), Fail> {
     site.overwrite(alloc, 1, UNSEALED).expect(&rt, "memory");
     let mut source = MemSource::new(Vec::from_slice(alloc, SCHEMA)?, Vec::new(alloc), 512);
     assert_eq!(rt; compile_input(alloc, &mut site, &mut source), Status::Ok);
-    assert_eq!(rt; site.said(), b"COMPILED 2 STRUCTURES\n".as_slice());
+    assert_eq!(rt; site.text(), b"COMPILED 2 STRUCTURES\n".as_slice());
     assert_eq!(rt; site.bytes(1), SEALED.as_slice());
     assert_eq!(rt; site.calls(), 12);
     for call in 1..13u64 {
@@ -66,7 +66,7 @@ fn no_call_follows_a_fault(rt: HostRuntime) -> Result<(), Fail> {
         };
         assert_eq!(rt; status, wanted, "call {call}");
         assert_eq!(rt; site.calls(), call);
-        assert_eq!(rt; site.said(), b"".as_slice());
+        assert_eq!(rt; site.text(), b"".as_slice());
     }
     Ok(())
 }
@@ -100,7 +100,7 @@ fn a_stop_leaves_no_half_database(rt: HostRuntime) -> Result<(), Fail> {
     let alloc = rt.alloc();
     let mut site = old_site(alloc, Vec::new(alloc))?;
     assert_eq!(rt; initialize_database(alloc, &mut site, 7), Status::Ok);
-    assert_eq!(rt; site.said(), b"INITIALIZED AT POINT 0\n".as_slice());
+    assert_eq!(rt; site.text(), b"INITIALIZED AT POINT 0\n".as_slice());
     assert_eq!(rt; site.calls(), 21);
     let trail = site.bytes(10001);
     assert!(rt; trail.len() == 8192);
@@ -136,7 +136,7 @@ fn no_call_of_a_creation_follows_a_fault(rt: HostRuntime) -> Result<(), Fail> {
         };
         assert_eq!(rt; status, wanted, "call {call}");
         assert_eq!(rt; site.calls(), call);
-        assert_eq!(rt; site.said(), b"".as_slice());
+        assert_eq!(rt; site.text(), b"".as_slice());
     }
     Ok(())
 }

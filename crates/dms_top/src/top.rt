@@ -12,7 +12,7 @@ ghost use Rattle.dms_top.specs.Taking.{CutText};
 ghost use Rattle.dms_plain.specs.Speaking.{OnlySpeaks};
 ghost use Rattle.dms_top.specs.Compiling.{compiled_text, SaysLine, IsSpoken, IsBefore, CreatesSome, SaysSealed, SiteAndTextStay};
 ghost use Rattle.dms_status.specs.declared.status.SchemaFault.{SchemaFault as Refusal};
-ghost use Rattle.dms_top.specs.Judging.{judged};
+ghost use Rattle.dms_top.specs.Judging.{judge_schema};
 ghost use Rattle.dms_top.specs.Schema.{schema_text as text_of};
 ghost use Rattle.dms_top.specs.State.{StandsNew, BecomesNewSite};
 ghost use Rattle.dms_top.specs.Answering.{Printed, PrintedFront, PrintedPrefix, PrintedWhole, TryIsCut, TryPasses, WithinLimits, try_events, try_text, script_of};
@@ -68,8 +68,8 @@ fn try_input<S: Site, I: Source>(alloc: Global, site: &mut S, input: &mut I) -> 
     ensures words { result ≢ Status.BadWords }
     ensures exists { result ≢ Status.Exists }
     ensures untouched { IsUntouched result → site.new ≡ site.old }
-    ensures refused { (f : Refusal) → result ≡ Status.SchemaRefused f → OfInput (I.left input.old) (λ all. judged (text_of all) ≡ Err f) }
-    ensures accepted { IsPast result → OfInput (I.left input.old) (λ all. IsOk (judged (text_of all))) }
+    ensures refused { (f : Refusal) → result ≡ Status.SchemaRefused f → OfInput (I.left input.old) (λ all. judge_schema (text_of all) ≡ Err f) }
+    ensures accepted { IsPast result → OfInput (I.left input.old) (λ all. IsOk (judge_schema (text_of all))) }
     ensures end { result ≡ Status.Ok → OfInput (I.left input.old) (λ all. I.left input.new ≡ Some []) }
     ensures input { CountedAt (result ≡ Status.InputFault) (I.faults input.old) (I.faults input.new) }
     ensures disk { CountedAt (result ≡ Status.DiskFault) (S.disk_faults site.old) (S.disk_faults site.new) }
@@ -146,9 +146,9 @@ pub fn dms<S: Site, I: Source>(
     // only the statuses 0, 2, 6, 7, 8 and 10 come
     ensures try_statuses { OnTry words.now (IsOfTry result) }
     // a schema is refused by its first fault
-    ensures refused { OnTry words.now ((f : Refusal) → result ≡ Status.SchemaRefused f → OfInput (I.left input.old) (λ all. judged (text_of all) ≡ Err f)) }
+    ensures refused { OnTry words.now ((f : Refusal) → result ≡ Status.SchemaRefused f → OfInput (I.left input.old) (λ all. judge_schema (text_of all) ≡ Err f)) }
     // the statuses behind the schema come only where it is accepted
-    ensures accepted { OnTry words.now (IsPast result → OfInput (I.left input.old) (λ all. IsOk (judged (text_of all)))) }
+    ensures accepted { OnTry words.now (IsPast result → OfInput (I.left input.old) (λ all. IsOk (judge_schema (text_of all)))) }
     // no call on a file is made
     ensures no_disk { OnTry words.now (result ≢ Status.DiskFault) }
     // the files stay
@@ -187,9 +187,9 @@ pub fn dms<S: Site, I: Source>(
     // status 8 is not of this command
     ensures compile_limit { OnCompile words.now ((k : Kind) → result ≢ Status.Limit k) }
     // a schema is refused by its first fault
-    ensures compile_refused { OnCompile words.now ((f : Refusal) → result ≡ Status.SchemaRefused f → OfInput (I.left input.old) (λ all. judged all ≡ Err f)) }
+    ensures compile_refused { OnCompile words.now ((f : Refusal) → result ≡ Status.SchemaRefused f → OfInput (I.left input.old) (λ all. judge_schema all ≡ Err f)) }
     // the statuses behind the schema come only where it is accepted
-    ensures compile_accepted { OnCompile words.now (IsPast result → OfInput (I.left input.old) (λ all. IsOk (judged all))) }
+    ensures compile_accepted { OnCompile words.now (IsPast result → OfInput (I.left input.old) (λ all. IsOk (judge_schema all))) }
     // status 11 comes only where file 1 is a sealed description
     ensures compile_exists { OnCompile words.now (result ≡ Status.Exists → IsTrue S.tells → (d : Described) × IsSealed (S.files site.old 1) d) }
     // statuses 0 and 10 come only where it was none
@@ -284,7 +284,8 @@ pub fn dms<S: Site, I: Source>(
     // of the state that is told: at every moment a stop leaves the database of one quiet point, at status 0 the last one's, and exactly the answers or a
     // prefix of them were printed. No more was carried out than the first so many lines, which keep the limits of lines and bytes, or than the whole script
     // to its end; at 6, and 8 of lines or bytes, than the lines before, and at 8 of held lines than these and the first try of one more. At 8 of an audit
-    // file the audit was to grow, or nothing was printed, or all that the script answers. The trail has no more new entries than these may make, at each
+    // file the audit was to grow, and no stop leaves a quiet point of that verb but where a control point was due at its syncpoint; or nothing was carried
+    // out, or all that the script answers was printed. The trail has no more new entries than these may make, at each
     // status: an opening, what was answered, one call whose answer wasn't printed, and a close
     ensures run { OnRun words.now (RunsCommand S.Site state site.old site.new (I.left input.old) (I.left input.new) result) }
     // and of its files, whatever the input is: at every moment a stop leaves their trail, with the same tag, and blocks behind it that hold an entry; the

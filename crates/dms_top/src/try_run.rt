@@ -1,5 +1,5 @@
 ghost use Rattle.std.specs.Prelude.{◌≡◌, ◌≢◌, [], IsTrue, IsOk, IsErrOf};
-ghost use Rattle.dms_desc.specs.Shape.{described};
+ghost use Rattle.dms_desc.specs.Shape.{as_described};
 ghost use Rattle.dms_desc_bytes.specs.WellFormed.{IsWellFormed};
 ghost use Rattle.dms_feed.specs.Feeds.{Remains};
 ghost use Rattle.dms_feed.specs.Lines.{raw_lines};
@@ -82,18 +82,18 @@ pub fn try_lines<S: Site, I: Source>(
     feed: &mut Feed,
     source: &mut I,
 ) -> Status
-    requires { IsWellFormed (described desc.now) }
+    requires { IsWellFormed (as_described desc.now) }
     ensures statuses { IsOfTry result }
     ensures words { result ≢ Status.BadWords }
     ensures schema { (f : Refusal) → result ≢ Status.SchemaRefused f }
     ensures end { result ≡ Status.Ok → OfRest feed.old (I.left source.old) (λ all. Remains feed.new (I.left source.new) []) }
-    ensures answers { result ≡ Status.Ok → IsTrue S.tells_said → OfRest feed.old (I.left source.old) (λ all. Printed (S.said site.old) (S.said site.new) (lines_text (described desc.now) all)) }
-    ensures within { result ≡ Status.Ok → OfRest feed.old (I.left source.old) (λ all. WithinLimits (described desc.now) (raw_lines all)) }
-    ensures part { IsTrue S.tells_said → OfRest feed.old (I.left source.old) (λ all. PrintedPrefix (S.said site.old) (S.said site.new) (lines_text (described desc.now) all)) }
-    ensures whole_answers { result ≡ Status.Memory → IsTrue S.tells_said → OfRest feed.old (I.left source.old) (PrintedWholeLines (S.said site.old) (S.said site.new) (described desc.now)) }
-    ensures front { IsTrue S.tells_said → OfRest feed.old (I.left source.old) (λ all. PrintedFront result (described desc.now) (raw_lines all) (S.said site.old) (S.said site.new)) }
-    ensures limit { (k : Kind) → result ≡ Status.Limit k → OfRest feed.old (I.left source.old) (InputPasses k (described desc.now) (text_told S.Site site.old) (text_told S.Site site.new)) }
-    ensures input_cut { result ≡ Status.InputFault → OfRest feed.old (I.left source.old) (LinesCut (described desc.now) (I.left source.new) (text_told S.Site site.old) (text_told S.Site site.new)) }
+    ensures answers { result ≡ Status.Ok → IsTrue S.tells_said → OfRest feed.old (I.left source.old) (λ all. Printed (S.said site.old) (S.said site.new) (lines_text (as_described desc.now) all)) }
+    ensures within { result ≡ Status.Ok → OfRest feed.old (I.left source.old) (λ all. WithinLimits (as_described desc.now) (raw_lines all)) }
+    ensures part { IsTrue S.tells_said → OfRest feed.old (I.left source.old) (λ all. PrintedPrefix (S.said site.old) (S.said site.new) (lines_text (as_described desc.now) all)) }
+    ensures whole_answers { result ≡ Status.Memory → IsTrue S.tells_said → OfRest feed.old (I.left source.old) (PrintedWholeLines (S.said site.old) (S.said site.new) (as_described desc.now)) }
+    ensures front { IsTrue S.tells_said → OfRest feed.old (I.left source.old) (λ all. PrintedFront result (as_described desc.now) (raw_lines all) (S.said site.old) (S.said site.new)) }
+    ensures limit { (k : Kind) → result ≡ Status.Limit k → OfRest feed.old (I.left source.old) (InputPasses k (as_described desc.now) (text_told S.Site site.old) (text_told S.Site site.new)) }
+    ensures input_cut { result ≡ Status.InputFault → OfRest feed.old (I.left source.old) (LinesCut (as_described desc.now) (I.left source.new) (text_told S.Site site.old) (text_told S.Site site.new)) }
     ensures input { CountedAt (result ≡ Status.InputFault) (I.faults source.old) (I.faults source.new) }
     ensures disk { CountedAt (result ≡ Status.DiskFault) (S.disk_faults site.old) (S.disk_faults site.new) }
     ensures say { CountedAt (result ≡ Status.SayFault) (S.say_faults site.old) (S.say_faults site.new) }

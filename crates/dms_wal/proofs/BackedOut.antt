@@ -29,7 +29,7 @@ use Rattle.dms_wal.specs.declared.running.Running.{Running}
 use Rattle.dms_wal.specs.Lifting.{AreCounts, last_blocks}
 use Rattle.dms_wal.specs.BackOuts.{entries_back}
 use Rattle.dms_wal.specs.Marks.{IsMarkOf}
-use Rattle.dms_wal.specs.Database.{held, said_of, faults_of, uses_of, frames_of, IsRunningUsable}
+use Rattle.dms_wal.specs.Database.{running_held, said_of, faults_of, uses_of, frames_of, IsRunningUsable}
 use Rattle.dms_wal.proofs.Controlling.{count_table}
 use Rattle.dms_wal.proofs.Lifts.{passes_by, stays_by}
 use Rattle.dms_wal.proofs.Pointing.{last_is, mark_is}
@@ -46,7 +46,7 @@ module _ {S : Type 0} (g : Ghosts S) (stay : (s : S) → IsTrue g.tells → (x :
   -- whatever it answers, no point is made
   pub passes_back : (p : Pool) (b c : Bool) (full outs : ℕ) (cs : Vec ℕ) → telling (view_of g l) ≡ telling (view_of g r.log) → length cs.items ≡ length r.counts.items → g.said l.site ≡ g.said r.log.site
       → (IsTrue g.tells → LogLeaves (view_of g r.log) (view_of g l) (points (view_of g r.log)) (logs.next (view_of g r.log))) → (IsTrue g.tells → Steps PrintsNothing (g.clock r.log.site) (g.clock l.site))
-      → MakesNoPoint (held g r) (held g (record r { log = l; pool = p; broken = b; changed = c; full = full; counts = cs; outs = outs }))
+      → MakesNoPoint (running_held g r) (running_held g (record r { log = l; pool = p; broken = b; changed = c; full = full; counts = cs; outs = outs }))
   passes_back p b c full outs cs kind many said leaves silent =
       let r' : Running S = record r { log = l; pool = p; broken = b; changed = c; full = full; counts = cs; outs = outs } in
       passes_by g.tells (IsRunningUsable g r) (IsRunningUsable g r') (view_of g r.log) (view_of g l) r.schema.items r.next r.next r.counts.items cs.items (said_of g r.log) (said_of g l) (faults_of g r) (faults_of g r') (uses_of g r) (uses_of g r')
@@ -77,7 +77,7 @@ module _ {S : Type 0} (g : Ghosts S) (stay : (s : S) → IsTrue g.tells → (x :
       unchanged = λ no t. record { content_is = marked_content t ∙ sym (ap (last_blocks (λ f. [])) (went t).points_same); counts_are = copied };
     }
 
-    pub stays_back : Stays (held g r) (held g back)
+    pub stays_back : Stays (running_held g r) (running_held g back)
     stays_back =
         stays_by g.tells (IsRunningUsable g r) (IsRunningUsable g back) (view_of g r.log) (view_of g l) r.schema.items r.next r.next r.counts.items cs.items (said_of g r.log) (said_of g l) (faults_of g r) (faults_of g back) (uses_of g r) (uses_of g back)
         usable_back (λ t. (

@@ -1,5 +1,5 @@
 -- A control point is sealed.
-use Rattle.std.proofs.Common.{ℕ, ◌<◌, ◌≡◌, true, false, IsTrue, List, [], ◌∷◌, ◌++◌, length, map, Some, refl, sym, ◌∙◌, ap, subst, arith}
+use Rattle.std.proofs.Common.{ℕ, ◌<◌, ◌≡◌, false, IsTrue, List, [], ◌∷◌, ◌++◌, length, map, Some, refl, sym, ◌∙◌, ap, subst, arith}
 use Rattle.std.proofs.lemmas.List.{length-map}
 use Rattle.std.proofs.lemmas.Bool.{true≢false}
 use Rattle.dms_site.specs.declared.site.Site.{Ghosts}
@@ -35,7 +35,7 @@ use Rattle.dms_wal.specs.declared.running.Running.{Running}
 use Rattle.dms_wal.specs.Controls.{IsSettled, MakesControl, TellsSame}
 use Rattle.dms_wal.specs.Lifting.{AreCounts, last_blocks, block_point}
 use Rattle.dms_wal.specs.Marks.{IsMarkOf}
-use Rattle.dms_wal.specs.Database.{held, frames_of, GoesWith, IsRunningUsable}
+use Rattle.dms_wal.specs.Database.{running_held, frames_of, GoesWith, IsRunningUsable}
 use Rattle.dms_wal.proofs.Pooled.{clean_frames}
 use Rattle.dms_wal.proofs.Pointing.{last_is}
 use Rattle.dms_wal.proofs.Marked.{mark_on}
@@ -102,7 +102,7 @@ module _ {S : Type 0} (g : Ghosts S) (r : Running S) (u : IsRunningUsable g r) (
     };
   }
 
-  pub control_made : MadeDurable (held g r) (held g (record r { log = l }))
+  pub control_made : MadeDurable (running_held g r) (running_held g (record r { log = l }))
   control_made = record {
     sound = usable_controlled;
     same = record { counts = refl; content = λ t. (controlled t).content_same };

@@ -13,7 +13,7 @@ use Rattle.dms_audfile.specs.declared.fault.AudFault.TheVariants as audit
 use Rattle.dms_block.specs.declared.block_fault.BlockFault.{BlockFault}
 use Rattle.dms_block.specs.declared.block_fault.BlockFault.TheVariants.{Disk}
 use Rattle.dms_block.specs.declared.change.Change.{Change}
-use Rattle.dms_block.specs.Held.{one_more}
+use Rattle.dms_block.specs.Held.{is_due_at, one_more}
 use Rattle.dms_history.specs.Entries.{Entry, image, quiet_point, control_point}
 use Rattle.dms_history.specs.Schemas.{schema_entries}
 use Rattle.dms_audrec.specs.Bodies.{bodies}
@@ -24,7 +24,7 @@ use Rattle.dms_restore.specs.BackOuts.{back_entries, IsBackFault, SealedAlone, W
 use Rattle.dms_restore.proofs.Laid.{bodies_many, parts_length}
 use Rattle.dms_wal.specs.declared.running.Running.{Running}
 use Rattle.dms_wal.specs.Changing.{LogsChanges}
-use Rattle.dms_wal.specs.Controls.{is_due_at, KeepsPace}
+use Rattle.dms_wal.specs.Controls.{KeepsPace}
 use Rattle.dms_restore.specs.Views.{view_of}
 use Rattle.dms_wal.specs.Faults.{IsSeenAs, IsSeenInBack}
 use Rattle.dms_wal.specs.Growing.{accounts, close_limit, controls_among, GivesGrown, GrowsBy, IsCounted, LogsAtMost, over_site, TrailGrows}

@@ -7,7 +7,7 @@ use Rattle.dms_block.specs.declared.block.Block.{Block}
 use Rattle.dms_block.specs.declared.block.BlockId.{BlockId}
 use Rattle.dms_block.specs.declared.change.Change.{Change}
 use Rattle.dms_block.specs.Content as blocks
-use Rattle.dms_block.specs.Content.{raised, limit}
+use Rattle.dms_block.specs.Content.{raise_count, limit}
 use Rattle.dms_block.specs.Changing.{grown_is}
 use Rattle.dms_history.specs.Events.{AllBlocks}
 use Rattle.dms_history.specs.Replay.{TellsBefore, with_block}
@@ -50,7 +50,7 @@ use Rattle.dms_block.specs.HeldLaws.{used_none}
 use Rattle.dms_restore.specs.Logging.{PrintsNothing}
 use Rattle.dms_restore.specs.Views.{view_of}
 use Rattle.dms_restore.specs.Counts.{count_of}
-use Rattle.dms_wal.specs.Database.{held, faults_of, said_of, uses_of}
+use Rattle.dms_wal.specs.Database.{running_held, faults_of, said_of, uses_of}
 use Rattle.dms_wal.proofs.Causes.{no_memory}
 use Rattle.dms_wal.proofs.Lifts.{passes_by, stays_by, surer}
 use Rattle.dms_wal.proofs.Roomed.{then_leave}
@@ -65,7 +65,7 @@ unfolding with_block blocks.with_block
 with_same c f k bytes = refl
 
 -- the counts of a changed content
-pub count_changed : (l m : List ℕ) (c : AllBlocks) (f k : ℕ) (block : Block) → ((g : ℕ) → count_of l g ≡ length (c g)) → IsTrue (owns_of l f) → k < limit → k ≤ count_of l f → count_of m ≡ raised (count_of l) f k
+pub count_changed : (l m : List ℕ) (c : AllBlocks) (f k : ℕ) (block : Block) → ((g : ℕ) → count_of l g ≡ length (c g)) → IsTrue (owns_of l f) → k < limit → k ≤ count_of l f → count_of m ≡ raise_count (count_of l) f k
     → (g : ℕ) → count_of m g ≡ length (with_block c f k block.0 g)
 count_changed l m c f k block counted owned low le is g =
     let x : Change = record { id = record { file = f; block = k }; block = block } in
@@ -112,7 +112,7 @@ module _ (id : BlockId) (block : Block) (a : LogView) (first second : Pool) (im 
 module _ {S : Type 0} (g : Ghosts S) (r : Running S) (u : IsRunningUsable g r) (id : BlockId) (block : Block) (before : Option (List ℕ)) (owned : IsTrue (owns_of r.counts.items id.file)) (low : id.block < limit)
     (tells : IsTrue g.tells → TellsBefore id.block before (content (view_of g r.log) id.file))
     (one two : Log S) (pool : Pool) (cs : Vec ℕ) (logged : IsTrue g.tells → LogsImage (view_of g r.log) (view_of g one) id.file id.block before block.0) (kept : IsTrue g.tells → KeepsLog (view_of g one) (view_of g two) pool)
-    (raises : count_of cs.items ≡ raised (count_of r.counts.items) id.file id.block) (many : length cs.items ≡ length r.counts.items) (counted : HoldsCounted pool cs.items) where
+    (raises : count_of cs.items ≡ raise_count (count_of r.counts.items) id.file id.block) (many : length cs.items ≡ length r.counts.items) (counted : HoldsCounted pool cs.items) where
   pub content_changed : IsTrue g.tells → content (view_of g two) ≡ with_block (content (view_of g r.log)) id.file id.block block.0
   content_changed t = (kept t).content_same ∙ (logged t).content_is
 
@@ -136,7 +136,7 @@ module _ {S : Type 0} (g : Ghosts S) (r : Running S) (u : IsRunningUsable g r) (
   }
 
 -- the pool's blocks are counted by the greater table too
-pub counted_more : (pool : Pool) (l m : List ℕ) (f k : ℕ) → HoldsCounted pool l → count_of m ≡ raised (count_of l) f k → HoldsCounted pool m
+pub counted_more : (pool : Pool) (l m : List ℕ) (f k : ℕ) → HoldsCounted pool l → count_of m ≡ raise_count (count_of l) f k → HoldsCounted pool m
 counted_more pool l m f k h raises id x is = omega (arith, h id x is, raised_more l m f k id.file raises)
 
 -- ---- a change, as blocks see it
@@ -146,7 +146,7 @@ module _ {S : Type 0} (g : Ghosts S) (stay : (s : S) → IsTrue g.tells → (x :
     (leaves : IsTrue g.tells → logs.LogLeaves (view_of g r.log) (view_of g l) (points (view_of g r.log)) (logs.next (view_of g r.log))) (silent : IsTrue g.tells → Steps PrintsNothing (g.clock r.log.site) (g.clock l.site)) where
   -- it was made
   pub alters_made : (p : Pool) (cs : Vec ℕ) → length cs.items ≡ length r.counts.items → IsRunningUsable g (record r { log = l; pool = p; counts = cs; changed = true }) → (IsTrue g.tells → points (view_of g l) ≡ points (view_of g r.log))
-      → Alters 0 0 (Ok (tt {0})) (held g r) (held g (record r { log = l; pool = p; counts = cs; changed = true }))
+      → Alters 0 0 (Ok (tt {0})) (running_held g r) (running_held g (record r { log = l; pool = p; counts = cs; changed = true }))
   alters_made p cs many usable same =
       let r' : Running S = record r { log = l; pool = p; counts = cs; changed = true } in
       record {
@@ -160,7 +160,7 @@ module _ {S : Type 0} (g : Ghosts S) (stay : (s : S) → IsTrue g.tells → (x :
 
   -- a call failed meanwhile, and not by memory
   pub alters_failed : (e : BlockFault) → (e ≡ fault.Disk) ⊎ ((n : ℕ) × (e ≡ fault.Full n)) → (p : Pool) (fulls : ℕ) (cs : Vec ℕ) → length cs.items ≡ length r.counts.items
-      → Alters {T = Unit {0}} 0 0 (Err e) (held g r) (held g (record r { log = l; pool = p; broken = true; full = fulls; counts = cs }))
+      → Alters {T = Unit {0}} 0 0 (Err e) (running_held g r) (running_held g (record r { log = l; pool = p; broken = true; full = fulls; counts = cs }))
   alters_failed e is p fulls cs many = record {
     passes = passes_step g now_said r u l p true fulls cs kind many said leaves silent;
     stays = unbroken e is;
@@ -168,9 +168,9 @@ module _ {S : Type 0} (g : Ghosts S) (stay : (s : S) → IsTrue g.tells → (x :
     uses = used_none 0 0 (uses_of g r);
   }
     where
-      unbroken : (e : BlockFault) → (e ≡ fault.Disk) ⊎ ((n : ℕ) × (e ≡ fault.Full n)) → Unbroken {T = Unit {0}} (Err e) (Stays (held g r) (held g (record r { log = l; pool = p; broken = true; full = fulls; counts = cs })))
-      unbroken e (inl at) = subst (λ (f : BlockFault). Unbroken {T = Unit {0}} (Err f) (Stays (held g r) (held g (record r { log = l; pool = p; broken = true; full = fulls; counts = cs })))) (sym at) tt
-      unbroken e (inr at) = subst (λ (f : BlockFault). Unbroken {T = Unit {0}} (Err f) (Stays (held g r) (held g (record r { log = l; pool = p; broken = true; full = fulls; counts = cs })))) (sym at.1) tt
+      unbroken : (e : BlockFault) → (e ≡ fault.Disk) ⊎ ((n : ℕ) × (e ≡ fault.Full n)) → Unbroken {T = Unit {0}} (Err e) (Stays (running_held g r) (running_held g (record r { log = l; pool = p; broken = true; full = fulls; counts = cs })))
+      unbroken e (inl at) = subst (λ (f : BlockFault). Unbroken {T = Unit {0}} (Err f) (Stays (running_held g r) (running_held g (record r { log = l; pool = p; broken = true; full = fulls; counts = cs })))) (sym at) tt
+      unbroken e (inr at) = subst (λ (f : BlockFault). Unbroken {T = Unit {0}} (Err f) (Stays (running_held g r) (running_held g (record r { log = l; pool = p; broken = true; full = fulls; counts = cs })))) (sym at.1) tt
 
 -- what is left by an Image and then by a write
 pub then_left : {S : Type 0} (g : Ghosts S) (stay : (s : S) → IsTrue g.tells → (x : Left) × Now (g.clock s) x × (x.files ≡ g.files s)) (counts_now : (s : S) (t : ℕ) (x : Left) → t ≤ (g.clock s).now → Now (g.clock s) x → (g.clock s).left t x)

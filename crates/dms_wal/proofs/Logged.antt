@@ -4,7 +4,7 @@ use Rattle.std.proofs.lemmas.List.{take_all, take_more}
 use Rattle.dms_site.specs.Files.{Files, Left}
 use Rattle.dms_moments.specs.Moments.{Clock}
 use Rattle.dms_block.specs.declared.change.Change.{Change}
-use Rattle.dms_block.specs.Content.{Content, changed, with_block}
+use Rattle.dms_block.specs.Content.{Content, apply_changes, with_block}
 use Rattle.dms_history.specs.Replay.{TellsBefore}
 use Rattle.dms_history.specs.Entries.{Entry, image}
 use Rattle.dms_history.proofs.Order.{append_none}
@@ -30,13 +30,13 @@ logs_from a b c xs es contents l = record {
   entries_are = l.entries_are ∙ ap (λ (k : List Entry). k ++ l.images) es;
 }
 
-images_on : (c : Content) (xs ys : List Change) (es fs : List Entry) → AreImagesOf c xs es → AreImagesOf (changed xs c) ys fs → AreImagesOf c (xs ++ ys) (es ++ fs)
+images_on : (c : Content) (xs ys : List Change) (es fs : List Entry) → AreImagesOf c xs es → AreImagesOf (apply_changes xs c) ys fs → AreImagesOf c (xs ++ ys) (es ++ fs)
 images_on c [] ys [] fs one two = two
 images_on c [] ys (e ∷ es) fs one two = absurd one
 images_on c (x ∷ xs) ys [] fs one two = absurd one
 images_on c (x ∷ xs) ys (e ∷ es) fs one two = (one.0, images_on (with_block c x.id.file x.id.block x.block.0) xs ys es fs one.1 two)
 
-pub logs_on : (a b c : LogView) (xs ys : List Change) → LogsChanges a b xs → content b ≡ changed xs (content a) → LogsChanges b c ys → LogsChanges a c (xs ++ ys)
+pub logs_on : (a b c : LogView) (xs ys : List Change) → LogsChanges a b xs → content b ≡ apply_changes xs (content a) → LogsChanges b c ys → LogsChanges a c (xs ++ ys)
 logs_on a b c xs ys one contents two = record {
   images = one.images ++ two.images;
   are = images_on (content a) xs ys one.images two.images one.are (subst (λ (d : Content). AreImagesOf d ys two.images) contents two.are);
@@ -44,7 +44,7 @@ logs_on a b c xs ys one contents two = record {
 }
 
 -- one change further in a loop over all
-pub logs_more : (all items : List Change) (i : ℕ) (d : Change) → items ≡ all → i < length items → (a b c : LogView) → LogsChanges a b (take i all) → content b ≡ changed (take i all) (content a) → LogsChanges b c (get_or items i d ∷ []) → LogsChanges a c (take (i + 1) all)
+pub logs_more : (all items : List Change) (i : ℕ) (d : Change) → items ≡ all → i < length items → (a b c : LogView) → LogsChanges a b (take i all) → content b ≡ apply_changes (take i all) (content a) → LogsChanges b c (get_or items i d ∷ []) → LogsChanges a c (take (i + 1) all)
 logs_more all items i d is low a b c one contents two =
     let x = get_or items i d in
     let longer : take (i + 1) all ≡ take i all ++ x ∷ [] = subst (λ l. take (i + 1) l ≡ take i l ++ x ∷ []) is (take_more items i d low) in

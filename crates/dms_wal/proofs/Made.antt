@@ -7,7 +7,7 @@ use Rattle.dms_block.specs.declared.block.BlockId.{BlockId}
 use Rattle.dms_block.specs.declared.block_fault.BlockFault.{BlockFault}
 use Rattle.dms_block.specs.declared.block_fault.BlockFault.TheVariants.{Disk, Memory, Full, Damaged, Say}
 use Rattle.dms_block.specs.declared.change.Change.{Change}
-use Rattle.dms_block.specs.Content.{Content, block_in, changed, grown, raised, limit, with_block, AreApart, FitsIn, NoneOf}
+use Rattle.dms_block.specs.Content.{Content, block_in, apply_changes, counts_after, raise_count, limit, with_block, AreApart, FitsIn, NoneOf}
 use Rattle.dms_block.specs.Changing.{apart_at, changed_push, fits_at, fits_content, grown_push, none_changed, was_below}
 use Rattle.dms_block.specs.Counts.{Faults, Raised}
 use Rattle.dms_block.specs.Held.{Alters, Caused, Held, IsShort, MakesNoPoint, Stays, Used, Uses}
@@ -17,8 +17,8 @@ use Rattle.dms_wal.proofs.Stepped.{passes_sound, stays_sound}
 
 -- these changes were made, each of which counts, and nothing else
 pub record MadeChanges (xs : List Change) (a b : Held) : Type 0 where
-  pub counts : b.counts ≡ grown xs a.counts
-  pub content : IsTrue a.told → b.content ≡ changed xs a.content
+  pub counts : b.counts ≡ counts_after xs a.counts
+  pub content : IsTrue a.told → b.content ≡ apply_changes xs a.content
   pub passes : MakesNoPoint a b
   pub stays : Stays a b
   pub uses : Used 0 (length xs) a.uses b.uses
@@ -28,10 +28,10 @@ pub made_none : (a : Held) → a.sound → MadeChanges [] a a
 made_none a sound = record { counts = refl; content = λ t. refl; passes = passes_none a; stays = stays_none a sound; uses = used_none 0 0 a.uses; faults = refl }
 
 -- one change further, which was counted before
-made_push : (xs : List Change) (x : Change) (a b c : Held) (sound : Type 0) (uses : Uses) → MadeChanges xs a b → sound → Used 0 1 b.uses uses → c.counts ≡ raised b.counts x.id.file x.id.block → (IsTrue b.told → c.content ≡ with_block b.content x.id.file x.id.block x.block.0)
+made_push : (xs : List Change) (x : Change) (a b c : Held) (sound : Type 0) (uses : Uses) → MadeChanges xs a b → sound → Used 0 1 b.uses uses → c.counts ≡ raise_count b.counts x.id.file x.id.block → (IsTrue b.told → c.content ≡ with_block b.content x.id.file x.id.block x.block.0)
     → Alters 0 0 (Ok (tt {0})) (record b { sound = sound; uses = uses }) c → c.faults ≡ b.faults → MadeChanges (xs ++ x ∷ []) a c
 made_push xs x a b c sound uses s usable used counts content one faults = record {
-  counts = counts ∙ ap (λ (k : ℕ → ℕ). raised k x.id.file x.id.block) s.counts ∙ sym (grown_push xs x a.counts);
+  counts = counts ∙ ap (λ (k : ℕ → ℕ). raise_count k x.id.file x.id.block) s.counts ∙ sym (grown_push xs x a.counts);
   content = λ t. content (told_after s.passes.lasts t) ∙ ap (λ (d : Content). with_block d x.id.file x.id.block x.block.0) (s.content t) ∙ sym (changed_push xs x a.content);
   passes = passes_on (passes_on s.passes s.stays (passes_sound b sound uses)) (stays_on s.passes s.stays (stays_sound b sound uses usable)) one.passes;
   stays = stays_on (passes_on s.passes s.stays (passes_sound b sound uses)) (stays_on s.passes s.stays (stays_sound b sound uses usable)) one.stays;
@@ -39,7 +39,7 @@ made_push xs x a b c sound uses s usable used counts content one faults = record
   faults = faults ∙ s.faults;
 }
 
-pub made_more : (all items : List Change) (i : ℕ) (d : Change) → items ≡ all → i < length items → (a b c : Held) (sound : Type 0) (uses : Uses) → MadeChanges (take i all) a b → sound → Used 0 1 b.uses uses → c.counts ≡ raised b.counts (get_or items i d).id.file (get_or items i d).id.block
+pub made_more : (all items : List Change) (i : ℕ) (d : Change) → items ≡ all → i < length items → (a b c : Held) (sound : Type 0) (uses : Uses) → MadeChanges (take i all) a b → sound → Used 0 1 b.uses uses → c.counts ≡ raise_count b.counts (get_or items i d).id.file (get_or items i d).id.block
     → (IsTrue b.told → c.content ≡ with_block b.content (get_or items i d).id.file (get_or items i d).id.block (get_or items i d).block.0) → Alters 0 0 (Ok (tt {0})) (record b { sound = sound; uses = uses }) c → c.faults ≡ b.faults → MadeChanges (take (i + 1) all) a c
 made_more all items i d is low a b c sound uses s usable used counts content one faults =
     let x = get_or items i d in
@@ -97,8 +97,8 @@ module _ (all items : List Change) (i : ℕ) (d : Change) (is : items ≡ all) (
       → IsTrue (b.owns (get_or items i d).id.file) × ((get_or items i d).id.block < limit) × ((get_or items i d).id.block ≤ b.counts (get_or items i d).id.file)
   next_fits a b fits s =
       let x = get_or items i d in
-      let fit : IsTrue (a.owns x.id.file) × (x.id.block < limit) × (x.id.block ≤ grown (take i all) a.counts x.id.file) =
-      subst (λ (l : List Change). IsTrue (a.owns (get_or l i d).id.file) × ((get_or l i d).id.block < limit) × ((get_or l i d).id.block ≤ grown (take i all) a.counts (get_or l i d).id.file)) (sym is) (fits_at all a.owns a.counts i d fits there) in
+      let fit : IsTrue (a.owns x.id.file) × (x.id.block < limit) × (x.id.block ≤ counts_after (take i all) a.counts x.id.file) =
+      subst (λ (l : List Change). IsTrue (a.owns (get_or l i d).id.file) × ((get_or l i d).id.block < limit) × ((get_or l i d).id.block ≤ counts_after (take i all) a.counts (get_or l i d).id.file)) (sym is) (fits_at all a.owns a.counts i d fits there) in
       (subst (λ (owns : ℕ → Bool). IsTrue (owns x.id.file)) (sym s.passes.lasts.owns) fit.0, fit.1, subst (λ (k : ℕ → ℕ). x.id.block ≤ k x.id.file) (sym s.counts) fit.2)
 
   -- and is of another block

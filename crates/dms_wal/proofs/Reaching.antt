@@ -21,7 +21,7 @@ use Rattle.dms_audfile.specs.Blocks.{block_entries}
 use Rattle.dms_audfile.specs.Unsealed.{block_with}
 use Rattle.dms_audfile.specs.TrailEntries.{entries_of}
 use Rattle.dms_audfile.specs.Sealing.{IsWrittenUpTo}
-use Rattle.dms_audfile.specs.Ends.{unsealed, EndsAt}
+use Rattle.dms_audfile.specs.Ends.{unsealed_bytes, EndsAt}
 use Rattle.dms_running.specs.Telling.{Telling}
 use Rattle.dms_running.specs.Running.{State, IsRunning, entries_now, content_now, points_now, next_now, durable_now, here_now}
 use Rattle.dms_running.specs.Frames.{FramesHold}
@@ -37,8 +37,8 @@ use Rattle.dms_pool.specs.declared.pool.Pool.{Pool}
 use Rattle.dms_wal.specs.declared.running.Running.{Running}
 use Rattle.dms_wal.specs.Closing.{entries_control, FilesStand, LeavesUntil}
 use Rattle.dms_wal.specs.Controls.{MakesControl}
-use Rattle.dms_wal.specs.Database.{held, GoesWith, IsRunningUsable, frames_of}
-use Rattle.dms_wal.specs.Lifting.{block_point, last_blocks, lifted, point_under}
+use Rattle.dms_wal.specs.Database.{running_held, GoesWith, IsRunningUsable, frames_of}
+use Rattle.dms_wal.specs.Lifting.{block_point, last_blocks, lift_clock, point_under}
 use Rattle.dms_wal.specs.Marks.{IsMarkOf}
 use Rattle.dms_wal.proofs.Marked.{mark_on}
 use Rattle.dms_wal.proofs.Under.{under_on}
@@ -59,7 +59,7 @@ module _ (a b : AuditEnd) (r : EndsAlike a b) (first : ℕ) (files : Files) (clo
   abbrev pub new : LogView
   new = view b first files clock
 
-  unsealed_same : unsealed b ≡ unsealed a
+  unsealed_same : unsealed_bytes b ≡ unsealed_bytes a
   unsealed_same = λ i. take (r.used i) (drop 2 (r.block i))
 
   pub waits_same : waits b ≡ waits a
@@ -128,7 +128,7 @@ module _ {S : Type 0} (g : Ghosts S) (r : Running S) (e : AuditEnd) (alike : End
   }
 
 -- the same, as blocks see it
-pub held_alike : {S : Type 0} (g : Ghosts S) (r : Running S) (e : AuditEnd) (alike : EndsAlike r.log.end e) → record (held g r) { sound = IsRunningUsable g (reaching g r e alike) } ≡ held g (reaching g r e alike)
+pub held_alike : {S : Type 0} (g : Ghosts S) (r : Running S) (e : AuditEnd) (alike : EndsAlike r.log.end e) → record (running_held g r) { sound = IsRunningUsable g (reaching g r e alike) } ≡ running_held g (reaching g r e alike)
 held_alike g r e alike =
     let first = r.log.first in
     let files = g.files r.log.site in
@@ -136,7 +136,7 @@ held_alike g r e alike =
     let t = telling_alike r.log.end e alike first files clock in
     let s = state_same r.log.end e alike first files clock in
     let schema = r.schema.items in
-    λ i. record (held g r) {
+    λ i. record (running_held g r) {
       sound = IsRunningUsable g (reaching g r e alike);
       whole = IsWhole (sym t i);
       content = content_now (sym t i) (sym s i);
@@ -144,7 +144,7 @@ held_alike g r e alike =
       points = map block_point (points_now (sym t i) (sym s i));
       durable = durable_now (sym t i) (sym s i);
       here = point_under schema (here_now (sym t i) (sym s i));
-      clock = lifted (sym t i) clock;
+      clock = lift_clock (sym t i) clock;
     }
 
 -- a fault of the disk, or that the audit is full
@@ -191,11 +191,11 @@ closes_alike a b v schema point next counts same es ps nexts contents c = record
 module _ {S : Type 0} (g : Ghosts S) (stay : (s : S) → IsTrue g.tells → (x : Left) × Now (g.clock s) x × (x.files ≡ g.files s)) (r : Running S) (e : AuditEnd) (alike : EndsAlike r.log.end e) (last : Running S)
     (kind : telling (view_of g last.log) ≡ telling (view_of g (reaching g r e alike).log)) (s : S) (site : s ≡ last.log.site) where
   -- what a stop left up to the closed site
-  pub closes_leaves : last.schema ≡ r.schema → MakesNoPoint (held g (reaching g r e alike)) (held g last) → LeavesUntil (held g r) (lifted (telling (view_of g r.log)) (g.clock s))
+  pub closes_leaves : last.schema ≡ r.schema → MakesNoPoint (running_held g (reaching g r e alike)) (running_held g last) → LeavesUntil (running_held g r) (lift_clock (telling (view_of g r.log)) (g.clock s))
   closes_leaves schema passes =
-      let l : LeavesUntil (held g r) (held g last).clock = subst (λ (h : Held). LeavesUntil h (held g last).clock) (sym (held_alike g r e alike)) passes.leaves in
+      let l : LeavesUntil (running_held g r) (running_held g last).clock = subst (λ (h : Held). LeavesUntil h (running_held g last).clock) (sym (held_alike g r e alike)) passes.leaves in
       let all : telling (view_of g last.log) ≡ telling (view_of g r.log) = kind ∙ telling_alike r.log.end e alike r.log.first (g.files r.log.site) (g.clock r.log.site) in
-      subst (λ (k : Clock BlockStop). LeavesUntil (held g r) k) (λ i. lifted (all i) (g.clock (sym site i))) l
+      subst (λ (k : Clock BlockStop). LeavesUntil (running_held g r) k) (λ i. lift_clock (all i) (g.clock (sym site i))) l
 
   -- what the closed site holds
   pub closes_all : (t : IsTrue g.tells) → IsRunningUsable g last → MakesControl (view_of g (reaching g r e alike).log) (view_of g last.log) r.schema.items r.point r.next r.counts.items

@@ -15,7 +15,7 @@ use Rattle.dms_running.specs.Points.{DescribedPoint}
 use Rattle.dms_pool.specs.declared.frame.BufferFrame as pools
 use Rattle.dms_pool.specs.declared.pool.Pool.{Pool}
 use Rattle.dms_pool.specs.Calls.{Cleans}
-use Rattle.dms_pool.specs.Held.{frame_of, framed, is_dirty}
+use Rattle.dms_pool.specs.Held.{frame_of, as_frame, is_dirty}
 use Rattle.dms_running.specs.Frames.{with_frame}
 use Rattle.dms_running.proofs.Framed.{all_written}
 use Rattle.dms_restore.specs.declared.log.Log.{Log}
@@ -26,7 +26,7 @@ use Rattle.dms_restore.proofs.Logs.{ReadsNow}
 use Rattle.dms_wal.specs.declared.running.Running.{Running}
 use Rattle.dms_wal.specs.Controls.{IsSettled}
 use Rattle.dms_wal.specs.Marks.{IsMarkOf}
-use Rattle.dms_wal.specs.Database.{held, frame_seen, frames_of, uses_of, IsRunningUsable}
+use Rattle.dms_wal.specs.Database.{running_held, frame_seen, frames_of, uses_of, IsRunningUsable}
 use Rattle.dms_wal.specs.Writing.{WritesBack}
 use Rattle.dms_wal.proofs.Synced.{usable_sealed}
 use Rattle.dms_wal.proofs.Pooled.{holds_like, frames_cleaned, counted_cleaned, clean_frames}
@@ -39,7 +39,7 @@ use Rattle.dms_wal.proofs.Under.{under_on}
 -- ---- a block was written, and stays in the pool
 
 module _ {S : Type 0} (g : Ghosts S) (r : Running S) (u : IsRunningUsable g r) where
-  pub usable_washed : (p : Pool) (id : BlockId) (block : Block) → frame_of id r.pool ≡ Some (framed block true) → Cleans id r.pool p → (l : Log S) → telling (view_of g l) ≡ telling (view_of g r.log) → (IsTrue g.tells → LogRuns (view_of g l)) → (IsTrue g.tells → ReadsNow (view_of g r.log))
+  pub usable_washed : (p : Pool) (id : BlockId) (block : Block) → frame_of id r.pool ≡ Some (as_frame block true) → Cleans id r.pool p → (l : Log S) → telling (view_of g l) ≡ telling (view_of g r.log) → (IsTrue g.tells → LogRuns (view_of g l)) → (IsTrue g.tells → ReadsNow (view_of g r.log))
       → (IsTrue g.tells → WritesBack (view_of g r.log) (view_of g l) id.file id.block block.0) → IsRunningUsable g (record r { log = l; pool = p })
   usable_washed p id block was c l kind runs read back = record {
     unbroken = u.unbroken;
@@ -59,11 +59,11 @@ module _ {S : Type 0} (g : Ghosts S) (r : Running S) (u : IsRunningUsable g r) w
     };
   }
 
-  pub changed_block : (id : BlockId) (block : Block) → frame_of id r.pool ≡ Some (framed block true) → IsTrue g.tells → logs.IsChangedBlock (view_of g r.log) id.file id.block
-  changed_block id block was t = ((u.goes t).holds id.file id.block).changed (frame_seen (framed block true)) (ap (λ (o : Option pools.BufferFrame). option_map frame_seen o) was) refl
+  pub changed_block : (id : BlockId) (block : Block) → frame_of id r.pool ≡ Some (as_frame block true) → IsTrue g.tells → logs.IsChangedBlock (view_of g r.log) id.file id.block
+  changed_block id block was t = ((u.goes t).holds id.file id.block).changed (frame_seen (as_frame block true)) (ap (λ (o : Option pools.BufferFrame). option_map frame_seen o) was) refl
 
-  pub block_of : (id : BlockId) (block : Block) → frame_of id r.pool ≡ Some (framed block true) → IsTrue g.tells → block_in (content (view_of g r.log)) id.file id.block ≡ block.0
-  block_of id block was t = sym ((((u.goes t).holds id.file id.block).held (frame_seen (framed block true)) (ap (λ (o : Option pools.BufferFrame). option_map frame_seen o) was)).1)
+  pub block_of : (id : BlockId) (block : Block) → frame_of id r.pool ≡ Some (as_frame block true) → IsTrue g.tells → block_in (content (view_of g r.log)) id.file id.block ≡ block.0
+  block_of id block was t = sym ((((u.goes t).holds id.file id.block).held (frame_seen (as_frame block true)) (ap (λ (o : Option pools.BufferFrame). option_map frame_seen o) was)).1)
 
 -- ---- what waits is sealed, and then the site is synced
 
@@ -93,8 +93,8 @@ module _ {S : Type 0} (g : Ghosts S) (stay : (s : S) → IsTrue g.tells → (x :
     (counts_now : (s : S) (t : ℕ) (x : Left) → t ≤ (g.clock s).now → Now (g.clock s) x → (g.clock s).left t x) (r : Running S) (u : IsRunningUsable g r) (l : Log S) (kind : telling (view_of g l) ≡ telling (view_of g r.log)) (said : g.said l.site ≡ g.said r.log.site)
     (leaves : IsTrue g.tells → logs.LogLeaves (view_of g r.log) (view_of g l) (points (view_of g r.log)) (logs.next (view_of g r.log))) (silent : IsTrue g.tells → Steps PrintsNothing (g.clock r.log.site) (g.clock l.site)) where
   -- a block was written
-  pub looks_washed : {T : Type 0} (x : T) (p : Pool) (id : BlockId) (block : Block) → frame_of id r.pool ≡ Some (framed block true) → Cleans id r.pool p → (IsTrue g.tells → LogRuns (view_of g l)) → (IsTrue g.tells → WritesBack (view_of g r.log) (view_of g l) id.file id.block block.0)
-      → Looks 0 (Ok x) (held g r) (held g (record r { log = l; pool = p }))
+  pub looks_washed : {T : Type 0} (x : T) (p : Pool) (id : BlockId) (block : Block) → frame_of id r.pool ≡ Some (as_frame block true) → Cleans id r.pool p → (IsTrue g.tells → LogRuns (view_of g l)) → (IsTrue g.tells → WritesBack (view_of g r.log) (view_of g l) id.file id.block block.0)
+      → Looks 0 (Ok x) (running_held g r) (running_held g (record r { log = l; pool = p }))
   looks_washed x p id block was c runs back = record {
     not_full = tt;
     passes = passes_step g now_said r u l p r.broken r.full r.counts kind refl said leaves silent;
@@ -108,7 +108,7 @@ module _ {S : Type 0} (g : Ghosts S) (stay : (s : S) → IsTrue g.tells → (x :
     pub usable_stable : IsRunningUsable g (record r { log = l })
     usable_stable = usable_sealed g stay now_said counts_now r u l kind r.syncs runs nothing
 
-    pub looks_stable : {T : Type 0} (x : T) → Looks 0 (Ok x) (held g r) (held g (record r { log = l }))
+    pub looks_stable : {T : Type 0} (x : T) → Looks 0 (Ok x) (running_held g r) (running_held g (record r { log = l }))
     looks_stable x = record {
       not_full = tt;
       passes = passes_step g now_said r u l r.pool r.broken r.full r.counts kind refl said leaves silent;

@@ -20,7 +20,7 @@ use Rattle.dms_restore.specs.Logging.{telling, points, durable, content, PrintsN
 use Rattle.dms_restore.specs.Views.{view_of}
 use Rattle.dms_restore.specs.Counts.{count_of}
 use Rattle.dms_wal.specs.declared.running.Running.{Running}
-use Rattle.dms_wal.specs.Database.{held, said_of, faults_of, uses_of, IsRunningUsable}
+use Rattle.dms_wal.specs.Database.{running_held, said_of, faults_of, uses_of, IsRunningUsable}
 use Rattle.dms_wal.specs.AgreeLaws.{text}
 use Rattle.dms_wal.proofs.Lifts.{passes_by, stays_by, surer}
 
@@ -54,7 +54,7 @@ module _ {S : Type 0} (g : Ghosts S) (now_said : (s : S) (x : Left) → IsTrue g
     after = record r { log = l; pool = p; broken = b; full = full; counts = cs }
 
     pub passes_step : length cs.items ≡ length r.counts.items → g.said l.site ≡ g.said r.log.site → (IsTrue g.tells → logs.LogLeaves (view_of g r.log) (view_of g l) (points (view_of g r.log)) (logs.next (view_of g r.log)))
-        → (IsTrue g.tells → Steps PrintsNothing (g.clock r.log.site) (g.clock l.site)) → MakesNoPoint (held g r) (held g after)
+        → (IsTrue g.tells → Steps PrintsNothing (g.clock r.log.site) (g.clock l.site)) → MakesNoPoint (running_held g r) (running_held g after)
     passes_step many said leaves silent = passes_by g.tells (IsRunningUsable g r) (IsRunningUsable g after) (view_of g r.log) (view_of g l) r.schema.items r.next r.next r.counts.items cs.items (said_of g r.log) (said_of g l)
         (faults_of g r) (faults_of g after) (uses_of g r) (uses_of g after) kind many refl (ap (λ (s : List ℕ). cond g.tells_said (Some s) None) said) (λ t. (u.goes t).numbered) (text g now_said r.log) leaves silent
 
@@ -62,6 +62,6 @@ module _ {S : Type 0} (g : Ghosts S) (now_said : (s : S) (x : Left) → IsTrue g
       pub surer_step : (IsTrue g.tells) → (ps : List DescribedPoint) (next : ℕ) → logs.LogLeaves (view_of g r.log) (view_of g l) ps next → durable (view_of g r.log) ≤ durable (view_of g l)
       surer_step t ps next leaves = surer (view_of g r.log) (view_of g l) kind (u.goes t).runs (stay r.log.site t) (stay l.site t) (counts_now l.site) ps next leaves
 
-      pub stays_step : IsRunningUsable g after → (IsTrue g.tells → points (view_of g l) ≡ points (view_of g r.log)) → (IsTrue g.tells → logs.LogLeaves (view_of g r.log) (view_of g l) (points (view_of g r.log)) (logs.next (view_of g r.log))) → Stays (held g r) (held g after)
+      pub stays_step : IsRunningUsable g after → (IsTrue g.tells → points (view_of g l) ≡ points (view_of g r.log)) → (IsTrue g.tells → logs.LogLeaves (view_of g r.log) (view_of g l) (points (view_of g r.log)) (logs.next (view_of g r.log))) → Stays (running_held g r) (running_held g after)
       stays_step usable same leaves = stays_by g.tells (IsRunningUsable g r) (IsRunningUsable g after) (view_of g r.log) (view_of g l) r.schema.items r.next r.next r.counts.items cs.items (said_of g r.log) (said_of g l)
           (faults_of g r) (faults_of g after) (uses_of g r) (uses_of g after) usable (λ t. (same t, surer_step t (points (view_of g r.log)) (logs.next (view_of g r.log)) (leaves t)))

@@ -7,7 +7,7 @@ use Rattle.dms_block.specs.declared.block_fault.BlockFault.{BlockFault}
 use Rattle.dms_history.specs.Entries.{Entry}
 use Rattle.dms_restore.specs.Logging.{LogGrows, LogStays, LogView, entries, telling, view}
 use Rattle.dms_wal.specs.declared.running.Running.{Running}
-use Rattle.dms_wal.specs.Controls.{is_due_at}
+use Rattle.dms_block.specs.Held.{is_due_at}
 use Rattle.dms_restore.specs.Views.{view_of}
 
 -- At most so many entries were logged.

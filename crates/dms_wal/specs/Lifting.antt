@@ -24,8 +24,8 @@ point_under schema p = record { number = p.number; blocks = p.blocks; schema = s
 abbrev pub stop_of : Telling → Left → BlockStop
 stop_of t x = record { files = x.files; points = map block_point (points_of t x.files); next = next_in t x.files; said = x.said }
 
-abbrev pub lifted : Telling → Clock Left → Clock BlockStop
-lifted t clock = seen_as (stop_of t) clock
+abbrev pub lift_clock : Telling → Clock Left → Clock BlockStop
+lift_clock t clock = seen_as (stop_of t) clock
 
 -- the blocks at the last of these points, and these blocks where there is none
 abbrev pub last_blocks : Content → List DescribedPoint → Content
@@ -57,7 +57,7 @@ held_of tells sound v schema next counts said faults uses = record {
   points = map block_point (points v);
   durable = durable v;
   here = point_under schema (here v);
-  clock = lifted (telling v) v.clock;
+  clock = lift_clock (telling v) v.clock;
   faults = faults;
   uses = uses;
 }

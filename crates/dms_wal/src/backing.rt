@@ -11,7 +11,7 @@ ghost use Rattle.dms_wal.specs.BackOuts.{entries_back, WentBackFrom};
 ghost use Rattle.dms_wal.specs.Controls.{KeepsPace};
 ghost use Rattle.dms_wal.specs.Lifting.{AreCounts};
 ghost use Rattle.dms_wal.specs.Marks.{IsDescription, IsMarkOf};
-ghost use Rattle.dms_wal.specs.Database.{held};
+ghost use Rattle.dms_wal.specs.Database.{running_held};
 ghost use Rattle.dms_wal.specs.Faults.{IsSeenInBack};
 ghost use Rattle.dms_wal.specs.Growing.{GrowsBy, LogsAtMost, TrailGrows};
 ghost use Rattle.dms_wal.specs.Passing.{LogPasses};
@@ -76,11 +76,11 @@ impl<S: Site> Running<S> {
     /// audit files are full. At Memory what waited is sealed, and nothing else was written; after the others the next opening goes on with
     /// what was begun.
     pub fn back_out(&mut self, alloc: Global) -> Result<(), BlockFault>
-        requires { (held S.Site self.old).sound }
-        ensures content { OnOk result (IsTrue (held S.Site self.old).told → (held S.Site self.new).content ≡ (held S.Site self.old).mark) }
-        ensures stays { OnOk result (Stays (held S.Site self.old) (held S.Site self.new)) }
-        ensures passes { MakesNoPoint (held S.Site self.old) (held S.Site self.new) }
-        ensures uses { WentBack result (held S.Site self.old).uses (held S.Site self.new).uses }
+        requires { (running_held S.Site self.old).sound }
+        ensures content { OnOk result (IsTrue (running_held S.Site self.old).told → (running_held S.Site self.new).content ≡ (running_held S.Site self.old).mark) }
+        ensures stays { OnOk result (Stays (running_held S.Site self.old) (running_held S.Site self.new)) }
+        ensures passes { MakesNoPoint (running_held S.Site self.old) (running_held S.Site self.new) }
+        ensures uses { WentBack result (running_held S.Site self.old).uses (running_held S.Site self.new).uses }
         ensures back { OnOk result (IsTrue S.tells → WentBackFrom S.Site self.old self.new) }
         ensures counts { OnOk result (self.new.counts.items ≡ self.old.marks.items) }
         ensures kept { (self.new.schema ≡ self.old.schema) × (self.new.next ≡ self.old.next) × (self.new.point ≡ self.old.point) × (self.new.marks ≡ self.old.marks) }
@@ -91,7 +91,7 @@ impl<S: Site> Running<S> {
         ensures idle { IsErrOf result BlockFault.Memory → self.old.log.end.used ≡ 0 → IsTrue S.tells → FilesStay (view_of S.Site self.old.log) (view_of S.Site self.new.log) }
         ensures ends { IsErrOf result (BlockFault.Full 9999) → IsTrue S.tells → Ends (view_of S.Site self.new.log) }
         ensures unchanged { OnOk result (self.new.changed ≡ false) }
-        ensures causes { HasCauses result (held S.Site self.old) (held S.Site self.new) }
+        ensures causes { HasCauses result (running_held S.Site self.old) (running_held S.Site self.new) }
         ensures silent { IsErrOf result BlockFault.Say → ⊥ }
         ensures broken { IfErr result (λ e. self.new.broken ≡ true) }
         ensures few { (IsErrOf result BlockFault.Disk → ⊥) → IsTrue S.tells → LogsAtMost 19 (view_of S.Site self.old.log) (view_of S.Site self.new.log) }

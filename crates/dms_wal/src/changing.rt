@@ -3,14 +3,14 @@
 ghost use Rattle.std.specs.Prelude.{◌≡◌, ◌≤◌, ◌<◌, ◌+◌, ◌-◌, ◌^◌, [], ◌∷◌, IfErr, IfOk, IfSome, IsErrOf, IsTrue, OnOk, length, min, option_map, true};
 ghost use Rattle.std.specs.Option.{option_copied};
 ghost use Rattle.dms_base.specs.Causes.{HasCause};
-ghost use Rattle.dms_block.specs.Content.{changed, grown, limit, raised, FitsIn};
+ghost use Rattle.dms_block.specs.Content.{apply_changes, counts_after, limit, raise_count, FitsIn};
 ghost use Rattle.dms_block.specs.Held.{Alters, HasCauses, Looks};
 ghost use Rattle.dms_restore.specs.Logging.{entries};
 ghost use Rattle.dms_restore.specs.Views.{view_of};
 ghost use Rattle.dms_restore.specs.Counts.{count_of};
 ghost use Rattle.dms_wal.specs.Lifting.{owns_of};
 ghost use Rattle.dms_wal.specs.Controls.{KeepsPace};
-ghost use Rattle.dms_wal.specs.Database.{held, HoldsCounted};
+ghost use Rattle.dms_wal.specs.Database.{running_held, HoldsCounted};
 ghost use Rattle.dms_wal.specs.Faults.{StandsFull};
 ghost use Rattle.dms_wal.specs.Growing.{GrowsBy, TrailGrows};
 ghost use Rattle.dms_wal.specs.Passing.{LogPasses};
@@ -39,7 +39,7 @@ fn bytes_of(block: &Option<Block>) -> Option<&[u8]>
 fn raise(counts: &mut Vec<u32>, id: BlockId)
     requires owned { IsTrue (owns_of counts.old.items id.file) }
     requires low { id.block < limit }
-    ensures raised { count_of counts.new.items ≡ raised (count_of counts.old.items) id.file id.block }
+    ensures raised { count_of counts.new.items ≡ raise_count (count_of counts.old.items) id.file id.block }
     ensures files { length counts.new.items ≡ length counts.old.items }
 {
     let at = (id.file - 30_001) as usize;
@@ -81,16 +81,16 @@ impl<S: Site> Running<S> {
     /// Each change is logged by one Image, and nothing else is logged. Answers Disk, Damaged, and Full where the audit has no room: then the
     /// Images of the first changes are logged. Each of these changes counts as a block that was changed, and so does the one that failed.
     pub fn apply(&mut self, changes: &Changes) -> Result<(), BlockFault>
-        requires sound { (held S.Site self.old).sound }
-        requires fits { FitsIn changes.now.items.items (held S.Site self.old).owns (held S.Site self.old).counts }
-        ensures counts { OnOk result ((held S.Site self.new).counts ≡ grown changes.now.items.items (held S.Site self.old).counts) }
-        ensures content { OnOk result (IsTrue (held S.Site self.old).told → (held S.Site self.new).content ≡ changed changes.now.items.items (held S.Site self.old).content) }
+        requires sound { (running_held S.Site self.old).sound }
+        requires fits { FitsIn changes.now.items.items (running_held S.Site self.old).owns (running_held S.Site self.old).counts }
+        ensures counts { OnOk result ((running_held S.Site self.new).counts ≡ counts_after changes.now.items.items (running_held S.Site self.old).counts) }
+        ensures content { OnOk result (IsTrue (running_held S.Site self.old).told → (running_held S.Site self.new).content ≡ apply_changes changes.now.items.items (running_held S.Site self.old).content) }
         ensures logs { OnOk result (IsTrue S.tells → LogsChanges (view_of S.Site self.old.log) (view_of S.Site self.new.log) changes.now.items.items) }
-        ensures alters { Alters 0 (length changes.now.items.items) result (held S.Site self.old) (held S.Site self.new) }
-        ensures spent { OnOk result ((held S.Site self.new).uses.spent ≡ min ((held S.Site self.old).uses.spent + length changes.now.items.items) (2 ^ 64 - 1)) }
+        ensures alters { Alters 0 (length changes.now.items.items) result (running_held S.Site self.old) (running_held S.Site self.new) }
+        ensures spent { OnOk result ((running_held S.Site self.new).uses.spent ≡ min ((running_held S.Site self.old).uses.spent + length changes.now.items.items) (2 ^ 64 - 1)) }
         ensures memory { IsErrOf result BlockFault.Memory → ⊥ }
         ensures full { (n : _) → IsErrOf result (BlockFault.Full n) → StandsFull self.new.log.end n }
-        ensures causes { HasCauses result (held S.Site self.old) (held S.Site self.new) }
+        ensures causes { HasCauses result (running_held S.Site self.old) (running_held S.Site self.new) }
         ensures silent { IsErrOf result BlockFault.Say → ⊥ }
         ensures pace { KeepsPace self.old self.new }
         ensures broken { IfErr result (λ e. self.new.broken ≡ true) }
@@ -113,16 +113,16 @@ impl<S: Site> Running<S> {
 
     /// Makes one change.
     fn change(&mut self, change: &Change) -> Result<(), BlockFault>
-        requires sound { (held S.Site self.old).sound }
-        requires owned { IsTrue ((held S.Site self.old).owns change.now.id.file) }
+        requires sound { (running_held S.Site self.old).sound }
+        requires owned { IsTrue ((running_held S.Site self.old).owns change.now.id.file) }
         requires low { change.now.id.block < limit }
-        requires place { change.now.id.block ≤ (held S.Site self.old).counts change.now.id.file }
-        ensures counts { OnOk result ((held S.Site self.new).counts ≡ raised (held S.Site self.old).counts change.now.id.file change.now.id.block) }
-        ensures content { OnOk result (HasChange (held S.Site self.old) (held S.Site self.new) change.now) }
+        requires place { change.now.id.block ≤ (running_held S.Site self.old).counts change.now.id.file }
+        ensures counts { OnOk result ((running_held S.Site self.new).counts ≡ raise_count (running_held S.Site self.old).counts change.now.id.file change.now.id.block) }
+        ensures content { OnOk result (HasChange (running_held S.Site self.old) (running_held S.Site self.new) change.now) }
         ensures logs { OnOk result (IsTrue S.tells → LogsChanges (view_of S.Site self.old.log) (view_of S.Site self.new.log) (change.now ∷ [])) }
-        ensures alters { Alters 0 0 result (held S.Site self.old) (held S.Site self.new) }
+        ensures alters { Alters 0 0 result (running_held S.Site self.old) (running_held S.Site self.new) }
         ensures full { (n : _) → IsErrOf result (BlockFault.Full n) → StandsFull self.new.log.end n }
-        ensures causes { HasCauses result (held S.Site self.old) (held S.Site self.new) }
+        ensures causes { HasCauses result (running_held S.Site self.old) (running_held S.Site self.new) }
         ensures memory { IsErrOf result BlockFault.Memory → ⊥ }
         ensures damaged { DamagedOnly change.now.id result }
         ensures silent { IsErrOf result BlockFault.Say → ⊥ }
@@ -140,12 +140,12 @@ impl<S: Site> Running<S> {
 
     /// The block that a change takes away, none where it is of a new one. The pool has room for the change then, where it can.
     fn before(&mut self, id: BlockId) -> Result<Option<Block>, BlockFault>
-        requires sound { (held S.Site self.old).sound }
-        requires place { id.block ≤ (held S.Site self.old).counts id.file }
-        ensures before { IfOk result (λ o. TellsOld (held S.Site self.old) id o) }
+        requires sound { (running_held S.Site self.old).sound }
+        requires place { id.block ≤ (running_held S.Site self.old).counts id.file }
+        ensures before { IfOk result (λ o. TellsOld (running_held S.Site self.old) id o) }
         ensures logs { OnOk result (IsTrue S.tells → entries (view_of S.Site self.new.log) ≡ entries (view_of S.Site self.old.log)) }
-        ensures looks { Looks 0 result (held S.Site self.old) (held S.Site self.new) }
-        ensures causes { HasCauses result (held S.Site self.old) (held S.Site self.new) }
+        ensures looks { Looks 0 result (running_held S.Site self.old) (running_held S.Site self.new) }
+        ensures causes { HasCauses result (running_held S.Site self.old) (running_held S.Site self.new) }
         ensures memory { IsErrOf result BlockFault.Memory → ⊥ }
         ensures damaged { DamagedOnly id result }
         ensures silent { IsErrOf result BlockFault.Say → ⊥ }
@@ -174,16 +174,16 @@ impl<S: Site> Running<S> {
 
     /// Logs the Image of a change, and then has it in the pool or in its file.
     fn log_change(&mut self, change: &Change, before: &Option<Block>) -> Result<(), BlockFault>
-        requires sound { (held S.Site self.old).sound }
-        requires owned { IsTrue ((held S.Site self.old).owns change.now.id.file) }
+        requires sound { (running_held S.Site self.old).sound }
+        requires owned { IsTrue ((running_held S.Site self.old).owns change.now.id.file) }
         requires low { change.now.id.block < limit }
-        requires before { TellsOld (held S.Site self.old) change.now.id before.now }
-        ensures counts { OnOk result ((held S.Site self.new).counts ≡ raised (held S.Site self.old).counts change.now.id.file change.now.id.block) }
-        ensures content { OnOk result (HasChange (held S.Site self.old) (held S.Site self.new) change.now) }
+        requires before { TellsOld (running_held S.Site self.old) change.now.id before.now }
+        ensures counts { OnOk result ((running_held S.Site self.new).counts ≡ raise_count (running_held S.Site self.old).counts change.now.id.file change.now.id.block) }
+        ensures content { OnOk result (HasChange (running_held S.Site self.old) (running_held S.Site self.new) change.now) }
         ensures logs { OnOk result (IsTrue S.tells → LogsChanges (view_of S.Site self.old.log) (view_of S.Site self.new.log) (change.now ∷ [])) }
-        ensures alters { Alters 0 0 result (held S.Site self.old) (held S.Site self.new) }
+        ensures alters { Alters 0 0 result (running_held S.Site self.old) (running_held S.Site self.new) }
         ensures full { (n : _) → IsErrOf result (BlockFault.Full n) → StandsFull self.new.log.end n }
-        ensures causes { HasCauses result (held S.Site self.old) (held S.Site self.new) }
+        ensures causes { HasCauses result (running_held S.Site self.old) (running_held S.Site self.new) }
         ensures memory { IsErrOf result BlockFault.Memory → ⊥ }
         ensures damaged { DamagedOnly change.now.id result }
         ensures silent { IsErrOf result BlockFault.Say → ⊥ }

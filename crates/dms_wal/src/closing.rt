@@ -5,9 +5,9 @@ ghost use Rattle.dms_audfile.specs.Counting.{CountedAt};
 ghost use Rattle.dms_restore.specs.Logging.{content, telling};
 ghost use Rattle.dms_restore.specs.Views.{view_of};
 ghost use Rattle.dms_wal.specs.Closing.{entries_control, FilesStand, IsClosed, IsFullTrail, LeavesUntil};
-ghost use Rattle.dms_wal.specs.Database.{held};
+ghost use Rattle.dms_wal.specs.Database.{running_held};
 ghost use Rattle.dms_wal.specs.Growing.{GivesGrown, close_limit};
-ghost use Rattle.dms_wal.specs.Lifting.{lifted};
+ghost use Rattle.dms_wal.specs.Lifting.{lift_clock};
 
 use crate::Running;
 use dms_block::BlockFault;
@@ -24,10 +24,10 @@ impl<S: Site> Running<S> {
     /// Answers Disk, Full(9999) where all audit files are full, and Memory where it goes back. After each of them the next opening goes on
     /// with what was begun.
     pub fn close(mut self, alloc: Global) -> Result<S, (BlockFault, S)>
-        requires { (held S.Site self).sound }
+        requires { (running_held S.Site self).sound }
         ensures closed { IfOk result (λ s. IsTrue S.tells → IsClosed (view_of S.Site self.log) self.changed self.point self.schema.items self.next self.marks.items (S.files s) (S.clock s)) }
-        ensures leaves { IfOk result (λ s. LeavesUntil (held S.Site self) (lifted (telling (view_of S.Site self.log)) (S.clock s))) }
-        ensures stopped { IfErr result (λ e. LeavesUntil (held S.Site self) (lifted (telling (view_of S.Site self.log)) (S.clock e.1))) }
+        ensures leaves { IfOk result (λ s. LeavesUntil (running_held S.Site self) (lift_clock (telling (view_of S.Site self.log)) (S.clock s))) }
+        ensures stopped { IfErr result (λ e. LeavesUntil (running_held S.Site self) (lift_clock (telling (view_of S.Site self.log)) (S.clock e.1))) }
         ensures only { IfErr result (λ e. (e.0 ≡ BlockFault.Disk) ⊎ ((e.0 ≡ BlockFault.Full 9999) ⊎ ((self.changed ≡ true) × (e.0 ≡ BlockFault.Memory)))) }
         ensures full { IfErr result (λ e. e.0 ≡ BlockFault.Full 9999 → IsTrue S.tells → IsFullTrail (view_of S.Site self.log) (S.files e.1)) }
         ensures grown { GivesGrown S.Site (close_limit self.changed) (view_of S.Site self.log) result }
@@ -50,11 +50,11 @@ impl<S: Site> Running<S> {
 
     /// Closes the database by a control point with its content of now, and gives the site. Takes no memory.
     fn close_by_control(mut self) -> Result<S, (BlockFault, S)>
-        requires { (held S.Site self).sound }
+        requires { (running_held S.Site self).sound }
         ensures closed { IfOk result (λ s. IsTrue S.tells → let v = view_of S.Site self.log in
             FilesStand v (entries_control self.point self.schema.items self.next self.counts.items) (content v) (S.files s) (S.clock s)) }
-        ensures leaves { IfOk result (λ s. LeavesUntil (held S.Site self) (lifted (telling (view_of S.Site self.log)) (S.clock s))) }
-        ensures stopped { IfErr result (λ e. LeavesUntil (held S.Site self) (lifted (telling (view_of S.Site self.log)) (S.clock e.1))) }
+        ensures leaves { IfOk result (λ s. LeavesUntil (running_held S.Site self) (lift_clock (telling (view_of S.Site self.log)) (S.clock s))) }
+        ensures stopped { IfErr result (λ e. LeavesUntil (running_held S.Site self) (lift_clock (telling (view_of S.Site self.log)) (S.clock e.1))) }
         ensures only { IfErr result (λ e. (e.0 ≡ BlockFault.Disk) ⊎ (e.0 ≡ BlockFault.Full 9999)) }
         ensures full { IfErr result (λ e. e.0 ≡ BlockFault.Full 9999 → IsTrue S.tells → IsFullTrail (view_of S.Site self.log) (S.files e.1)) }
         ensures grown { GivesGrown S.Site 18 (view_of S.Site self.log) result }

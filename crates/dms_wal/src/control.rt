@@ -8,7 +8,7 @@ ghost use Rattle.dms_pool.specs.Held.{is_dirty, to_write};
 ghost use Rattle.dms_restore.specs.Logging.{Ends, waits, LogRuns, LogsNothing, trail_of};
 ghost use Rattle.dms_restore.specs.Views.{view_of};
 ghost use Rattle.dms_wal.specs.Controls.{IsSettled, KeepsFields, MakesControl, TellsSame};
-ghost use Rattle.dms_wal.specs.Database.{held};
+ghost use Rattle.dms_wal.specs.Database.{running_held};
 ghost use Rattle.dms_wal.specs.Faults.{StandsFull};
 ghost use Rattle.dms_wal.specs.Growing.{LogsAtMost, TrailGrows};
 ghost use Rattle.dms_wal.specs.Passing.{LogPasses};
@@ -44,14 +44,14 @@ fn make_stable<S: Site>(log: &mut Log<S>) -> Result<(), BlockFault>
 impl<S: Site> Running<S> {
     /// Writes one block that is to be written, once what waits is sealed. It stays in the pool, and that is no use of it.
     fn write_out(&mut self, id: BlockId) -> Result<(), BlockFault>
-        requires sound { (held S.Site self.old).sound }
+        requires sound { (running_held S.Site self.old).sound }
         requires dirty { is_dirty id self.old.pool ≡ true }
-        ensures looks { Looks 0 result (held S.Site self.old) (held S.Site self.new) }
+        ensures looks { Looks 0 result (running_held S.Site self.old) (running_held S.Site self.new) }
         ensures kept { KeepsFields self.old self.new }
         ensures kind { trail_of (view_of S.Site self.new.log) ≡ trail_of (view_of S.Site self.old.log) }
         ensures tells { OnOk result (IsTrue S.tells → TellsSame (view_of S.Site self.old.log) (view_of S.Site self.new.log)) }
         ensures fewer { OnOk result (to_write self.new.pool < to_write self.old.pool) }
-        ensures causes { HasCauses result (held S.Site self.old) (held S.Site self.new) }
+        ensures causes { HasCauses result (running_held S.Site self.old) (running_held S.Site self.new) }
         ensures only { IfErr result (λ e. e ≡ BlockFault.Disk) }
         ensures broken { IfErr result (λ e. self.new.broken ≡ true) }
         ensures grown { TrailGrows S.Site 0 self.old self.new }
@@ -74,13 +74,13 @@ impl<S: Site> Running<S> {
 
     /// Writes each block that is to be written. Doesn't sync them.
     fn write_changed(&mut self) -> Result<(), BlockFault>
-        requires { (held S.Site self.old).sound }
-        ensures looks { Looks 0 result (held S.Site self.old) (held S.Site self.new) }
+        requires { (running_held S.Site self.old).sound }
+        ensures looks { Looks 0 result (running_held S.Site self.old) (running_held S.Site self.new) }
         ensures kept { KeepsFields self.old self.new }
         ensures kind { trail_of (view_of S.Site self.new.log) ≡ trail_of (view_of S.Site self.old.log) }
         ensures tells { OnOk result (IsTrue S.tells → TellsSame (view_of S.Site self.old.log) (view_of S.Site self.new.log)) }
         ensures clean { OnOk result ((id : _) → is_dirty id self.new.pool ≡ false) }
-        ensures causes { HasCauses result (held S.Site self.old) (held S.Site self.new) }
+        ensures causes { HasCauses result (running_held S.Site self.old) (running_held S.Site self.new) }
         ensures only { IfErr result (λ e. e ≡ BlockFault.Disk) }
         ensures broken { IfErr result (λ e. self.new.broken ≡ true) }
         ensures grown { TrailGrows S.Site 0 self.old self.new }
@@ -97,14 +97,14 @@ impl<S: Site> Running<S> {
 
     /// Writes each block that is to be written, and makes all stable.
     fn settle(&mut self) -> Result<(), BlockFault>
-        requires { (held S.Site self.old).sound }
-        ensures looks { Looks 0 result (held S.Site self.old) (held S.Site self.new) }
+        requires { (running_held S.Site self.old).sound }
+        ensures looks { Looks 0 result (running_held S.Site self.old) (running_held S.Site self.new) }
         ensures kept { KeepsFields self.old self.new }
         ensures kind { trail_of (view_of S.Site self.new.log) ≡ trail_of (view_of S.Site self.old.log) }
         ensures tells { OnOk result (IsTrue S.tells → TellsSame (view_of S.Site self.old.log) (view_of S.Site self.new.log)) }
         ensures clean { OnOk result ((id : _) → is_dirty id self.new.pool ≡ false) }
         ensures settled { OnOk result (IsTrue S.tells → IsSettled (view_of S.Site self.new.log)) }
-        ensures causes { HasCauses result (held S.Site self.old) (held S.Site self.new) }
+        ensures causes { HasCauses result (running_held S.Site self.old) (running_held S.Site self.new) }
         ensures only { IfErr result (λ e. e ≡ BlockFault.Disk) }
         ensures broken { IfErr result (λ e. self.new.broken ≡ true) }
         ensures grown { TrailGrows S.Site 0 self.old self.new }
@@ -125,12 +125,12 @@ impl<S: Site> Running<S> {
 
     /// Seals the Schema and a Control of the last point.
     fn seal_control(&mut self) -> Result<(), BlockFault>
-        requires sound { (held S.Site self.old).sound }
+        requires sound { (running_held S.Site self.old).sound }
         requires clean { (id : _) → is_dirty id self.old.pool ≡ false }
         requires settled { IsTrue S.tells → IsSettled (view_of S.Site self.old.log) }
-        ensures made { OnOk result (MadeDurable (held S.Site self.old) (held S.Site self.new)) }
-        ensures passes { MakesNoPoint (held S.Site self.old) (held S.Site self.new) }
-        ensures uses { (held S.Site self.new).uses ≡ (held S.Site self.old).uses }
+        ensures made { OnOk result (MadeDurable (running_held S.Site self.old) (running_held S.Site self.new)) }
+        ensures passes { MakesNoPoint (running_held S.Site self.old) (running_held S.Site self.new) }
+        ensures uses { (running_held S.Site self.new).uses ≡ (running_held S.Site self.old).uses }
         ensures kept { KeepsFields self.old self.new }
         ensures kind { trail_of (view_of S.Site self.new.log) ≡ trail_of (view_of S.Site self.old.log) }
         ensures control { OnOk result (IsTrue S.tells
@@ -139,7 +139,7 @@ impl<S: Site> Running<S> {
         ensures only { IfErr result (λ e. (e ≡ BlockFault.Disk) ⊎ (e ≡ BlockFault.Full self.old.log.end.limit)) }
         ensures full { (n : _) → IsErrOf result (BlockFault.Full n) → StandsFull self.new.log.end n }
         ensures ends { (n : _) → IsErrOf result (BlockFault.Full n) → IsTrue S.tells → Ends (view_of S.Site self.new.log) }
-        ensures causes { HasCauses result (held S.Site self.old) (held S.Site self.new) }
+        ensures causes { HasCauses result (running_held S.Site self.old) (running_held S.Site self.new) }
         ensures silent { IsErrOf result BlockFault.Say → ⊥ }
         ensures broken { IfErr result (λ e. self.new.broken ≡ true) }
         ensures few { (IsErrOf result BlockFault.Disk → ⊥) → IsTrue S.tells → LogsAtMost 18 (view_of S.Site self.old.log) (view_of S.Site self.new.log) }
@@ -166,10 +166,10 @@ impl<S: Site> Running<S> {
     /// A block that was written before, because the pool had no room, is made stable with the others, before the Control is sealed:
     /// each stop within the call leaves a database. Answers Disk, and Full where the audit has no room.
     pub fn control(&mut self) -> Result<(), BlockFault>
-        requires { (held S.Site self.old).sound }
-        ensures made { OnOk result (MadeDurable (held S.Site self.old) (held S.Site self.new)) }
-        ensures passes { MakesNoPoint (held S.Site self.old) (held S.Site self.new) }
-        ensures uses { Used 0 0 (held S.Site self.old).uses (held S.Site self.new).uses }
+        requires { (running_held S.Site self.old).sound }
+        ensures made { OnOk result (MadeDurable (running_held S.Site self.old) (running_held S.Site self.new)) }
+        ensures passes { MakesNoPoint (running_held S.Site self.old) (running_held S.Site self.new) }
+        ensures uses { Used 0 0 (running_held S.Site self.old).uses (running_held S.Site self.new).uses }
         ensures kept { KeepsFields self.old self.new }
         ensures kind { trail_of (view_of S.Site self.new.log) ≡ trail_of (view_of S.Site self.old.log) }
         ensures control { OnOk result (IsTrue S.tells
@@ -178,7 +178,7 @@ impl<S: Site> Running<S> {
         ensures only { IfErr result (λ e. (e ≡ BlockFault.Disk) ⊎ (e ≡ BlockFault.Full self.old.log.end.limit)) }
         ensures full { (n : _) → IsErrOf result (BlockFault.Full n) → StandsFull self.new.log.end n }
         ensures ends { (n : _) → IsErrOf result (BlockFault.Full n) → IsTrue S.tells → Ends (view_of S.Site self.new.log) }
-        ensures causes { HasCauses result (held S.Site self.old) (held S.Site self.new) }
+        ensures causes { HasCauses result (running_held S.Site self.old) (running_held S.Site self.new) }
         ensures silent { IsErrOf result BlockFault.Say → ⊥ }
         ensures broken { IfErr result (λ e. self.new.broken ≡ true) }
         ensures few { (IsErrOf result BlockFault.Disk → ⊥) → IsTrue S.tells → LogsAtMost 18 (view_of S.Site self.old.log) (view_of S.Site self.new.log) }

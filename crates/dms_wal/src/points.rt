@@ -1,12 +1,12 @@
 //! Quiet points, syncs and printing.
 
 ghost use Rattle.std.specs.Prelude.{◌≡◌, ◌⊎◌, ◌≤◌, ◌+◌, ◌++◌, [], ◌∷◌, IfErr, IfOk, IsErrOf, IsOkUnless, IsTrue, OnOk, false, length, true};
-ghost use Rattle.dms_block.specs.Held.{HasCauses, HasNextNumber, IfTold, Lasts, Leaves, LeavesText, MadeDurable, MadeQuiet, MakesNoPoint, SameBlocks, Stays, Synced};
+ghost use Rattle.dms_block.specs.Held.{HasCauses, HasNextNumber, IfTold, is_due, is_due_at, Lasts, Leaves, LeavesText, MadeDurable, MadeQuiet, MakesNoPoint, SameBlocks, Stays, Synced};
 ghost use Rattle.dms_block.specs.Texts.{Prints, PrintsPrefix};
 ghost use Rattle.dms_restore.specs.Logging.{LogsNothing, SealsWaiting};
 ghost use Rattle.dms_restore.specs.Views.{view_of};
-ghost use Rattle.dms_wal.specs.Controls.{is_due, is_due_at, KeepsFields, KeepsPace, MakesControl};
-ghost use Rattle.dms_wal.specs.Database.{held};
+ghost use Rattle.dms_wal.specs.Controls.{KeepsFields, KeepsPace, MakesControl};
+ghost use Rattle.dms_wal.specs.Database.{running_held};
 ghost use Rattle.dms_wal.specs.Faults.{lacks_room, StandsFull};
 ghost use Rattle.dms_wal.specs.Growing.{GrowsBy, TrailGrows};
 
@@ -34,23 +34,25 @@ impl<S: Site> Running<S> {
     /// Makes a quiet point, and answers its number. Takes no memory. Where the next number is 2^64 - 1 it stays so.
     ///
     /// One quiet point is logged, which the next sync makes durable. Its number is used up, whatever is answered. Answers Disk, and
-    /// Full exactly where no call of the site failed and the audit has no room; then all that waited is sealed.
+    /// Full exactly where no call of the site failed and the audit has no room; then all that waited is sealed, and no stop leaves the
+    /// new point.
     pub fn quiet(&mut self) -> Result<u64, BlockFault>
-        requires { (held S.Site self.old).sound }
-        ensures number { HasNextNumber (held S.Site self.old) → IfOk result (λ n. n ≡ (held S.Site self.old).next) }
-        ensures made { OnOk result (MadeQuiet (held S.Site self.old) (held S.Site self.new)) }
-        ensures not_fallen { (held S.Site self.old).next ≤ (held S.Site self.new).next }
-        ensures one_number { (held S.Site self.new).next ≤ (held S.Site self.old).next + 1 }
-        ensures said { (held S.Site self.new).said ≡ (held S.Site self.old).said }
-        ensures leaves { let a = held S.Site self.old in IfTold a (Leaves a (held S.Site self.new) (a.points ++ a.here ∷ []) (a.next + 1)) }
-        ensures lasts { Lasts (held S.Site self.old) (held S.Site self.new) }
-        ensures uses { (held S.Site self.new).uses ≡ (held S.Site self.old).uses }
+        requires { (running_held S.Site self.old).sound }
+        ensures number { HasNextNumber (running_held S.Site self.old) → IfOk result (λ n. n ≡ (running_held S.Site self.old).next) }
+        ensures made { OnOk result (MadeQuiet (running_held S.Site self.old) (running_held S.Site self.new)) }
+        ensures not_fallen { (running_held S.Site self.old).next ≤ (running_held S.Site self.new).next }
+        ensures one_number { (running_held S.Site self.new).next ≤ (running_held S.Site self.old).next + 1 }
+        ensures said { (running_held S.Site self.new).said ≡ (running_held S.Site self.old).said }
+        ensures leaves { let a = running_held S.Site self.old in IfTold a (Leaves a (running_held S.Site self.new) (a.points ++ a.here ∷ []) (a.next + 1)) }
+        ensures no_point { (n : _) → IsErrOf result (BlockFault.Full n) → let a = running_held S.Site self.old in IfTold a (Leaves a (running_held S.Site self.new) a.points a.next) }
+        ensures lasts { Lasts (running_held S.Site self.old) (running_held S.Site self.new) }
+        ensures uses { (running_held S.Site self.new).uses ≡ (running_held S.Site self.old).uses }
         ensures memory { IsErrOf result BlockFault.Memory → ⊥ }
         ensures full { (n : _) → IsErrOf result (BlockFault.Full n) → StandsFull self.new.log.end n }
         ensures past { (n : _) → IsErrOf result (BlockFault.Full n) → lacks_room self.old.log.end self.old.next ≡ true }
-        ensures within { HasNextNumber (held S.Site self.old) → OnOk result (lacks_room self.old.log.end self.old.next ≡ false) }
+        ensures within { HasNextNumber (running_held S.Site self.old) → OnOk result (lacks_room self.old.log.end self.old.next ≡ false) }
         ensures kept { (n : _) → IsErrOf result (BlockFault.Full n) → IsTrue S.tells → SealsWaiting (view_of S.Site self.old.log) (view_of S.Site self.new.log) }
-        ensures causes { HasCauses result (held S.Site self.old) (held S.Site self.new) }
+        ensures causes { HasCauses result (running_held S.Site self.old) (running_held S.Site self.new) }
         ensures silent { IsErrOf result BlockFault.Say → ⊥ }
         ensures pace { KeepsPace self.old self.new }
         ensures broken { IfErr result (λ e. self.new.broken ≡ true) }
@@ -81,10 +83,10 @@ impl<S: Site> Running<S> {
     ///
     /// Answers Disk, and Full where a control point follows for which the audit has no room.
     pub fn sync(&mut self) -> Result<(), BlockFault>
-        requires { (held S.Site self.old).sound }
-        ensures made { OnOk result (MadeDurable (held S.Site self.old) (held S.Site self.new)) }
-        ensures passes { MakesNoPoint (held S.Site self.old) (held S.Site self.new) }
-        ensures uses { Synced result (held S.Site self.old).uses (held S.Site self.new).uses }
+        requires { (running_held S.Site self.old).sound }
+        ensures made { OnOk result (MadeDurable (running_held S.Site self.old) (running_held S.Site self.new)) }
+        ensures passes { MakesNoPoint (running_held S.Site self.old) (running_held S.Site self.new) }
+        ensures uses { Synced result (running_held S.Site self.old).uses (running_held S.Site self.new).uses }
         ensures control { OnOk result (is_due self.old.every self.old.syncs ≡ true → IsTrue S.tells
             → MakesControl (view_of S.Site self.old.log) (view_of S.Site self.new.log) self.old.schema.items self.old.point self.old.next self.old.counts.items) }
         ensures seals { OnOk result (is_due self.old.every self.old.syncs ≡ false → IsTrue S.tells → LogsNothing (view_of S.Site self.old.log) (view_of S.Site self.new.log)) }
@@ -92,7 +94,7 @@ impl<S: Site> Running<S> {
         ensures memory { IsErrOf result BlockFault.Memory → ⊥ }
         ensures only { IfErr result (λ e. (e ≡ BlockFault.Disk) ⊎ ((is_due self.old.every self.old.syncs ≡ true) × (e ≡ BlockFault.Full self.old.log.end.limit))) }
         ensures full { (n : _) → IsErrOf result (BlockFault.Full n) → StandsFull self.new.log.end n }
-        ensures causes { HasCauses result (held S.Site self.old) (held S.Site self.new) }
+        ensures causes { HasCauses result (running_held S.Site self.old) (running_held S.Site self.new) }
         ensures silent { IsErrOf result BlockFault.Say → ⊥ }
         ensures broken { IfErr result (λ e. self.new.broken ≡ true) }
         ensures grows { GrowsBy S.Site self.old self.new }
@@ -110,14 +112,14 @@ impl<S: Site> Running<S> {
 
     /// Seals all that waits: all quiet points so far are durable. Answers Disk alone.
     fn seal(&mut self) -> Result<(), BlockFault>
-        requires { (held S.Site self.old).sound }
-        ensures made { OnOk result (MadeDurable (held S.Site self.old) (held S.Site self.new)) }
-        ensures passes { MakesNoPoint (held S.Site self.old) (held S.Site self.new) }
-        ensures uses { Synced result (held S.Site self.old).uses (held S.Site self.new).uses }
+        requires { (running_held S.Site self.old).sound }
+        ensures made { OnOk result (MadeDurable (running_held S.Site self.old) (running_held S.Site self.new)) }
+        ensures passes { MakesNoPoint (running_held S.Site self.old) (running_held S.Site self.new) }
+        ensures uses { Synced result (running_held S.Site self.old).uses (running_held S.Site self.new).uses }
         ensures seals { OnOk result (IsTrue S.tells → LogsNothing (view_of S.Site self.old.log) (view_of S.Site self.new.log)) }
         ensures memory { IsErrOf result BlockFault.Memory → ⊥ }
         ensures only { IfErr result (λ e. e ≡ BlockFault.Disk) }
-        ensures causes { HasCauses result (held S.Site self.old) (held S.Site self.new) }
+        ensures causes { HasCauses result (running_held S.Site self.old) (running_held S.Site self.new) }
         ensures silent { IsErrOf result BlockFault.Say → ⊥ }
         ensures kept { KeepsFields self.old self.new }
         ensures broken { IfErr result (λ e. self.new.broken ≡ true) }
@@ -138,18 +140,18 @@ impl<S: Site> Running<S> {
 
     /// Prints. Takes no memory of its own. A failed call prints the first bytes or none.
     pub fn say(&mut self, bytes: &[u8]) -> Result<(), BlockFault>
-        requires { (held S.Site self.old).sound }
-        ensures text { OnOk result (Prints (held S.Site self.old).said (held S.Site self.new).said bytes.now) }
-        ensures part { PrintsPrefix (held S.Site self.old).said (held S.Site self.new).said bytes.now }
-        ensures stays { OnOk result (Stays (held S.Site self.old) (held S.Site self.new)) }
-        ensures unchanged { OnOk result (SameBlocks (held S.Site self.old) (held S.Site self.new)) }
-        ensures next { (held S.Site self.new).next ≡ (held S.Site self.old).next }
-        ensures leaves { IfTold (held S.Site self.old) (LeavesText (held S.Site self.old) (held S.Site self.new) bytes.now) }
-        ensures lasts { Lasts (held S.Site self.old) (held S.Site self.new) }
-        ensures uses { (held S.Site self.new).uses ≡ (held S.Site self.old).uses }
+        requires { (running_held S.Site self.old).sound }
+        ensures text { OnOk result (Prints (running_held S.Site self.old).said (running_held S.Site self.new).said bytes.now) }
+        ensures part { PrintsPrefix (running_held S.Site self.old).said (running_held S.Site self.new).said bytes.now }
+        ensures stays { OnOk result (Stays (running_held S.Site self.old) (running_held S.Site self.new)) }
+        ensures unchanged { OnOk result (SameBlocks (running_held S.Site self.old) (running_held S.Site self.new)) }
+        ensures next { (running_held S.Site self.new).next ≡ (running_held S.Site self.old).next }
+        ensures leaves { IfTold (running_held S.Site self.old) (LeavesText (running_held S.Site self.old) (running_held S.Site self.new) bytes.now) }
+        ensures lasts { Lasts (running_held S.Site self.old) (running_held S.Site self.new) }
+        ensures uses { (running_held S.Site self.new).uses ≡ (running_held S.Site self.old).uses }
         ensures fault { IsOkUnless result BlockFault.Say }
         ensures pace { KeepsPace self.old self.new }
-        ensures causes { HasCauses result (held S.Site self.old) (held S.Site self.new) }
+        ensures causes { HasCauses result (running_held S.Site self.old) (running_held S.Site self.new) }
         ensures broken { IfErr result (λ e. self.new.broken ≡ true) }
         ensures grows { GrowsBy S.Site self.old self.new }
         ensures same { S.same_site self.old.log.site self.new.log.site }

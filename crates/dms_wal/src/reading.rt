@@ -8,7 +8,7 @@ ghost use Rattle.dms_restore.specs.Logging.{entries};
 ghost use Rattle.dms_restore.specs.Views.{view_of};
 ghost use Rattle.dms_wal.specs.Changing.{DamagedOnly};
 ghost use Rattle.dms_wal.specs.Controls.{KeepsPace};
-ghost use Rattle.dms_wal.specs.Database.{held};
+ghost use Rattle.dms_wal.specs.Database.{running_held};
 ghost use Rattle.dms_wal.specs.Growing.{GrowsBy, TrailGrows};
 
 use crate::Running;
@@ -18,12 +18,12 @@ use dms_site::Site;
 impl<S: Site> Running<S> {
     /// A block below its file's count. Answers Disk, and Damaged where its file ends within it.
     pub fn read(&mut self, id: BlockId) -> Result<Block, BlockFault>
-        requires sound { (held S.Site self.old).sound }
-        requires there { id.block < (held S.Site self.old).counts id.file }
-        ensures block { IfOk result (λ x. IsTrue (held S.Site self.old).told → x.0 ≡ block_in (held S.Site self.old).content id.file id.block) }
-        ensures looks { Looks 1 result (held S.Site self.old) (held S.Site self.new) }
-        ensures reads { (held S.Site self.new).uses.reads ≡ one_more (held S.Site self.old).uses.reads }
-        ensures causes { HasCauses result (held S.Site self.old) (held S.Site self.new) }
+        requires sound { (running_held S.Site self.old).sound }
+        requires there { id.block < (running_held S.Site self.old).counts id.file }
+        ensures block { IfOk result (λ x. IsTrue (running_held S.Site self.old).told → x.0 ≡ block_in (running_held S.Site self.old).content id.file id.block) }
+        ensures looks { Looks 1 result (running_held S.Site self.old) (running_held S.Site self.new) }
+        ensures reads { (running_held S.Site self.new).uses.reads ≡ one_more (running_held S.Site self.old).uses.reads }
+        ensures causes { HasCauses result (running_held S.Site self.old) (running_held S.Site self.new) }
         ensures memory { IsErrOf result BlockFault.Memory → ⊥ }
         ensures silent { IsErrOf result BlockFault.Say → ⊥ }
         ensures pace { KeepsPace self.old self.new }
@@ -40,12 +40,12 @@ impl<S: Site> Running<S> {
 
     /// A block that isn't held. Then it is held where there is room and memory, which no clause says.
     fn load(&mut self, id: BlockId) -> Result<Block, BlockFault>
-        requires sound { (held S.Site self.old).sound }
-        requires there { id.block < (held S.Site self.old).counts id.file }
+        requires sound { (running_held S.Site self.old).sound }
+        requires there { id.block < (running_held S.Site self.old).counts id.file }
         requires absent { frame_of id self.old.pool ≡ None }
-        ensures block { IfOk result (λ x. IsTrue (held S.Site self.old).told → x.0 ≡ block_in (held S.Site self.old).content id.file id.block) }
-        ensures looks { Looks 0 result (held S.Site self.old) (held S.Site self.new) }
-        ensures causes { HasCauses result (held S.Site self.old) (held S.Site self.new) }
+        ensures block { IfOk result (λ x. IsTrue (running_held S.Site self.old).told → x.0 ≡ block_in (running_held S.Site self.old).content id.file id.block) }
+        ensures looks { Looks 0 result (running_held S.Site self.old) (running_held S.Site self.new) }
+        ensures causes { HasCauses result (running_held S.Site self.old) (running_held S.Site self.new) }
         ensures memory { IsErrOf result BlockFault.Memory → ⊥ }
         ensures silent { IsErrOf result BlockFault.Say → ⊥ }
         ensures pace { KeepsPace self.old self.new }
@@ -69,12 +69,12 @@ impl<S: Site> Running<S> {
 
     /// A block that isn't held, as its file has it.
     pub(crate) fn fetch(&mut self, id: BlockId) -> Result<Block, BlockFault>
-        requires sound { (held S.Site self.old).sound }
-        requires there { id.block < (held S.Site self.old).counts id.file }
+        requires sound { (running_held S.Site self.old).sound }
+        requires there { id.block < (running_held S.Site self.old).counts id.file }
         requires absent { frame_of id self.old.pool ≡ None }
-        ensures block { IfOk result (λ x. IsTrue (held S.Site self.old).told → x.0 ≡ block_in (held S.Site self.old).content id.file id.block) }
-        ensures looks { Looks 0 result (held S.Site self.old) (held S.Site self.new) }
-        ensures causes { HasCauses result (held S.Site self.old) (held S.Site self.new) }
+        ensures block { IfOk result (λ x. IsTrue (running_held S.Site self.old).told → x.0 ≡ block_in (running_held S.Site self.old).content id.file id.block) }
+        ensures looks { Looks 0 result (running_held S.Site self.old) (running_held S.Site self.new) }
+        ensures causes { HasCauses result (running_held S.Site self.old) (running_held S.Site self.new) }
         ensures pool { self.new.pool ≡ self.old.pool }
         ensures logs { IsTrue S.tells → entries (view_of S.Site self.new.log) ≡ entries (view_of S.Site self.old.log) }
         ensures memory { IsErrOf result BlockFault.Memory → ⊥ }
@@ -103,12 +103,12 @@ impl<S: Site> Running<S> {
 
     /// Holds a block that was read, where there is room and memory.
     fn hold(&mut self, id: BlockId, block: &Block)
-        requires sound { (held S.Site self.old).sound }
-        requires there { id.block < (held S.Site self.old).counts id.file }
+        requires sound { (running_held S.Site self.old).sound }
+        requires there { id.block < (running_held S.Site self.old).counts id.file }
         requires absent { frame_of id self.old.pool ≡ None }
-        requires block { IsTrue (held S.Site self.old).told → block.now.0 ≡ block_in (held S.Site self.old).content id.file id.block }
-        ensures looks { Looks {T = Unit {0}} 0 (Ok tt) (held S.Site self.old) (held S.Site self.new) }
-        ensures faults { (held S.Site self.new).faults ≡ (held S.Site self.old).faults }
+        requires block { IsTrue (running_held S.Site self.old).told → block.now.0 ≡ block_in (running_held S.Site self.old).content id.file id.block }
+        ensures looks { Looks {T = Unit {0}} 0 (Ok tt) (running_held S.Site self.old) (running_held S.Site self.new) }
+        ensures faults { (running_held S.Site self.new).faults ≡ (running_held S.Site self.old).faults }
         ensures pace { KeepsPace self.old self.new }
         ensures log { self.new.log ≡ self.old.log }
     {

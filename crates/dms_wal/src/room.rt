@@ -8,7 +8,7 @@ ghost use Rattle.dms_pool.specs.Held.{frame_of};
 ghost use Rattle.dms_restore.specs.Logging.{entries, content, IsChangedBlock, LogRuns};
 ghost use Rattle.dms_restore.specs.Views.{view_of};
 ghost use Rattle.dms_wal.specs.Controls.{KeepsPace};
-ghost use Rattle.dms_wal.specs.Database.{held};
+ghost use Rattle.dms_wal.specs.Database.{running_held};
 ghost use Rattle.dms_wal.specs.Growing.{TrailGrows};
 ghost use Rattle.dms_wal.specs.Passing.{LogPasses};
 ghost use Rattle.dms_wal.specs.Writing.{WritesBack};
@@ -49,9 +49,9 @@ impl<S: Site> Running<S> {
     /// Where the pool is full, gives up the least recently used block, and writes it first if it is changed: what waits is
     /// sealed before. Answers Disk alone.
     pub(crate) fn make_room(&mut self) -> Result<(), BlockFault>
-        requires { (held S.Site self.old).sound }
-        ensures looks { Looks 0 result (held S.Site self.old) (held S.Site self.new) }
-        ensures causes { HasCauses result (held S.Site self.old) (held S.Site self.new) }
+        requires { (running_held S.Site self.old).sound }
+        ensures looks { Looks 0 result (running_held S.Site self.old) (running_held S.Site self.new) }
+        ensures causes { HasCauses result (running_held S.Site self.old) (running_held S.Site self.new) }
         ensures only { IfErr result (λ e. e ≡ BlockFault.Disk) }
         ensures logs { OnOk result (IsTrue S.tells → entries (view_of S.Site self.new.log) ≡ entries (view_of S.Site self.old.log)) }
         ensures fewer { (id : _) → frame_of id self.old.pool ≡ None → frame_of id self.new.pool ≡ None }

@@ -4,7 +4,7 @@ ghost use Rattle.std.specs.Prelude.{◌≡◌, ◌<◌, IfErr, IfOk, IsTrue};
 ghost use Rattle.dms_block.specs.Held.{BlocksAgree};
 ghost use Rattle.dms_wal.specs.Lifting.{AreCounts};
 ghost use Rattle.dms_restore.specs.Views.{view_of};
-ghost use Rattle.dms_wal.specs.Database.{IsRunningUsable, held};
+ghost use Rattle.dms_wal.specs.Database.{IsRunningUsable, running_held};
 ghost use Rattle.dms_wal.specs.Starting.{IsInBounds, StartsFrom};
 
 use dms_base::Memory;
@@ -140,7 +140,7 @@ impl<S: Site> Running<S> {
 
     /// How many blocks a file has.
     pub fn count(&self, file: u32) -> u32
-        ensures { result ≡ (held S.Site self.now).counts file }
+        ensures { result ≡ (running_held S.Site self.now).counts file }
     {
         if file <= 30_000 {
             return 0;
@@ -155,6 +155,6 @@ impl<S: Site> Running<S> {
 
     /// What a usable database tells hangs together.
     pub fn agrees(&self)
-        ensures { (held S.Site self.now).sound → BlocksAgree (held S.Site self.now) }
+        ensures { (running_held S.Site self.now).sound → BlocksAgree (running_held S.Site self.now) }
     {}
 }

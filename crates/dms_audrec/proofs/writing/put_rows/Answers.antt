@@ -1,5 +1,5 @@
 use Rattle.std.proofs.Common.{◌∙◌, ◌*◌, ◌/◌, ap, refl, arith, ℕ, List, length, length-take}
-use Rattle.dms_fields.specs.Fields.{laid}
+use Rattle.dms_fields.specs.Fields.{lay_bytes}
 use Rattle.dms_audrec.proofs.Laid.{laid_more, begin_is}
 use Rattle.dms_audrec.proofs.writing.put_rows.Goals as goal
 
@@ -7,4 +7,4 @@ pub returns : goal.returns
 returns c =
     let list = c.args.list.now in
     laid_more 14 (8 * (length list / 8)) _ _ _ _ _ c.put_bytes.ensures (laid_more 12 2 _ _ _ _ _ c.put_u16-2.ensures (laid_more 10 2 _ _ _ _ _ c.put_u16.ensures (laid_more 9 1 _ _ _ _ _ c.put_u8-2.ensures (laid_more 1 8 _ _ _ _ _ c.put_u64.ensures (c.put_u8.ensures) refl refl (omega (arith, c.requires.room))) refl refl (omega (arith, c.requires.room))) refl refl (omega (arith, c.requires.room))) refl refl (omega (arith, c.requires.room))) refl (omega (arith, length-take (8 * (length list / 8)) list)) (omega (arith, c.requires.room))
-    ∙ ap (λ (l : List ℕ). laid 0 l c.args.to.now) (begin_is c.args.n c.args.how c.args.dump list (λ i. omega (arith, c.type_inv.list i)))
+    ∙ ap (λ (l : List ℕ). lay_bytes 0 l c.args.to.now) (begin_is c.args.n c.args.how c.args.dump list (λ i. omega (arith, c.type_inv.list i)))

@@ -1,6 +1,6 @@
 use Rattle.std.proofs.Common.{◌≡◌, ap, subst, length, arith, Err, ℕ}
 use Rattle.dms_site.specs.Files.{Files}
-use Rattle.dms_desc.specs.Shape.{described}
+use Rattle.dms_desc.specs.Shape.{as_described}
 use Rattle.dms_creation.specs.declared.fault.CreationFault.TheVariants.{NoDescription}
 use Rattle.dms_creation.specs.Creation.{IsMade}
 use Rattle.dms_creation.specs.Plans.{IsPlanOf, HasShutDatabaseGate}
@@ -13,7 +13,7 @@ returns-in-Err-clause-no_description g c is tells =
     c.in-Err.ensures.no_description (ap Err same) tells
 
 pub make-requires-clause-low : goal.make-requires-clause-low
-make-requires-clause-low g c = omega (arith, c.in-Ok-make_plan.ensures.kind.0, (blocks_range (described c.in-Ok.desc) c.in-Ok.ensures.sound.parameters).0)
+make-requires-clause-low g c = omega (arith, c.in-Ok-make_plan.ensures.kind.0, (blocks_range (as_described c.in-Ok.desc) c.in-Ok.ensures.sound.parameters).0)
 
 pub make-requires-clause-structures : goal.make-requires-clause-structures
 make-requires-clause-structures g c = (length c.in-Ok.desc.structures, few_kept c.in-Ok.desc c.in-Ok.ensures.sound.structures, c.in-Ok-make_plan.ensures.counts)

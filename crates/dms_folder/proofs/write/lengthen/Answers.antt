@@ -1,6 +1,6 @@
 use Rattle.std.proofs.Common.{◌∙◌, ◌≡◌, ◌≤◌, ap, subst, arith, length, take, IsTrue}
 use Rattle.std.proofs.lemmas.Result.{on_ok_weaker}
-use Rattle.dms_site.specs.Files.{Torn, padded}
+use Rattle.dms_site.specs.Files.{Torn, pad_zeros}
 use Rattle.dms_calls.specs.World.{World, OnFile}
 use Rattle.dms_folder.specs.Writes.{overlaid_none, overlaid_within, on_file_refl}
 use Rattle.dms_site.specs.Laws.{torn_refl}
@@ -14,7 +14,7 @@ returns-then-branch-len-clause-written g c =
     let same : g.C.Calls.world c.size.new.self ≡ g.C.Calls.world c.args.calls.now = s.world in
     let short : IsTrue g.C.Calls.tells → length ((g.C.Calls.world c.args.calls.now).bytes i) ≤ c.args.len = λ t. omega (arith, s.size t, c.if-branch-len.true) in
     on_ok_weaker c.ftruncate.result (λ is t.
-    is t ∙ ap (λ (w : World). take c.args.len (padded (w.bytes i) c.args.len)) same ∙ overlaid_none c.args.len _ (short t)) c.ftruncate.ensures.resized
+    is t ∙ ap (λ (w : World). take c.args.len (pad_zeros (w.bytes i) c.args.len)) same ∙ overlaid_none c.args.len _ (short t)) c.ftruncate.ensures.resized
 
 pub returns-then-branch-len-clause-torn : goal.returns-then-branch-len-clause-torn
 returns-then-branch-len-clause-torn g c =

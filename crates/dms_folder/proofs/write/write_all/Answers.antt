@@ -1,6 +1,6 @@
 use Rattle.std.proofs.lemmas.List.{take_all}
 use Rattle.std.proofs.Common.{◌∙◌, ap, ◌≡◌, ◌+◌, ◌-◌, ◌<◌, arith, length, ℕ, List, take, drop, length-drop}
-use Rattle.dms_site.specs.Files.{overlaid}
+use Rattle.dms_site.specs.Files.{overlay_bytes}
 use Rattle.dms_folder.specs.Writes.{write_on, some_on, on_file_on, torn_on}
 use Rattle.dms_folder.proofs.write.write_all.Goals as goal
 
@@ -27,7 +27,7 @@ loop-done-preserved g c =
       omega (arith, e.count, l.invariant.0, length-drop l.done bytes),
       e.broken,
       (λ t none. absurd (omega (arith, none, more))),
-      (λ t some. some_on c.args.at l.done n bytes _ _ _ (l.invariant.2 t) (l.invariant.3 t) l.invariant.0 (e.written t more ∙ ap (λ (r : List ℕ). overlaid (c.args.at + l.done) (take n r) mid) whole)),
+      (λ t some. some_on c.args.at l.done n bytes _ _ _ (l.invariant.2 t) (l.invariant.3 t) l.invariant.0 (e.written t more ∙ ap (λ (r : List ℕ). overlay_bytes (c.args.at + l.done) (take n r) mid) whole)),
       on_file_on i _ _ _ _ _ _ l.invariant.4 e.torn (λ x y z one two. torn_on c.args.at (length bytes) l.done _ x y z one two (omega (arith, l.invariant.0, length-drop l.done bytes))),
       write_on i c.args.at (length bytes) l.done _ l.invariant.5 e.moments (omega (arith, l.invariant.0, length-drop l.done bytes)),
     )

@@ -15,7 +15,7 @@ returns-in-Some-last_after c =
 
 pub returns-in-None-last_after : goal.returns-in-None-last_after
 returns-in-None-last_after c =
-    c.undone.ensures
+    c.block_before.ensures
     ∙ ap (λ l. else_stored (first_before c.args.file c.args.block (events_seen l)) c.args.stored.now) (to_end c.in-Some.end c.args.live.now)
     ∙ pick_undone (events_seen c.args.live.now) c.args.point c.args.file c.args.block c.args.stored.now (events_seen (take c.in-Some.end c.args.live.now)) (events_seen (drop c.after_control.result (take c.in-Some.end c.args.live.now)))
     (events_seen (drop c.in-Some.end c.args.live.now)) c.in-Some.ensures.front c.after_control.ensures.behind (ap (λ l. last_after c.args.file c.args.block (events_seen l)) (sym (to_end c.after_control.result (take c.in-Some.end c.args.live.now))) ∙ sym c.last_after.ensures ∙ ap option_copied c.in-None-last_after.is) c.in-Some.ensures.behind

@@ -1,5 +1,5 @@
 use Rattle.std.proofs.Common.{◌-◌, ◌+◌, ◌≡◌, ◌∙◌, ap, length, arith}
-use Rattle.dms_memblocks.specs.Undoing.{rows, undo, undone}
+use Rattle.dms_memblocks.specs.Undoing.{rows, undo, undo_all}
 use Rattle.dms_memblocks.proofs.Rows.{back_end, back_step}
 use Rattle.dms_memblocks.proofs.files.take_back_to.Goals as goal
 
@@ -15,4 +15,4 @@ pub returns : goal.returns
 returns c =
     let was = c.loop-log.invariant in
     let end = back_end c.args.log.now.items c.loop-log.log.items c.args.n was.log was.enough (omega (arith, c.loop-log-test.false, c.len.ensures)) in
-    record { files = was.files ∙ ap (λ l. undone l (rows c.args.files.now.items)) end.1; log = was.log ∙ end.0 }
+    record { files = was.files ∙ ap (λ l. undo_all l (rows c.args.files.now.items)) end.1; log = was.log ∙ end.0 }

@@ -4,7 +4,7 @@ use Rattle.std.proofs.lemmas.Bool.Decides.{nat_tests}
 use Rattle.dms_block.specs.declared.change.Change.{Change}
 use Rattle.dms_block.specs.Content.{FitsIn, with_change}
 use Rattle.dms_memblocks.specs.Undoing.{rows}
-use Rattle.dms_memblocks.specs.View.{held}
+use Rattle.dms_memblocks.specs.View.{held_view}
 use Rattle.dms_memblocks.proofs.Rows.{length_rows}
 use Rattle.dms_memblocks.proofs.tests.done.Goals as goal
 
@@ -16,7 +16,7 @@ one f b y xs all owns counts is none owned low le = subst (λ (l : List Change).
 
 pub apply-requires-clause-fits : goal.apply-requires-clause-fits
 apply-requires-clause-fits c =
-    let h = held c.args.blocks.now in
+    let h = held_view c.args.blocks.now in
     let many = length_rows c.args.blocks.now.files.items in
     one c.in-Write.file c.in-Write.block _ _ _ h.owns h.counts c.in_ok-set-in-Write.ensures.ok c.new-changes.ensures
     (mine c.in-Write.file (length (rows c.args.blocks.now.files.items)) (omega (arith, c.if-file-lt30001.false)) (omega (arith, c.if-file-many.false, c.if-file-lt30001.false, c.len-many.ensures, many)))

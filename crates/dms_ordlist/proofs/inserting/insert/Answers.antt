@@ -1,5 +1,5 @@
 use Rattle.std.proofs.Common.{◌≡◌, refl, length}
-use Rattle.dms_block.specs.View.{seen}
+use Rattle.dms_block.specs.View.{overlay_content}
 use Rattle.dms_ordlist.specs.ListBlocks.{free_in}
 use Rattle.dms_ordlist.specs.ListChanges.{no_spare}
 use Rattle.dms_ordlist.specs.ListIn.{list_in}
@@ -21,8 +21,8 @@ returns-clause-causes g c =
     let was = not_at_since free_in a b file free reads f k h.1 in (
       was.0,
       was.1,
-      λ told. no_list w (seen a file) (list_in w (seen a file)) refl (λ xs is.
+      λ told. no_list w (overlay_content a file) (list_in w (overlay_content a file)) refl (λ xs is.
           let l = c.in_ok-found.ensures.look told xs is in
-          no_spare w (seen a file) l.leaves l.spares free l.list l.free h.0 (was.2 told)),
+          no_spare w (overlay_content a file) l.leaves l.spares free l.list l.free h.0 (was.2 told)),
     ))
     c.in_ok-found.ensures.causes reads c.insert_in.ensures.causes

@@ -1,6 +1,6 @@
 use Rattle.std.proofs.Common.{◌≡◌, ◌≤◌, ◌<◌, ◌*◌, ◌/◌, ◌++◌, ◌∷◌, ◌∙◌, ℕ, List, Some, sym, ap, subst, length, take, drop, not, arith, refl, length-take, length-drop}
-use Rattle.dms_block.specs.Content.{laid}
-use Rattle.dms_block.specs.View.{seen, seen_counts}
+use Rattle.dms_block.specs.Content.{put_block}
+use Rattle.dms_block.specs.View.{overlay_content, seen_counts}
 use Rattle.dms_block.specs.ViewLaws.{counts_seen}
 use Rattle.dms_ordlist.specs.Leads.{lead}
 use Rattle.dms_ordlist.specs.ListBlocks.{flat, head_bytes, leaf_bytes}
@@ -25,7 +25,7 @@ returns-then-stands_at-clause-list g c told xs l is =
     let es = c.in-Some.field-0.here.leaf.entries.items in
     let place : c.lead-i.result ≡ lead e es = c.lead-i.ensures.lead ∙ ap (lead e) c.deref.ensures.value in
     let on = at_same e es c.deref-2.result.now c.lead-i.result c.stands_at.result c.deref-2.ensures.value place c.stands_at.ensures ∙ c.if-stands_at.true in
-    is ∙ ap Some (sym (stands_with e (length e) (seen_counts c.args.over.now c.args.file) (seen c.args.over.now c.args.file) xs c.args.found p c.requires.width l at c.requires.holds on))
+    is ∙ ap Some (sym (stands_with e (length e) (seen_counts c.args.over.now c.args.file) (overlay_content c.args.over.now c.args.file) xs c.args.found p c.requires.width l at c.requires.holds on))
 
 pub returns-then-stands_at-clause-answer : goal.returns-then-stands_at-clause-answer
 returns-then-stands_at-clause-answer g c told xs l =
@@ -35,7 +35,7 @@ returns-then-stands_at-clause-answer g c told xs l =
     let es = c.in-Some.field-0.here.leaf.entries.items in
     let place : c.lead-i.result ≡ lead e es = c.lead-i.ensures.lead ∙ ap (lead e) c.deref.ensures.value in
     let on = at_same e es c.deref-2.result.now c.lead-i.result c.stands_at.result c.deref-2.ensures.value place c.stands_at.ensures ∙ c.if-stands_at.true in
-    sym (ap not (stands_has e (length e) (seen_counts c.args.over.now c.args.file) (seen c.args.over.now c.args.file) xs c.args.found p c.requires.width l at c.requires.holds on))
+    sym (ap not (stands_has e (length e) (seen_counts c.args.over.now c.args.file) (overlay_content c.args.over.now c.args.file) xs c.args.found p c.requires.width l at c.requires.holds on))
 
 pub leaf_block-requires-clause-room : goal.leaf_block-requires-clause-room
 leaf_block-requires-clause-room g c =
@@ -44,7 +44,7 @@ leaf_block-requires-clause-room g c =
     let at = c.in-Some.is in
     let es = c.in-Some.field-0.here.leaf.entries.items in
     let place : c.lead-i.result ≡ lead e es = c.lead-i.ensures.lead ∙ ap (lead e) c.deref.ensures.value in
-    let new = new_items e c.in_ok-copied.field-0 es c.insert.new.self.items c.lead-i.result place c.in_ok-copied.ensures c.in_ok-insert.ensures.items in
+    let new = new_items e c.in_ok-copy_of.field-0 es c.insert.new.self.items c.lead-i.result place c.in_ok-copy_of.ensures c.in_ok-insert.ensures.items in
     let held = holds_at (length e) (seen_counts c.args.over.now c.args.file) c.args.found.place p at c.requires.holds in
     let fits : length (with_at_place e es) * length e ≤ 1017 = subst (λ n. n * length e ≤ 1017) (let size : c.len.result ≡ length (with_at_place e es) = omega (arith, c.len.ensures, ap (λ (k : List (List ℕ)). length k) new) in size) c.if-len-entry-le1017.true in
     subst (λ k. length (flat k) ≤ 1017) (sym new) (wide_room (length e) (with_at_place e es) (wide_new e es held.here.leaf.wide) fits)
@@ -59,13 +59,13 @@ returns-then-len-entry-le1017-clause-list g c told xs l is =
     let es = c.in-Some.field-0.here.leaf.entries.items in
     let place : c.lead-i.result ≡ lead e es = c.lead-i.ensures.lead ∙ ap (lead e) c.deref.ensures.value in
     let off = at_same e es c.deref-2.result.now c.lead-i.result c.stands_at.result c.deref-2.ensures.value place c.stands_at.ensures ∙ c.if-stands_at.false in
-    let new = new_items e c.in_ok-copied.field-0 es c.insert.new.self.items c.lead-i.result place c.in_ok-copied.ensures c.in_ok-insert.ensures.items in
+    let new = new_items e c.in_ok-copy_of.field-0 es c.insert.new.self.items c.lead-i.result place c.in_ok-copy_of.ensures c.in_ok-insert.ensures.items in
     let fits : length (with_at_place e es) * length e ≤ 1017 = subst (λ n. n * length e ≤ 1017) (let size : c.len.result ≡ length (with_at_place e es) = omega (arith, c.len.ensures, ap (λ (k : List (List ℕ)). length k) new) in size) c.if-len-entry-le1017.true in
     let n = counts_seen o (g.met.B.Blocks.agrees o.below c.requires.sound) told file in
     let block : c.leaf_block.result.0 ≡ leaf_bytes c.in-Some.field-0.here.leaf.next (with_at_place e es) = c.leaf_block.ensures ∙ ap (leaf_bytes c.in-Some.field-0.here.leaf.next) new in
-    let wrote = one_in (seen o) (seen c.write.new.self) file c.in-Some.field-0.here.number c.leaf_block.result.0 (c.in_ok-write.ensures.seen told c.requires.sound) in
-    ap (list_in (length e)) (wrote ∙ ap (λ b. laid c.in-Some.field-0.here.number b (seen o file)) block)
-    ∙ here_list e (length e) (seen_counts o file) (seen o file) xs c.args.found p c.requires.width l at c.requires.holds refl (omega (arith, n, c.requires.room)) n off fits
+    let wrote = one_in (overlay_content o) (overlay_content c.write.new.self) file c.in-Some.field-0.here.number c.leaf_block.result.0 (c.in_ok-write.ensures.seen told c.requires.sound) in
+    ap (list_in (length e)) (wrote ∙ ap (λ b. put_block c.in-Some.field-0.here.number b (overlay_content o file)) block)
+    ∙ here_list e (length e) (seen_counts o file) (overlay_content o file) xs c.args.found p c.requires.width l at c.requires.holds refl (omega (arith, n, c.requires.room)) n off fits
 
 pub returns-then-len-entry-le1017-clause-answer : goal.returns-then-len-entry-le1017-clause-answer
 returns-then-len-entry-le1017-clause-answer g c told xs l =
@@ -75,11 +75,11 @@ returns-then-len-entry-le1017-clause-answer g c told xs l =
     let es = c.in-Some.field-0.here.leaf.entries.items in
     let place : c.lead-i.result ≡ lead e es = c.lead-i.ensures.lead ∙ ap (lead e) c.deref.ensures.value in
     let off = at_same e es c.deref-2.result.now c.lead-i.result c.stands_at.result c.deref-2.ensures.value place c.stands_at.ensures ∙ c.if-stands_at.false in
-    sym (ap not (missing_has e (length e) (seen_counts c.args.over.now c.args.file) (seen c.args.over.now c.args.file) xs c.args.found p c.requires.width l at c.requires.holds off))
+    sym (ap not (missing_has e (length e) (seen_counts c.args.over.now c.args.file) (overlay_content c.args.over.now c.args.file) xs c.args.found p c.requires.width l at c.requires.holds off))
 
 pub returns-then-len-entry-le1017-clause-others : goal.returns-then-len-entry-le1017-clause-others
 returns-then-len-entry-le1017-clause-others g c told other off =
-    one_off (seen c.args.over.now) (seen c.write.new.self) c.args.file c.in-Some.field-0.here.number c.leaf_block.result.0 other off (c.in_ok-write.ensures.seen told c.requires.sound)
+    one_off (overlay_content c.args.over.now) (overlay_content c.write.new.self) c.args.file c.in-Some.field-0.here.number c.leaf_block.result.0 other off (c.in_ok-write.ensures.seen told c.requires.sound)
 
 pub split-requires-clause-wide : goal.split-requires-clause-wide
 split-requires-clause-wide g c =
@@ -88,7 +88,7 @@ split-requires-clause-wide g c =
     let at = c.in-Some.is in
     let es = c.in-Some.field-0.here.leaf.entries.items in
     let place : c.lead-i.result ≡ lead e es = c.lead-i.ensures.lead ∙ ap (lead e) c.deref.ensures.value in
-    let new = new_items e c.in_ok-copied.field-0 es c.insert.new.self.items c.lead-i.result place c.in_ok-copied.ensures c.in_ok-insert.ensures.items in
+    let new = new_items e c.in_ok-copy_of.field-0 es c.insert.new.self.items c.lead-i.result place c.in_ok-copy_of.ensures c.in_ok-insert.ensures.items in
     let held = holds_at (length e) (seen_counts c.args.over.now c.args.file) c.args.found.place p at c.requires.holds in
     subst (AllWide (length e)) (sym new) (wide_new e es held.here.leaf.wide)
 
@@ -105,7 +105,7 @@ returns-clause-list g c told xs l is =
     let number = c.in-Some.field-0.here.number in
     let place : c.lead-i.result ≡ lead e es = c.lead-i.ensures.lead ∙ ap (lead e) c.deref.ensures.value in
     let off = at_same e es c.deref-2.result.now c.lead-i.result c.stands_at.result c.deref-2.ensures.value place c.stands_at.ensures ∙ c.if-stands_at.false in
-    let new = new_items e c.in_ok-copied.field-0 es c.insert.new.self.items c.lead-i.result place c.in_ok-copied.ensures c.in_ok-insert.ensures.items in
+    let new = new_items e c.in_ok-copy_of.field-0 es c.insert.new.self.items c.lead-i.result place c.in_ok-copy_of.ensures c.in_ok-insert.ensures.items in
     let many : 1017 < length (with_at_place e es) * w = subst (λ n. 1017 < n * w) (let size : c.len.result ≡ length (with_at_place e es) = omega (arith, c.len.ensures, ap (λ (k : List (List ℕ)). length k) new) in size) c.if-len-entry-le1017.false in
     let some = many_some (length (with_at_place e es)) w c.requires.width.most many in
     let held = holds_at w (seen_counts o file) c.args.found.place p at c.requires.holds in
@@ -114,8 +114,8 @@ returns-clause-list g c told xs l is =
     let n = counts_seen o (g.met.B.Blocks.agrees o.below c.requires.sound) told file in
     let t = c.in_ok-split.field-0 in
     ap (list_in w) (c.in_ok-split.ensures.seen told
-    ∙ (λ i. laid number (leaf_bytes t.0 (take (length (new i) / 2) (new i))) (laid t.0 (leaf_bytes next (drop (length (new i) / 2) (new i))) (laid 0 (head_bytes c.args.found.head.first t.1) (seen o file)))))
-    ∙ split_list e w (seen_counts o file) (seen o file) xs c.args.found p c.requires.width l at c.requires.holds half t.0 t.1 refl (omega (arith, n, c.requires.room)) n off (omega (arith, some)) (omega (arith, some))
+    ∙ (λ i. put_block number (leaf_bytes t.0 (take (length (new i) / 2) (new i))) (put_block t.0 (leaf_bytes next (drop (length (new i) / 2) (new i))) (put_block 0 (head_bytes c.args.found.head.first t.1) (overlay_content o file)))))
+    ∙ split_list e w (seen_counts o file) (overlay_content o file) xs c.args.found p c.requires.width l at c.requires.holds half t.0 t.1 refl (omega (arith, n, c.requires.room)) n off (omega (arith, some)) (omega (arith, some))
     (lower_fits w half (with_at_place e es) c.requires.width refl almost) (upper_fits w half (with_at_place e es) c.requires.width refl almost)
     (omega (arith, some, length-take half (with_at_place e es))) (omega (arith, some, length-drop half (with_at_place e es))) (c.in_ok-split.ensures.taken told w l.leaves l.spares l.list l.free)
 
@@ -127,7 +127,7 @@ returns-clause-answer g c told xs l =
     let es = c.in-Some.field-0.here.leaf.entries.items in
     let place : c.lead-i.result ≡ lead e es = c.lead-i.ensures.lead ∙ ap (lead e) c.deref.ensures.value in
     let off = at_same e es c.deref-2.result.now c.lead-i.result c.stands_at.result c.deref-2.ensures.value place c.stands_at.ensures ∙ c.if-stands_at.false in
-    sym (ap not (missing_has e (length e) (seen_counts c.args.over.now c.args.file) (seen c.args.over.now c.args.file) xs c.args.found p c.requires.width l at c.requires.holds off))
+    sym (ap not (missing_has e (length e) (seen_counts c.args.over.now c.args.file) (overlay_content c.args.over.now c.args.file) xs c.args.found p c.requires.width l at c.requires.holds off))
 
 pub returns-clause-room : goal.returns-clause-room
 returns-clause-room g c told xs l =
@@ -136,4 +136,4 @@ returns-clause-room g c told xs l =
     let w = length c.args.entry.now in
     let n = counts_seen o (g.met.B.Blocks.agrees o.below c.requires.sound) told file in
     let t = c.in_ok-split.field-0 in
-    room_after c.args.entry.now w (seen o file) xs c.args.found l t.0 t.1 (seen_counts c.split.new.over file) (seen_counts o file) (c.in_ok-split.ensures.taken told w l.leaves l.spares l.list l.free) n c.in_ok-split.ensures.count
+    room_after c.args.entry.now w (overlay_content o file) xs c.args.found l t.0 t.1 (seen_counts c.split.new.over file) (seen_counts o file) (c.in_ok-split.ensures.taken told w l.leaves l.spares l.list l.free) n c.in_ok-split.ensures.count

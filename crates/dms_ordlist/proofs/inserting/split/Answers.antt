@@ -1,7 +1,7 @@
 use Rattle.std.proofs.Common.{◌≡◌, ◌≤◌, ◌<◌, ◌/◌, ◌∙◌, ℕ, max, sym, ap, subst, length, take, drop, arith}
 use Rattle.dms_block.specs.HeldLaws.{told_after}
-use Rattle.dms_block.specs.Content.{Content, laid}
-use Rattle.dms_block.specs.View.{seen, seen_counts}
+use Rattle.dms_block.specs.Content.{Content, put_block}
+use Rattle.dms_block.specs.View.{overlay_content, seen_counts}
 use Rattle.dms_block.specs.ViewLaws.{seen_still}
 use Rattle.dms_ordlist.specs.ListBlocks.{flat, head_bytes, leaf_bytes}
 use Rattle.dms_ordlist.specs.ListChanges.{lower_fits, upper_fits, wide_drop, wide_take}
@@ -39,15 +39,15 @@ returns-clause-seen g c told =
     let head = head_bytes c.args.head.first c.in_ok-fresh.free in
     let upper : c.leaf_block-upper.result.0 ≡ leaf_bytes next (drop (length es / 2) es) = c.leaf_block-upper.ensures ∙ ap (leaf_bytes next) (c.in_ok-others.ensures.tail ∙ ap (λ k. drop k es) is) in
     let lower : c.leaf_block-lower.result.0 ≡ leaf_bytes fresh (take (length es / 2) es) = c.leaf_block-lower.ensures ∙ ap (leaf_bytes fresh) (c.in_ok-others.ensures.items ∙ ap (λ k. take k es) is) in
-    three_in (seen b) (seen d) file head fresh c.leaf_block-upper.result.0 c.args.number c.leaf_block-lower.result.0 (c.in_ok-write_three.ensures.seen (told_after reads.looks.passes.lasts told) reads.looks.stays.sound)
-    ∙ (λ i. laid c.args.number (lower i) (laid fresh (upper i) (laid 0 head (file_still file reads told i))))
+    three_in (overlay_content b) (overlay_content d) file head fresh c.leaf_block-upper.result.0 c.args.number c.leaf_block-lower.result.0 (c.in_ok-write_three.ensures.seen (told_after reads.looks.passes.lasts told) reads.looks.stays.sound)
+    ∙ (λ i. put_block c.args.number (lower i) (put_block fresh (upper i) (put_block 0 head (file_still file reads told i))))
 
 pub returns-clause-others : goal.returns-clause-others
 returns-clause-others g c told other off =
     let b = c.next_free.new.over in
     let d = c.write_three.new.over in
     let reads = c.in_ok-fresh.ensures.reads in
-    three_off (seen b) (seen d) c.args.file (head_bytes c.args.head.first c.in_ok-fresh.free) c.in_ok-fresh.fresh c.leaf_block-upper.result.0 c.args.number c.leaf_block-lower.result.0 other off
+    three_off (overlay_content b) (overlay_content d) c.args.file (head_bytes c.args.head.first c.in_ok-fresh.free) c.in_ok-fresh.fresh c.leaf_block-upper.result.0 c.args.number c.leaf_block-lower.result.0 other off
     (c.in_ok-write_three.ensures.seen (told_after reads.looks.passes.lasts told) reads.looks.stays.sound)
     ∙ ap (λ (k : Content). k other) (seen_still reads told)
 

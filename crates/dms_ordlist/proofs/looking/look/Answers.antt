@@ -1,7 +1,7 @@
 use Rattle.std.proofs.Common.{◌<◌, ℕ, List, Some, None, refl, sym, ap, subst, length, slice_get, arith}
 use Rattle.std.specs.declared.result.Result.TheVariants.{Err}
 use Rattle.dms_block.specs.HeldLaws.{told_after}
-use Rattle.dms_block.specs.View.{seen, under}
+use Rattle.dms_block.specs.View.{overlay_content, under}
 use Rattle.dms_block.specs.ViewLaws.{counts_seen}
 use Rattle.dms_ordlist.specs.declared.place.Look.{Look}
 use Rattle.dms_ordlist.specs.declared.place.ListPlace.{ListPlace}
@@ -18,7 +18,7 @@ returns-then-count-eq0-clause-look g c told xs is =
     let o = c.args.over.now in
     let n = counts_seen o (g.met.B.Blocks.agrees o.below c.requires.sound) told c.args.file in
     let r : Look = record { head = record { first = 0; free = 0 }; place = None } in
-    look_none c.args.bytes.now (length c.args.bytes.now) (seen o c.args.file) xs r (omega (arith, n, c.count.ensures, c.if-count-eq0.true)) is refl refl refl
+    look_none c.args.bytes.now (length c.args.bytes.now) (overlay_content o c.args.file) xs r (omega (arith, n, c.count.ensures, c.if-count-eq0.true)) is refl refl refl
 
 pub returns-in-Err-clause-causes : goal.returns-in-Err-clause-causes
 returns-in-Err-clause-causes g c =
@@ -30,7 +30,7 @@ returns-in-Err-clause-causes g c =
       h.1,
       λ told.
           let n = counts_seen o (g.met.B.Blocks.agrees o.below c.requires.sound) told c.args.file in
-          no_head w (seen o c.args.file) (λ e. absurd (omega (arith, e, n, c.count.ensures, c.if-count-eq0.false))) (h.2 told),
+          no_head w (overlay_content o c.args.file) (λ e. absurd (omega (arith, e, n, c.count.ensures, c.if-count-eq0.false))) (h.2 told),
     ))
     c.in-Err.ensures.causes
 
@@ -39,7 +39,7 @@ returns-then-head-eq0-clause-look g c told xs is =
     let o = c.args.over.now in
     let n = counts_seen o (g.met.B.Blocks.agrees o.below c.requires.sound) told c.args.file in
     let r : Look = record { head = c.in-Ok.head; place = None } in
-    look_empty c.args.bytes.now (length c.args.bytes.now) (seen o c.args.file) xs r (λ e. absurd (omega (arith, e, n, c.count.ensures, c.if-count-eq0.false))) is (c.in-Ok.ensures.head told) c.if-head-eq0.true refl
+    look_empty c.args.bytes.now (length c.args.bytes.now) (overlay_content o c.args.file) xs r (λ e. absurd (omega (arith, e, n, c.count.ensures, c.if-count-eq0.false))) is (c.in-Ok.ensures.head told) c.if-head-eq0.true refl
 
 pub returns-in-Ok-reach-clause-look : goal.returns-in-Ok-reach-clause-look
 returns-in-Ok-reach-clause-look g c told xs is =
@@ -48,7 +48,7 @@ returns-in-Ok-reach-clause-look g c told xs is =
     let n = counts_seen o (g.met.B.Blocks.agrees o.below c.requires.sound) told c.args.file in
     let still = file_still c.args.file c.in-Ok.ensures.reads told in
     let r : Look = record { head = c.in-Ok.head; place = Some c.in-Ok-reach.place } in
-    look_place c.args.bytes.now w (seen o c.args.file) xs r c.in-Ok-reach.place (λ e. absurd (omega (arith, e, n, c.count.ensures, c.if-count-eq0.false))) is (c.in-Ok.ensures.head told) refl
+    look_place c.args.bytes.now w (overlay_content o c.args.file) xs r c.in-Ok-reach.place (λ e. absurd (omega (arith, e, n, c.count.ensures, c.if-count-eq0.false))) is (c.in-Ok.ensures.head told) refl
     (λ ls chain head. c.in-Ok-reach.ensures.place (told_after c.in-Ok.ensures.reads.looks.passes.lasts told) ls (subst (λ (l : List (List ℕ)). BlockChain (leaf_in w) (slice_get l) ls 0) (sym still) chain) head)
 
 pub returns-in-Err-reach-clause-causes : goal.returns-in-Err-reach-clause-causes
@@ -66,7 +66,7 @@ returns-in-Err-reach-clause-causes g c =
       λ told.
           let n = counts_seen o (g.met.B.Blocks.agrees o.below c.requires.sound) told file in
           let still = file_still file reads told in
-          no_chain w (seen o file) c.in-Ok.head.first c.in-Ok.head.free (λ e. absurd (omega (arith, e, n, c.count.ensures, c.if-count-eq0.false))) (c.in-Ok.ensures.head told)
+          no_chain w (overlay_content o file) c.in-Ok.head.first c.in-Ok.head.free (λ e. absurd (omega (arith, e, n, c.count.ensures, c.if-count-eq0.false))) (c.in-Ok.ensures.head told)
           (λ ls chain head le. h.2 (told_after reads.looks.passes.lasts told) ls (subst (λ (l : List (List ℕ)). BlockChain (leaf_in w) (slice_get l) ls 0) (sym still) chain) head (omega (arith, le, n, counts))),
     ))
     c.in-Ok.ensures.causes reads

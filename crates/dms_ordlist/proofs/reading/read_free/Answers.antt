@@ -1,5 +1,5 @@
 use Rattle.std.proofs.Common.{inr, refl, arith}
-use Rattle.dms_block.specs.View.{seen}
+use Rattle.dms_block.specs.View.{overlay_content}
 use Rattle.dms_block.specs.ViewLaws.{counts_seen}
 use Rattle.dms_ordlist.specs.ListBlocks.{free_in}
 use Rattle.dms_ordlist.specs.SeenLaws.{said_here, said_past}
@@ -14,7 +14,7 @@ returns-then-count-at-clause-causes g c = inr (
     λ told.
         let o = c.args.over.now in
         let n = counts_seen o (g.met.B.Blocks.agrees o.below c.requires.sound) told c.args.file in
-        said_past free_in (seen o c.args.file) c.args.at (omega (arith, n, c.count.ensures, c.if-count-at.true)),
+        said_past free_in (overlay_content o c.args.file) c.args.at (omega (arith, n, c.count.ensures, c.if-count-at.true)),
   ),
 )
 
@@ -22,7 +22,7 @@ pub returns-in-Some-clause-next : goal.returns-in-Some-clause-next
 returns-in-Some-clause-next g c told =
     let o = c.args.over.now in
     let n = counts_seen o (g.met.B.Blocks.agrees o.below c.requires.sound) told c.args.file in
-    said_here free_in (seen o c.args.file) c.args.at c.in_ok-block.block.0 _ (omega (arith, n, c.count.ensures, c.if-count-at.false)) (c.in_ok-block.ensures.block told) c.in-Some.ensures
+    said_here free_in (overlay_content o c.args.file) c.args.at c.in_ok-block.block.0 _ (omega (arith, n, c.count.ensures, c.if-count-at.false)) (c.in_ok-block.ensures.block told) c.in-Some.ensures
 
 pub returns-in-None-clause-causes : goal.returns-in-None-clause-causes
 returns-in-None-clause-causes g c = inr (
@@ -33,6 +33,6 @@ returns-in-None-clause-causes g c = inr (
     λ told.
         let o = c.args.over.now in
         let n = counts_seen o (g.met.B.Blocks.agrees o.below c.requires.sound) told c.args.file in
-        said_here free_in (seen o c.args.file) c.args.at c.in_ok-block.block.0 _ (omega (arith, n, c.count.ensures, c.if-count-at.false)) (c.in_ok-block.ensures.block told) c.in-None.ensures,
+        said_here free_in (overlay_content o c.args.file) c.args.at c.in_ok-block.block.0 _ (omega (arith, n, c.count.ensures, c.if-count-at.false)) (c.in_ok-block.ensures.block told) c.in-None.ensures,
   ),
 )

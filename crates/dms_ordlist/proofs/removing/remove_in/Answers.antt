@@ -6,10 +6,10 @@ use Rattle.dms_block.specs.declared.block_fault.BlockFault.{BlockFault}
 use Rattle.dms_block.specs.declared.block_fault.BlockFault.TheVariants.{Memory}
 use Rattle.dms_block.specs.Faults.{NotFull}
 use Rattle.dms_block.specs.Changing.{raised_old}
-use Rattle.dms_block.specs.Content.{laid}
+use Rattle.dms_block.specs.Content.{put_block}
 use Rattle.dms_block.specs.Held.{Looks}
 use Rattle.dms_block.specs.HeldLaws.{looks_none}
-use Rattle.dms_block.specs.View.{seen, seen_counts}
+use Rattle.dms_block.specs.View.{overlay_content, seen_counts}
 use Rattle.dms_block.specs.ViewLaws.{counts_seen}
 use Rattle.dms_ordlist.specs.Leads.{lead}
 use Rattle.dms_ordlist.specs.ListBlocks.{flat, leaf_bytes}
@@ -34,7 +34,7 @@ returns-then-not-stands_at-clause-list g c told xs l is =
     let es = p.here.leaf.entries.items in
     let place : c.lead-i.result ≡ lead e es = c.lead-i.ensures.lead ∙ ap (lead e) c.deref.ensures.value in
     let off = at_same e es c.deref-2.result.now c.lead-i.result c.stands_at.result c.deref-2.ensures.value place c.stands_at.ensures ∙ c.if-not-stands_at.true in
-    is ∙ ap Some (sym (missing_without e (length e) (seen_counts c.args.over.now c.args.file) (seen c.args.over.now c.args.file) xs c.args.found p c.requires.width l c.in-Some.is c.requires.holds off))
+    is ∙ ap Some (sym (missing_without e (length e) (seen_counts c.args.over.now c.args.file) (overlay_content c.args.over.now c.args.file) xs c.args.found p c.requires.width l c.in-Some.is c.requires.holds off))
 
 pub returns-then-not-stands_at-clause-answer : goal.returns-then-not-stands_at-clause-answer
 returns-then-not-stands_at-clause-answer g c told xs l =
@@ -43,7 +43,7 @@ returns-then-not-stands_at-clause-answer g c told xs l =
     let es = p.here.leaf.entries.items in
     let place : c.lead-i.result ≡ lead e es = c.lead-i.ensures.lead ∙ ap (lead e) c.deref.ensures.value in
     let off = at_same e es c.deref-2.result.now c.lead-i.result c.stands_at.result c.deref-2.ensures.value place c.stands_at.ensures ∙ c.if-not-stands_at.true in
-    sym (missing_has e (length e) (seen_counts c.args.over.now c.args.file) (seen c.args.over.now c.args.file) xs c.args.found p c.requires.width l c.in-Some.is c.requires.holds off)
+    sym (missing_has e (length e) (seen_counts c.args.over.now c.args.file) (overlay_content c.args.over.now c.args.file) xs c.args.found p c.requires.width l c.in-Some.is c.requires.holds off)
 
 pub remove-requires : goal.remove-requires
 remove-requires g c =
@@ -75,7 +75,7 @@ returns-then-is_empty-clause-list g c told xs l is =
     let none : length (without_at_place e es) ≡ 0 = omega (arith, size, ap (λ (k : List (List ℕ)). length k) new) in
     let n = counts_seen o (g.met.B.Blocks.agrees o.below c.requires.sound) told file in
     ap (list_in (length e)) (c.in_ok-release.ensures.seen told)
-    ∙ last_removed e (length e) (seen_counts o file) (seen o file) xs c.args.found p c.requires.width l c.in-Some.is c.requires.holds (omega (arith, n, c.requires.room)) n on none
+    ∙ last_removed e (length e) (seen_counts o file) (overlay_content o file) xs c.args.found p c.requires.width l c.in-Some.is c.requires.holds (omega (arith, n, c.requires.room)) n on none
 
 pub returns-then-is_empty-clause-answer : goal.returns-then-is_empty-clause-answer
 returns-then-is_empty-clause-answer g c told xs l =
@@ -84,7 +84,7 @@ returns-then-is_empty-clause-answer g c told xs l =
     let es = p.here.leaf.entries.items in
     let place : c.lead-i.result ≡ lead e es = c.lead-i.ensures.lead ∙ ap (lead e) c.deref.ensures.value in
     let on = at_same e es c.deref-2.result.now c.lead-i.result c.stands_at.result c.deref-2.ensures.value place c.stands_at.ensures ∙ c.if-not-stands_at.false in
-    sym (stands_has e (length e) (seen_counts c.args.over.now c.args.file) (seen c.args.over.now c.args.file) xs c.args.found p c.requires.width l c.in-Some.is c.requires.holds on)
+    sym (stands_has e (length e) (seen_counts c.args.over.now c.args.file) (overlay_content c.args.over.now c.args.file) xs c.args.found p c.requires.width l c.in-Some.is c.requires.holds on)
 
 pub leaf_block-requires-clause-room : goal.leaf_block-requires-clause-room
 leaf_block-requires-clause-room g c =
@@ -121,9 +121,9 @@ returns-clause-list g c told xs l is =
     let some : 0 < length (without_at_place e es) = omega (arith, size, ap (λ (k : List (List ℕ)). length k) new) in
     let n = counts_seen o (g.met.B.Blocks.agrees o.below c.requires.sound) told file in
     let block : c.leaf_block.result.0 ≡ leaf_bytes p.here.leaf.next (without_at_place e es) = c.leaf_block.ensures ∙ ap (leaf_bytes p.here.leaf.next) new in
-    let wrote = one_in (seen o) (seen c.write.new.self) file p.here.number c.leaf_block.result.0 (c.in_ok-write.ensures.seen told c.requires.sound) in
-    ap (list_in (length e)) (wrote ∙ ap (λ b. laid p.here.number b (seen o file)) block)
-    ∙ here_removed e (length e) (seen_counts o file) (seen o file) xs c.args.found p c.requires.width l c.in-Some.is c.requires.holds (omega (arith, n, c.requires.room)) n on some
+    let wrote = one_in (overlay_content o) (overlay_content c.write.new.self) file p.here.number c.leaf_block.result.0 (c.in_ok-write.ensures.seen told c.requires.sound) in
+    ap (list_in (length e)) (wrote ∙ ap (λ b. put_block p.here.number b (overlay_content o file)) block)
+    ∙ here_removed e (length e) (seen_counts o file) (overlay_content o file) xs c.args.found p c.requires.width l c.in-Some.is c.requires.holds (omega (arith, n, c.requires.room)) n on some
 
 pub returns-clause-answer : goal.returns-clause-answer
 returns-clause-answer g c told xs l =
@@ -132,11 +132,11 @@ returns-clause-answer g c told xs l =
     let es = p.here.leaf.entries.items in
     let place : c.lead-i.result ≡ lead e es = c.lead-i.ensures.lead ∙ ap (lead e) c.deref.ensures.value in
     let on = at_same e es c.deref-2.result.now c.lead-i.result c.stands_at.result c.deref-2.ensures.value place c.stands_at.ensures ∙ c.if-not-stands_at.false in
-    sym (stands_has e (length e) (seen_counts c.args.over.now c.args.file) (seen c.args.over.now c.args.file) xs c.args.found p c.requires.width l c.in-Some.is c.requires.holds on)
+    sym (stands_has e (length e) (seen_counts c.args.over.now c.args.file) (overlay_content c.args.over.now c.args.file) xs c.args.found p c.requires.width l c.in-Some.is c.requires.holds on)
 
 pub returns-clause-others : goal.returns-clause-others
 returns-clause-others g c told other off =
-    one_off (seen c.args.over.now) (seen c.write.new.self) c.args.file c.in-Some.field-0.here.number c.leaf_block.result.0 other off (c.in_ok-write.ensures.seen told c.requires.sound)
+    one_off (overlay_content c.args.over.now) (overlay_content c.write.new.self) c.args.file c.in-Some.field-0.here.number c.leaf_block.result.0 other off (c.in_ok-write.ensures.seen told c.requires.sound)
 
 pub returns-clause-counts : goal.returns-clause-counts
 returns-clause-counts g c =

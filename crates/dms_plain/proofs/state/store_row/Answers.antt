@@ -1,7 +1,7 @@
 use Rattle.std.proofs.Common.{◌∙◌, ap, sym, List}
 use Rattle.dms_model.specs.Db.{Records, Place}
 use Rattle.dms_plain.specs.declared.rows.Undo.{Undo}
-use Rattle.dms_plain.specs.Rows.{records_in, undone, restore}
+use Rattle.dms_plain.specs.Rows.{records_in, undo_all, restore}
 use Rattle.dms_plain.proofs.Maps.{in_order_added, db_added, undone-push, restore-insert}
 use Rattle.dms_plain.proofs.state.store_row.Goals as goal
 
@@ -18,7 +18,7 @@ returns-in-Ok-clause-mark c =
     let new = records_in c.place_row.new.rows.items in
     let us = c.args.undo.now.items in
     let u : Undo = record { set = c.args.row.set; number = c.args.row.number; old = c.args.old } in
-    ap (λ (xs : List Undo). undone xs new) c.in_ok-push.ensures.items
+    ap (λ (xs : List Undo). undo_all xs new) c.in_ok-push.ensures.items
     ∙ undone-push us u new
-    ∙ ap (λ (db : Records). undone us (restore k c.args.old db)) (db_added c.args.rows.now.items c.place_row.new.rows.items k c.args.row.rec c.requires.in_order c.in-Ok.ensures.ok)
-    ∙ ap (undone us) (restore-insert old k c.args.row.rec c.args.old (sym c.requires.old))
+    ∙ ap (λ (db : Records). undo_all us (restore k c.args.old db)) (db_added c.args.rows.now.items c.place_row.new.rows.items k c.args.row.rec c.requires.in_order c.in-Ok.ensures.ok)
+    ∙ ap (undo_all us) (restore-insert old k c.args.row.rec c.args.old (sym c.requires.old))

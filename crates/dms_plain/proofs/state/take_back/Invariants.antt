@@ -1,10 +1,10 @@
 use Rattle.std.proofs.Common.{◌≡◌, ◌+◌, length}
-use Rattle.dms_plain.specs.Rows.{records_in, undone, IsInOrder}
+use Rattle.dms_plain.specs.Rows.{records_in, undo_all, IsInOrder}
 use Rattle.dms_plain.proofs.state.take_back.Given as goal
 
 abbrev pub invariant-loop-turn : goal.invariant-loop-turn
 invariant-loop-turn l = record {
   in_order : IsInOrder l.rows.items;
-  same : undone l.undo.items (records_in l.rows.items) ≡ undone l.fn.undo.items (records_in l.fn.rows.items);
+  same : undo_all l.undo.items (records_in l.rows.items) ≡ undo_all l.fn.undo.items (records_in l.fn.rows.items);
   count : length l.undo.items + l._turn ≡ length l.fn.undo.items;
 }

@@ -1,6 +1,6 @@
-use Rattle.dms_storeverbs.specs.View.{seen}
+use Rattle.dms_storeverbs.specs.View.{engine_view}
 use Rattle.std.proofs.Common.{Bool, ◌+◌, ◌∙◌, List, ℕ, Err, refl, ap, subst, sym, arith}
-use Rattle.dms_desc.specs.Shape.{described}
+use Rattle.dms_desc.specs.Shape.{as_described}
 use Rattle.dms_feed.specs.Feeds.{Remains}
 use Rattle.dms_feed.specs.Lines.{after_line, first_line}
 use Rattle.dms_block.specs.Texts.{Prints}
@@ -70,7 +70,7 @@ returns-in-Ok-false-clause-full_list g c = λ _ now all stands same line room re
     let e = (rw c.in-Ok-Some.field-0-is at c.in-Ok-Some.ensures.line) all remains in
     let goes = (rw c.in-Ok-false.field-0-test at c.in-Ok-false.ensures.lined) now (first_line all) (c.as_slice.ensures ∙ e.0.1) stands same (ap (λ (n : ℕ). n + 1) line) room in
     record {
-      said = subst (λ (t : List ℕ). Prints (seen c.args.engine.now).said (seen c.take_line.new.engine).said t) (line_silent (described c.args.engine.now.desc) now (first_line all) goes.full) goes.ran.text;
+      said = subst (λ (t : List ℕ). Prints (engine_view c.args.engine.now).said (engine_view c.take_line.new.engine).said t) (line_silent (as_described c.args.engine.now.desc) now (first_line all) goes.full) goes.ran.text;
       some = e.0.0;
       full = goes.full;
       fits = omega (arith, e.0.2, e.0.3);

@@ -1,9 +1,9 @@
 use Rattle.dms_runner.proofs.Blames.{none_lasts, run_on_lasts, no_fault}
 use Rattle.dms_storeverbs.proofs.Lasting.{lasts_none}
 use Rattle.std.proofs.Common.{◌<◌, ◌∙◌, ap, refl, sym, subst, Vec, Global, List, arith}
-use Rattle.dms_desc.specs.Shape.{described}
+use Rattle.dms_desc.specs.Shape.{as_described}
 use Rattle.dms_storeverbs.specs.declared.engine.Engine.{Engine}
-use Rattle.dms_storeverbs.specs.View.{seen, view}
+use Rattle.dms_storeverbs.specs.View.{engine_view, view}
 use Rattle.dms_runner.specs.declared.waiting.WaitingLine.{WaitingLine}
 use Rattle.dms_runner.specs.Answers.{first_state}
 use Rattle.dms_runner.specs.Starting.{TakesAll}
@@ -16,18 +16,18 @@ use Rattle.dms_runner.proofs.run.take_lines.Goals as goal
 pub loop-line-init : goal.loop-line-init
 loop-line-init g c = record {
   lasts = lasts_none g.met.St.Store.same_again _ c.requires.sound;
-  verbs = verbs_in (described c.args.engine.now.desc) (sym c.requires.none) tt;
+  verbs = verbs_in (as_described c.args.engine.now.desc) (sym c.requires.none) tt;
   taken = refl;
   same_source = g.met.I.Source.same_again _;
   small = omega arith;
   few = omega arith;
   read = λ all remains. read_start all _ _ remains;
   ended = λ all remains. tt;
-  runs = λ db first all stands small remains. subst (λ (hs : List WaitingLine). RunsLines (described c.args.engine.now.desc) (first_state db first) 0 2147483648 all (view c.args.engine.now) hs c.args.feed.now (g.I.Source.left c.args.source.now) (seen c.args.engine.now) (seen c.args.engine.now)) (sym c.requires.none) (runs_start _ db first all _ _ _ _ stands remains);
+  runs = λ db first all stands small remains. subst (λ (hs : List WaitingLine). RunsLines (as_described c.args.engine.now.desc) (first_state db first) 0 2147483648 all (view c.args.engine.now) hs c.args.feed.now (g.I.Source.left c.args.source.now) (engine_view c.args.engine.now) (engine_view c.args.engine.now)) (sym c.requires.none) (runs_start _ db first all _ _ _ _ stands remains);
 }
 
 pub one_line-requires-clause-verbs : goal.one_line-requires-clause-verbs
-one_line-requires-clause-verbs g c = verbs_under _ (ap described (sym c.loop-line.invariant.lasts.description)) c.loop-line.invariant.verbs
+one_line-requires-clause-verbs g c = verbs_under _ (ap as_described (sym c.loop-line.invariant.lasts.description)) c.loop-line.invariant.verbs
 
 pub loop-line-preserved : goal.loop-line-preserved
 loop-line-preserved g c =
@@ -37,7 +37,7 @@ loop-line-preserved g c =
     let end = (rw c.in-Ok-Ended.field-0-is at c.in-Ok-Ended.ensures.ended) refl in
     record {
       lasts = run_on_lasts g.met.St.Store.same_then c.loop-line.invariant.lasts c.in-Ok-Ended.ensures.lasts;
-      verbs = verbs_under _ (ap described c.loop-line.invariant.lasts.description) c.in-Ok-Ended.ensures.verbs;
+      verbs = verbs_under _ (ap as_described c.loop-line.invariant.lasts.description) c.in-Ok-Ended.ensures.verbs;
       taken = c.in-Ok-Ended.ensures.clean (no_fault _ _) ∙ c.loop-line.invariant.taken;
       same_source = g.met.I.Source.same_then _ _ _ c.loop-line.invariant.same_source c.one_line.ensures.same_source;
       small = omega (arith, c.loop-line.invariant.small, c.one_line.ensures.room);

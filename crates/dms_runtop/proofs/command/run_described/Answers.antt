@@ -1,6 +1,6 @@
 use Rattle.std.proofs.Common.{◌≤◌, ◌<◌, ◌∙◌, ℕ, length, refl, sym, ap, subst}
 use Rattle.std.specs.Global.{Vec}
-use Rattle.dms_desc.specs.Shape.{described}
+use Rattle.dms_desc.specs.Shape.{as_described}
 use Rattle.dms_status.specs.declared.status.Status.{Status}
 use Rattle.dms_status.specs.declared.status.Status.TheVariants.{Memory}
 use Rattle.dms_wal.specs.Marks.{IsDescription}
@@ -16,42 +16,42 @@ use Rattle.dms_runtop.proofs.command.run_described.Goals as goal
 
 pub into_running-requires-clause-frames : goal.into_running-requires-clause-frames
 into_running-requires-clause-frames g c =
-    let low : 0 < c.args.desc.now.buffers = frames_of (described c.args.desc.now) c.requires.formed in
+    let low : 0 < c.args.desc.now.buffers = frames_of (as_described c.args.desc.now) c.requires.formed in
     subst (λ (n : ℕ). 0 < n) (sym c.from.ensures) low
 
 pub into_running-requires-clause-limit : goal.into_running-requires-clause-limit
 into_running-requires-clause-limit g c =
-    let most : c.args.desc.now.files ≤ 9999 = files_of (described c.args.desc.now) c.requires.formed in
+    let most : c.args.desc.now.files ≤ 9999 = files_of (as_described c.args.desc.now) c.requires.formed in
     subst (λ (n : ℕ). n ≤ 9999) (sym c.from-3.ensures) most
 
 pub into_running-requires-clause-described : goal.into_running-requires-clause-described
-into_running-requires-clause-described g c = subst IsDescription (sym c.in-Some.ensures) (bytes_fit (described c.args.desc.now) c.requires.formed)
+into_running-requires-clause-described g c = subst IsDescription (sym c.in-Some.ensures) (bytes_fit (as_described c.args.desc.now) c.requires.formed)
 
 pub run_over-requires-clause-sound : goal.run_over-requires-clause-sound
 run_over-requires-clause-sound g c =
-    c.in-Ok.ensures.usable (λ tells. files_under g.S.Site c.spelling_law.ensures c.args.opened (described c.args.desc.now) c.requires.formed c.requires.under _ c.in-Some.ensures
+    c.in-Ok.ensures.usable (λ tells. files_under g.S.Site c.spelling_law.ensures c.args.opened (as_described c.args.desc.now) c.requires.formed c.requires.under _ c.in-Some.ensures
     (c.requires.known (first_of g.S.Site.tells g.K.Knows.known tells) (second_of g.S.Site.tells g.K.Knows.known tells)))
 
 pub run_over-requires-clause-serves : goal.run_over-requires-clause-serves
 run_over-requires-clause-serves g c =
     let sound = run_over-requires-clause-sound g c in
-    let served = c.served_law.ensures (described c.args.desc.now) c.requires.formed in
-    let each : length (described c.args.desc.now).structures ≤ length c.args.opened.counts.items = counts_each c.args.opened.schema.items c.args.opened.counts.items (described c.args.desc.now) c.requires.named c.requires.formed served c.requires.under in
+    let served = c.served_law.ensures (as_described c.args.desc.now) c.requires.formed in
+    let each : length (as_described c.args.desc.now).structures ≤ length c.args.opened.counts.items = counts_each c.args.opened.schema.items c.args.opened.counts.items (as_described c.args.desc.now) c.requires.named c.requires.formed served c.requires.under in
     let kept = c.in-Ok.ensures.kept in
-    serves_by (described c.args.desc.now) _ c.in-Ok.running.counts.items served refl sound.table.few
-    (subst (λ (v : Vec ℕ). length (described c.args.desc.now).structures ≤ length v.items) (sym kept.1) each)
+    serves_by (as_described c.args.desc.now) _ c.in-Ok.running.counts.items served refl sound.table.few
+    (subst (λ (v : Vec ℕ). length (as_described c.args.desc.now).structures ≤ length v.items) (sym kept.1) each)
     (ap (λ (v : Vec ℕ). v.items) kept.0 ∙ c.in-Some.ensures)
 
 pub run_over-requires-clause-mark : goal.run_over-requires-clause-mark
 run_over-requires-clause-mark g c = λ tells.
-    let st = files_under g.S.Site c.spelling_law.ensures c.args.opened (described c.args.desc.now) c.requires.formed c.requires.under _ c.in-Some.ensures
+    let st = files_under g.S.Site c.spelling_law.ensures c.args.opened (as_described c.args.desc.now) c.requires.formed c.requires.under _ c.in-Some.ensures
     (c.requires.known (first_of g.S.Site.tells g.K.Knows.known tells) (second_of g.S.Site.tells g.K.Knows.known tells)) in
     sym (c.in-Ok.ensures.tells st.0 st.1).content_is
 
 pub returns-in-Ok-clause-ran : goal.returns-in-Ok-clause-ran
 returns-in-Ok-clause-ran g c =
     same_end g.S.Site c.args.opened g.K.Knows.known _ _ _ _ _ _ c.unveil.ensures.0 c.unveil.ensures.1
-    (runs_unveiled g.S.Site _ (λ v. v.site) g.K.Knows.known (both_of g.S.Site.tells g.K.Knows.known) (λ v. refl) c.spelling_law.ensures c.args.opened (described c.args.desc.now) c.requires.formed c.requires.under
+    (runs_unveiled g.S.Site _ (λ v. v.site) g.K.Knows.known (both_of g.S.Site.tells g.K.Knows.known) (λ v. refl) c.spelling_law.ensures c.args.opened (as_described c.args.desc.now) c.requires.formed c.requires.under
     _ c.in-Some.ensures c.in-Ok.running (ap (λ v. v.site) c.in-Ok.ensures.log.0) c.in-Ok.ensures.log.2 c.in-Ok.ensures.log.1 c.in-Ok.ensures.kept.2 (c.in-Ok.ensures.log.3 ∙ c.from-3.ensures) c.in-Ok.ensures.tells (c.in-Ok.ensures.kept.4 ∙ c.from-2.ensures) (c.in-Ok.ensures.kept.7, c.in-Ok.ensures.kept.6, c.in-Ok.ensures.kept.8) c.in-Ok.ensures.nothing c.run_over.result.site _ _ c.run_over.result.status c.run_over.ensures.ran)
 
 pub returns-clause-ran : goal.returns-clause-ran

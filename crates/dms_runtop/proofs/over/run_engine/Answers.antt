@@ -8,7 +8,7 @@ use Rattle.dms_runtop.specs.Faults.{run_status}
 use Rattle.dms_runtop.specs.Statuses.{IsOfScript}
 use Rattle.dms_runtop.proofs.Counted.{within_disk, within_say, within_input, input_within, left_nothing, held_nothing, on_upto, on_status, no_error, an_error, error_is}
 use Rattle.dms_runtop.proofs.Endings.{closing_say, closing_input, run_of_script, run_input}
-use Rattle.dms_desc.specs.Shape.{described}
+use Rattle.dms_desc.specs.Shape.{as_described}
 use Rattle.dms_run.specs.Starting.{BeginsWith, StopsLeave}
 use Rattle.dms_runtop.specs.Over.{ClosesOver, GrowsOver}
 use Rattle.dms_runtop.proofs.Ran.{all_durable, carried_all, carried_of, db_under, state_under, took_at_line}
@@ -18,8 +18,8 @@ use Rattle.dms_restore.specs.Logging.{FilesGrew, telling_of}
 use Rattle.dms_restore.specs.Views.{view_of}
 use Rattle.dms_runner.specs.Answers.{script_events}
 use Rattle.dms_runner.specs.Events.{RunEvent}
-use Rattle.dms_storeverbs.specs.View.{seen}
-use Rattle.dms_wal.specs.Database.{held}
+use Rattle.dms_storeverbs.specs.View.{engine_view}
+use Rattle.dms_wal.specs.Database.{running_held}
 use Rattle.dms_runner.proofs.Counting.{counted_law}
 use Rattle.dms_runner.specs.EventLaws.{AreCounted}
 use Rattle.dms_runtop.proofs.Bounds.{closed_bound, closes, failed_bound}
@@ -35,16 +35,16 @@ returns-in-Ok-clause-ran g c = λ total first ps n db all b left.
     let r' = e'.store.over.below in
     let pace = c.in-Ok.ensures.lasts.same.1 in
     let fed = held_nothing _ _ all c.new-feed.ensures left in
-    let stands = c.requires.fresh db (db_under (described e.desc) (described e.store.desc) g.S.Site.tells (held g.S.Site r).content db e.under b.tells b.spells) in
+    let stands = c.requires.fresh db (db_under (as_described e.desc) (as_described e.store.desc) g.S.Site.tells (running_held g.S.Site r).content db e.under b.tells b.spells) in
     let starts : BeginsWith e n db r.next = record {
       stands = stands;
       room = b.room;
       tells = b.tells;
-      state = state_under (described e.desc) (described e.store.desc) (held g.S.Site r) ps n db e.under b.points_are b.state;
-      durable = all_durable (described e.store.desc) (held g.S.Site r) b.durable;
+      state = state_under (as_described e.desc) (as_described e.store.desc) (running_held g.S.Site r) ps n db e.under b.points_are b.state;
+      durable = all_durable (as_described e.store.desc) (running_held g.S.Site r) b.durable;
     } in
     let k = c.in-Ok.ensures.every_moment n db r.next all starts fed in
-    closed_over g.S.Site (described e.desc) (described e.store.desc) (described e'.store.desc) r r' e.under (c.in-Ok.ensures.lasts.desc ∙ e.under) c.in-Ok.ensures.lasts.same.1 total first ps n db all b
+    closed_over g.S.Site (as_described e.desc) (as_described e.store.desc) (as_described e'.store.desc) r r' e.under (c.in-Ok.ensures.lasts.desc ∙ e.under) c.in-Ok.ensures.lasts.same.1 total first ps n db all b
     (g.I.Source.left c.run_script.new.source) c.close_over.result.status c.close_over.result.site c.close_over.ensures.statuses
     (subst (λ (x : Running g.row.S.Denot). ClosesOver g.S.Site x c.close_over.result.status c.close_over.result.site) c.running_under-running.ensures c.close_over.ensures.closes)
     (subst (λ (x : Running g.row.S.Denot). IsTrue g.S.Site.tells_said → g.S.Site.said c.close_over.result.site ≡ g.S.Site.said x.log.site) c.running_under-running.ensures c.close_over.ensures.said)
@@ -55,9 +55,9 @@ returns-in-Ok-clause-ran g c = λ total first ps n db all b left.
     (c.in-Ok.ensures.prints db r.next all stands b.room fed)
     (c.in-Ok.ensures.within db r.next all stands b.room fed)
     (c.in-Ok.ensures.ended db r.next all stands b.room fed).next
-    (closed_bound g.S.Site (described e.desc) r r' (telling_of total first) (λ i. telling_of (b.total_is i) (b.first_is i)) (λ i. telling_of ((pace.total ∙ b.total_is) i) ((pace.first ∙ b.first_is) i)) b.nothing b.every b.unused.0 b.unused.1 b.unused.2 b.tells c.in-Ok.ensures.lasts.same.2
-    (script_events (described e.desc) db r.next (raw_lines all)) (seen e) (seen e') refl refl refl refl e.under
-    (subst (λ (es : List RunEvent). (i : ℕ) → AreCounted (described e.desc) (take i es)) k.carried.whole (counted_law (described e.desc) e.formed db r.next (raw_lines all) k.carried.n k.carried.events k.carried.front k.carried.are)) (c.in-Ok.ensures.effort db r.next all stands b.room fed) (c.in-Ok.ensures.numbers db r.next all stands b.room fed) c.close_over.result.status (g.S.Site.files c.close_over.result.site) _ (closes c.close_over.result.status c.close_over.ensures.statuses)
+    (closed_bound g.S.Site (as_described e.desc) r r' (telling_of total first) (λ i. telling_of (b.total_is i) (b.first_is i)) (λ i. telling_of ((pace.total ∙ b.total_is) i) ((pace.first ∙ b.first_is) i)) b.nothing b.every b.unused.0 b.unused.1 b.unused.2 b.tells c.in-Ok.ensures.lasts.same.2
+    (script_events (as_described e.desc) db r.next (raw_lines all)) (engine_view e) (engine_view e') refl refl refl refl e.under
+    (subst (λ (es : List RunEvent). (i : ℕ) → AreCounted (as_described e.desc) (take i es)) k.carried.whole (counted_law (as_described e.desc) e.formed db r.next (raw_lines all) k.carried.n k.carried.events k.carried.front k.carried.are)) (c.in-Ok.ensures.effort db r.next all stands b.room fed) (c.in-Ok.ensures.numbers db r.next all stands b.room fed) c.close_over.result.status (g.S.Site.files c.close_over.result.site) _ (closes c.close_over.result.status c.close_over.ensures.statuses)
     c.in-Ok.ensures.lasts.sound.sound.unbroken
     (subst (λ (x : Running g.row.S.Denot). FilesGrew 18 (view_of g.S.Site x.log) (g.S.Site.files c.close_over.result.site)) c.running_under-running.ensures (c.close_over.ensures.closes.grown b.tells).few)
     (c.in-Ok.ensures.prints db r.next all stands b.room fed))
@@ -70,24 +70,24 @@ returns-in-Err-clause-ran g c = λ total first ps n db all b left.
     let r' = e'.store.over.below in
     let pace = c.in-Err.ensures.lasts.same.1 in
     let fed = held_nothing _ _ all c.new-feed.ensures left in
-    let stands = c.requires.fresh db (db_under (described e.desc) (described e.store.desc) g.S.Site.tells (held g.S.Site r).content db e.under b.tells b.spells) in
+    let stands = c.requires.fresh db (db_under (as_described e.desc) (as_described e.store.desc) g.S.Site.tells (running_held g.S.Site r).content db e.under b.tells b.spells) in
     let starts : BeginsWith e n db r.next = record {
       stands = stands;
       room = b.room;
       tells = b.tells;
-      state = state_under (described e.desc) (described e.store.desc) (held g.S.Site r) ps n db e.under b.points_are b.state;
-      durable = all_durable (described e.store.desc) (held g.S.Site r) b.durable;
+      state = state_under (as_described e.desc) (as_described e.store.desc) (running_held g.S.Site r) ps n db e.under b.points_are b.state;
+      durable = all_durable (as_described e.store.desc) (running_held g.S.Site r) b.durable;
     } in
     let k = c.in-Err.ensures.every_moment n db r.next all starts fed in
-    within_over g.S.Site (described e.desc) (described e.store.desc) (described e'.store.desc) r r' e.under (c.in-Err.ensures.lasts.desc ∙ e.under) c.in-Err.ensures.lasts.same.1 total first ps n db all b
+    within_over g.S.Site (as_described e.desc) (as_described e.store.desc) (as_described e'.store.desc) r r' e.under (c.in-Err.ensures.lasts.desc ∙ e.under) c.in-Err.ensures.lasts.same.1 total first ps n db all b
     (g.I.Source.left c.run_script.new.source) c.running_under-running-in-Err.result.log.end.limit c.in-Err.fault c.fault_within-fault.result c.status_of_run.result c.into_site.result c.fault_within-fault.ensures
     (ap (λ (x : Running g.row.S.Denot). x.log.end.limit) c.running_under-running-in-Err.ensures) c.status_of_run.ensures
     (c.into_site.ensures ∙ ap (λ (x : Running g.row.S.Denot). x.log.site) c.running_under-running-in-Err.ensures)
     (carried_of (g.I.Source.left c.run_script.new.source) e e' db r.next all c.in-Err.fault k.carried)
     k.leaves
     (no_damage c.in-Err.fault _ _ c.requires.found (k.carried.part.undamaged (record { db = db; mark = db; db_is = stands.db; mark_is = stands.mark })) c.in-Err.ensures.lasts.cause)
-    (failed_bound g.S.Site (described e.desc) r r' (telling_of total first) (λ i. telling_of (b.total_is i) (b.first_is i)) (λ i. telling_of ((pace.total ∙ b.total_is) i) ((pace.first ∙ b.first_is) i)) b.nothing b.every b.unused.0 b.unused.1 b.unused.2 b.tells c.in-Err.ensures.lasts.same.2
-    k.carried.events (seen e) (seen e') refl refl refl refl e.under (counted_law (described e.desc) e.formed db r.next (raw_lines all) k.carried.n k.carried.events k.carried.front k.carried.are) c.running_under-running-in-Err.result.log.end.limit c.in-Err.fault c.fault_within-fault.result c.fault_within-fault.ensures k.carried.part.took
+    (failed_bound g.S.Site (as_described e.desc) r r' (telling_of total first) (λ i. telling_of (b.total_is i) (b.first_is i)) (λ i. telling_of ((pace.total ∙ b.total_is) i) ((pace.first ∙ b.first_is) i)) b.nothing b.every b.unused.0 b.unused.1 b.unused.2 b.tells c.in-Err.ensures.lasts.same.2
+    k.carried.events (engine_view e) (engine_view e') refl refl refl refl e.under (counted_law (as_described e.desc) e.formed db r.next (raw_lines all) k.carried.n k.carried.events k.carried.front k.carried.are) c.running_under-running-in-Err.result.log.end.limit c.in-Err.fault c.fault_within-fault.result c.fault_within-fault.ensures k.carried.part.took
     (took_at_line (g.I.Source.left c.run_script.new.source) e e' db r.next all c.running_under-running-in-Err.result.log.end.limit c.in-Err.fault c.fault_within-fault.result c.fault_within-fault.ensures k.carried))
 
 pub returns-in-Ok-clause-grown : goal.returns-in-Ok-clause-grown
@@ -104,14 +104,14 @@ returns-in-Err-clause-grown g c =
     (grows_left g.S.Site r' c.into_site.result (c.into_site.ensures ∙ ap (λ (x : Running g.row.S.Denot). x.log.site) c.running_under-running-in-Err.ensures))
 
 pub returns-in-Ok-clause-by_input : goal.returns-in-Ok-clause-by_input
-returns-in-Ok-clause-by_input g c = blames_closing c.close_over.result.status c.close_over.ensures.statuses (λ all held. c.in-Ok.ensures.fits all (held_nothing _ _ all c.new-feed.ensures held))
+returns-in-Ok-clause-by_input g c = blames_closing c.close_over.result.status c.close_over.ensures.statuses (λ all rest. c.in-Ok.ensures.fits all (held_nothing _ _ all c.new-feed.ensures rest))
 
 pub returns-in-Err-clause-by_input : goal.returns-in-Err-clause-by_input
 returns-in-Err-clause-by_input g c =
     blames_script c.running_under-running-in-Err.result.log.end.limit c.in-Err.fault c.fault_within-fault.result c.status_of_run.result c.fault_within-fault.ensures c.status_of_run.ensures
-    (λ is all held. c.in-Err.ensures.too_many_lines (an_error c.in-Err.fault Lines is) all (held_nothing _ _ all c.new-feed.ensures held))
-    (λ is all held. c.in-Err.ensures.too_many_bytes (an_error c.in-Err.fault Bytes is) all (held_nothing _ _ all c.new-feed.ensures held))
-    (λ is all held. c.in-Err.ensures.breaks (an_error c.in-Err.fault Input is) all (held_nothing _ _ all c.new-feed.ensures held))
+    (λ is all rest. c.in-Err.ensures.too_many_lines (an_error c.in-Err.fault Lines is) all (held_nothing _ _ all c.new-feed.ensures rest))
+    (λ is all rest. c.in-Err.ensures.too_many_bytes (an_error c.in-Err.fault Bytes is) all (held_nothing _ _ all c.new-feed.ensures rest))
+    (λ is all rest. c.in-Err.ensures.breaks (an_error c.in-Err.fault Input is) all (held_nothing _ _ all c.new-feed.ensures rest))
 
 pub returns-in-Ok-clause-end : goal.returns-in-Ok-clause-end
 returns-in-Ok-clause-end g c = λ ok all is. left_nothing _ _ (c.in-Ok.ensures.end all (held_nothing _ _ all c.new-feed.ensures is))

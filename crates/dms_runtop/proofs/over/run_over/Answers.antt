@@ -1,5 +1,5 @@
 use Rattle.std.proofs.Common.{◌∙◌, subst}
-use Rattle.dms_desc.specs.Shape.{Described, described}
+use Rattle.dms_desc.specs.Shape.{Described, as_described}
 use Rattle.dms_store.specs.Storing.{seen_by}
 use Rattle.dms_storeverbs.specs.View.{view}
 use Rattle.dms_wal.specs.declared.running.Running.{Running}
@@ -15,18 +15,18 @@ run_engine-requires-clause-fresh g c = fresh_over seen_by (view c.in-Ok-new.engi
 
 pub returns-in-Err-clause-ran : goal.returns-in-Err-clause-ran
 returns-in-Err-clause-ran g c =
-    refused_over g.S.Site (described c.args.desc.now) c.args.running c.into_site.result (g.I.Source.left c.args.source.now) (g.I.Source.left c.args.source.now)
+    refused_over g.S.Site (as_described c.args.desc.now) c.args.running c.into_site.result (g.I.Source.left c.args.source.now) (g.I.Source.left c.args.source.now)
     (c.into_site.ensures ∙ (λ i. (c.in-Err.ensures.below_back i).log.site))
 
 pub returns-in-Err-new-clause-ran : goal.returns-in-Err-new-clause-ran
 returns-in-Err-new-clause-ran g c =
-    refused_over g.S.Site (described c.args.desc.now) c.args.running c.into_site-in-Err-new.result (g.I.Source.left c.args.source.now) (g.I.Source.left c.args.source.now)
+    refused_over g.S.Site (as_described c.args.desc.now) c.args.running c.into_site-in-Err-new.result (g.I.Source.left c.args.source.now) (g.I.Source.left c.args.source.now)
     (c.into_site-in-Err-new.ensures ∙ (λ i. (c.into_below.ensures i).log.site) ∙ (λ i. (c.in-Err-new.ensures.memory i).over.below.log.site) ∙ (λ i. (c.in-Ok.ensures.below i).log.site))
 
 pub returns-in-Ok-new-clause-ran : goal.returns-in-Ok-new-clause-ran
 returns-in-Ok-new-clause-ran g c =
     subst (λ (x : Described). RunsOver g.S.Site c.args.running x (g.I.Source.left c.args.source.now) (g.I.Source.left c.run_engine.new.source) c.run_engine.result.status c.run_engine.result.site) c.in-Ok-new.ensures.described
-    (subst (λ (x : Running g.row.S.Denot). RunsOver g.S.Site x (described c.in-Ok-new.engine.desc) (g.I.Source.left c.args.source.now) (g.I.Source.left c.run_engine.new.source) c.run_engine.result.status c.run_engine.result.site)
+    (subst (λ (x : Running g.row.S.Denot). RunsOver g.S.Site x (as_described c.in-Ok-new.engine.desc) (g.I.Source.left c.args.source.now) (g.I.Source.left c.run_engine.new.source) c.run_engine.result.status c.run_engine.result.site)
     ((λ i. (c.in-Ok-new.ensures.store i).over.below) ∙ c.in-Ok.ensures.below) c.run_engine.ensures.ran)
 
 pub returns-in-Err-clause-grown : goal.returns-in-Err-clause-grown

@@ -3,7 +3,7 @@ use Rattle.std.proofs.lemmas.Result.{IfOk-weaker, IfErr-weaker}
 use Rattle.std.specs.Option.{option_copied}
 use Rattle.dms_desc.specs.Shape.{shape_of}
 use Rattle.dms_ordlist.specs.Lists.{without_in}
-use Rattle.dms_sets.specs.Changes.{IfListed, kept, entry_opt}
+use Rattle.dms_sets.specs.Changes.{IfListed, list_of_set, entry_opt}
 use Rattle.dms_sets.proofs.Faults.{if_that}
 use Rattle.dms_sets.proofs.one.change_one.Goals as goal
 
@@ -22,7 +22,7 @@ returns-clause-below g c =
     let kinds = c.args.kinds.now in
     let s = shape_of c.args.s.now in
     let middle = c.leave.new.lists in
-    IfErr-weaker c.enter.result (λ e. IfListed (kept (g.L.Lists.listed middle) kinds s) (λ xs. g.L.Lists.below e middle c.enter.new.lists))
-    (λ e. IfListed (kept (g.L.Lists.listed c.args.lists.now) kinds s) (λ xs. g.L.Lists.below e c.args.lists.now c.enter.new.lists))
+    IfErr-weaker c.enter.result (λ e. IfListed (list_of_set (g.L.Lists.listed middle) kinds s) (λ xs. g.L.Lists.below e middle c.enter.new.lists))
+    (λ e. IfListed (list_of_set (g.L.Lists.listed c.args.lists.now) kinds s) (λ xs. g.L.Lists.below e c.args.lists.now c.enter.new.lists))
     (λ e h. λ xs is. g.met.L.Lists.below_then e _ 1 c.args.lists.now middle c.enter.new.lists c.in_ok-leave.ensures.calm (h (without_in (entry_opt kinds s c.args.number (option_copied c.args.old)) xs) (c.in_ok-leave.ensures.list.here xs is)))
     c.enter.ensures.below

@@ -1,9 +1,9 @@
 use Rattle.std.proofs.Common.{◌≡◌, ◌+◌, ◌*◌, ◌-◌, true, false, sym, ap, ◌∙◌, subst, length, arith}
 use Rattle.std.specs.Prelude.{◌==◌}
 use Rattle.std.specs.Option.{option_copied}
-use Rattle.dms_desc.specs.Shape.{shape_of, described}
+use Rattle.dms_desc.specs.Shape.{shape_of, as_described}
 use Rattle.dms_desc.specs.Lookups.{structure_of, items_of}
-use Rattle.dms_sets.specs.Changes.{OptHasEntry, IfListed, has_number, kept, is_over}
+use Rattle.dms_sets.specs.Changes.{OptHasEntry, IfListed, has_number, list_of_set, is_over}
 use Rattle.dms_sets.specs.Entries.{kinds_of}
 use Rattle.dms_sets.specs.Sets.{entries_of, kinds_over}
 use Rattle.dms_sets.specs.Told.{Upto}
@@ -21,18 +21,18 @@ change_one-requires-clause-usable g c =
 pub change_one-requires-clause-old : goal.change_one-requires-clause-old
 change_one-requires-clause-old g c =
     let at = shape_at c.as_slice-s-items.result.now c.args.desc.now.structures c.loop-s.s-index c.s-item.result c.as_slice-s-items.ensures c.loop-s-test.true c.s-item.is in
-    let kinds : c.as_slice.result.now ≡ kinds_of (items_of (structure_of (described c.args.desc.now) c.args.set)) = c.as_slice.ensures.value ∙ c.in_ok-kinds.ensures ∙ ap kinds_of c.items_of.ensures in
+    let kinds : c.as_slice.result.now ≡ kinds_of (items_of (structure_of (as_described c.args.desc.now) c.args.set)) = c.as_slice.ensures.value ∙ c.in_ok-kinds.ensures ∙ ap kinds_of c.items_of.ensures in
     subst (λ ks. OptHasEntry ks (shape_of c.s-item.result) (option_copied c.args.old)) (sym kinds) (c.requires.old c.loop-s.s-index (shape_of c.s-item.result) at (sym c.is_over.ensures ∙ c.if-is_over.true))
 
 pub change_one-requires-clause-new : goal.change_one-requires-clause-new
 change_one-requires-clause-new g c =
     let at = shape_at c.as_slice-s-items.result.now c.args.desc.now.structures c.loop-s.s-index c.s-item.result c.as_slice-s-items.ensures c.loop-s-test.true c.s-item.is in
-    let kinds : c.as_slice.result.now ≡ kinds_of (items_of (structure_of (described c.args.desc.now) c.args.set)) = c.as_slice.ensures.value ∙ c.in_ok-kinds.ensures ∙ ap kinds_of c.items_of.ensures in
+    let kinds : c.as_slice.result.now ≡ kinds_of (items_of (structure_of (as_described c.args.desc.now) c.args.set)) = c.as_slice.ensures.value ∙ c.in_ok-kinds.ensures ∙ ap kinds_of c.items_of.ensures in
     subst (λ ks. OptHasEntry ks (shape_of c.s-item.result) (option_copied c.args.new)) (sym kinds) (c.requires.new c.loop-s.s-index (shape_of c.s-item.result) at (sym c.is_over.ensures ∙ c.if-is_over.true))
 
 pub returns-in_err-change_one-clause-fails : goal.returns-in_err-change_one-clause-fails
 returns-in_err-change_one-clause-fails g c =
-    let q = has_number (described c.args.desc.now).structures c.args.set in
+    let q = has_number (as_described c.args.desc.now).structures c.args.set in
     let k = c.loop-s.s-index in
     let n = length c.args.desc.now.structures in
     let low = low_at c.as_slice-s-items.result.now c.args.desc.now.structures k c.as_slice-s-items.ensures c.loop-s-test.true in
@@ -44,14 +44,14 @@ returns-in_err-change_one-clause-fails g c =
 
 pub returns-in_err-change_one-clause-below : goal.returns-in_err-change_one-clause-below
 returns-in_err-change_one-clause-below g c =
-    let q = has_number (described c.args.desc.now).structures c.args.set in
+    let q = has_number (as_described c.args.desc.now).structures c.args.set in
     let at = shape_at c.as_slice-s-items.result.now c.args.desc.now.structures c.loop-s.s-index c.s-item.result c.as_slice-s-items.ensures c.loop-s-test.true c.s-item.is in
     let s = shape_of c.s-item.result in
-    let desc = described c.args.desc.now in
+    let desc = as_described c.args.desc.now in
     let over : is_over s c.args.set ≡ true = sym c.is_over.ensures ∙ c.if-is_over.true in
     let kinds : c.as_slice.result.now ≡ kinds_over desc s = c.as_slice.ensures.value ∙ c.in_ok-kinds.ensures ∙ ap kinds_of c.items_of.ensures ∙ sym (kinds_same desc s c.args.set over) in
-    let below : IfListed (kept (g.L.Lists.listed c.loop-s.lists) (kinds_over desc s) s) (λ xs. g.L.Lists.below c.in_err-change_one.field-0.0 c.loop-s.lists c.change_one.new.lists) =
-    subst (λ ks. IfListed (kept (g.L.Lists.listed c.loop-s.lists) ks s) (λ xs. g.L.Lists.below c.in_err-change_one.field-0.0 c.loop-s.lists c.change_one.new.lists)) kinds c.in_err-change_one.ensures.below in
+    let below : IfListed (list_of_set (g.L.Lists.listed c.loop-s.lists) (kinds_over desc s) s) (λ xs. g.L.Lists.below c.in_err-change_one.field-0.0 c.loop-s.lists c.change_one.new.lists) =
+    subst (λ ks. IfListed (list_of_set (g.L.Lists.listed c.loop-s.lists) ks s) (λ xs. g.L.Lists.below c.in_err-change_one.field-0.0 c.loop-s.lists c.change_one.new.lists)) kinds c.in_err-change_one.ensures.below in
     if_that _ _ _ c.from_residual-in_err-change_one.ensures.1
     (λ db judged are.
     g.met.L.Lists.below_then _ q (3 * c.loop-s.s-index) _ _ _ c.loop-s.invariant.1
@@ -61,7 +61,7 @@ pub returns-then-branch-clause-kept : goal.returns-then-branch-clause-kept
 returns-then-branch-clause-kept g c db judged are =
     let at = shape_at c.as_slice-s-items.result.now c.args.desc.now.structures c.loop-s.s-index c.s-item.result c.as_slice-s-items.ensures c.loop-s-test.true c.s-item.is in
     let s = shape_of c.s-item.result in
-    let desc = described c.args.desc.now in
+    let desc = as_described c.args.desc.now in
     let over : is_over s c.args.set ≡ true = sym c.is_over.ensures ∙ c.if-is_over.true in
     let kinds : c.as_slice.result.now ≡ kinds_over desc s = c.as_slice.ensures.value ∙ c.in_ok-kinds.ensures ∙ ap kinds_of c.items_of.ensures ∙ sym (kinds_same desc s c.args.set over) in
     upto_refused desc db c.args.set c.args.number (option_copied c.args.old) (option_copied c.args.new) judged c.loop-s.s-index s (g.L.Lists.listed c.loop-s.lists) (g.L.Lists.listed c.change_one.new.lists) at over
@@ -70,23 +70,23 @@ returns-then-branch-clause-kept g c db judged are =
 
 pub returns-then-branch-clause-calm : goal.returns-then-branch-clause-calm
 returns-then-branch-clause-calm g c =
-    let q = has_number (described c.args.desc.now).structures c.args.set in
+    let q = has_number (as_described c.args.desc.now).structures c.args.set in
     let k = c.loop-s.s-index in
     let n = length c.args.desc.now.structures in
     let low = low_at c.as_slice-s-items.result.now c.args.desc.now.structures k c.as_slice-s-items.ensures c.loop-s-test.true in
     let more = three_all k n low in
     let at = shape_at c.as_slice-s-items.result.now c.args.desc.now.structures k c.s-item.result c.as_slice-s-items.ensures c.loop-s-test.true c.s-item.is in
     let over : is_over (shape_of c.s-item.result) c.args.set ≡ true = sym c.is_over.ensures ∙ c.if-is_over.true in
-    let one = g.met.L.Lists.calm_wider (λ m. m == c.s-item.result.number) q 3 _ _ (λ m is. number_over (described c.args.desc.now).structures k (shape_of c.s-item.result) c.args.set m at over is) c.in_ok-change_one.ensures.calm in
+    let one = g.met.L.Lists.calm_wider (λ m. m == c.s-item.result.number) q 3 _ _ (λ m is. number_over (as_described c.args.desc.now).structures k (shape_of c.s-item.result) c.args.set m at over is) c.in_ok-change_one.ensures.calm in
     subst (λ m. g.L.Lists.calm q m c.args.lists.now c.change_one.new.lists) more
     (g.met.L.Lists.calm_then q (3 * k + 3) (3 * n - (3 * k + 3)) _ _ _ (g.met.L.Lists.calm_then q (3 * k) 3 _ _ _ c.loop-s.invariant.1 one) (g.met.L.Lists.calm_none q (3 * n - (3 * k + 3)) _))
 
 pub loop-s-preserved : goal.loop-s-preserved
 loop-s-preserved g c =
-    let q = has_number (described c.args.desc.now).structures c.args.set in
+    let q = has_number (as_described c.args.desc.now).structures c.args.set in
     let at = shape_at c.as_slice-s-items.result.now c.args.desc.now.structures c.loop-s.s-index c.s-item.result c.as_slice-s-items.ensures c.loop-s-test.true c.s-item.is in
     let s = shape_of c.s-item.result in
-    let desc = described c.args.desc.now in
+    let desc = as_described c.args.desc.now in
     let k = c.loop-s.s-index in
     let old = option_copied c.args.old in
     let new = option_copied c.args.new in
@@ -118,7 +118,7 @@ loop-s-preserved g c =
 pub returns-clause-kept : goal.returns-clause-kept
 returns-clause-kept g c db judged are =
     let k = c.loop-s.s-index in
-    let desc = described c.args.desc.now in
+    let desc = as_described c.args.desc.now in
     let ss = c.args.desc.now.structures in
     let all : k ≡ length desc.structures = omega (arith, c.loop-s-test.false, c.loop-s.auto.s-index-end, ap (λ l. length l) c.as_slice-s-items.ensures, shapes_long ss) in
     upto_end desc db c.args.set c.args.number (option_copied c.args.old) (option_copied c.args.new) judged (g.L.Lists.listed c.loop-s.lists)

@@ -2,7 +2,7 @@ use Rattle.std.proofs.Common.{◌≡◌, ◌<◌, ◌∙◌, ◌-◌, ◌/◌, �
 use Rattle.std.proofs.Math.Nat as nat
 use Rattle.dms_desc.specs.Shape.{shape_of}
 use Rattle.dms_block.specs.Changing.{grown_is}
-use Rattle.dms_block.specs.View.{seen, seen_counts, under, written}
+use Rattle.dms_block.specs.View.{overlay_content, seen_counts, under, overlay_changes}
 use Rattle.dms_slots.specs.SlotBlocks.{file_of, is_block}
 use Rattle.dms_slots.specs.SlotBlockLaws.{read_there, slot_past, bad_block, used_there}
 use Rattle.dms_slots.proofs.finding.read_slot.Goals as goal
@@ -11,30 +11,30 @@ pub returns-then-from-at-clause-slot : goal.returns-then-from-at-clause-slot
 returns-then-from-at-clause-slot g c tells =
     let b = c.args.b.now in
     let f = file_of c.args.s.now.number in
-    let counted = grown_is (written b) (under b).owns (under b).counts (under b).content ((g.met.B.Blocks.agrees b.below c.requires.sound).counted tells) b.fits f in
+    let counted = grown_is (overlay_changes b) (under b).owns (under b).counts (under b).content ((g.met.B.Blocks.agrees b.below c.requires.sound).counted tells) b.fits f in
     let here = ap (seen_counts b) c.file_of-file.ensures in
-    slot_past (shape_of c.args.s.now) (seen b f) c.args.number c.per_block-per.result c.per_block-per.ensures.count
+    slot_past (shape_of c.args.s.now) (overlay_content b f) c.args.number c.per_block-per.result c.per_block-per.ensures.count
     (omega (arith, counted, here, c.count.ensures, c.from.ensures, c.if-from-at.true))
 
 pub returns-in-Free-clause-slot : goal.returns-in-Free-clause-slot
 returns-in-Free-clause-slot g c tells =
     let b = c.args.b.now in
     let f = file_of c.args.s.now.number in
-    let counted = grown_is (written b) (under b).owns (under b).counts (under b).content ((g.met.B.Blocks.agrees b.below c.requires.sound).counted tells) b.fits f in
+    let counted = grown_is (overlay_changes b) (under b).owns (under b).counts (under b).content ((g.met.B.Blocks.agrees b.below c.requires.sound).counted tells) b.fits f in
     let here = ap (seen_counts b) c.file_of-file.ensures in
-    read_there (shape_of c.args.s.now) (seen b f) c.args.number c.per_block-per.result c.in_ok-bytes.bytes.0 c.in_ok-slot_in.field-0 c.per_block-per.ensures.count (c.per_block-per.ensures.some c.requires.fits)
+    read_there (shape_of c.args.s.now) (overlay_content b f) c.args.number c.per_block-per.result c.in_ok-bytes.bytes.0 c.in_ok-slot_in.field-0 c.per_block-per.ensures.count (c.per_block-per.ensures.some c.requires.fits)
     (omega (arith, counted, here, c.count.ensures, c.from.ensures, c.if-from-at.false))
-    (c.in_ok-bytes.ensures.block tells ∙ ap (λ (h : ℕ). get_or (seen b h) ((c.args.number - 1) / c.per_block-per.result) []) c.file_of-file.ensures) c.in_ok-slot_in.ensures ∙ c.in-Free.is
+    (c.in_ok-bytes.ensures.block tells ∙ ap (λ (h : ℕ). get_or (overlay_content b h) ((c.args.number - 1) / c.per_block-per.result) []) c.file_of-file.ensures) c.in_ok-slot_in.ensures ∙ c.in-Free.is
 
 pub returns-in-Used-clause-slot : goal.returns-in-Used-clause-slot
 returns-in-Used-clause-slot g c tells =
     let b = c.args.b.now in
     let f = file_of c.args.s.now.number in
-    let counted = grown_is (written b) (under b).owns (under b).counts (under b).content ((g.met.B.Blocks.agrees b.below c.requires.sound).counted tells) b.fits f in
+    let counted = grown_is (overlay_changes b) (under b).owns (under b).counts (under b).content ((g.met.B.Blocks.agrees b.below c.requires.sound).counted tells) b.fits f in
     let here = ap (seen_counts b) c.file_of-file.ensures in
-    read_there (shape_of c.args.s.now) (seen b f) c.args.number c.per_block-per.result c.in_ok-bytes.bytes.0 c.in_ok-slot_in.field-0 c.per_block-per.ensures.count (c.per_block-per.ensures.some c.requires.fits)
+    read_there (shape_of c.args.s.now) (overlay_content b f) c.args.number c.per_block-per.result c.in_ok-bytes.bytes.0 c.in_ok-slot_in.field-0 c.per_block-per.ensures.count (c.per_block-per.ensures.some c.requires.fits)
     (omega (arith, counted, here, c.count.ensures, c.from.ensures, c.if-from-at.false))
-    (c.in_ok-bytes.ensures.block tells ∙ ap (λ (h : ℕ). get_or (seen b h) ((c.args.number - 1) / c.per_block-per.result) []) c.file_of-file.ensures) c.in_ok-slot_in.ensures ∙ c.in-Used.is
+    (c.in_ok-bytes.ensures.block tells ∙ ap (λ (h : ℕ). get_or (overlay_content b h) ((c.args.number - 1) / c.per_block-per.result) []) c.file_of-file.ensures) c.in_ok-slot_in.ensures ∙ c.in-Used.is
 
 pub returns-in-Used-clause-fits : goal.returns-in-Used-clause-fits
 returns-in-Used-clause-fits g c = used_there (shape_of c.args.s.now) c.in_ok-bytes.bytes.0 _ c.in-Used.slot (sym c.in_ok-slot_in.ensures ∙ c.in-Used.is)
@@ -53,9 +53,9 @@ returns-in-Bad-clause-causes g c =
           (
             c.file_of-file.ensures,
             λ tells.
-                let counted = grown_is (written b) (under b).owns (under b).counts (under b).content ((g.met.B.Blocks.agrees b.below c.requires.sound).counted tells) b.fits f in
-                let low : at < length (seen b f) = omega (arith, counted, there) in
-                let is = c.in_ok-bytes.ensures.block tells ∙ ap (λ (h : ℕ). get_or (seen b h) at []) c.file_of-file.ensures in
+                let counted = grown_is (overlay_changes b) (under b).owns (under b).counts (under b).content ((g.met.B.Blocks.agrees b.below c.requires.sound).counted tells) b.fits f in
+                let low : at < length (overlay_content b f) = omega (arith, counted, there) in
+                let is = c.in_ok-bytes.ensures.block tells ∙ ap (λ (h : ℕ). get_or (overlay_content b h) at []) c.file_of-file.ensures in
                 let some = c.per_block-per.ensures.some c.requires.fits in
                 let place : (c.args.number - 1) % c.per_block-per.result < c.per_block-per.result = nat.mod-lt (c.args.number - 1) some in (
                   low,

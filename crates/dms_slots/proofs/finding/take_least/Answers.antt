@@ -1,9 +1,9 @@
 use Rattle.std.proofs.Common.{◌≡◌, ◌<◌, ◌≤◌, ◌+◌, ◌*◌, ◌∙◌, [], length, ap, arith, get_or, Ok}
 use Rattle.dms_desc.specs.Shape.{shape_of}
 use Rattle.dms_block.specs.Changing.{grown_is}
-use Rattle.dms_block.specs.Content.{Content, changed}
+use Rattle.dms_block.specs.Content.{Content, apply_changes}
 use Rattle.dms_block.specs.HeldLaws.{looks_as, looks_on, told_after}
-use Rattle.dms_block.specs.View.{seen, seen_counts, under, written}
+use Rattle.dms_block.specs.View.{overlay_content, seen_counts, under, overlay_changes}
 use Rattle.dms_slots.specs.SlotBlocks.{file_of, slots_in, before_free, within}
 use Rattle.dms_slots.specs.SlotBlockLaws.{least_on, least_here, least_behind, place_low, some_weaker}
 use Rattle.dms_slots.proofs.finding.take_least.Goals as goal
@@ -13,12 +13,12 @@ returns-then-taken-per-clause-least g c tells =
     let b = c.args.b.now in
     let f = file_of c.args.s.now.number in
     let r = c.loop-i.invariant.reads in
-    let counted = grown_is (written b) (under b).owns (under b).counts (under b).content ((g.met.B.Blocks.agrees b.below c.requires.sound).counted tells) b.fits f in
+    let counted = grown_is (overlay_changes b) (under b).owns (under b).counts (under b).content ((g.met.B.Blocks.agrees b.below c.requires.sound).counted tells) b.fits f in
     let here = ap (seen_counts b) c.file_of.ensures in
-    let low : c.loop-i.i < length (seen b f) = omega (arith, counted, here, c.count-count.ensures, c.loop-i-test.true) in
-    let still : seen c.loop-i.b ≡ seen b = λ i. changed (r.written_still i) (r.looks.same.content tells i) in
+    let low : c.loop-i.i < length (overlay_content b f) = omega (arith, counted, here, c.count-count.ensures, c.loop-i-test.true) in
+    let still : overlay_content c.loop-i.b ≡ overlay_content b = λ i. apply_changes (r.written_still i) (r.looks.same.content tells i) in
     let taken = c.in_ok-taken.ensures.taken (told_after r.looks.passes.lasts tells) ∙ ap (λ (x : Content). before_free (slots_in (shape_of c.args.s.now) (get_or (x f) c.loop-i.i []))) still in
-    let all = least_here (shape_of c.args.s.now) (seen b f) c.loop-i.i c.per_block-per.result c.in_ok-taken.taken _ low c.per_block-per.ensures.count taken c.if-taken-per.true (c.loop-i.invariant.used tells) in
+    let all = least_here (shape_of c.args.s.now) (overlay_content b f) c.loop-i.i c.per_block-per.result c.in_ok-taken.taken _ low c.per_block-per.ensures.count taken c.if-taken-per.true (c.loop-i.invariant.used tells) in
     c.within.ensures.is ∙ ap (within c.args.s.now.population) (omega (arith, all, ap (λ k. k * c.per_block-per.result) c.from.ensures))
 
 pub loop-i-preserved : goal.loop-i-preserved
@@ -34,22 +34,22 @@ loop-i-preserved g c =
       };
       faults = c.in_ok-taken.ensures.causes ∙ c.loop-i.invariant.faults;
       used = λ tells.
-          let counted = grown_is (written b) (under b).owns (under b).counts (under b).content ((g.met.B.Blocks.agrees b.below c.requires.sound).counted tells) b.fits f in
+          let counted = grown_is (overlay_changes b) (under b).owns (under b).counts (under b).content ((g.met.B.Blocks.agrees b.below c.requires.sound).counted tells) b.fits f in
           let here = ap (seen_counts b) c.file_of.ensures in
-          let low : c.loop-i.i < length (seen b f) = omega (arith, counted, here, c.count-count.ensures, c.loop-i-test.true) in
-          let still : seen c.loop-i.b ≡ seen b = λ i. changed (r.written_still i) (r.looks.same.content tells i) in
+          let low : c.loop-i.i < length (overlay_content b f) = omega (arith, counted, here, c.count-count.ensures, c.loop-i-test.true) in
+          let still : overlay_content c.loop-i.b ≡ overlay_content b = λ i. apply_changes (r.written_still i) (r.looks.same.content tells i) in
           let taken = c.in_ok-taken.ensures.taken (told_after r.looks.passes.lasts tells) ∙ ap (λ (x : Content). before_free (slots_in (shape_of c.args.s.now) (get_or (x f) c.loop-i.i []))) still in
-          least_on (shape_of c.args.s.now) (seen b f) c.loop-i.i c.per_block-per.result c.in_ok-taken.taken _ low c.per_block-per.ensures.count taken c.if-taken-per.false (omega (arith, c.in_ok-taken.ensures.most, c.per_block-per.ensures.count)) (c.loop-i.invariant.used tells);
+          least_on (shape_of c.args.s.now) (overlay_content b f) c.loop-i.i c.per_block-per.result c.in_ok-taken.taken _ low c.per_block-per.ensures.count taken c.if-taken-per.false (omega (arith, c.in_ok-taken.ensures.most, c.per_block-per.ensures.count)) (c.loop-i.invariant.used tells);
     }
 
 pub returns-clause-least : goal.returns-clause-least
 returns-clause-least g c tells =
     let b = c.args.b.now in
     let f = file_of c.args.s.now.number in
-    let counted = grown_is (written b) (under b).owns (under b).counts (under b).content ((g.met.B.Blocks.agrees b.below c.requires.sound).counted tells) b.fits f in
+    let counted = grown_is (overlay_changes b) (under b).owns (under b).counts (under b).content ((g.met.B.Blocks.agrees b.below c.requires.sound).counted tells) b.fits f in
     let here = ap (seen_counts b) c.file_of.ensures in
-    let past : length (seen b f) ≤ c.loop-i.i = omega (arith, counted, here, c.count-count.ensures, c.loop-i-test.false) in
-    let all = least_behind (shape_of c.args.s.now) (seen b f) c.loop-i.i c.per_block-per.result _ past (c.loop-i.invariant.used tells) in
+    let past : length (overlay_content b f) ≤ c.loop-i.i = omega (arith, counted, here, c.count-count.ensures, c.loop-i-test.false) in
+    let all = least_behind (shape_of c.args.s.now) (overlay_content b f) c.loop-i.i c.per_block-per.result _ past (c.loop-i.invariant.used tells) in
     let at_end : c.from-2.result ≡ c.loop-i.i = omega (arith, c.from-2.ensures, c.loop-i-test.false, c.loop-i.auto.i-end) in
     c.within-2.ensures.is ∙ ap (within c.args.s.now.population) (omega (arith, all, ap (λ k. k * c.per_block-per.result) at_end))
 

@@ -2,7 +2,7 @@ use Rattle.std.proofs.Common.{◌∙◌, Option, Some, inr, refl, subst, sym}
 use Rattle.std.specs.FinMap.{get}
 use Rattle.dms_block.specs.View.{under}
 use Rattle.dms_desc.specs.declared.record.Record.{Record}
-use Rattle.dms_desc.specs.Shape.{described, shape_of}
+use Rattle.dms_desc.specs.Shape.{as_described, shape_of}
 use Rattle.dms_model.specs.declared.spot.Spot.{Spot}
 use Rattle.dms_model.specs.Fitting.{IsNumber, RecordFits, SpotFits}
 use Rattle.dms_model.specs.Stores.{TellsOf}
@@ -13,11 +13,11 @@ use Rattle.dms_store.proofs.Standing.{member_fits, own_told, same_true, small_nu
 use Rattle.dms_store.proofs.entries.member_at.Goals as goal
 
 pub get-requires-clause-set : goal.get-requires-clause-set
-get-requires-clause-set g c = (set_at (described c.args.desc.now) c.args.s.now.number (shape_of c.args.s.now) c.requires.usable.serves.served c.requires.there c.requires.kept).data_set
+get-requires-clause-set g c = (set_at (as_described c.args.desc.now) c.args.s.now.number (shape_of c.args.s.now) c.requires.usable.serves.served c.requires.there c.requires.kept).data_set
 
 pub returns-then-not-branch-clause-causes : goal.returns-then-not-branch-clause-causes
 returns-then-not-branch-clause-causes g c =
-    let desc = described c.args.desc.now in
+    let desc = as_described c.args.desc.now in
     let o = c.args.over.now in
     let s = shape_of c.args.s.now in
     let n = c.number_in-number.result in
@@ -37,7 +37,7 @@ returns-then-not-branch-clause-causes g c =
 
 pub returns-in_ok-spot-in-Some-clause-found : goal.returns-in_ok-spot-in-Some-clause-found
 returns-in_ok-spot-in-Some-clause-found g c =
-    let desc = described c.args.desc.now in
+    let desc = as_described c.args.desc.now in
     let o = c.args.over.now in
     let s = shape_of c.args.s.now in
     let n = c.number_in-number.result in
@@ -52,7 +52,7 @@ returns-in_ok-spot-in-Some-clause-found g c =
 
 pub returns-in_ok-spot-in-Some-clause-fits : goal.returns-in_ok-spot-in-Some-clause-fits
 returns-in_ok-spot-in-Some-clause-fits g c =
-    let desc = described c.args.desc.now in
+    let desc = as_described c.args.desc.now in
     let s = shape_of c.args.s.now in
     let n = c.number_in-number.result in
     let rec : Record = c.in-Some.rec in

@@ -2,9 +2,9 @@ use Rattle.std.proofs.Common.{Bor, ◌≡◌, ◌∙◌, ℕ, Option, Some, ap, 
 use Rattle.std.specs.Option.{option_copied, option_map}
 use Rattle.std.proofs.lemmas.Result.{IfOk-weaker}
 use Rattle.dms_block.specs.HeldLaws.{causes_or_on, lasts_none, same_none}
-use Rattle.dms_block.specs.View.{seen, under}
+use Rattle.dms_block.specs.View.{overlay_content, under}
 use Rattle.dms_desc.specs.Lookups.{structure_of}
-use Rattle.dms_desc.specs.Shape.{described, shape_of}
+use Rattle.dms_desc.specs.Shape.{as_described, shape_of}
 use Rattle.dms_desc.specs.declared.structure.Structure.{Structure}
 use Rattle.dms_slots.specs.Seen.{BadAt}
 use Rattle.dms_slots.specs.SlotBlocks.{block_of}
@@ -16,26 +16,26 @@ use Rattle.dms_store.proofs.owning.count_owner.Goals as goal
 
 pub returns-in-None-clause-counted : goal.returns-in-None-clause-counted
 returns-in-None-clause-counted g c db own told files may =
-    let desc = described c.args.desc.now in
-    absurd (some_owner desc c.requires.serves.served db own (seen c.args.over.now) files c.args.set c.args.owner c.if-set-eq0.false (may c.if-set-eq0.false) (sym c.structure.ensures ∙ ap (λ (o : Option (Bor Structure)). option_map shape_of (option_copied o)) c.in-None.is))
+    let desc = as_described c.args.desc.now in
+    absurd (some_owner desc c.requires.serves.served db own (overlay_content c.args.over.now) files c.args.set c.args.owner c.if-set-eq0.false (may c.if-set-eq0.false) (sym c.structure.ensures ∙ ap (λ (o : Option (Bor Structure)). option_map shape_of (option_copied o)) c.in-None.is))
 
 pub raise-requires-clause-owned : goal.raise-requires-clause-owned
 raise-requires-clause-owned g c =
-    let desc = described c.args.desc.now in
+    let desc = as_described c.args.desc.now in
     let s = shape_of c.in-Some.s.now in
     let at : structure_of desc c.args.set ≡ Some s = sym c.structure.ensures ∙ ap (λ (o : Option (Bor Structure)). option_map shape_of (option_copied o)) c.in-Some.is in
     file_served desc (under c.args.over.now) c.args.set s c.requires.serves at
 
 pub raise-requires-clause-few : goal.raise-requires-clause-few
 raise-requires-clause-few g c =
-    let desc = described c.args.desc.now in
+    let desc = as_described c.args.desc.now in
     let s = shape_of c.in-Some.s.now in
     let at : structure_of desc c.args.set ≡ Some s = sym c.structure.ensures ∙ ap (λ (o : Option (Bor Structure)). option_map shape_of (option_copied o)) c.in-Some.is in
     (served_at desc c.args.set s c.requires.serves.served at).few
 
 pub raise-requires-clause-fits : goal.raise-requires-clause-fits
 raise-requires-clause-fits g c =
-    let desc = described c.args.desc.now in
+    let desc = as_described c.args.desc.now in
     let s = shape_of c.in-Some.s.now in
     let at : structure_of desc c.args.set ≡ Some s = sym c.structure.ensures ∙ ap (λ (o : Option (Bor Structure)). option_map shape_of (option_copied o)) c.in-Some.is in
     (served_at desc c.args.set s c.requires.serves.served at).fits
@@ -45,17 +45,17 @@ raise-requires-clause-number g c = owner_low (shape_of c.in-Some.s.now) c.args.o
 
 pub raise-requires-clause-most : goal.raise-requires-clause-most
 raise-requires-clause-most g c =
-    let desc = described c.args.desc.now in
+    let desc = as_described c.args.desc.now in
     let s = shape_of c.in-Some.s.now in
     let at : structure_of desc c.args.set ≡ Some s = sym c.structure.ensures ∙ ap (λ (o : Option (Bor Structure)). option_map shape_of (option_copied o)) c.in-Some.is in
     owner_most desc c.args.set s c.args.owner c.requires.serves.served at (sym c.is_owner.ensures ∙ c.if-not-is_owner.false)
 
 pub returns-then-not-is_owner-clause-counted : goal.returns-then-not-is_owner-clause-counted
 returns-then-not-is_owner-clause-counted g c db own told files may =
-    let desc = described c.args.desc.now in
+    let desc = as_described c.args.desc.now in
     let s = shape_of c.in-Some.s.now in
     let at : structure_of desc c.args.set ≡ Some s = sym c.structure.ensures ∙ ap (λ (o : Option (Bor Structure)). option_map shape_of (option_copied o)) c.in-Some.is in
-    let one = is_one desc c.requires.serves.served db own (seen c.args.over.now) files c.args.set c.args.owner c.if-set-eq0.false (may c.if-set-eq0.false) s at in
+    let one = is_one desc c.requires.serves.served db own (overlay_content c.args.over.now) files c.args.set c.args.owner c.if-set-eq0.false (may c.if-set-eq0.false) s at in
     absurd (apart (sym (sym c.is_owner.ensures ∙ c.if-not-is_owner.true) ∙ one))
   where
     apart : false ≡ true → ⊥
@@ -66,11 +66,11 @@ returns-then-set-eq0-clause-writes g c = enters_none 1 _ c.args.over.now g.met.B
 
 pub returns-then-set-eq0-clause-counted : goal.returns-then-set-eq0-clause-counted
 returns-then-set-eq0-clause-counted g c db own told files may =
-    (refl, subst (λ (k : ℕ → ℕ → ℕ). StandsFiles (described c.args.desc.now) db k (seen c.args.over.now)) (counts_none own c.args.set c.args.owner c.if-set-eq0.true) files)
+    (refl, subst (λ (k : ℕ → ℕ → ℕ). StandsFiles (as_described c.args.desc.now) db k (overlay_content c.args.over.now)) (counts_none own c.args.set c.args.owner c.if-set-eq0.true) files)
 
 pub returns-else-not-is_owner-clause-below : goal.returns-else-not-is_owner-clause-below
 returns-else-not-is_owner-clause-below g c told slots =
-    let desc = described c.args.desc.now in
+    let desc = as_described c.args.desc.now in
     let s = shape_of c.in-Some.s.now in
     let a = c.args.over.now in
     let at : structure_of desc c.args.set ≡ Some s = sym c.structure.ensures ∙ ap (λ (o : Option (Bor Structure)). option_map shape_of (option_copied o)) c.in-Some.is in
@@ -81,7 +81,7 @@ returns-else-not-is_owner-clause-below g c told slots =
 pub returns-else-not-is_owner-clause-counted : goal.returns-else-not-is_owner-clause-counted
 returns-else-not-is_owner-clause-counted g c =
     IfOk-weaker c.raise.result _ _ (λ done h db own told files may.
-    let desc = described c.args.desc.now in
+    let desc = as_described c.args.desc.now in
     let s = shape_of c.in-Some.s.now in
     let at : structure_of desc c.args.set ≡ Some s = sym c.structure.ensures ∙ ap (λ (o : Option (Bor Structure)). option_map shape_of (option_copied o)) c.in-Some.is in
-    counts desc c.requires.serves.served db own (seen c.args.over.now) files c.args.set c.args.owner c.if-set-eq0.false (may c.if-set-eq0.false) s done (seen c.raise.new.over) at (h told)) c.raise.ensures.raised
+    counts desc c.requires.serves.served db own (overlay_content c.args.over.now) files c.args.set c.args.owner c.if-set-eq0.false (may c.if-set-eq0.false) s done (overlay_content c.raise.new.over) at (h told)) c.raise.ensures.raised

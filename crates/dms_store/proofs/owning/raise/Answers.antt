@@ -1,6 +1,6 @@
 use Rattle.std.proofs.Common.{◌≡◌, ◌∙◌, ◌<◌, ℕ, Bool, Option, IfSome, IsTrue, ap, subst, sym, arith}
 use Rattle.std.specs.declared.result.Result.TheVariants.{Ok, Err}
-use Rattle.dms_block.specs.View.{seen, under}
+use Rattle.dms_block.specs.View.{overlay_content, under}
 use Rattle.dms_desc.specs.Shape.{shape_of}
 use Rattle.dms_layout.specs.Slots.{SlotFits}
 use Rattle.dms_layout.specs.declared.slot.Slot.{Slot}
@@ -89,8 +89,8 @@ returns-clause-raised g c told =
     let y = c.read_slot.new.b in
     let reads = c.in-Ok-Some.ensures.reads in
     let agrees = g.met.B.Blocks.agrees a.below c.requires.sound in
-    let was : slot_at s (seen a (file_of s.number)) c.args.number ≡ Used c.in-Ok-Some.slot = c.in-Ok-Some.ensures.slot told ∙ ap slot_opt c.in-Ok-Some.field-0-is in
+    let was : slot_at s (overlay_content a (file_of s.number)) c.args.number ≡ Used c.in-Ok-Some.slot = c.in-Ok-Some.ensures.slot told ∙ ap slot_opt c.in-Ok-Some.field-0-is in
     let fits = subst (λ (o : Option Slot). IfSome o (SlotFits s)) c.in-Ok-Some.field-0-is c.in-Ok-Some.ensures.fits in
     let there = subst (λ (o : Option Slot). IfSome o (λ x. block_of s.items c.args.number < count_of s a)) c.in-Ok-Some.field-0-is c.in-Ok-Some.ensures.there in
     let told_y : IsTrue (under y).told = reads.looks.passes.lasts.told ∙ told in
-    raised_is s c.args.number a y told c.in-Ok-Some.slot c.in-Some.owned (seen c.write_slot.new.b) reads agrees was fits there c.in-Some.ensures.0 c.in-Some.ensures.1 (c.in-Ok.ensures.seen told_y)
+    raised_is s c.args.number a y told c.in-Ok-Some.slot c.in-Some.owned (overlay_content c.write_slot.new.b) reads agrees was fits there c.in-Some.ensures.0 c.in-Some.ensures.1 (c.in-Ok.ensures.seen told_y)

@@ -2,7 +2,7 @@ use Rattle.std.proofs.Common.{◌∙◌, ℕ, IfOk, IfSome, refl, subst, sym}
 use Rattle.dms_block.specs.Held.{HasCausesOr}
 use Rattle.dms_block.specs.HeldLaws.{causes_or_on, lasts_none, same_none}
 use Rattle.dms_block.specs.View.{ReadsOverlay, under}
-use Rattle.dms_desc.specs.Shape.{described}
+use Rattle.dms_desc.specs.Shape.{as_described}
 use Rattle.dms_model.specs.Fitting.{MayStart, SpotFits}
 use Rattle.dms_model.specs.Members.{first_member}
 use Rattle.dms_model.specs.Stores.{Tells}
@@ -23,7 +23,7 @@ returns-then-is_data_set-clause-reads g c =
 
 pub returns-then-is_data_set-clause-causes : goal.returns-then-is_data_set-clause-causes
 returns-then-is_data_set-clause-causes g c =
-    let desc = described c.args.desc.now in
+    let desc = as_described c.args.desc.now in
     let o = c.args.over.now in
     causes_or_on (BadSlot desc c.args.path o) (BadPath desc c.args.path o) c.first_record.result (under o) (under o) (under c.first_record.new.over)
     (slots_path c.args.path c.requires.usable.serves.served (found_shape c.structure.ensures c.in-Some.is) o c.requires.usable (sym c.is_data_set.ensures ∙ c.if-is_data_set.true)) refl (lasts_none (under o)) (same_none (under o)) c.first_record.ensures.causes
@@ -43,14 +43,14 @@ first_listed-requires-clause-there g c =
 
 pub returns-else-is_manual-clause-found : goal.returns-else-is_manual-clause-found
 returns-else-is_manual-clause-found g c =
-    let desc = described c.args.desc.now in
+    let desc = as_described c.args.desc.now in
     let o = c.args.over.now in
     subst (λ (n : ℕ). MayStart desc n c.args.owner c.args.from.now → Tells (db_of desc (under o).told (under o).content) c.first_listed.result (λ d. first_member desc d n c.args.owner c.args.from.now))
     (number_is c.args.path c.requires.usable.serves.served (found_shape c.structure.ensures c.in-Some.is)) c.first_listed.ensures.found
 
 pub returns-else-is_manual-clause-fits : goal.returns-else-is_manual-clause-fits
 returns-else-is_manual-clause-fits g c =
-    subst (λ (n : ℕ). IfOk c.first_listed.result (λ o. IfSome o (SpotFits (described c.args.desc.now) n))) (number_is c.args.path c.requires.usable.serves.served (found_shape c.structure.ensures c.in-Some.is)) c.first_listed.ensures.fits
+    subst (λ (n : ℕ). IfOk c.first_listed.result (λ o. IfSome o (SpotFits (as_described c.args.desc.now) n))) (number_is c.args.path c.requires.usable.serves.served (found_shape c.structure.ensures c.in-Some.is)) c.first_listed.ensures.fits
 
 pub returns-else-is_manual-clause-reads : goal.returns-else-is_manual-clause-reads
 returns-else-is_manual-clause-reads g c =
@@ -60,4 +60,4 @@ returns-else-is_manual-clause-reads g c =
 pub returns-else-is_manual-clause-causes : goal.returns-else-is_manual-clause-causes
 returns-else-is_manual-clause-causes g c =
     let o = c.args.over.now in
-    subst (λ (n : ℕ). HasCausesOr (BadPath (described c.args.desc.now) n o) c.first_listed.result (under o) (under c.first_listed.new.over)) (number_is c.args.path c.requires.usable.serves.served (found_shape c.structure.ensures c.in-Some.is)) c.first_listed.ensures.causes
+    subst (λ (n : ℕ). HasCausesOr (BadPath (as_described c.args.desc.now) n o) c.first_listed.result (under o) (under c.first_listed.new.over)) (number_is c.args.path c.requires.usable.serves.served (found_shape c.structure.ensures c.in-Some.is)) c.first_listed.ensures.causes

@@ -2,7 +2,7 @@ use Rattle.std.proofs.Common.{◌≡◌, ◌≤◌, ◌+◌, ◌∙◌, arith, L
 use Rattle.dms_base.specs.declared.bytes.Bytes.{Bytes}
 use Rattle.dms_block.specs.View.{seen_counts, under}
 use Rattle.dms_block.specs.ViewLaws.{reads_more, reads_on}
-use Rattle.dms_desc.specs.Shape.{described, shape_of}
+use Rattle.dms_desc.specs.Shape.{as_described, shape_of}
 use Rattle.dms_model.specs.declared.spot.Spot.{Spot}
 use Rattle.dms_model.specs.Stores.{Tells}
 use Rattle.dms_ordlist.specs.Lists.{first_from}
@@ -20,7 +20,7 @@ use Rattle.dms_store.proofs.paths.first_listed.Goals as goal
 
 pub returns-in-Err-clause-causes : goal.returns-in-Err-clause-causes
 returns-in-Err-clause-causes g c =
-    let desc = described c.args.desc.now in
+    let desc = as_described c.args.desc.now in
     let o = c.args.over.now in
     let s = shape_of c.args.s.now in
     let ks = c.as_slice.result.now in
@@ -30,7 +30,7 @@ returns-in-Err-clause-causes g c =
 
 pub returns-in-Ok-None-clause-found : goal.returns-in-Ok-None-clause-found
 returns-in-Ok-None-clause-found g c may =
-    let desc = described c.args.desc.now in
+    let desc = as_described c.args.desc.now in
     let o = c.args.over.now in
     let s = shape_of c.args.s.now in
     let ks = c.as_slice.result.now in
@@ -40,7 +40,7 @@ returns-in-Ok-None-clause-found g c may =
 
 pub returns-clause-found : goal.returns-clause-found
 returns-clause-found g c may =
-    let desc = described c.args.desc.now in
+    let desc = as_described c.args.desc.now in
     let o = c.args.over.now in
     let o' = c.first_entry.new.over in
     let s = shape_of c.args.s.now in
@@ -58,7 +58,7 @@ pub returns-clause-causes : goal.returns-clause-causes
 returns-clause-causes g c =
     let kinds = c.as_slice.ensures.value ∙ c.in_ok-kinds.ensures in
     let look = c.in-Ok-Some.ensures in
-    fault_path (described c.args.desc.now) (shape_of c.args.s.now) c.requires.usable.serves.served c.requires.there c.requires.kept c.args.over.now c.requires.usable c.as_slice.result.now kinds _ _ c.as_slice-in-Ok-Some-2.result.now
+    fault_path (as_described c.args.desc.now) (shape_of c.args.s.now) c.requires.usable.serves.served c.requires.there c.requires.kept c.args.over.now c.requires.usable c.as_slice.result.now kinds _ _ c.as_slice-in-Ok-Some-2.result.now
     c.first_entry.new.over c.member_at.new.over c.member_at.result c.in-Ok-Some.field-0-is c.as_slice-in-Ok-Some-2.ensures look.there look.listed look.reads look.causes c.member_at.ensures.causes
 
 pub returns-clause-reads : goal.returns-clause-reads

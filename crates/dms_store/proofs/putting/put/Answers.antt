@@ -1,8 +1,9 @@
 use Rattle.std.proofs.Common.{◌≡◌, ◌+◌, ◌*◌, ℕ, length, refl, sym, subst}
 use Rattle.std.specs.declared.result.Result.TheVariants.{Ok, Err}
 use Rattle.dms_block.specs.Faults.{IfFull}
+use Rattle.dms_block.specs.Held.{AuditPace}
 use Rattle.dms_block.specs.HeldLaws.{full_err, full_none, full_weaker}
-use Rattle.dms_block.specs.View.{written}
+use Rattle.dms_block.specs.View.{overlay_changes}
 use Rattle.dms_model.specs.Fitting.{IsStored}
 use Rattle.dms_model.specs.declared.put.Put.{Put}
 use Rattle.dms_model.specs.declared.put.Put.TheVariants.{Stored}
@@ -14,7 +15,7 @@ returns-in-Err-finish-clause-hands_down g c =
     let m = 9 * length c.args.desc.now.structures + 2 in
     let b = c.put_over.new.over in
     hands_err {T = Unit {0}} m c.in-Err-finish.e c.args.over.now c.finish.new.self
-    (hands_down m (length (written b)) (Err c.in-Err-finish.e) c.args.over.now b c.finish.new.self g.met.B.Blocks.same_then c.in-Ok-Stored.ensures.enters c.requires.usable.none refl
+    (hands_down m (length (overlay_changes b)) (Err c.in-Err-finish.e) c.args.over.now b c.finish.new.self g.met.B.Blocks.same_then c.in-Ok-Stored.ensures.enters c.requires.usable.none refl
     c.in-Err-finish.ensures.alters c.in-Err-finish.ensures.causes c.in-Err-finish.ensures.silent c.in-Err-finish.ensures.same)
 
 pub returns-in-Ok-clause-hands_down : goal.returns-in-Ok-clause-hands_down
@@ -22,7 +23,7 @@ returns-in-Ok-clause-hands_down g c =
     let m = 9 * length c.args.desc.now.structures + 2 in
     let b = c.put_over.new.over in
     hands_as m _ c.args.over.now c.finish.new.self
-    (hands_down m (length (written b)) (Ok tt) c.args.over.now b c.finish.new.self g.met.B.Blocks.same_then c.in-Ok-Stored.ensures.enters c.requires.usable.none refl
+    (hands_down m (length (overlay_changes b)) (Ok tt) c.args.over.now b c.finish.new.self g.met.B.Blocks.same_then c.in-Ok-Stored.ensures.enters c.requires.usable.none refl
     c.in-Ok.ensures.alters c.in-Ok.ensures.causes c.in-Ok.ensures.silent c.in-Ok.ensures.same)
 
 is_stored : {n : ℕ} (a : Put) → a ≡ Stored n → IsStored a
@@ -36,8 +37,8 @@ returns-in-Err-clause-stored g c told db is may = full_none {T = Put} (Err c.in-
 
 pub returns-in-Err-finish-clause-full : goal.returns-in-Err-finish-clause-full
 returns-in-Err-finish-clause-full g c =
-    let same = g.met.B.Blocks.same_last c.args.over.now.below c.put_over.new.over.below c.in-Ok-Stored.ensures.enters.writes.same in
-    full_err (Unit {0}) Put c.in-Err-finish.e _ (subst (λ (n : ℕ). IfFull {T = Unit {0}} (Err c.in-Err-finish.e) (λ f. f ≡ n)) same c.in-Err-finish.ensures.full)
+    let same = g.met.B.Blocks.same_pace c.args.over.now.below c.put_over.new.over.below c.in-Ok-Stored.ensures.enters.writes.same in
+    full_err (Unit {0}) Put c.in-Err-finish.e _ (subst (λ (p : AuditPace). IfFull {T = Unit {0}} (Err c.in-Err-finish.e) (λ f. f ≡ p.last)) same c.in-Err-finish.ensures.full)
 
 pub returns-in-Err-finish-clause-stored : goal.returns-in-Err-finish-clause-stored
 returns-in-Err-finish-clause-stored g c told db is may =

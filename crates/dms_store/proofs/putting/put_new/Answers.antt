@@ -3,8 +3,8 @@ use Rattle.std.specs.declared.option.Option.TheVariants.{None}
 use Rattle.std.proofs.lemmas.Result.{IfOk-weaker}
 use Rattle.dms_block.specs.Content.{Content}
 use Rattle.dms_block.specs.HeldLaws.{causes_or_on}
-use Rattle.dms_block.specs.View.{seen, under}
-use Rattle.dms_desc.specs.Shape.{described, shape_of}
+use Rattle.dms_block.specs.View.{overlay_content, under}
+use Rattle.dms_desc.specs.Shape.{as_described, shape_of}
 use Rattle.dms_model.specs.declared.put.Put.{Put}
 use Rattle.dms_ordlist.specs.SeenLaws.{causes_err}
 use Rattle.dms_slots.specs.Seen.{BadIn, count_of}
@@ -21,7 +21,7 @@ returns-in-Err-clause-below g c db told spelt =
     let s = shape_of c.args.s.now in
     let a = c.args.over.now in
     causes_err (Option ℕ) Put (BadIn s a) (λ f k. ⊥) c.in-Err.e (under a) (under c.take_least.new.b)
-    (λ f k bad. none_bad (described c.args.desc.now) a s db c.requires.usable c.requires.at c.requires.set told spelt f k bad) c.in-Err.ensures.causes
+    (λ f k bad. none_bad (as_described c.args.desc.now) a s db c.requires.usable c.requires.at c.requires.set told spelt f k bad) c.in-Err.ensures.causes
 
 pub returns-in-Ok-None-clause-enters : goal.returns-in-Ok-None-clause-enters
 returns-in-Ok-None-clause-enters g c =
@@ -30,12 +30,12 @@ returns-in-Ok-None-clause-enters g c =
 pub returns-in-Ok-None-clause-answers : goal.returns-in-Ok-None-clause-answers
 returns-in-Ok-None-clause-answers g c =
     IfOk-weaker c.judge.result _ _ (λ p h told db spelt may.
-    let desc = described c.args.desc.now in
+    let desc = as_described c.args.desc.now in
     let s = shape_of c.args.s.now in
     let a = c.args.over.now in
     let b = c.take_least.new.b in
     let least = sym c.in-Ok-None.field-0-is ∙ c.in-Ok-None.ensures.least told ∙ ap (λ (x : Content). least_free s (x (file_of s.number))) (seen_below a c.requires.usable.none) in
-    none_answers desc c.requires.usable.serves.served db (under a).content (seen c.judge.new.over) s.number s c.args.rec.now spelt c.requires.at c.requires.set c.requires.new p least
+    none_answers desc c.requires.usable.serves.served db (under a).content (overlay_content c.judge.new.over) s.number s c.args.rec.now spelt c.requires.at c.requires.set c.requires.new p least
     (h db (told_on desc a b c.requires.usable db told spelt c.in-Ok-None.ensures.reads) (spelt_on desc a b c.requires.usable db told spelt c.in-Ok-None.ensures.reads))) c.judge.ensures.judged
 
 pub returns-in-Ok-Some-clause-enters : goal.returns-in-Ok-Some-clause-enters
@@ -44,7 +44,7 @@ returns-in-Ok-Some-clause-enters g c =
 
 pub returns-in-Ok-Some-clause-below : goal.returns-in-Ok-Some-clause-below
 returns-in-Ok-Some-clause-below g c db told spelt =
-    let desc = described c.args.desc.now in
+    let desc = as_described c.args.desc.now in
     let s = shape_of c.args.s.now in
     let a = c.args.over.now in
     let b = c.take_least.new.b in
@@ -57,7 +57,7 @@ returns-in-Ok-Some-clause-below g c db told spelt =
 pub returns-in-Ok-Some-clause-answers : goal.returns-in-Ok-Some-clause-answers
 returns-in-Ok-Some-clause-answers g c =
     IfOk-weaker c.store_at.result _ _ (λ p h told db spelt may.
-    let desc = described c.args.desc.now in
+    let desc = as_described c.args.desc.now in
     let s = shape_of c.args.s.now in
     let a = c.args.over.now in
     let b = c.take_least.new.b in
@@ -66,5 +66,5 @@ returns-in-Ok-Some-clause-answers g c =
     let least = sym c.in-Ok-Some.field-0-is ∙ c.in-Ok-Some.ensures.least told ∙ ap (λ (x : Content). least_free s (x (file_of s.number))) (seen_below a c.requires.usable.none) in
     let found = found_on desc a b c.requires.usable db told spelt reads s n None (free_new desc c.requires.usable.serves.served db (under a).content s.number s spelt c.requires.at c.requires.set n least) in
     let place = subst (λ (o : Option ℕ). IfSome o (λ k. (1 ≤ k) × (k ≤ s.population) × (block_of s.items k ≤ count_of s a))) c.in-Ok-Some.field-0-is c.in-Ok-Some.ensures.place in
-    new_answers desc c.requires.usable.serves.served db (under a).content (seen c.store_at.new.over) s.number s c.args.rec.now spelt c.requires.at c.requires.set c.requires.new n p place.0 least
+    new_answers desc c.requires.usable.serves.served db (under a).content (overlay_content c.store_at.new.over) s.number s c.args.rec.now spelt c.requires.at c.requires.set c.requires.new n p place.0 least
     (h db found (owner_new desc db s.number s c.args.rec.now c.requires.at may))) c.store_at.ensures.entered

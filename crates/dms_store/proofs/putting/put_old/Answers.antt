@@ -2,8 +2,8 @@ use Rattle.std.proofs.Common.{◌∙◌, ◌<◌, ◌^◌, IfSome, Option, Some,
 use Rattle.std.proofs.lemmas.Result.{IfOk-weaker}
 use Rattle.dms_block.specs.Content.{Content}
 use Rattle.dms_block.specs.HeldLaws.{causes_or_on}
-use Rattle.dms_block.specs.View.{seen, under}
-use Rattle.dms_desc.specs.Shape.{described, shape_of}
+use Rattle.dms_block.specs.View.{overlay_content, under}
+use Rattle.dms_desc.specs.Shape.{as_described, shape_of}
 use Rattle.dms_layout.specs.Slots.{SlotFits}
 use Rattle.dms_layout.specs.declared.slot.Slot.{Slot}
 use Rattle.dms_model.specs.declared.put.Put.{Put}
@@ -21,14 +21,14 @@ returns-in-Err-clause-below g c db told spelt =
     let s = shape_of c.args.s.now in
     let a = c.args.over.now in
     causes_err (Option Slot) Put (BadAt s (block_of s.items c.args.number) a) (λ f k. ⊥) c.in-Err.e (under a) (under c.read_slot.new.b)
-    (λ f k bad. none_bad (described c.args.desc.now) a s db c.requires.usable c.requires.at c.requires.set told spelt f k bad.0) c.in-Err.ensures.causes
+    (λ f k bad. none_bad (as_described c.args.desc.now) a s db c.requires.usable c.requires.at c.requires.set told spelt f k bad.0) c.in-Err.ensures.causes
 
 pub returns-in-Ok-None-clause-answers : goal.returns-in-Ok-None-clause-answers
 returns-in-Ok-None-clause-answers g c told db spelt may =
     let s = shape_of c.args.s.now in
     let a = c.args.over.now in
     let was = ap (λ (x : Content). slot_at s (x (file_of s.number)) c.args.number) (sym (seen_below a c.requires.usable.none)) ∙ c.in-Ok-None.ensures.slot told ∙ ap slot_opt c.in-Ok-None.field-0-is in
-    absurd (gone_answers (described c.args.desc.now) c.requires.usable.serves.served db (under a).content (under a).content s.number s c.args.rec.now spelt c.requires.at c.requires.set c.requires.new c.args.number c.requires.low was may.named)
+    absurd (gone_answers (as_described c.args.desc.now) c.requires.usable.serves.served db (under a).content (under a).content s.number s c.args.rec.now spelt c.requires.at c.requires.set c.requires.new c.args.number c.requires.low was may.named)
 
 pub returns-in-Ok-Some-clause-enters : goal.returns-in-Ok-Some-clause-enters
 returns-in-Ok-Some-clause-enters g c =
@@ -36,7 +36,7 @@ returns-in-Ok-Some-clause-enters g c =
 
 pub returns-in-Ok-Some-clause-below : goal.returns-in-Ok-Some-clause-below
 returns-in-Ok-Some-clause-below g c db told spelt =
-    let desc = described c.args.desc.now in
+    let desc = as_described c.args.desc.now in
     let s = shape_of c.args.s.now in
     let a = c.args.over.now in
     let b = c.read_slot.new.b in
@@ -48,7 +48,7 @@ returns-in-Ok-Some-clause-below g c db told spelt =
 pub returns-in-Ok-Some-clause-answers : goal.returns-in-Ok-Some-clause-answers
 returns-in-Ok-Some-clause-answers g c =
     IfOk-weaker c.store_at.result _ _ (λ p h told db spelt may.
-    let desc = described c.args.desc.now in
+    let desc = as_described c.args.desc.now in
     let s = shape_of c.args.s.now in
     let a = c.args.over.now in
     let b = c.read_slot.new.b in
@@ -58,5 +58,5 @@ returns-in-Ok-Some-clause-answers g c =
     let few = few_numbers desc s.number c.args.number s c.requires.usable.serves.served c.requires.at c.requires.most in
     let small : c.args.number < 2 ^ 32 = omega (arith, few) in
     let found = found_on desc a b c.requires.usable db told spelt reads s c.args.number (Some c.in-Ok-Some.old) was in
-    old_answers desc c.requires.usable.serves.served db (under a).content (seen c.store_at.new.over) s.number s c.args.rec.now spelt c.requires.at c.requires.set c.requires.new c.args.number c.in-Ok-Some.old p c.requires.low small was fits
+    old_answers desc c.requires.usable.serves.served db (under a).content (overlay_content c.store_at.new.over) s.number s c.args.rec.now spelt c.requires.at c.requires.set c.requires.new c.args.number c.in-Ok-Some.old p c.requires.low small was fits
     (h db found (owner_old db s c.in-Ok-Some.old c.args.rec.now))) c.store_at.ensures.entered

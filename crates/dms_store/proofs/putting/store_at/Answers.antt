@@ -1,10 +1,10 @@
 use Rattle.std.proofs.Common.{Bor, ◌∙◌, ◌+◌, ◌*◌, Option, IfSome, Some, ap, subst, length, arith}
 use Rattle.std.proofs.lemmas.Result.{IfOk-weaker}
-use Rattle.dms_block.specs.View.{seen}
+use Rattle.dms_block.specs.View.{overlay_content}
 use Rattle.dms_desc.specs.declared.record.Record.{Record}
 use Rattle.std.specs.Option.{option_copied}
 use Rattle.std.specs.declared.option.Option.TheVariants.{None}
-use Rattle.dms_desc.specs.Shape.{described, shape_of}
+use Rattle.dms_desc.specs.Shape.{as_described, shape_of}
 use Rattle.dms_layout.specs.Slots.{SlotFits}
 use Rattle.dms_layout.specs.declared.slot.Slot.{Slot}
 use Rattle.dms_slots.specs.SlotBlocks.{slot_opt}
@@ -12,49 +12,49 @@ use Rattle.dms_store.specs.Finding.{slot_record}
 use Rattle.dms_store.specs.PuttingAfter.{slot_links}
 use Rattle.dms_store.specs.PuttingCalls.{enters_more}
 use Rattle.dms_store.specs.PuttingEnters.{IsEntered}
-use Rattle.dms_store.specs.PuttingPlaced.{after_fits, entered_old, placed}
+use Rattle.dms_store.specs.PuttingPlaced.{after_fits, entered_old, places_slot}
 use Rattle.dms_store.specs.Rows.{rec_opt}
 use Rattle.dms_store.proofs.putting.store_at.Goals as goal
 
 pub write_new-requires-clause-new : goal.write_new-requires-clause-new
 write_new-requires-clause-new g c =
     let s = shape_of c.args.s.now in
-    after_fits (described c.args.desc.now) s.number s (option_copied c.args.old) c.args.rec.now c.in_ok-slot.slot c.requires.at c.requires.old c.requires.new c.in_ok-slot.ensures
+    after_fits (as_described c.args.desc.now) s.number s (option_copied c.args.old) c.args.rec.now c.in_ok-slot.slot c.requires.at c.requires.old c.requires.new c.in_ok-slot.ensures
 
 pub returns-in-None-clause-below : goal.returns-in-None-clause-below
 returns-in-None-clause-below g c db found =
     let s = shape_of c.args.s.now in
     c.write_new.ensures.below db (option_copied c.args.old) c.args.rec.now
-    (placed (described c.args.desc.now) db s c.args.number (option_copied c.args.old) c.args.rec.now None c.in_ok-slot.slot c.args.over.now found c.requires.at c.requires.old c.requires.new
+    (places_slot (as_described c.args.desc.now) db s c.args.number (option_copied c.args.old) c.args.rec.now None c.in_ok-slot.slot c.args.over.now found c.requires.at c.requires.old c.requires.new
     (ap (λ (x : Option (Bor Slot)). rec_opt (slot_opt (option_copied x))) c.in-None.is) c.in_ok-slot.ensures)
 
 pub write_at-requires-clause-old : goal.write_at-requires-clause-old
 write_at-requires-clause-old g c =
     let s = shape_of c.args.s.now in
-    slot_record (described c.args.desc.now) s.number s c.in-Some.old.now c.requires.at (subst (λ (x : Option (Bor Slot)). IfSome (option_copied x) (SlotFits s)) c.in-Some.is c.requires.old)
+    slot_record (as_described c.args.desc.now) s.number s c.in-Some.old.now c.requires.at (subst (λ (x : Option (Bor Slot)). IfSome (option_copied x) (SlotFits s)) c.in-Some.is c.requires.old)
 
 pub write_at-requires-clause-new : goal.write_at-requires-clause-new
 write_at-requires-clause-new g c =
     let s = shape_of c.args.s.now in
-    after_fits (described c.args.desc.now) s.number s (option_copied c.args.old) c.args.rec.now c.in_ok-slot.slot c.requires.at c.requires.old c.requires.new c.in_ok-slot.ensures
+    after_fits (as_described c.args.desc.now) s.number s (option_copied c.args.old) c.args.rec.now c.in_ok-slot.slot c.requires.at c.requires.old c.requires.new c.in_ok-slot.ensures
 
 pub returns-clause-below : goal.returns-clause-below
 returns-clause-below g c db found =
     let s = shape_of c.args.s.now in
     c.write_at.ensures.below db (option_copied c.args.old) c.args.rec.now
-    (placed (described c.args.desc.now) db s c.args.number (option_copied c.args.old) c.args.rec.now (Some c.in-Some.old.now.rec) c.in_ok-slot.slot c.args.over.now found c.requires.at c.requires.old c.requires.new
+    (places_slot (as_described c.args.desc.now) db s c.args.number (option_copied c.args.old) c.args.rec.now (Some c.in-Some.old.now.rec) c.in_ok-slot.slot c.args.over.now found c.requires.at c.requires.old c.requires.new
     (ap (λ (x : Option (Bor Slot)). rec_opt (slot_opt (option_copied x))) c.in-Some.is) c.in_ok-slot.ensures)
 
 pub returns-in-None-clause-entered : goal.returns-in-None-clause-entered
 returns-in-None-clause-entered g c =
     IfOk-weaker c.write_new.result _ _ (λ p h db found owner.
-    let desc = described c.args.desc.now in
+    let desc = as_described c.args.desc.now in
     let s = shape_of c.args.s.now in
     let o = option_copied c.args.old in
     let rec_is = ap (λ (x : Slot). x.rec) c.in_ok-slot.ensures ∙ slot_links s.items o c.args.rec.now in
-    subst (λ (r : Record). IsEntered desc db s.number c.args.number r (seen c.write_new.new.over) p) rec_is
+    subst (λ (r : Record). IsEntered desc db s.number c.args.number r (overlay_content c.write_new.new.over) p) rec_is
     (h db o c.args.rec.now
-    (placed desc db s c.args.number o c.args.rec.now None c.in_ok-slot.slot c.args.over.now found c.requires.at c.requires.old c.requires.new
+    (places_slot desc db s c.args.number o c.args.rec.now None c.in_ok-slot.slot c.args.over.now found c.requires.at c.requires.old c.requires.new
     (ap (λ (x : Option (Bor Slot)). rec_opt (slot_opt (option_copied x))) c.in-None.is) c.in_ok-slot.ensures) owner)) c.write_new.ensures.entered
 
 pub returns-clause-enters : goal.returns-clause-enters
@@ -65,15 +65,15 @@ returns-clause-enters g c =
 pub returns-clause-entered : goal.returns-clause-entered
 returns-clause-entered g c =
     IfOk-weaker c.write_at.result _ _ (λ p h db found owner.
-    let desc = described c.args.desc.now in
+    let desc = as_described c.args.desc.now in
     let s = shape_of c.args.s.now in
     let o = option_copied c.args.old in
     let a = c.args.over.now in
     let agrees = g.met.B.Blocks.agrees a.below c.requires.usable.sound in
     let fits = after_fits desc s.number s o c.args.rec.now c.in_ok-slot.slot c.requires.at c.requires.old c.requires.new c.in_ok-slot.ensures in
     let rec_is = ap (λ (x : Slot). x.rec) c.in_ok-slot.ensures ∙ slot_links s.items o c.args.rec.now in
-    let place = placed desc db s c.args.number o c.args.rec.now (Some c.in-Some.old.now.rec) c.in_ok-slot.slot a found c.requires.at c.requires.old c.requires.new
+    let place = places_slot desc db s c.args.number o c.args.rec.now (Some c.in-Some.old.now.rec) c.in_ok-slot.slot a found c.requires.at c.requires.old c.requires.new
     (ap (λ (x : Option (Bor Slot)). rec_opt (slot_opt (option_copied x))) c.in-Some.is) c.in_ok-slot.ensures in
-    subst (λ (r : Record). IsEntered desc db s.number c.args.number r (seen c.write_at.new.over) p) rec_is
+    subst (λ (r : Record). IsEntered desc db s.number c.args.number r (overlay_content c.write_at.new.over) p) rec_is
     (entered_old desc a c.requires.usable agrees s c.args.number c.requires.at c.requires.set c.requires.low c.requires.most c.in_ok-slot.slot fits (Some c.in-Some.old.now.rec) db o c.args.rec.now place
-    c.in-Some.old.now (ap (λ (x : Option (Bor Slot)). option_copied x) c.in-Some.is) (seen c.write_at.new.over) p (h db o c.args.rec.now place owner))) c.write_at.ensures.entered
+    c.in-Some.old.now (ap (λ (x : Option (Bor Slot)). option_copied x) c.in-Some.is) (overlay_content c.write_at.new.over) p (h db o c.args.rec.now place owner))) c.write_at.ensures.entered

@@ -3,9 +3,9 @@ use Rattle.std.specs.Option.{option_copied}
 use Rattle.std.specs.declared.result.Result.TheVariants.{Ok, Err}
 use Rattle.dms_block.specs.HeldLaws.{causes_or_on}
 use Rattle.dms_block.specs.View.{under}
-use Rattle.dms_desc.specs.Shape.{described, shape_of}
+use Rattle.dms_desc.specs.Shape.{as_described, shape_of}
 use Rattle.dms_sets.specs.Changes.{has_number}
-use Rattle.dms_sets.specs.Keeping.{listed}
+use Rattle.dms_sets.specs.Keeping.{seen_list}
 use Rattle.dms_sets.specs.Told.{KeepsSets}
 use Rattle.dms_slots.specs.Seen.{BadAt}
 use Rattle.dms_slots.specs.SlotBlocks.{block_of}
@@ -17,35 +17,35 @@ use Rattle.dms_store.specs.PuttingPlaced.{few_numbers, listed_at, not_bad, numbe
 use Rattle.dms_store.proofs.putting.write_at.Goals as goal
 
 pub change-requires-clause-usable : goal.change-requires-clause-usable
-change-requires-clause-usable g c = lists_usable (described c.args.desc.now) c.args.over.now c.args.s.now.number c.requires.usable
+change-requires-clause-usable g c = lists_usable (as_described c.args.desc.now) c.args.over.now c.args.s.now.number c.requires.usable
 
 pub change-requires-clause-old : goal.change-requires-clause-old
-change-requires-clause-old g c = may_enter (described c.args.desc.now) c.args.s.now.number (shape_of c.args.s.now) (option_copied c.args.old) c.requires.usable.serves.served c.requires.at c.requires.old
+change-requires-clause-old g c = may_enter (as_described c.args.desc.now) c.args.s.now.number (shape_of c.args.s.now) (option_copied c.args.old) c.requires.usable.serves.served c.requires.at c.requires.old
 
 pub change-requires-clause-new : goal.change-requires-clause-new
-change-requires-clause-new g c = may_enter (described c.args.desc.now) c.args.s.now.number (shape_of c.args.s.now) (Some c.args.slot.now.rec) c.requires.usable.serves.served c.requires.at c.requires.new
+change-requires-clause-new g c = may_enter (as_described c.args.desc.now) c.args.s.now.number (shape_of c.args.s.now) (Some c.args.slot.now.rec) c.requires.usable.serves.served c.requires.at c.requires.new
 
 pub write_slot-requires-clause-few : goal.write_slot-requires-clause-few
-write_slot-requires-clause-few g c = (served_at (described c.args.desc.now) c.args.s.now.number (shape_of c.args.s.now) c.requires.usable.serves.served c.requires.at).few
+write_slot-requires-clause-few g c = (served_at (as_described c.args.desc.now) c.args.s.now.number (shape_of c.args.s.now) c.requires.usable.serves.served c.requires.at).few
 
 pub write_slot-requires-clause-fits : goal.write_slot-requires-clause-fits
-write_slot-requires-clause-fits g c = (served_at (described c.args.desc.now) c.args.s.now.number (shape_of c.args.s.now) c.requires.usable.serves.served c.requires.at).fits
+write_slot-requires-clause-fits g c = (served_at (as_described c.args.desc.now) c.args.s.now.number (shape_of c.args.s.now) c.requires.usable.serves.served c.requires.at).fits
 
 pub write_slot-requires-clause-most : goal.write_slot-requires-clause-most
-write_slot-requires-clause-most g c = few_numbers (described c.args.desc.now) c.args.s.now.number c.args.number (shape_of c.args.s.now) c.requires.usable.serves.served c.requires.at c.requires.most
+write_slot-requires-clause-most g c = few_numbers (as_described c.args.desc.now) c.args.s.now.number c.args.number (shape_of c.args.s.now) c.requires.usable.serves.served c.requires.at c.requires.most
 
 pub write_slot-requires-clause-next : goal.write_slot-requires-clause-next
 write_slot-requires-clause-next g c =
     let s = shape_of c.args.s.now in
-    let off = set_off (described c.args.desc.now) s.number s.number s c.requires.usable.serves.served c.requires.at c.requires.set in
+    let off = set_off (as_described c.args.desc.now) s.number s.number s c.requires.usable.serves.served c.requires.at c.requires.set in
     omega (arith, c.requires.next, (c.in-Ok-Done.ensures.calm.others s.number off).0)
 
 pub write_slot-requires-clause-values : goal.write_slot-requires-clause-values
-write_slot-requires-clause-values g c = values_all (described c.args.desc.now) c.args.s.now.number (shape_of c.args.s.now) c.args.slot.now.rec c.requires.at c.requires.new
+write_slot-requires-clause-values g c = values_all (as_described c.args.desc.now) c.args.s.now.number (shape_of c.args.s.now) c.args.slot.now.rec c.requires.at c.requires.new
 
 pub returns-in-Err-clause-below : goal.returns-in-Err-clause-below
 returns-in-Err-clause-below g c db o rec p =
-    let desc = described c.args.desc.now in
+    let desc = as_described c.args.desc.now in
     let s = shape_of c.args.s.now in
     let agrees = g.met.B.Blocks.agrees c.args.over.now.below c.requires.usable.sound in
     c.in-Err.ensures.below db
@@ -55,17 +55,17 @@ returns-in-Err-clause-below g c db o rec p =
 
 pub returns-in-Ok-Duplicate-clause-entered : goal.returns-in-Ok-Duplicate-clause-entered
 returns-in-Ok-Duplicate-clause-entered g c db o rec p owner =
-    let desc = described c.args.desc.now in
+    let desc = as_described c.args.desc.now in
     let s = shape_of c.args.s.now in
     let agrees = g.met.B.Blocks.agrees c.args.over.now.below c.requires.usable.sound in
     refused_at desc c.args.over.now c.requires.usable agrees s c.args.number c.requires.at c.requires.set c.requires.low c.requires.most c.args.slot.now c.requires.new (option_copied c.args.old) db o rec p c.change.new.lists c.in-Ok-Duplicate.set
-    (subst (λ x. KeepsSets desc db s.number c.args.number (Some c.args.slot.now.rec) (listed c.change.new.lists) x) c.in-Ok-Duplicate.field-0-is (c.in-Ok-Duplicate.ensures.kept db
+    (subst (λ x. KeepsSets desc db s.number c.args.number (Some c.args.slot.now.rec) (seen_list c.change.new.lists) x) c.in-Ok-Duplicate.field-0-is (c.in-Ok-Duplicate.ensures.kept db
     (stands_at desc c.args.over.now c.requires.usable agrees s c.args.number c.requires.at c.requires.set c.requires.low c.requires.most c.args.slot.now c.requires.new (option_copied c.args.old) db o rec p)
     (listed_at desc c.args.over.now c.requires.usable agrees s c.args.number c.requires.at c.requires.set c.requires.low c.requires.most c.args.slot.now c.requires.new (option_copied c.args.old) db o rec p)))
 
 pub returns-in-Err-write_slot-clause-enters : goal.returns-in-Err-write_slot-clause-enters
 returns-in-Err-write_slot-clause-enters g c =
-    let desc = described c.args.desc.now in
+    let desc = as_described c.args.desc.now in
     let s = shape_of c.args.s.now in
     let n = 3 * length c.args.desc.now.structures in
     enters_err {T = Unit {0}} (9 * length c.args.desc.now.structures + 1) c.in-Err-write_slot.e c.args.over.now c.write_slot.new.b
@@ -74,7 +74,7 @@ returns-in-Err-write_slot-clause-enters g c =
 
 pub returns-in-Err-write_slot-clause-below : goal.returns-in-Err-write_slot-clause-below
 returns-in-Err-write_slot-clause-below g c db o rec p =
-    let desc = described c.args.desc.now in
+    let desc = as_described c.args.desc.now in
     let s = shape_of c.args.s.now in
     let agrees = g.met.B.Blocks.agrees c.args.over.now.below c.requires.usable.sound in
     let n = 3 * length c.args.desc.now.structures in
@@ -85,7 +85,7 @@ returns-in-Err-write_slot-clause-below g c db o rec p =
 
 pub returns-in-Ok-clause-enters : goal.returns-in-Ok-clause-enters
 returns-in-Ok-clause-enters g c =
-    let desc = described c.args.desc.now in
+    let desc = as_described c.args.desc.now in
     let s = shape_of c.args.s.now in
     let n = 3 * length c.args.desc.now.structures in
     enters_as (9 * length c.args.desc.now.structures + 1) _ c.args.over.now c.write_slot.new.b
@@ -94,7 +94,7 @@ returns-in-Ok-clause-enters g c =
 
 pub returns-in-Ok-clause-slots : goal.returns-in-Ok-clause-slots
 returns-in-Ok-clause-slots g c db o rec p apart =
-    let desc = described c.args.desc.now in
+    let desc = as_described c.args.desc.now in
     let s = shape_of c.args.s.now in
     let agrees = g.met.B.Blocks.agrees c.args.over.now.below c.requires.usable.sound in
     let n = 3 * length c.args.desc.now.structures in
@@ -105,7 +105,7 @@ returns-in-Ok-clause-slots g c db o rec p apart =
 
 pub returns-in-Ok-clause-entered : goal.returns-in-Ok-clause-entered
 returns-in-Ok-clause-entered g c db o rec p owner =
-    let desc = described c.args.desc.now in
+    let desc = as_described c.args.desc.now in
     let s = shape_of c.args.s.now in
     let agrees = g.met.B.Blocks.agrees c.args.over.now.below c.requires.usable.sound in
     let n = 3 * length c.args.desc.now.structures in
@@ -114,10 +114,10 @@ returns-in-Ok-clause-entered g c db o rec p owner =
     let told : IsTrue (under c.change.new.lists).told = calm.told ∙ p.told in
     uncounted_at desc c.args.over.now c.requires.usable agrees s c.args.number c.requires.at c.requires.set c.requires.low c.requires.most c.args.slot.now c.requires.new (option_copied c.args.old) db o rec p c.change.new.lists c.write_slot.new.b n calm
     c.requires.next (c.in-Ok.ensures.seen told) owner
-    (subst (λ x. KeepsSets desc db s.number c.args.number (Some c.args.slot.now.rec) (listed c.change.new.lists) x) c.in-Ok-Done.field-0-is (c.in-Ok-Done.ensures.kept db
+    (subst (λ x. KeepsSets desc db s.number c.args.number (Some c.args.slot.now.rec) (seen_list c.change.new.lists) x) c.in-Ok-Done.field-0-is (c.in-Ok-Done.ensures.kept db
     (stands_at desc c.args.over.now c.requires.usable agrees s c.args.number c.requires.at c.requires.set c.requires.low c.requires.most c.args.slot.now c.requires.new (option_copied c.args.old) db o rec p)
     (listed_at desc c.args.over.now c.requires.usable agrees s c.args.number c.requires.at c.requires.set c.requires.low c.requires.most c.args.slot.now c.requires.new (option_copied c.args.old) db o rec p)))
     (subst AreWhole c.as_slice.ensures c.see_whole.ensures) (c.in-Ok.ensures.writes.looks.same.content told ∙ first.same.content p.told)
 
 pub returns-in-Ok-clause-fits : goal.returns-in-Ok-clause-fits
-returns-in-Ok-clause-fits g c = number_fits (described c.args.desc.now) c.args.s.now.number c.args.number (shape_of c.args.s.now) c.requires.at c.requires.low c.requires.most
+returns-in-Ok-clause-fits g c = number_fits (as_described c.args.desc.now) c.args.s.now.number c.args.number (shape_of c.args.s.now) c.requires.at c.requires.low c.requires.most

@@ -1,8 +1,8 @@
 use Rattle.std.proofs.Common.{◌+◌, ◌*◌, Bool, IsTrue, length, refl, subst, arith}
 use Rattle.std.specs.declared.option.Option.TheVariants.{None}
 use Rattle.std.specs.declared.result.Result.TheVariants.{Ok, Err}
-use Rattle.dms_block.specs.View.{seen, under}
-use Rattle.dms_desc.specs.Shape.{described, shape_of}
+use Rattle.dms_block.specs.View.{overlay_content, under}
+use Rattle.dms_desc.specs.Shape.{as_described, shape_of}
 use Rattle.dms_model.specs.declared.put.Put.{Put}
 use Rattle.dms_model.specs.declared.put.Put.TheVariants.{Duplicate, Full}
 use Rattle.dms_ordlist.specs.SeenLaws.{causes_err}
@@ -25,7 +25,7 @@ count_owner-requires-clause-sound g c = c.in-Ok-Stored.ensures.enters.writes.loo
 
 pub count_owner-requires-clause-serves : goal.count_owner-requires-clause-serves
 count_owner-requires-clause-serves g c =
-    serves_on (described c.args.desc.now) (under c.args.over.now) (under c.write_at.new.over) c.in-Ok-Stored.ensures.enters.writes.looks.passes.lasts c.requires.usable.serves
+    serves_on (as_described c.args.desc.now) (under c.args.over.now) (under c.write_at.new.over) c.in-Ok-Stored.ensures.enters.writes.looks.passes.lasts c.requires.usable.serves
 
 pub returns-in-Ok-Duplicate-clause-enters : goal.returns-in-Ok-Duplicate-clause-enters
 returns-in-Ok-Duplicate-clause-enters g c =
@@ -45,13 +45,13 @@ returns-in-Err-count_owner-clause-enters g c =
 
 pub returns-in-Err-count_owner-clause-below : goal.returns-in-Err-count_owner-clause-below
 returns-in-Err-count_owner-clause-below g c db o rec p =
-    let desc = described c.args.desc.now in
+    let desc = as_described c.args.desc.now in
     let s = shape_of c.args.s.now in
     let n = 9 * length c.args.desc.now.structures in
     let y = c.write_at.new.over in
     let enters = c.in-Ok-Stored.ensures.enters in
     let told : IsTrue (under y).told = enters_told (n + 1) c.args.over.now y enters p.told in
-    let slots = subst (λ (q : Put). IfOwned s.owner (IfStored q (AreSlots desc (seen y)))) c.in-Ok-Stored.field-0-is (c.in-Ok-Stored.ensures.slots db o rec p) in
+    let slots = subst (λ (q : Put). IfOwned s.owner (IfStored q (AreSlots desc (overlay_content y)))) c.in-Ok-Stored.field-0-is (c.in-Ok-Stored.ensures.slots db o rec p) in
     causes_err Bool Put (λ f k. ⊥) (λ f k. ⊥) c.in-Err-count_owner.e (under c.args.over.now) (under c.count_owner.new.over) (λ f k h. h)
     (causes_then {U = Bool} (n + 1) (Err c.in-Err-count_owner.e) c.args.over.now y c.count_owner.new.over enters (c.in-Err-count_owner.ensures.below told slots))
 
@@ -63,14 +63,14 @@ returns-in-Ok-false-clause-enters g c =
 
 pub returns-in-Ok-false-clause-entered : goal.returns-in-Ok-false-clause-entered
 returns-in-Ok-false-clause-entered g c db o rec p owner =
-    let desc = described c.args.desc.now in
+    let desc = as_described c.args.desc.now in
     let s = shape_of c.args.s.now in
     let n = 9 * length c.args.desc.now.structures in
     let a = c.args.over.now in
     let y = c.write_at.new.over in
     let agrees = g.met.B.Blocks.agrees a.below c.requires.usable.sound in
     let told : IsTrue (under y).told = enters_told (n + 1) a y c.in-Ok-Stored.ensures.enters p.told in
-    let u = subst (λ (q : Put). IsUncounted desc db s.number c.args.number c.args.slot.now.rec (seen y) q) c.in-Ok-Stored.field-0-is (c.in-Ok-Stored.ensures.entered db o rec p owner) in
+    let u = subst (λ (q : Put). IsUncounted desc db s.number c.args.number c.args.slot.now.rec (overlay_content y) q) c.in-Ok-Stored.field-0-is (c.in-Ok-Stored.ensures.entered db o rec p owner) in
     let may = may_count_at desc a c.requires.usable agrees s c.args.number c.requires.at c.requires.set c.requires.low c.requires.most c.args.slot.now c.requires.new None db o rec p refl owner in
     let done = (c.in-Ok-false.ensures.counted (with_record db s.number c.args.number c.args.slot.now.rec) (owned_in desc db) told u.2 (λ apart. may)).0 in
     absurd (cc (done, c.in-Ok-false.field-0-test))
@@ -83,14 +83,14 @@ returns-in-Ok-true-clause-enters g c =
 
 pub returns-in-Ok-true-clause-entered : goal.returns-in-Ok-true-clause-entered
 returns-in-Ok-true-clause-entered g c db o rec p owner =
-    let desc = described c.args.desc.now in
+    let desc = as_described c.args.desc.now in
     let s = shape_of c.args.s.now in
     let n = 9 * length c.args.desc.now.structures in
     let a = c.args.over.now in
     let y = c.write_at.new.over in
     let agrees = g.met.B.Blocks.agrees a.below c.requires.usable.sound in
     let told : IsTrue (under y).told = enters_told (n + 1) a y c.in-Ok-Stored.ensures.enters p.told in
-    let u = subst (λ (q : Put). IsUncounted desc db s.number c.args.number c.args.slot.now.rec (seen y) q) c.in-Ok-Stored.field-0-is (c.in-Ok-Stored.ensures.entered db o rec p owner) in
+    let u = subst (λ (q : Put). IsUncounted desc db s.number c.args.number c.args.slot.now.rec (overlay_content y) q) c.in-Ok-Stored.field-0-is (c.in-Ok-Stored.ensures.entered db o rec p owner) in
     let may = may_count_at desc a c.requires.usable agrees s c.args.number c.requires.at c.requires.set c.requires.low c.requires.most c.args.slot.now c.requires.new None db o rec p refl owner in
     let counted = (c.in-Ok-true.ensures.counted (with_record db s.number c.args.number c.args.slot.now.rec) (owned_in desc db) told u.2 (λ apart. may)).1 in
-    (u.0, u.1, counted_at desc a c.requires.usable agrees s c.args.number c.requires.at c.requires.set c.requires.low c.requires.most c.args.slot.now c.requires.new None db o rec p refl owner (seen c.count_owner.new.over) counted)
+    (u.0, u.1, counted_at desc a c.requires.usable agrees s c.args.number c.requires.at c.requires.set c.requires.low c.requires.most c.args.slot.now c.requires.new None db o rec p refl owner (overlay_content c.count_owner.new.over) counted)

@@ -11,11 +11,11 @@ use Rattle.dms_store.specs.WithinLaws.{owned_fits}
 use Rattle.dms_store.proofs.scanning.owned_at.Goals as goal
 
 pub returns-in-Ok-clause-found : goal.returns-in-Ok-clause-found
-returns-in-Ok-clause-found g c tells = c.owned.ensures ∙ ap (owned_spot c.args.owner c.args.number) (sym (c.in-Ok.ensures.slot tells))
+returns-in-Ok-clause-found g c tells = c.owned_spot.ensures ∙ ap (owned_spot c.args.owner c.args.number) (sym (c.in-Ok.ensures.slot tells))
 
 pub returns-in-Ok-clause-fits : goal.returns-in-Ok-clause-fits
 returns-in-Ok-clause-fits g c =
-    subst (λ (o : Option Spot). IfSome o (IsRecordSpot (shape_of c.args.s.now))) (sym c.owned.ensures)
+    subst (λ (o : Option Spot). IfSome o (IsRecordSpot (shape_of c.args.s.now))) (sym c.owned_spot.ensures)
     (owned_fits (shape_of c.args.s.now) c.args.owner c.args.number c.in-Ok.slot c.in-Ok.ensures.fits c.requires.low c.requires.most)
 
 pub returns-in-Err-clause-causes : goal.returns-in-Err-clause-causes

@@ -7,7 +7,7 @@ use Rattle.std.specs.Option.{option_copied}
 use Rattle.dms_base.proofs.NameTests.{Name-eq-Decides}
 use Rattle.dasdl_compile.specs.declared.draft.Draft.{Draft}
 use Rattle.dasdl_compile.specs.Finding.{data_set_named}
-use Rattle.dasdl_compile.specs.Tables.{names_of, noted}
+use Rattle.dasdl_compile.specs.Tables.{names_of, note_of}
 use Rattle.dasdl_compile.proofs.Titles.{same_test, chosen, names_found}
 use Rattle.dasdl_compile.proofs.drafts.Drafts.data_set_named.Goals as goal
 
@@ -17,7 +17,7 @@ read ds at (Some d) found is = sym (slice_get_read ds (length ds) at d.now refl 
 
 answered : (test : List ℕ → List ℕ → Bool) → test ≡ bytes_eq → (n : List ℕ) (ds now : List Draft) (es : List (List ℕ × Option ℕ)) (o : Option (Option ℕ)) → es ≡ names_of ds → o ≡ lookup (test n) es → ds ≡ now → chosen ds o None ≡ data_set_named n now
 answered test same n ds now es o is found view =
-    ap (λ (p : Option (Option ℕ)). chosen ds p None) (found ∙ ap (λ (t : List ℕ → List ℕ → Bool). lookup (t n) es) same ∙ ap (λ (l : List (List ℕ × Option ℕ)). noted n l) is)
+    ap (λ (p : Option (Option ℕ)). chosen ds p None) (found ∙ ap (λ (t : List ℕ → List ℕ → Bool). lookup (t n) es) same ∙ ap (λ (l : List (List ℕ × Option ℕ)). note_of n l) is)
     ∙ names_found n ds
     ∙ ap (λ (l : List Draft). data_set_named n l) view
 

@@ -3,7 +3,7 @@ use Rattle.std.specs.Map.{lookup}
 use Rattle.dms_base.proofs.NameTests.{Name-eq-Decides}
 use Rattle.dasdl_compile.specs.declared.draft.Draft.{Draft}
 use Rattle.dasdl_compile.specs.Finding.{is_structure}
-use Rattle.dasdl_compile.specs.Tables.{noted}
+use Rattle.dasdl_compile.specs.Tables.{note_of}
 use Rattle.dasdl_compile.proofs.Titles.{same_test, names_seen}
 use Rattle.dasdl_compile.proofs.drafts.Drafts.is_structure.Goals as goal
 
@@ -12,6 +12,6 @@ returns c =
     let n = c.args.name.now in
     c.contains_key.ensures
     ∙ ap (λ (test : List ℕ → List ℕ → Bool). is_some (lookup (test n) c.self.inside.names.entries)) (same_test _ Name-eq-Decides)
-    ∙ ap (λ (es : List (List ℕ × Option ℕ)). is_some (noted n es)) c.self.invariant
+    ∙ ap (λ (es : List (List ℕ × Option ℕ)). is_some (note_of n es)) c.self.invariant
     ∙ names_seen n c.self.inside.kept.items
     ∙ ap (λ (ds : List Draft). is_structure n ds) c.self.view_is

@@ -1,5 +1,5 @@
 use Rattle.std.proofs.Common.{◌≡◌, ◌∙◌, ◌+◌, ◌++◌, ap, List, ℕ, take, drop, length, arith}
-use Rattle.dms_fields.specs.Fields.{laid}
+use Rattle.dms_fields.specs.Fields.{lay_bytes}
 use Rattle.dms_audrec.specs.Spelling.{spelling}
 use Rattle.dms_audrec.specs.Seen.{entry_seen}
 use Rattle.dms_audfile.proofs.Laying.{held, written_back}
@@ -13,5 +13,5 @@ returns-clause-held c =
     let bytes = spelling (entry_seen c.args.entry.now) in
     let back : List ℕ = take s.block.len (new ++ drop (length new) s.block.items) in
     ap (λ k. take (s.used + k) (drop 2 back)) c.put_entry-taken.ensures.taken
-    ∙ ap (λ (l : List ℕ). take (s.used + length bytes) (drop 2 l)) (written_back s.block.len new s.block.items size ∙ c.put_entry-taken.ensures.written ∙ (λ i. laid (2 + c.from-at.ensures i) bytes (c.deref_mut.ensures.value i)))
+    ∙ ap (λ (l : List ℕ). take (s.used + length bytes) (drop 2 l)) (written_back s.block.len new s.block.items size ∙ c.put_entry-taken.ensures.written ∙ (λ i. lay_bytes (2 + c.from-at.ensures i) bytes (c.deref_mut.ensures.value i)))
     ∙ held s.used bytes s.block.items (omega (arith, s.few, s.block_size, c.deref_mut.ensures.len, ap length c.deref_mut.ensures.value))

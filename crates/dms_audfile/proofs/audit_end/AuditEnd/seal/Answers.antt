@@ -6,7 +6,7 @@ use Rattle.dms_audfile.specs.BlockLaws.{spellings, block_of}
 use Rattle.dms_audfile.specs.Trail.{trail_from}
 use Rattle.dms_audfile.specs.Unsealed.{block_with}
 use Rattle.dms_audfile.specs.TrailEntries.{trail_entries}
-use Rattle.dms_audfile.specs.Ends.{unsealed}
+use Rattle.dms_audfile.specs.Ends.{unsealed_bytes}
 use Rattle.dms_audfile.proofs.Ended.{seals_of, seals_none, none_waits, few_wait, trail_more, some_wait, grown_none, grown_one}
 use Rattle.dms_audfile.proofs.Growing.{writes_same}
 use Rattle.dms_audfile.proofs.Limits.{next_idle, next_busy}
@@ -32,25 +32,25 @@ pub returns-in-Ok-clause-moments : goal.returns-in-Ok-clause-moments
 returns-in-Ok-clause-moments g c first waiting tells at =
     let s = c.args.self.now in
     let few = few_wait s first waiting _ _ at s.few in
-    let is : block_with (unsealed s) ≡ block_of waiting = ap block_with at.bytes in
+    let is : block_with (unsealed_bytes s) ≡ block_of waiting = ap block_with at.bytes in
     let some : 0 < length waiting = some_wait s waiting at.bytes (search rules) c.if-self-eq0.false in
     let allowed : s.file < 20000 = s.begun (omega (arith, c.if-self-eq0.false)) in
-    steps_weaken (c.seal_block.ensures.moments first tells at.writes at.settled) (λ z x now grows. seals_of s.total s.tag first s.file s.count waiting (block_with (unsealed s)) z x at.low (writes_same s.total s.tag first s.file s.count _ z.files at.writes (λ h from upto. at.settled h from upto z now)) allowed at.kind few some is grows)
+    steps_weaken (c.seal_block.ensures.moments first tells at.writes at.settled) (λ z x now grows. seals_of s.total s.tag first s.file s.count waiting (block_with (unsealed_bytes s)) z x at.low (writes_same s.total s.tag first s.file s.count _ z.files at.writes (λ h from upto. at.settled h from upto z now)) allowed at.kind few some is grows)
 
 pub returns-in-Err-clause-moments : goal.returns-in-Err-clause-moments
 returns-in-Err-clause-moments g c first waiting tells at =
     let s = c.args.self.now in
     let few = few_wait s first waiting _ _ at s.few in
-    let is : block_with (unsealed s) ≡ block_of waiting = ap block_with at.bytes in
+    let is : block_with (unsealed_bytes s) ≡ block_of waiting = ap block_with at.bytes in
     let some : 0 < length waiting = some_wait s waiting at.bytes (search rules) c.if-self-eq0.false in
     let allowed : s.file < 20000 = s.begun (omega (arith, c.if-self-eq0.false)) in
-    steps_weaken (c.seal_block.ensures.moments first tells at.writes at.settled) (λ z x now grows. seals_of s.total s.tag first s.file s.count waiting (block_with (unsealed s)) z x at.low (writes_same s.total s.tag first s.file s.count _ z.files at.writes (λ h from upto. at.settled h from upto z now)) allowed at.kind few some is grows)
+    steps_weaken (c.seal_block.ensures.moments first tells at.writes at.settled) (λ z x now grows. seals_of s.total s.tag first s.file s.count waiting (block_with (unsealed_bytes s)) z x at.low (writes_same s.total s.tag first s.file s.count _ z.files at.writes (λ h from upto. at.settled h from upto z now)) allowed at.kind few some is grows)
 
 pub returns-in-Ok-clause-sealed : goal.returns-in-Ok-clause-sealed
 returns-in-Ok-clause-sealed g c first waiting tells at =
     let s = c.args.self.now in
     let few = few_wait s first waiting _ _ at s.few in
-    let is : block_with (unsealed s) ≡ block_of waiting = ap block_with at.bytes in
+    let is : block_with (unsealed_bytes s) ≡ block_of waiting = ap block_with at.bytes in
     let some : 0 < length waiting = some_wait s waiting at.bytes (search rules) c.if-self-eq0.false in
     let allowed : s.file < 20000 = s.begun (omega (arith, c.if-self-eq0.false)) in
     let old = g.S.Site.files c.args.site.now in
@@ -80,7 +80,7 @@ pub returns-in-Ok-clause-grown : goal.returns-in-Ok-clause-grown
 returns-in-Ok-clause-grown g c first waiting tells at =
     let s = c.args.self.now in
     let few = few_wait s first waiting _ _ at s.few in
-    let is : block_with (unsealed s) ≡ block_of waiting = ap block_with at.bytes in
+    let is : block_with (unsealed_bytes s) ≡ block_of waiting = ap block_with at.bytes in
     let some : 0 < length waiting = some_wait s waiting at.bytes (search rules) c.if-self-eq0.false in
     let allowed : s.file < 20000 = s.begun (omega (arith, c.if-self-eq0.false)) in
-    grown_one s.total first waiting (block_with (unsealed s)) _ _ at.kind few some is (c.in-Ok.ensures.sealed first 10000 tells at.writes (omega (arith, at.low, allowed)))
+    grown_one s.total first waiting (block_with (unsealed_bytes s)) _ _ at.kind few some is (c.in-Ok.ensures.sealed first 10000 tells at.writes (omega (arith, at.low, allowed)))

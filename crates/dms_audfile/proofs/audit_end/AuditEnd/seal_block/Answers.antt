@@ -5,7 +5,7 @@ use Rattle.dms_audfile.specs.Header.{new_header, tag_said}
 use Rattle.dms_audfile.specs.Trail.{trail_from}
 use Rattle.dms_audfile.specs.Sealing.{IsWrittenUpTo}
 use Rattle.dms_audfile.specs.Unsealed.{block_with}
-use Rattle.dms_audfile.specs.Ends.{unsealed}
+use Rattle.dms_audfile.specs.Ends.{unsealed_bytes}
 use Rattle.dms_audfile.proofs.Laying.{written_back}
 use Rattle.dms_audfile.proofs.Ended.{grows_as}
 use Rattle.dms_audfile.proofs.Limits.{behind_more, behind_same}
@@ -26,11 +26,11 @@ returns-in_err-seal_block-clause-moments g c first tells w settled =
     let head : c.deref-2.result.now ≡ c.make_header.new.head = c.deref-2.ensures.value ∙ written_back s.head.len c.make_header.new.head s.head.items size in
     let tag_is : tag_said c.deref-2.result.now ≡ s.tag = ap tag_said head ∙ c.make_header.ensures.tag in
     let long : length c.finish.new.block ≡ s.block.len = omega (arith, c.finish.auto.block, c.deref_mut.ensures.len) in
-    let content : c.deref.result.now ≡ block_with (unsealed s) =
+    let content : c.deref.result.now ≡ block_with (unsealed_bytes s) =
     c.deref.ensures.value ∙ written_back s.block.len c.finish.new.block s.block.items long ∙ c.finish.ensures ∙ ap (λ (l : List ℕ). block_with (take s.used (drop 2 l))) c.deref_mut.ensures.value in
     let old = g.S.Site.files c.args.site.now in
     let was : IsWrittenUpTo s.total (tag_said c.deref-2.result.now) first s.file s.count old = subst (λ k. IsWrittenUpTo s.total k first s.file s.count old) (sym tag_is) w in
-    grows_as (tag_said c.deref-2.result.now) s.tag s.total first s.file c.deref.result.now (block_with (unsealed s)) _ _ tag_is content (c.seal_block.ensures.moments first tells was settled)
+    grows_as (tag_said c.deref-2.result.now) s.tag s.total first s.file c.deref.result.now (block_with (unsealed_bytes s)) _ _ tag_is content (c.seal_block.ensures.moments first tells was settled)
 
 pub returns-then-self-clause-moments : goal.returns-then-self-clause-moments
 returns-then-self-clause-moments g c first tells w settled =
@@ -39,11 +39,11 @@ returns-then-self-clause-moments g c first tells w settled =
     let head : c.deref-2.result.now ≡ c.make_header.new.head = c.deref-2.ensures.value ∙ written_back s.head.len c.make_header.new.head s.head.items size in
     let tag_is : tag_said c.deref-2.result.now ≡ s.tag = ap tag_said head ∙ c.make_header.ensures.tag in
     let long : length c.finish.new.block ≡ s.block.len = omega (arith, c.finish.auto.block, c.deref_mut.ensures.len) in
-    let content : c.deref.result.now ≡ block_with (unsealed s) =
+    let content : c.deref.result.now ≡ block_with (unsealed_bytes s) =
     c.deref.ensures.value ∙ written_back s.block.len c.finish.new.block s.block.items long ∙ c.finish.ensures ∙ ap (λ (l : List ℕ). block_with (take s.used (drop 2 l))) c.deref_mut.ensures.value in
     let old = g.S.Site.files c.args.site.now in
     let was : IsWrittenUpTo s.total (tag_said c.deref-2.result.now) first s.file s.count old = subst (λ k. IsWrittenUpTo s.total k first s.file s.count old) (sym tag_is) w in
-    grows_as (tag_said c.deref-2.result.now) s.tag s.total first s.file c.deref.result.now (block_with (unsealed s)) _ _ tag_is content (c.seal_block.ensures.moments first tells was settled)
+    grows_as (tag_said c.deref-2.result.now) s.tag s.total first s.file c.deref.result.now (block_with (unsealed_bytes s)) _ _ tag_is content (c.seal_block.ensures.moments first tells was settled)
 
 pub returns-else-self-clause-moments : goal.returns-else-self-clause-moments
 returns-else-self-clause-moments g c first tells w settled =
@@ -52,11 +52,11 @@ returns-else-self-clause-moments g c first tells w settled =
     let head : c.deref-2.result.now ≡ c.make_header.new.head = c.deref-2.ensures.value ∙ written_back s.head.len c.make_header.new.head s.head.items size in
     let tag_is : tag_said c.deref-2.result.now ≡ s.tag = ap tag_said head ∙ c.make_header.ensures.tag in
     let long : length c.finish.new.block ≡ s.block.len = omega (arith, c.finish.auto.block, c.deref_mut.ensures.len) in
-    let content : c.deref.result.now ≡ block_with (unsealed s) =
+    let content : c.deref.result.now ≡ block_with (unsealed_bytes s) =
     c.deref.ensures.value ∙ written_back s.block.len c.finish.new.block s.block.items long ∙ c.finish.ensures ∙ ap (λ (l : List ℕ). block_with (take s.used (drop 2 l))) c.deref_mut.ensures.value in
     let old = g.S.Site.files c.args.site.now in
     let was : IsWrittenUpTo s.total (tag_said c.deref-2.result.now) first s.file s.count old = subst (λ k. IsWrittenUpTo s.total k first s.file s.count old) (sym tag_is) w in
-    grows_as (tag_said c.deref-2.result.now) s.tag s.total first s.file c.deref.result.now (block_with (unsealed s)) _ _ tag_is content (c.seal_block.ensures.moments first tells was settled)
+    grows_as (tag_said c.deref-2.result.now) s.tag s.total first s.file c.deref.result.now (block_with (unsealed_bytes s)) _ _ tag_is content (c.seal_block.ensures.moments first tells was settled)
 
 pub returns-then-self-clause-sealed : goal.returns-then-self-clause-sealed
 returns-then-self-clause-sealed g c first n tells w far =
@@ -65,7 +65,7 @@ returns-then-self-clause-sealed g c first n tells w far =
     let head : c.deref-2.result.now ≡ c.make_header.new.head = c.deref-2.ensures.value ∙ written_back s.head.len c.make_header.new.head s.head.items size in
     let tag_is : tag_said c.deref-2.result.now ≡ s.tag = ap tag_said head ∙ c.make_header.ensures.tag in
     let long : length c.finish.new.block ≡ s.block.len = omega (arith, c.finish.auto.block, c.deref_mut.ensures.len) in
-    let content : c.deref.result.now ≡ block_with (unsealed s) =
+    let content : c.deref.result.now ≡ block_with (unsealed_bytes s) =
     c.deref.ensures.value ∙ written_back s.block.len c.finish.new.block s.block.items long ∙ c.finish.ensures ∙ ap (λ (l : List ℕ). block_with (take s.used (drop 2 l))) c.deref_mut.ensures.value in
     let old = g.S.Site.files c.args.site.now in
     let was : IsWrittenUpTo s.total (tag_said c.deref-2.result.now) first s.file s.count old = subst (λ k. IsWrittenUpTo s.total k first s.file s.count old) (sym tag_is) w in
@@ -88,7 +88,7 @@ returns-else-self-clause-sealed g c first n tells w far =
     let head : c.deref-2.result.now ≡ c.make_header.new.head = c.deref-2.ensures.value ∙ written_back s.head.len c.make_header.new.head s.head.items size in
     let tag_is : tag_said c.deref-2.result.now ≡ s.tag = ap tag_said head ∙ c.make_header.ensures.tag in
     let long : length c.finish.new.block ≡ s.block.len = omega (arith, c.finish.auto.block, c.deref_mut.ensures.len) in
-    let content : c.deref.result.now ≡ block_with (unsealed s) =
+    let content : c.deref.result.now ≡ block_with (unsealed_bytes s) =
     c.deref.ensures.value ∙ written_back s.block.len c.finish.new.block s.block.items long ∙ c.finish.ensures ∙ ap (λ (l : List ℕ). block_with (take s.used (drop 2 l))) c.deref_mut.ensures.value in
     let old = g.S.Site.files c.args.site.now in
     let was : IsWrittenUpTo s.total (tag_said c.deref-2.result.now) first s.file s.count old = subst (λ k. IsWrittenUpTo s.total k first s.file s.count old) (sym tag_is) w in

@@ -3,7 +3,7 @@ use Rattle.std.specs.declared.option.Option.{Option}
 use Rattle.std.proofs.lemmas.Option.{MatchOption-at_none, MatchOption-at_some}
 use Rattle.dms_calls.specs.Names.{name_of}
 use Rattle.dms_calls.specs.World.{World, AllGiven}
-use Rattle.dms_calls.specs.Seen.{seen}
+use Rattle.dms_calls.specs.Seen.{site_files}
 use Rattle.dms_folder.specs.Listings.{TakesName}
 use Rattle.dms_folder.specs.ListingLaws.{Later, absent_next, present_next, last_at_end}
 use Rattle.dms_folder.specs.Moves.{same_twice}
@@ -29,14 +29,14 @@ loop-turn-preserved g c =
     let takes : IsTrue g.C.Calls.tells → TakesName (g.C.Calls.given l.names) (g.C.Calls.given c.next_number.new.names) c.in-Some.found =
     λ t. MatchOption-at_some _ _ c.in-Some.found c.in-Some.is c.in_ok-next_number.ensures.next t in
     let same : g.C.Calls.world c.next_number.new.calls ≡ w = n.world ∙ l.invariant.world in
-    let later : IsTrue g.C.Calls.tells → Later (seen name_of w) c.args.from c.args.upto l.last c.in-Some.found found =
-    λ t. subst (λ (v : World). Later (seen name_of v) c.args.from c.args.upto l.last c.in-Some.found found) same (c.in_ok-last-in-Some.ensures.later t) in
+    let later : IsTrue g.C.Calls.tells → Later (site_files name_of w) c.args.from c.args.upto l.last c.in-Some.found found =
+    λ t. subst (λ (v : World). Later (site_files name_of v) c.args.from c.args.upto l.last c.in-Some.found found) same (c.in_ok-last-in-Some.ensures.later t) in
     record {
       broken = c.in_ok-last-in-Some.ensures.broken;
       kept = e.kept;
       bound = λ some. ⊎_elim (λ is. let b = l.invariant.bound (omega (arith, is, some)) in (omega (arith, is, b.0), omega (arith, is, b.1))) (λ b. b) c.in_ok-last-in-Some.ensures.bound;
-      present = λ t. present_next (seen name_of w) c.args.from c.args.upto l.last found c.in-Some.found (l.invariant.present t) (later t);
-      absent = λ t. absent_next (seen name_of w) c.args.from c.args.upto l.last found c.in-Some.found (l.invariant.absent t) (takes t) (later t);
+      present = λ t. present_next (site_files name_of w) c.args.from c.args.upto l.last found c.in-Some.found (l.invariant.present t) (later t);
+      absent = λ t. absent_next (site_files name_of w) c.args.from c.args.upto l.last found c.in-Some.found (l.invariant.absent t) (takes t) (later t);
       listed = λ t. n.listed t ∙ l.invariant.listed t;
       world = e.world ∙ same;
       moments = same_twice (same_twice l.invariant.moments n.moments) e.moments;

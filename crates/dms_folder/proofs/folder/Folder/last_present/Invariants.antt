@@ -2,7 +2,7 @@ use Rattle.std.proofs.Common.{◌≡◌, ◌<◌, ◌≤◌, false, length, IsTr
 use Rattle.dms_moments.specs.Moments.{Steps}
 use Rattle.dms_calls.specs.Names.{name_of}
 use Rattle.dms_calls.specs.World.{Unchanged}
-use Rattle.dms_calls.specs.Seen.{seen}
+use Rattle.dms_calls.specs.Seen.{site_files}
 use Rattle.dms_folder.specs.Kept.{KeepsFolder}
 use Rattle.dms_folder.specs.ListingLaws.{AbsentGiven}
 use Rattle.dms_folder.proofs.folder.Folder.last_present.Given as goal
@@ -11,7 +11,7 @@ abbrev pub invariant-loop-turn : goal.invariant-loop-turn
 invariant-loop-turn g l =
     let world = g.C.Calls.world l.self.calls in
     let clock = g.C.Calls.clock l.self.calls in
-    let files = seen name_of (g.C.Calls.world l.fn.self.calls) in
+    let files = site_files name_of (g.C.Calls.world l.fn.self.calls) in
     record {
       broken : g.C.Calls.broken l.self.calls ≡ false;
       kept : IsTrue g.C.Calls.tells → KeepsFolder g.C.Calls.file l.self.opened.items l.self.made l.self.synced world clock;

@@ -3,7 +3,7 @@ use Rattle.std.specs.Prelude.{slice_get}
 use Rattle.std.proofs.lemmas.Option.{MatchOption-at_none, MatchOption-at_some, same_Some, slice_get_read, slice_get_within}
 use Rattle.std.proofs.lemmas.Result.{IfOk-weaker}
 use Rattle.dms_calls.specs.World.{World}
-use Rattle.dms_calls.specs.Seen.{seen}
+use Rattle.dms_calls.specs.Seen.{site_files}
 use Rattle.dms_folder.specs.declared.opened.OpenedFile.{OpenedFile}
 use Rattle.dms_calls.specs.Names.{name_of}
 use Rattle.dms_folder.specs.Kept.{IsAt}
@@ -26,4 +26,4 @@ returns-in-Some-clause-length g c =
     let number : r.number ≡ f = ap (λ (o : OpenedFile g.row.C-Handle.Denot). o.number) (same_Some r at.0 (sym there ∙ at.1)) ∙ at.2 in
     let w = g.C.Calls.world c.find.new.self.calls in
     let leads : IsTrue g.C.Calls.tells → w.names (name_of f) ≡ Some (g.C.Calls.file r.file) = λ t. ap (λ (n : ℕ). w.names (name_of n)) (sym number) ∙ (c.in_ok-find.ensures.kept t).named place r there in
-    IfOk-weaker c.size.result _ _ (λ n is t. is t ∙ sym (ap (λ (l : List ℕ). length l) (seen_leads w f _ c.ranges.file.fits (leads t))) ∙ ap (λ (w : World). length (seen name_of w f)) c.in_ok-find.ensures.world) c.size.ensures.size
+    IfOk-weaker c.size.result _ _ (λ n is t. is t ∙ sym (ap (λ (l : List ℕ). length l) (seen_leads w f _ c.ranges.file.fits (leads t))) ∙ ap (λ (w : World). length (site_files name_of w f)) c.in_ok-find.ensures.world) c.size.ensures.size

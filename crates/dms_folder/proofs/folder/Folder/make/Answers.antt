@@ -1,7 +1,7 @@
 use Rattle.std.proofs.Common.{ℕ, List, ◌≡◌, ◌∙◌, ap, subst}
 use Rattle.dms_moments.specs.Moments.{Steps}
 use Rattle.dms_calls.specs.World.{World, MakesFile}
-use Rattle.dms_calls.specs.Seen.{seen}
+use Rattle.dms_calls.specs.Seen.{site_files}
 use Rattle.dms_calls.specs.Names.{name_of}
 use Rattle.dms_folder.specs.Moves.{same_twice}
 use Rattle.dms_folder.specs.Keeps.{kept_made}
@@ -32,7 +32,7 @@ pub returns-clause-files : goal.returns-clause-files
 returns-clause-files g c = λ t.
     let m = c.create.ensures.made in
     let n : c.as_str.result.now ≡ name_of c.args.file = c.as_str.ensures.value ∙ c.file_name-name.ensures.name in
-    ap (λ (w : World). seen name_of w) c.keep.ensures.world
+    ap (λ (w : World). site_files name_of w) c.keep.ensures.world
     ∙ makes_seen c.args.file m.0 c.ranges.file.fits _ _ (subst (λ (n : List ℕ). MakesFile n m.0 (g.C.Calls.world c.args.self.now.calls) (g.C.Calls.world c.create.new.self)) n (m.2 t))
 
 pub returns-clause-moments : goal.returns-clause-moments

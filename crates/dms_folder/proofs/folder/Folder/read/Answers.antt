@@ -4,7 +4,7 @@ use Rattle.std.proofs.lemmas.Option.{MatchOption-at_none, MatchOption-at_some, s
 use Rattle.dms_site.specs.Files.{range}
 use Rattle.dms_folder.specs.Reads.{range_nothing}
 use Rattle.dms_calls.specs.World.{World}
-use Rattle.dms_calls.specs.Seen.{seen}
+use Rattle.dms_calls.specs.Seen.{site_files}
 use Rattle.dms_folder.specs.declared.opened.OpenedFile.{OpenedFile}
 use Rattle.dms_calls.specs.Names.{name_of}
 use Rattle.dms_folder.specs.Kept.{IsAt}
@@ -18,8 +18,8 @@ if_both (Err e) P Q R f p q = tt
 pub returns-in-None-clause-bytes : goal.returns-in-None-clause-bytes
 returns-in-None-clause-bytes g c = λ t.
     let v = g.C.Calls.world c.args.self.now.calls in
-    let none : seen name_of v c.args.file ≡ [] = seen_absent v c.args.file c.ranges.file.fits (MatchOption-at_none {o = c.in_ok-find.field-0} _ _ c.in-None.is c.in_ok-find.ensures.found t) in
-    let empty : range c.args.at (length c.args.into.now) (seen name_of v c.args.file) ≡ [] = ap (λ (l : List ℕ). range c.args.at (length c.args.into.now) l) none ∙ range_nothing c.args.at (length c.args.into.now) in
+    let none : site_files name_of v c.args.file ≡ [] = seen_absent v c.args.file c.ranges.file.fits (MatchOption-at_none {o = c.in_ok-find.field-0} _ _ c.in-None.is c.in_ok-find.ensures.found t) in
+    let empty : range c.args.at (length c.args.into.now) (site_files name_of v c.args.file) ≡ [] = ap (λ (l : List ℕ). range c.args.at (length c.args.into.now) l) none ∙ range_nothing c.args.at (length c.args.into.now) in
     (sym (ap (λ (l : List ℕ). length l) empty), sym (ap (λ (l : List ℕ). l ++ c.args.into.now) empty))
 
 pub returns-in-Some-clause-bytes : goal.returns-in-Some-clause-bytes
@@ -33,7 +33,7 @@ returns-in-Some-clause-bytes g c =
     let number : r.number ≡ f = ap (λ (o : OpenedFile g.row.C-Handle.Denot). o.number) (same_Some r at.0 (sym there ∙ at.1)) ∙ at.2 in
     let w = g.C.Calls.world c.find.new.self.calls in
     let leads : IsTrue g.C.Calls.tells → w.names (name_of f) ≡ Some (g.C.Calls.file r.file) = λ t. ap (λ (n : ℕ). w.names (name_of n)) (sym number) ∙ (c.in_ok-find.ensures.kept t).named place r there in
-    let bytes : IsTrue g.C.Calls.tells → w.bytes (g.C.Calls.file r.file) ≡ seen name_of (g.C.Calls.world c.args.self.now.calls) f = λ t. sym (seen_leads w f _ c.ranges.file.fits (leads t)) ∙ ap (λ (w : World). seen name_of w f) c.in_ok-find.ensures.world in
+    let bytes : IsTrue g.C.Calls.tells → w.bytes (g.C.Calls.file r.file) ≡ site_files name_of (g.C.Calls.world c.args.self.now.calls) f = λ t. sym (seen_leads w f _ c.ranges.file.fits (leads t)) ∙ ap (λ (w : World). site_files name_of w f) c.in_ok-find.ensures.world in
     if_both c.read_full.result _ _ _ (λ n count into t. (
       count t ∙ ap (λ (l : List ℕ). length (range c.args.at (length c.args.into.now) l)) (bytes t),
       into t ∙ ap (λ (l : List ℕ). range c.args.at (length c.args.into.now) l ++ drop n c.args.into.now) (bytes t),

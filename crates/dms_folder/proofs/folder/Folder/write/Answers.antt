@@ -3,14 +3,14 @@ use Rattle.std.specs.Prelude.{slice_get}
 use Rattle.std.proofs.lemmas.Option.{same_Some, slice_get_read, slice_get_within}
 use Rattle.std.proofs.lemmas.Result.{on_ok_weaker}
 use Rattle.dms_moments.specs.Moments.{Now, Steps}
-use Rattle.dms_site.specs.Files.{Files, InFile, Torn, Same, overlaid}
+use Rattle.dms_site.specs.Files.{Files, InFile, Torn, Same, overlay_bytes}
 use Rattle.dms_site.specs.Laws.{torn_refl, in_file_same}
 use Rattle.dms_calls.specs.World.{World}
-use Rattle.dms_calls.specs.Seen.{bytes_of, seen, seen_clock, seen_at}
+use Rattle.dms_calls.specs.Seen.{bytes_of, site_files, seen_clock, seen_at}
 use Rattle.dms_folder.specs.declared.opened.OpenedFile.{OpenedFile}
 use Rattle.dms_calls.specs.Names.{name_of}
 use Rattle.dms_folder.specs.NameLaws.{name_inj}
-use Rattle.dms_folder.specs.Kept.{touched}
+use Rattle.dms_folder.specs.Kept.{touch_file}
 use Rattle.dms_folder.specs.NoBytes.{nothing_written, empty_of}
 use Rattle.dms_folder.specs.Moves.{same_first}
 use Rattle.dms_folder.specs.Keeps.{kept_written}
@@ -28,7 +28,7 @@ touch-requires-clause-place g c = let at = c.in_ok-place.ensures.place in slice_
 pub index-requires : goal.index-requires
 index-requires g c =
     let at = c.in_ok-place.ensures.place in
-    let within : c.in_ok-place.place < length c.touch.new.self.opened.items = slice_get_within _ c.in_ok-place.place (touched at.0) (c.touch.ensures.marked at.0 at.1) in
+    let within : c.in_ok-place.place < length c.touch.new.self.opened.items = slice_get_within _ c.in_ok-place.place (touch_file at.0) (c.touch.ensures.marked at.0 at.1) in
     omega (arith, within, c.touch.new.self.opened.ok.0)
 
 pub returns-clause-kept : goal.returns-clause-kept
@@ -37,10 +37,10 @@ returns-clause-kept g c = λ t.
     let place = c.in_ok-place.place in
     let at = c.in_ok-place.ensures.place in
     let opened = c.touch.new.self.opened.items in
-    let here : slice_get opened place ≡ Some (touched at.0) = c.touch.ensures.marked at.0 at.1 in
+    let here : slice_get opened place ≡ Some (touch_file at.0) = c.touch.ensures.marked at.0 at.1 in
     let r = c.index.result.now in
-    let there : slice_get opened place ≡ Some r = slice_get_read opened (length opened) place r refl (slice_get_within opened place (touched at.0) here) c.index.ensures in
-    let same : r ≡ touched at.0 = same_Some r (touched at.0) (sym there ∙ here) in
+    let there : slice_get opened place ≡ Some r = slice_get_read opened (length opened) place r refl (slice_get_within opened place (touch_file at.0) here) c.index.ensures in
+    let same : r ≡ touch_file at.0 = same_Some r (touch_file at.0) (sym there ∙ here) in
     let number : r.number ≡ f = ap (λ (o : OpenedFile g.row.C-Handle.Denot). o.number) same ∙ at.2 in
     let calls = c.touch.new.self.calls in
     let w = g.C.Calls.world calls in
@@ -57,10 +57,10 @@ returns-clause-torn g c = λ t.
     let place = c.in_ok-place.place in
     let at = c.in_ok-place.ensures.place in
     let opened = c.touch.new.self.opened.items in
-    let here : slice_get opened place ≡ Some (touched at.0) = c.touch.ensures.marked at.0 at.1 in
+    let here : slice_get opened place ≡ Some (touch_file at.0) = c.touch.ensures.marked at.0 at.1 in
     let r = c.index.result.now in
-    let there : slice_get opened place ≡ Some r = slice_get_read opened (length opened) place r refl (slice_get_within opened place (touched at.0) here) c.index.ensures in
-    let same : r ≡ touched at.0 = same_Some r (touched at.0) (sym there ∙ here) in
+    let there : slice_get opened place ≡ Some r = slice_get_read opened (length opened) place r refl (slice_get_within opened place (touch_file at.0) here) c.index.ensures in
+    let same : r ≡ touch_file at.0 = same_Some r (touch_file at.0) (sym there ∙ here) in
     let number : r.number ≡ f = ap (λ (o : OpenedFile g.row.C-Handle.Denot). o.number) same ∙ at.2 in
     let calls = c.touch.new.self.calls in
     let w = g.C.Calls.world calls in
@@ -71,9 +71,9 @@ returns-clause-torn g c = λ t.
     let seeing = own w (g.met.C.Calls.may_stay calls t) in
     let none : (l : List ℕ) → Torn c.args.at (length c.args.bytes.now) l l = torn_refl c.args.at (length c.args.bytes.now) in
     let w' = g.C.Calls.world c.write_all.new.calls in
-    let files : seen name_of w ≡ seen name_of (g.C.Calls.world c.args.self.now.calls) = ap (λ k. seen name_of (g.C.Calls.world k)) c.touch.ensures.calls ∙ c.in_ok-place.ensures.files t in
-    let one : InFile f (Torn c.args.at (length c.args.bytes.now)) (seen name_of (g.C.Calls.world c.args.self.now.calls)) (seen name_of w') =
-    subst (λ (l : Files). InFile f (Torn c.args.at (length c.args.bytes.now)) l (seen name_of w')) files (on_file_seen f i small none w w' seeing c.write_all.ensures.torn) in
+    let files : site_files name_of w ≡ site_files name_of (g.C.Calls.world c.args.self.now.calls) = ap (λ k. site_files name_of (g.C.Calls.world k)) c.touch.ensures.calls ∙ c.in_ok-place.ensures.files t in
+    let one : InFile f (Torn c.args.at (length c.args.bytes.now)) (site_files name_of (g.C.Calls.world c.args.self.now.calls)) (site_files name_of w') =
+    subst (λ (l : Files). InFile f (Torn c.args.at (length c.args.bytes.now)) l (site_files name_of w')) files (on_file_seen f i small none w w' seeing c.write_all.ensures.torn) in
     one
 
 pub returns-clause-written : goal.returns-clause-written
@@ -82,10 +82,10 @@ returns-clause-written g c = on_ok_weaker c.write_all.result (λ is t.
     let place = c.in_ok-place.place in
     let at = c.in_ok-place.ensures.place in
     let opened = c.touch.new.self.opened.items in
-    let here : slice_get opened place ≡ Some (touched at.0) = c.touch.ensures.marked at.0 at.1 in
+    let here : slice_get opened place ≡ Some (touch_file at.0) = c.touch.ensures.marked at.0 at.1 in
     let r = c.index.result.now in
-    let there : slice_get opened place ≡ Some r = slice_get_read opened (length opened) place r refl (slice_get_within opened place (touched at.0) here) c.index.ensures in
-    let same : r ≡ touched at.0 = same_Some r (touched at.0) (sym there ∙ here) in
+    let there : slice_get opened place ≡ Some r = slice_get_read opened (length opened) place r refl (slice_get_within opened place (touch_file at.0) here) c.index.ensures in
+    let same : r ≡ touch_file at.0 = same_Some r (touch_file at.0) (sym there ∙ here) in
     let number : r.number ≡ f = ap (λ (o : OpenedFile g.row.C-Handle.Denot). o.number) same ∙ at.2 in
     let calls = c.touch.new.self.calls in
     let w = g.C.Calls.world calls in
@@ -96,12 +96,12 @@ returns-clause-written g c = on_ok_weaker c.write_all.result (λ is t.
     let seeing = own w (g.met.C.Calls.may_stay calls t) in
     let none : (l : List ℕ) → Torn c.args.at (length c.args.bytes.now) l l = torn_refl c.args.at (length c.args.bytes.now) in
     let w' = g.C.Calls.world c.write_all.new.calls in
-    let files : seen name_of w ≡ seen name_of (g.C.Calls.world c.args.self.now.calls) = ap (λ k. seen name_of (g.C.Calls.world k)) c.touch.ensures.calls ∙ c.in_ok-place.ensures.files t in
-    let one : InFile f (Torn c.args.at (length c.args.bytes.now)) (seen name_of (g.C.Calls.world c.args.self.now.calls)) (seen name_of w') =
-    subst (λ (l : Files). InFile f (Torn c.args.at (length c.args.bytes.now)) l (seen name_of w')) files (on_file_seen f i small none w w' seeing c.write_all.ensures.torn) in
+    let files : site_files name_of w ≡ site_files name_of (g.C.Calls.world c.args.self.now.calls) = ap (λ k. site_files name_of (g.C.Calls.world k)) c.touch.ensures.calls ∙ c.in_ok-place.ensures.files t in
+    let one : InFile f (Torn c.args.at (length c.args.bytes.now)) (site_files name_of (g.C.Calls.world c.args.self.now.calls)) (site_files name_of w') =
+    subst (λ (l : Files). InFile f (Torn c.args.at (length c.args.bytes.now)) l (site_files name_of w')) files (on_file_seen f i small none w w' seeing c.write_all.ensures.torn) in
     let names : w'.names (name_of f) ≡ Some i = c.write_all.ensures.torn.names (name_of f) ∙ leads in
-    let before : w.bytes i ≡ seen name_of (g.C.Calls.world c.args.self.now.calls) f = sym (seen_at name_of w f small ∙ ap (λ o. bytes_of w o) leads) ∙ ap (λ (l : Files). l f) files in
-    in_file_is f _ _ _ one (seen_at name_of w' f small ∙ ap (λ o. bytes_of w' o) names ∙ is t ∙ ap (λ (l : List ℕ). overlaid c.args.at c.args.bytes.now l) before)) c.write_all.ensures.written
+    let before : w.bytes i ≡ site_files name_of (g.C.Calls.world c.args.self.now.calls) f = sym (seen_at name_of w f small ∙ ap (λ o. bytes_of w o) leads) ∙ ap (λ (l : Files). l f) files in
+    in_file_is f _ _ _ one (seen_at name_of w' f small ∙ ap (λ o. bytes_of w' o) names ∙ is t ∙ ap (λ (l : List ℕ). overlay_bytes c.args.at c.args.bytes.now l) before)) c.write_all.ensures.written
 
 pub returns-clause-moments : goal.returns-clause-moments
 returns-clause-moments g c =
@@ -109,10 +109,10 @@ returns-clause-moments g c =
     let place = c.in_ok-place.place in
     let at = c.in_ok-place.ensures.place in
     let opened = c.touch.new.self.opened.items in
-    let here : slice_get opened place ≡ Some (touched at.0) = c.touch.ensures.marked at.0 at.1 in
+    let here : slice_get opened place ≡ Some (touch_file at.0) = c.touch.ensures.marked at.0 at.1 in
     let r = c.index.result.now in
-    let there : slice_get opened place ≡ Some r = slice_get_read opened (length opened) place r refl (slice_get_within opened place (touched at.0) here) c.index.ensures in
-    let same : r ≡ touched at.0 = same_Some r (touched at.0) (sym there ∙ here) in
+    let there : slice_get opened place ≡ Some r = slice_get_read opened (length opened) place r refl (slice_get_within opened place (touch_file at.0) here) c.index.ensures in
+    let same : r ≡ touch_file at.0 = same_Some r (touch_file at.0) (sym there ∙ here) in
     let number : r.number ≡ f = ap (λ (o : OpenedFile g.row.C-Handle.Denot). o.number) same ∙ at.2 in
     let calls = c.touch.new.self.calls in
     let w = g.C.Calls.world calls in

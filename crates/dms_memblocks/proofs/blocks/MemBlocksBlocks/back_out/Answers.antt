@@ -1,8 +1,8 @@
 use Rattle.std.proofs.Common.{◌∙◌, ap, sym, subst, take, drop, length, length-take, arith}
 use Rattle.dms_block.specs.Held.{MakesNoPoint, Stays, Uses}
-use Rattle.dms_memblocks.specs.Undoing.{AreBefore, AreSince, AreSmall, content_of, held_of, rows, undone}
+use Rattle.dms_memblocks.specs.Undoing.{AreBefore, AreSince, AreSmall, content_of, held_of, rows, undo_all}
 use Rattle.dms_memblocks.specs.UndoLaws.{out_before, out_content, out_passes, out_since, out_stays, undone_small}
-use Rattle.dms_memblocks.specs.View.{held}
+use Rattle.dms_memblocks.specs.View.{held_view}
 use Rattle.dms_memblocks.proofs.blocks.MemBlocksBlocks.back_out.Goals as goal
 
 pub invariant_of-self-clause-small : goal.invariant_of-self-clause-small
@@ -34,14 +34,14 @@ pub returns-clause-stays : goal.returns-clause-stays
 returns-clause-stays c =
     let b = c.args.self.now in
     let uses : Uses = record { reads = b.reads; spent = b.spent; syncs = b.syncs; outs = c.saturating_add-self.result } in
-    subst (λ fs. Stays (held b) (held_of b.schema fs c.take_back_to.new.log.items b.made b.durable uses)) (sym c.take_back_to.ensures.files)
-    (subst (λ l. Stays (held b) (held_of b.schema (undone (drop b.mark b.log.items) (rows b.files.items)) l b.made b.durable uses)) (sym c.take_back_to.ensures.log)
+    subst (λ fs. Stays (held_view b) (held_of b.schema fs c.take_back_to.new.log.items b.made b.durable uses)) (sym c.take_back_to.ensures.files)
+    (subst (λ l. Stays (held_view b) (held_of b.schema (undo_all (drop b.mark b.log.items) (rows b.files.items)) l b.made b.durable uses)) (sym c.take_back_to.ensures.log)
     (out_stays b.schema (rows b.files.items) b.log.items b.made b.mark b.durable _ uses b.since))
 
 pub returns-clause-passes : goal.returns-clause-passes
 returns-clause-passes c =
     let b = c.args.self.now in
     let uses : Uses = record { reads = b.reads; spent = b.spent; syncs = b.syncs; outs = c.saturating_add-self.result } in
-    subst (λ fs. MakesNoPoint (held b) (held_of b.schema fs c.take_back_to.new.log.items b.made b.durable uses)) (sym c.take_back_to.ensures.files)
-    (subst (λ l. MakesNoPoint (held b) (held_of b.schema (undone (drop b.mark b.log.items) (rows b.files.items)) l b.made b.durable uses)) (sym c.take_back_to.ensures.log)
+    subst (λ fs. MakesNoPoint (held_view b) (held_of b.schema fs c.take_back_to.new.log.items b.made b.durable uses)) (sym c.take_back_to.ensures.files)
+    (subst (λ l. MakesNoPoint (held_view b) (held_of b.schema (undo_all (drop b.mark b.log.items) (rows b.files.items)) l b.made b.durable uses)) (sym c.take_back_to.ensures.log)
     (out_passes b.schema (rows b.files.items) b.log.items b.made b.mark b.durable _ uses b.since))

@@ -3,38 +3,38 @@ use Rattle.std.specs.Prelude.{IfOk}
 use Rattle.std.specs.declared.result.Result.{Result}
 use Rattle.dms_block.specs.declared.block_fault.BlockFault.{BlockFault}
 use Rattle.dms_block.specs.Faults.{IfFull}
-use Rattle.dms_desc.specs.Shape.{described}
+use Rattle.dms_desc.specs.Shape.{as_described}
 use Rattle.dms_model.specs.Fitting.{PutFits}
 use Rattle.dms_model.specs.declared.put.Put.{Put}
 use Rattle.dms_store.specs.Lifted.{store_seen}
-use Rattle.dms_store.specs.PuttingStore.{ChangesAtMost, FullWhere, Stores, changed, few_structures, full_where, stores}
+use Rattle.dms_store.specs.PuttingStore.{ChangesAtMost, FullWhere, Stores, change_noted, few_structures, full_where, stores}
 use Rattle.dms_store.proofs.store.BlockStore.put.Goals as goal
 
 pub returns-clause-fits : goal.returns-clause-fits
-returns-clause-fits g c = subst (λ r. IfOk r (PutFits (described c.args.self.now.desc) c.args.set)) (sym c.note.ensures.same) c.put-stored.ensures.fits
+returns-clause-fits g c = subst (λ r. IfOk r (PutFits (as_described c.args.self.now.desc) c.args.set)) (sym c.note.ensures.same) c.put-stored.ensures.fits
 
 pub returns-clause-put : goal.returns-clause-put
 returns-clause-put g c =
-    let desc = described c.args.self.now.desc in
+    let desc = as_described c.args.self.now.desc in
     let o = c.args.self.now.over in
     subst (λ r. IfOk r (Stores desc (store_seen desc c.args.self.now.found o).db (store_seen desc c.note.new.found c.put-stored.new.over).db c.args.set c.args.number c.args.rec.now)) (sym c.note.ensures.same)
     (stores desc c.args.self.now.found c.note.new.found o c.put-stored.new.over (9 * length c.args.self.now.desc.structures + 2) c.args.set c.args.number c.args.rec.now c.put-stored.result c.put-stored.ensures.hands_down c.put-stored.ensures.answers)
 
 pub returns-clause-changed : goal.returns-clause-changed
 returns-clause-changed g c =
-    let desc = described c.args.self.now.desc in
+    let desc = as_described c.args.self.now.desc in
     let o = c.args.self.now.over in
     let n = length c.args.self.now.desc.structures in
     subst (λ r. ChangesAtMost (64 * length desc.structures) r (store_seen desc c.args.self.now.found o) (store_seen desc c.note.new.found c.put-stored.new.over)) (sym c.note.ensures.same)
-    (changed desc c.args.self.now.found c.note.new.found o c.put-stored.new.over (9 * n + 2) (64 * length desc.structures) c.put-stored.result (few_structures desc c.args.self.now.desc.structures c.args.set refl c.requires.set) c.note.ensures.small c.note.ensures.noted c.requires.sound
-    (g.met.B.Blocks.agrees o.below c.requires.sound.sound) g.met.B.Blocks.same_last c.put-stored.ensures.written c.put-stored.ensures.hands_down c.put-stored.ensures.below)
+    (change_noted desc c.args.self.now.found c.note.new.found o c.put-stored.new.over (9 * n + 2) (64 * length desc.structures) c.put-stored.result (few_structures desc c.args.self.now.desc.structures c.args.set refl c.requires.set) c.note.ensures.small c.note.ensures.noted c.requires.sound
+    (g.met.B.Blocks.agrees o.below c.requires.sound.sound) g.met.B.Blocks.same_pace c.put-stored.ensures.written c.put-stored.ensures.hands_down c.put-stored.ensures.below)
 
 pub returns-clause-full : goal.returns-clause-full
-returns-clause-full g c = subst (λ (r : Result Put BlockFault). IfFull r (λ f. f ≡ g.B.Blocks.last c.args.self.now.over.below)) (sym c.note.ensures.same) c.put-stored.ensures.full
+returns-clause-full g c = subst (λ (r : Result Put BlockFault). IfFull r (λ f. f ≡ (g.B.Blocks.pace c.args.self.now.over.below).last)) (sym c.note.ensures.same) c.put-stored.ensures.full
 
 pub returns-clause-stored : goal.returns-clause-stored
 returns-clause-stored g c =
-    let desc = described c.args.self.now.desc in
+    let desc = as_described c.args.self.now.desc in
     let o = c.args.self.now.over in
     subst (λ (r : Result Put BlockFault). FullWhere desc (store_seen desc c.args.self.now.found o).db c.args.set c.args.number c.args.rec.now r) (sym c.note.ensures.same)
     (full_where desc c.args.self.now.found c.note.new.found o c.put-stored.new.over c.args.set c.args.number c.args.rec.now c.put-stored.result c.put-stored.ensures.stored)

@@ -15,3 +15,9 @@ unfolding step
 returns-in_err-answer-clause-full g c = λ s stands may.
     let u = c.carry_out.ensures.full s stands may in
     search rules
+
+pub returns-in_err-answer-clause-no_point : goal.returns-in_err-answer-clause-no_point
+unfolding step
+returns-in_err-answer-clause-no_point g c = λ s stands may.
+    let u = c.carry_out.ensures.no_point s stands may in
+    search rules

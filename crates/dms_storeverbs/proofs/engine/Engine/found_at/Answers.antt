@@ -3,7 +3,7 @@ use Rattle.dms_desc.specs.declared.bound.Bound.TheVariants.{From}
 use Rattle.dms_desc.specs.Plain.{ArePlain}
 use Rattle.dms_model.specs.Fitting.{KeyFits, MayStart}
 use Rattle.dms_storeverbs.proofs.Fits.{key_is_fit}
-use Rattle.dms_desc.specs.Shape.{Described, described}
+use Rattle.dms_desc.specs.Shape.{Described, as_described}
 use Rattle.dms_desc.specs.Lookups.{structure_of, items_of, parts_of, set_of}
 use Rattle.dms_model.specs.Session.{found_by, key_values}
 use Rattle.dms_storeverbs.proofs.FoundAt.{found_at_is}
@@ -12,7 +12,7 @@ use Rattle.dms_storeverbs.proofs.engine.Engine.found_at.Goals as goal
 pub returns-clause-found : goal.returns-clause-found
 unfolding found_by
 returns-clause-found g c = λ d told.
-    let desc = described c.args.self.now.desc in
+    let desc = as_described c.args.self.now.desc in
     let lits = c.args.literals.now in
     let parts_is : c.parts_of.result.now ≡ parts_of (structure_of desc c.args.x) = c.parts_of.ensures in
     let items_is : c.items_of-items.result.now ≡ items_of (structure_of desc (set_of desc c.args.x)) = c.items_of-items.ensures ∙ ap (λ (n : ℕ). items_of (structure_of desc n)) c.set_of.ensures in

@@ -5,16 +5,16 @@ use Rattle.dms_base.specs.declared.category.Category.TheVariants.{OpenError}
 use Rattle.dms_storeverbs.proofs.Calls.{apart_did, unchanged}
 use Rattle.dms_model.specs.Session.{verb_step, refuse}
 use Rattle.dms_storeverbs.proofs.Costing.{plain_costs, spends_none}
-use Rattle.dms_desc.specs.Shape.{described}
+use Rattle.dms_desc.specs.Shape.{as_described}
 use Rattle.dms_laws.proofs.Formed.{initials}
 use Rattle.dms_block.specs.HeldLaws.{full_none}
 use Rattle.dms_storeverbs.proofs.engine.Engine.verb.Goals as goal
 
 pub invariant_of-self-clause-fit : goal.invariant_of-self-clause-fit
-invariant_of-self-clause-fit g c = c.close.ensures.fit (described c.args.self.now.desc) c.args.self.now.fit
+invariant_of-self-clause-fit g c = c.close.ensures.fit (as_described c.args.self.now.desc) c.args.self.now.fit
 
 pub create-requires-clause-initial : goal.create-requires-clause-initial
-create-requires-clause-initial g c = initials (described c.args.self.now.desc) c.args.self.now.formed
+create-requires-clause-initial g c = initials (as_described c.args.self.now.desc) c.args.self.now.formed
 
 pub returns-in_ok-close-in-Close-clause-step : goal.returns-in_ok-close-in-Close-clause-step
 unfolding verb_step
@@ -55,7 +55,7 @@ returns-in-Abort-clause-step g c = λ p at. rw c.in-Abort.is (c.abort.ensures.st
 pub returns-in-OpenUpdate-clause-step : goal.returns-in-OpenUpdate-clause-step
 unfolding verb_step
 returns-in-OpenUpdate-clause-step g c = λ p at s stands may.
-    let did = unchanged {o = refuse s OpenError p.name} refl c.refused.ensures.sync (record { reply = grind (arith, common_steps, gets); sync = c.refused.ensures.sync; session = stands }) in
+    let did = unchanged {o = refuse s OpenError p.name} refl c.refuse.ensures.sync (record { reply = grind (arith, common_steps, gets); sync = c.refuse.ensures.sync; session = stands }) in
     ⊎_elim (λ e. rw e did) (λ e. rw e did) c.in-OpenUpdate.is
 
 pub returns-in_ok-close-in-Close-clause-costs : goal.returns-in_ok-close-in-Close-clause-costs
@@ -87,7 +87,7 @@ returns-in-Abort-clause-costs g c = rw c.in-Abort.is c.abort.ensures.costs
 
 pub returns-in-OpenUpdate-clause-costs : goal.returns-in-OpenUpdate-clause-costs
 returns-in-OpenUpdate-clause-costs g c =
-    let costs = plain_costs c.refused.ensures.sync (spends_none 0 (g.St.Store.seen c.args.self.now.store).effort) in
+    let costs = plain_costs c.refuse.ensures.sync (spends_none 0 (g.St.Store.seen c.args.self.now.store).effort) in
     ⊎_elim (λ e. rw e costs) (λ e. rw e costs) c.in-OpenUpdate.is
 
 pub returns-in-Store-clause-full : goal.returns-in-Store-clause-full
@@ -111,3 +111,22 @@ returns-in-Find-clause-full g c = λ p at s stands may. full_none c.find.result 
 
 pub returns-in-Find-clause-file : goal.returns-in-Find-clause-file
 returns-in-Find-clause-file g c = full_none c.find.result _ c.find.ensures.room
+
+pub returns-in-Store-clause-no_point : goal.returns-in-Store-clause-no_point
+unfolding verb_step
+returns-in-Store-clause-no_point g c = λ p at. rw c.in-Store.is (c.store.ensures.no_point p at)
+
+pub returns-in-Begin-clause-no_point : goal.returns-in-Begin-clause-no_point
+unfolding verb_step
+returns-in-Begin-clause-no_point g c = λ p at. rw c.in-Begin.is (c.begin.ensures.no_point p at)
+
+pub returns-in-End-clause-no_point : goal.returns-in-End-clause-no_point
+unfolding verb_step
+returns-in-End-clause-no_point g c = λ p at. rw c.in-End.is (c.end_transaction.ensures.no_point p at)
+
+pub returns-in-Abort-clause-no_point : goal.returns-in-Abort-clause-no_point
+unfolding verb_step
+returns-in-Abort-clause-no_point g c = λ p at. rw c.in-Abort.is (c.abort.ensures.no_point p at)
+
+pub returns-in-Find-clause-no_point : goal.returns-in-Find-clause-no_point
+returns-in-Find-clause-no_point g c = λ p at s stands may. full_none c.find.result _ c.find.ensures.room

@@ -1,7 +1,7 @@
 use Rattle.std.specs.declared.result.Result.TheVariants.{Ok, Err}
 use Rattle.dms_block.specs.declared.block.Block.{Block}
 use Rattle.dms_block.specs.HeldLaws.{causes_on, looks_as, looks_err, looks_on, used_none}
-use Rattle.dms_wal.specs.Database.{held}
+use Rattle.dms_wal.specs.Database.{running_held}
 use Rattle.dms_wal.specs.PaceLaws.{trail_none, trail_then}
 use Rattle.dms_wal.proofs.Fetched.{usable_asked}
 use Rattle.dms_wal.proofs.Stepped.{looks_sound}
@@ -11,16 +11,16 @@ use Rattle.dms_wal.proofs.running.Running.before.Goals as goal
 
 pub returns-in-Ok-fetch-clause-looks : goal.returns-in-Ok-fetch-clause-looks
 returns-in-Ok-fetch-clause-looks g c =
-    looks_as _ tt (looks_on _ (looks_on _ (looks_sound {T = Unit {0}} (Ok tt) 0 (held g.S.Site c.args.self.now) _ _ tt (usable_asked g.S.Site c.args.self.now c.requires.sound c.args.id c.get.new.self c.get.ensures.looked) (used_none 0 0 _)) c.in-Ok.ensures.looks) c.in-Ok-fetch.ensures.looks)
+    looks_as _ tt (looks_on _ (looks_on _ (looks_sound {T = Unit {0}} (Ok tt) 0 (running_held g.S.Site c.args.self.now) _ _ tt (usable_asked g.S.Site c.args.self.now c.requires.sound c.args.id c.get.new.self c.get.ensures.looked) (used_none 0 0 _)) c.in-Ok.ensures.looks) c.in-Ok-fetch.ensures.looks)
 
 pub returns-in-Err-fetch-clause-looks : goal.returns-in-Err-fetch-clause-looks
 returns-in-Err-fetch-clause-looks g c =
-    looks_on _ (looks_on _ (looks_sound {T = Unit {0}} (Ok tt) 0 (held g.S.Site c.args.self.now) _ _ tt (usable_asked g.S.Site c.args.self.now c.requires.sound c.args.id c.get.new.self c.get.ensures.looked) (used_none 0 0 _)) c.in-Ok.ensures.looks) (looks_err {T = Block} c.in-Err-fetch.fault c.in-Err-fetch.ensures.looks)
+    looks_on _ (looks_on _ (looks_sound {T = Unit {0}} (Ok tt) 0 (running_held g.S.Site c.args.self.now) _ _ tt (usable_asked g.S.Site c.args.self.now c.requires.sound c.args.id c.get.new.self c.get.ensures.looked) (used_none 0 0 _)) c.in-Ok.ensures.looks) (looks_err {T = Block} c.in-Err-fetch.fault c.in-Err-fetch.ensures.looks)
 
 pub returns-in-Err-fetch-clause-causes : goal.returns-in-Err-fetch-clause-causes
 returns-in-Err-fetch-clause-causes g c =
-    let all = looks_on (Ok tt) (looks_sound {T = Unit {0}} (Ok tt) 0 (held g.S.Site c.args.self.now) _ _ tt (usable_asked g.S.Site c.args.self.now c.requires.sound c.args.id c.get.new.self c.get.ensures.looked) (used_none 0 0 _)) c.in-Ok.ensures.looks in
-    causes_on {T = Block} (Err c.in-Err-fetch.fault) (held g.S.Site c.args.self.now) (held g.S.Site c.make_room.new.self) (held g.S.Site c.fetch.new.self) c.in-Ok.ensures.causes all.passes.lasts all.same c.in-Err-fetch.ensures.causes
+    let all = looks_on (Ok tt) (looks_sound {T = Unit {0}} (Ok tt) 0 (running_held g.S.Site c.args.self.now) _ _ tt (usable_asked g.S.Site c.args.self.now c.requires.sound c.args.id c.get.new.self c.get.ensures.looked) (used_none 0 0 _)) c.in-Ok.ensures.looks in
+    causes_on {T = Block} (Err c.in-Err-fetch.fault) (running_held g.S.Site c.args.self.now) (running_held g.S.Site c.make_room.new.self) (running_held g.S.Site c.fetch.new.self) c.in-Ok.ensures.causes all.passes.lasts all.same c.in-Err-fetch.ensures.causes
 
 pub returns-in-Err-fetch-clause-memory : goal.returns-in-Err-fetch-clause-memory
 returns-in-Err-fetch-clause-memory g c e = c.in-Err-fetch.ensures.memory (cc e)

@@ -4,7 +4,7 @@ use Rattle.dms_block.specs.Content.{Content, with_block}
 use Rattle.dms_history.specs.Replay.{TellsBefore}
 use Rattle.dms_block.specs.declared.block.Block.{Block}
 use Rattle.dms_block.specs.HeldLaws.{alters_on, causes_on}
-use Rattle.dms_wal.specs.Database.{held}
+use Rattle.dms_wal.specs.Database.{running_held}
 use Rattle.dms_wal.specs.PaceLaws.{trail_then}
 use Rattle.dms_wal.proofs.Causes.{not_full}
 use Rattle.dms_restore.proofs.Results.{one_if_err, one_ok}
@@ -20,7 +20,7 @@ pub returns-in-Ok-clause-alters : goal.returns-in-Ok-clause-alters
 returns-in-Ok-clause-alters g c = alters_on c.log_change.result c.in-Ok.ensures.looks c.log_change.ensures.alters
 
 pub returns-in-Ok-clause-causes : goal.returns-in-Ok-clause-causes
-returns-in-Ok-clause-causes g c = causes_on c.log_change.result (held g.S.Site c.args.self.now) (held g.S.Site c.before-2.new.self) (held g.S.Site c.log_change.new.self) c.in-Ok.ensures.causes c.in-Ok.ensures.looks.passes.lasts c.in-Ok.ensures.looks.same c.log_change.ensures.causes
+returns-in-Ok-clause-causes g c = causes_on c.log_change.result (running_held g.S.Site c.args.self.now) (running_held g.S.Site c.before-2.new.self) (running_held g.S.Site c.log_change.new.self) c.in-Ok.ensures.causes c.in-Ok.ensures.looks.passes.lasts c.in-Ok.ensures.looks.same c.log_change.ensures.causes
 
 pub returns-in-Err-clause-full : goal.returns-in-Err-clause-full
 returns-in-Err-clause-full g c n is = absurd (not_full (Option Block) (Unit {0}) c.in-Err.fault n c.in-Err.ensures.looks.not_full is)

@@ -8,10 +8,10 @@ use Rattle.dms_wal.proofs.Grown.{gives_as, gives_on, grows_as, ok_never}
 use Rattle.dms_wal.specs.Growing.{close_limit, over_site}
 use Rattle.dms_restore.specs.GrowLaws.{log_grows_more}
 use Rattle.dms_wal.specs.Closing.{IsFullTrail, LeavesUntil, entries_control}
-use Rattle.dms_wal.specs.Database.{held}
+use Rattle.dms_wal.specs.Database.{running_held}
 use Rattle.dms_restore.specs.Logging.{LogGrows, telling}
 use Rattle.dms_restore.specs.Views.{view_of}
-use Rattle.dms_wal.specs.Lifting.{lifted}
+use Rattle.dms_wal.specs.Lifting.{lift_clock}
 use Rattle.dms_wal.specs.PaceLaws.{pace_kind}
 use Rattle.dms_wal.proofs.Closed.{backs_counted, backs_only, clock_as, closed_back, closed_same, control_only, counted_then, full_trail, leaves_until, said_told, trail_as}
 use Rattle.dms_wal.proofs.running.Running.close.Goals as goal
@@ -28,11 +28,11 @@ returns-in-Ok-clause-closed g c = one_if_ok c.close_by_control-in-Ok.result c.cl
 
 pub returns-in-Ok-clause-leaves : goal.returns-in-Ok-clause-leaves
 returns-in-Ok-clause-leaves g c = one_if_ok c.close_by_control-in-Ok.result c.close_by_control-in-Ok.ensures.leaves (λ s l.
-    clock_as _ _ (held g.S.Site c.args.self) _ (pace_kind c.back_out.ensures.pace) (leaves_until (held g.S.Site c.args.self) (held g.S.Site c.back_out.new.self) _ c.back_out.ensures.passes c.in-Ok.ensures.stays l))
+    clock_as _ _ (running_held g.S.Site c.args.self) _ (pace_kind c.back_out.ensures.pace) (leaves_until (running_held g.S.Site c.args.self) (running_held g.S.Site c.back_out.new.self) _ c.back_out.ensures.passes c.in-Ok.ensures.stays l))
 
 pub returns-in-Ok-clause-stopped : goal.returns-in-Ok-clause-stopped
 returns-in-Ok-clause-stopped g c = one_if_err c.close_by_control-in-Ok.result c.close_by_control-in-Ok.ensures.stopped (λ e l.
-    clock_as _ _ (held g.S.Site c.args.self) _ (pace_kind c.back_out.ensures.pace) (leaves_until (held g.S.Site c.args.self) (held g.S.Site c.back_out.new.self) _ c.back_out.ensures.passes c.in-Ok.ensures.stays l))
+    clock_as _ _ (running_held g.S.Site c.args.self) _ (pace_kind c.back_out.ensures.pace) (leaves_until (running_held g.S.Site c.args.self) (running_held g.S.Site c.back_out.new.self) _ c.back_out.ensures.passes c.in-Ok.ensures.stays l))
 
 pub returns-in-Ok-clause-full : goal.returns-in-Ok-clause-full
 returns-in-Ok-clause-full g c = one_if_err c.close_by_control-in-Ok.result c.close_by_control-in-Ok.ensures.full (λ e f is tells.
@@ -69,8 +69,8 @@ returns-in-Ok-clause-same_then g c = one_if_err c.close_by_control-in-Ok.result 
 
 pub returns-in-Err-clause-stopped : goal.returns-in-Err-clause-stopped
 returns-in-Err-clause-stopped g c =
-    subst (λ (x : _). LeavesUntil (held g.S.Site c.args.self) (lifted (telling (view_of g.S.Site c.args.self.log)) (g.S.Site.clock x))) (sym c.into_site.ensures)
-    (clock_as _ _ (held g.S.Site c.args.self) _ (pace_kind c.back_out.ensures.pace) c.back_out.ensures.passes.leaves)
+    subst (λ (x : _). LeavesUntil (running_held g.S.Site c.args.self) (lift_clock (telling (view_of g.S.Site c.args.self.log)) (g.S.Site.clock x))) (sym c.into_site.ensures)
+    (clock_as _ _ (running_held g.S.Site c.args.self) _ (pace_kind c.back_out.ensures.pace) c.back_out.ensures.passes.leaves)
 
 pub returns-in-Err-clause-only : goal.returns-in-Err-clause-only
 returns-in-Err-clause-only g c = backs_only 9999 c.args.self.changed c.in-Err.fault c.if-not-self.false c.in-Err.ensures.only
@@ -85,11 +85,11 @@ returns-in-Err-clause-full g c is tells =
 pub returns-in-Err-clause-disk : goal.returns-in-Err-clause-disk
 returns-in-Err-clause-disk g c =
     subst (λ (x : _). CountedAt (c.in-Err.fault ≡ Disk) (g.S.Site.disk_faults c.args.self.log.site) (g.S.Site.disk_faults x)) (sym c.into_site.ensures)
-    (backs_counted 9999 c.in-Err.fault (held g.S.Site c.args.self) (held g.S.Site c.back_out.new.self) c.in-Err.ensures.only c.in-Err.ensures.causes).0
+    (backs_counted 9999 c.in-Err.fault (running_held g.S.Site c.args.self) (running_held g.S.Site c.back_out.new.self) c.in-Err.ensures.only c.in-Err.ensures.causes).0
 
 pub returns-in-Err-clause-say_faults : goal.returns-in-Err-clause-say_faults
 returns-in-Err-clause-say_faults g c =
-    ap g.S.Site.say_faults c.into_site.ensures ∙ (backs_counted 9999 c.in-Err.fault (held g.S.Site c.args.self) (held g.S.Site c.back_out.new.self) c.in-Err.ensures.only c.in-Err.ensures.causes).1
+    ap g.S.Site.say_faults c.into_site.ensures ∙ (backs_counted 9999 c.in-Err.fault (running_held g.S.Site c.args.self) (running_held g.S.Site c.back_out.new.self) c.in-Err.ensures.only c.in-Err.ensures.causes).1
 
 pub returns-in-Err-clause-said_then : goal.returns-in-Err-clause-said_then
 returns-in-Err-clause-said_then g c told = ap g.S.Site.said c.into_site.ensures ∙ said_told g.S.Site.tells_said _ _ c.back_out.ensures.passes.said told

@@ -5,7 +5,7 @@ use Rattle.dms_restore.proofs.Results.{one_ok}
 use Rattle.std.specs.declared.result.Result.TheVariants.{Err}
 use Rattle.dms_restore.specs.GrowLaws.{log_grows_more}
 use Rattle.dms_restore.specs.Views.{view_of}
-use Rattle.dms_wal.specs.Database.{held}
+use Rattle.dms_wal.specs.Database.{running_held}
 use Rattle.dms_wal.specs.PaceLaws.{trail_then}
 use Rattle.dms_wal.proofs.Grown.{some_from}
 use Rattle.dms_wal.proofs.Controlling.{durable_on, makes_on}
@@ -19,7 +19,7 @@ pub returns-clause-passes : goal.returns-clause-passes
 returns-clause-passes g c = let l = c.in-Ok.ensures.looks in passes_on l.passes l.stays c.seal_control.ensures.passes
 
 pub returns-clause-uses : goal.returns-clause-uses
-returns-clause-uses g c = subst (λ (u : Uses). Used 0 0 (held g.S.Site c.args.self.now).uses u) (sym c.seal_control.ensures.uses) c.in-Ok.ensures.looks.uses
+returns-clause-uses g c = subst (λ (u : Uses). Used 0 0 (running_held g.S.Site c.args.self.now).uses u) (sym c.seal_control.ensures.uses) c.in-Ok.ensures.looks.uses
 
 pub returns-clause-kept : goal.returns-clause-kept
 returns-clause-kept g c = keeps_on c.settle.ensures.kept c.seal_control.ensures.kept
@@ -30,7 +30,7 @@ returns-clause-control g c = one_ok c.seal_control.result c.seal_control.ensures
     makes_on _ _ _ _ _ _ _ _ _ _ _ (λ i. (k.pace.schema i).items) k.point k.next (λ i. (k.counts i).items) (c.in-Ok.ensures.tells t) (made t))
 
 pub returns-clause-causes : goal.returns-clause-causes
-returns-clause-causes g c = let l = c.in-Ok.ensures.looks in causes_on c.seal_control.result (held g.S.Site c.args.self.now) (held g.S.Site c.settle.new.self) (held g.S.Site c.seal_control.new.self) c.in-Ok.ensures.causes l.passes.lasts l.same c.seal_control.ensures.causes
+returns-clause-causes g c = let l = c.in-Ok.ensures.looks in causes_on c.seal_control.result (running_held g.S.Site c.args.self.now) (running_held g.S.Site c.settle.new.self) (running_held g.S.Site c.seal_control.new.self) c.in-Ok.ensures.causes l.passes.lasts l.same c.seal_control.ensures.causes
 
 pub returns-clause-kind : goal.returns-clause-kind
 returns-clause-kind g c = c.seal_control.ensures.kind ∙ c.settle.ensures.kind

@@ -5,7 +5,7 @@ use Rattle.dms_block.specs.Content.{Content, block_in}
 use Rattle.dms_block.specs.HeldLaws.{causes_on, looks_as, looks_on}
 use Rattle.dms_restore.specs.Logging.{LogGrows, entries}
 use Rattle.dms_restore.specs.Views.{view_of}
-use Rattle.dms_wal.specs.Database.{held}
+use Rattle.dms_wal.specs.Database.{running_held}
 use Rattle.dms_wal.specs.PaceLaws.{trail_then}
 use Rattle.dms_wal.proofs.running.Running.load.Goals as goal
 
@@ -23,7 +23,7 @@ returns-in-Err-fetch-clause-looks g c = looks_on _ c.in-Ok.ensures.looks c.in-Er
 
 pub returns-in-Err-fetch-clause-causes : goal.returns-in-Err-fetch-clause-causes
 returns-in-Err-fetch-clause-causes g c =
-    causes_on {T = Block} (Err c.in-Err-fetch.fault) (held g.S.Site c.args.self.now) (held g.S.Site c.make_room.new.self) (held g.S.Site c.fetch.new.self) c.in-Ok.ensures.causes c.in-Ok.ensures.looks.passes.lasts c.in-Ok.ensures.looks.same c.in-Err-fetch.ensures.causes
+    causes_on {T = Block} (Err c.in-Err-fetch.fault) (running_held g.S.Site c.args.self.now) (running_held g.S.Site c.make_room.new.self) (running_held g.S.Site c.fetch.new.self) c.in-Ok.ensures.causes c.in-Ok.ensures.looks.passes.lasts c.in-Ok.ensures.looks.same c.in-Err-fetch.ensures.causes
 
 pub returns-in-Err-clause-logs : goal.returns-in-Err-clause-logs
 returns-in-Err-clause-logs g c off = absurd (off (λ i. Err (c.in-Err.ensures.only i)))

@@ -1,8 +1,8 @@
-use Rattle.std.proofs.Common.{◌∙◌, refl, false, arith}
+use Rattle.std.proofs.Common.{◌∙◌, refl, true, false, arith}
 use Rattle.dms_restore.specs.Views.{view_of}
 use Rattle.dms_wal.specs.PaceLaws.{grows_none}
 use Rattle.dms_wal.proofs.Grown.{grows_logged, logged_quiet}
-use Rattle.dms_wal.proofs.Synced.{kind_is, quiet_done, quiet_left}
+use Rattle.dms_wal.proofs.Synced.{kind_is, quiet_done, quiet_left, sync_passes}
 use Rattle.std.specs.declared.result.Result.TheVariants.{Err}
 use Rattle.std.proofs.lemmas.Bool.{true≢false}
 use Rattle.dms_wal.proofs.Causes.{full_left, full_seen}
@@ -22,6 +22,12 @@ pub returns-in-Err-clause-leaves : goal.returns-in-Err-clause-leaves
 returns-in-Err-clause-leaves g c =
     let m = g.met.S.Site in
     quiet_left g.S.Site m.may_stay m.now_said m.counts_now c.args.self.now c.requires c.quiet.new.self (kind_is c.quiet.ensures.kind.0 c.quiet.ensures.kind.3) c.quiet.ensures.moments false 0 0 c.quiet.ensures.silent 0 c.args.self.now.marks
+
+pub returns-in-Err-clause-no_point : goal.returns-in-Err-clause-no_point
+returns-in-Err-clause-no_point g c n is =
+    let m = g.met.S.Site in
+    let seen = full_seen c.in-Err.fault c.append_fault.result _ _ _ n c.in-Err.ensures.only c.append_fault.ensures is in
+    (sync_passes g.S.Site m.may_stay m.now_said m.counts_now c.args.self.now c.requires c.quiet.new.self (kind_is c.quiet.ensures.kind.0 c.quiet.ensures.kind.3) true 0 c.quiet.ensures.said (c.in-Err.ensures.no_point (λ i. Err (seen.1 i))) c.quiet.ensures.silent).leaves
 
 pub returns-in-Err-clause-full : goal.returns-in-Err-clause-full
 returns-in-Err-clause-full g c n is = full_left c.in-Err.fault c.append_fault.result _ _ n c.args.self.now.log.end c.quiet.new.self.end c.in-Err.ensures.only c.append_fault.ensures c.quiet.ensures.kind.2 c.in-Err.ensures.full is

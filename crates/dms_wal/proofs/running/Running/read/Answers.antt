@@ -2,7 +2,7 @@ use Rattle.std.proofs.Common.{refl, arith}
 use Rattle.std.specs.declared.result.Result.TheVariants.{Ok}
 use Rattle.dms_block.specs.declared.block_fault.BlockFault.TheVariants.{Disk}
 use Rattle.dms_block.specs.HeldLaws.{causes_on, looks_on}
-use Rattle.dms_wal.specs.Database.{held}
+use Rattle.dms_wal.specs.Database.{running_held}
 use Rattle.dms_wal.specs.PaceLaws.{trail_none}
 use Rattle.dms_wal.proofs.Fetched.{asked_block, asked_none, usable_read}
 use Rattle.dms_wal.proofs.Grown.{grows_still, never_failed}
@@ -20,12 +20,12 @@ returns-in-Some-clause-block g c told = asked_block g.S.Site c.args.self.now c.r
 
 pub returns-in-Some-clause-looks : goal.returns-in-Some-clause-looks
 returns-in-Some-clause-looks g c =
-    looks_sound _ 1 (held g.S.Site c.args.self.now) _ _ tt (usable_read g.S.Site c.args.self.now c.requires.sound c.args.id c.get.new.self c.saturating_add-self.result c.get.ensures.looked)
+    looks_sound _ 1 (running_held g.S.Site c.args.self.now) _ _ tt (usable_read g.S.Site c.args.self.now c.requires.sound c.args.id c.get.new.self c.saturating_add-self.result c.get.ensures.looked)
     (record { not_fewer = omega (arith, c.saturating_add-self.ensures); reads = omega (arith, c.saturating_add-self.ensures); not_less = omega arith; spent = omega arith; syncs = refl; outs = refl })
 
 pub returns-in-None-clause-looks : goal.returns-in-None-clause-looks
 returns-in-None-clause-looks g c =
-    looks_on c.load.result (looks_sound {T = Unit {0}} (Ok tt) 1 (held g.S.Site c.args.self.now) _ _ tt (usable_read g.S.Site c.args.self.now c.requires.sound c.args.id c.get.new.self c.saturating_add-self.result c.get.ensures.looked)
+    looks_on c.load.result (looks_sound {T = Unit {0}} (Ok tt) 1 (running_held g.S.Site c.args.self.now) _ _ tt (usable_read g.S.Site c.args.self.now c.requires.sound c.args.id c.get.new.self c.saturating_add-self.result c.get.ensures.looked)
     (record { not_fewer = omega (arith, c.saturating_add-self.ensures); reads = omega (arith, c.saturating_add-self.ensures); not_less = omega arith; spent = omega arith; syncs = refl; outs = refl })) c.load.ensures.looks
 
 pub returns-in-Some-clause-grows : goal.returns-in-Some-clause-grows
@@ -42,6 +42,6 @@ returns-in-None-clause-grows g c =
 
 pub returns-in-None-clause-causes : goal.returns-in-None-clause-causes
 returns-in-None-clause-causes g c =
-    let l = looks_sound {T = Unit {0}} (Ok tt) 1 (held g.S.Site c.args.self.now) _ _ tt (usable_read g.S.Site c.args.self.now c.requires.sound c.args.id c.get.new.self c.saturating_add-self.result c.get.ensures.looked)
+    let l = looks_sound {T = Unit {0}} (Ok tt) 1 (running_held g.S.Site c.args.self.now) _ _ tt (usable_read g.S.Site c.args.self.now c.requires.sound c.args.id c.get.new.self c.saturating_add-self.result c.get.ensures.looked)
     (record { not_fewer = omega (arith, c.saturating_add-self.ensures); reads = omega (arith, c.saturating_add-self.ensures); not_less = omega arith; spent = omega arith; syncs = refl; outs = refl }) in
-    causes_on c.load.result (held g.S.Site c.args.self.now) _ (held g.S.Site c.load.new.self) refl l.passes.lasts l.same c.load.ensures.causes
+    causes_on c.load.result (running_held g.S.Site c.args.self.now) _ (running_held g.S.Site c.load.new.self) refl l.passes.lasts l.same c.load.ensures.causes

@@ -1,6 +1,6 @@
 use Rattle.std.proofs.Common.{◌∙◌, IsTrue, sym, arith}
 use Rattle.std.proofs.lemmas.Bool.{true≢false}
-use Rattle.dms_wal.specs.Controls.{is_due_at}
+use Rattle.dms_block.specs.Held.{is_due_at}
 use Rattle.dms_block.specs.declared.block_fault.BlockFault.TheVariants.{Disk}
 use Rattle.dms_block.specs.HeldLaws.{passes_on}
 use Rattle.dms_wal.proofs.Controlling.{durable_on, durable_stays, makes_on}

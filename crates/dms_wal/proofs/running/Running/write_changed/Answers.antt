@@ -1,14 +1,14 @@
 use Rattle.std.proofs.Common.{◌∙◌, refl}
 use Rattle.std.specs.declared.result.Result.TheVariants.{Ok}
 use Rattle.dms_block.specs.HeldLaws.{looks_none, looks_on}
-use Rattle.dms_wal.specs.Database.{held}
+use Rattle.dms_wal.specs.Database.{running_held}
 use Rattle.dms_wal.specs.PaceLaws.{trail_none, trail_then}
 use Rattle.dms_wal.proofs.Keeping.{keeps_none, keeps_on, tells_none, tells_on}
 use Rattle.dms_wal.proofs.running.Running.write_changed.Goals as goal
 
 pub loop-id-init : goal.loop-id-init
 loop-id-init g c = record {
-  looks = looks_none 0 (Ok tt) (held g.S.Site c.args.self.now) tt c.requires;
+  looks = looks_none 0 (Ok tt) (running_held g.S.Site c.args.self.now) tt c.requires;
   kind = refl;
   kept = keeps_none c.args.self.now;
   tells = λ t. tells_none _;

@@ -1,7 +1,7 @@
 use Rattle.std.proofs.Common.{ℕ, List, ◌++◌, drop, ap, ◌∙◌}
 use Rattle.dms_history.proofs.PlainPick.{to_end}
 use Rattle.dms_history.proofs.PatchedParts.{patched_is}
-use Rattle.dms_history.proofs.plain.patched.Goals as goal
+use Rattle.dms_history.proofs.plain.patch_bytes.Goals as goal
 
 pub returns : goal.returns
 returns c =

@@ -2,7 +2,7 @@ use Rattle.std.proofs.Common.{◌≡◌, take}
 use Rattle.std.specs.declared.result.Result.TheVariants.{Ok}
 use Rattle.dms_block.specs.Held.{Held, Looks}
 use Rattle.dms_block.proofs.Sifting.{Sifted}
-use Rattle.dms_block.proofs.sift.sifted.Given as goal
+use Rattle.dms_block.proofs.sift.sift.Given as goal
 
 abbrev pub invariant-loop-change : goal.invariant-loop-change
 invariant-loop-change g l =

@@ -5,7 +5,7 @@ use Rattle.dms_history.specs.Told.{undone_to}
 use Rattle.dms_history.specs.Plain.{events_seen}
 use Rattle.dms_history.proofs.PlainPick.{to_end}
 use Rattle.dms_history.proofs.ToldBlocks.{told_nowhere, told_redone, told_undone}
-use Rattle.dms_history.proofs.plain.told.Goals as goal
+use Rattle.dms_history.proofs.plain.told_block.Goals as goal
 
 pub returns-in-None : goal.returns-in-None
 returns-in-None c = told_nowhere (events_seen c.args.live.now) c.args.point c.args.file c.args.block c.in-None.ensures.nowhere

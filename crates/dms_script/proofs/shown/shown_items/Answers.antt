@@ -4,7 +4,7 @@ use Rattle.dms_tokens.specs.Cursors.{starts, is_the_sign, place_at}
 use Rattle.dms_desc.specs.Shape.{shape_of}
 use Rattle.dms_script.specs.Verbs.{shown_at}
 use Rattle.dms_script.proofs.Listing.{list-more, list-last, list-none, list-fault, LineFails-from, comma-no, comma-yes}
-use Rattle.dms_script.proofs.shown.shown.Goals as goal
+use Rattle.dms_script.proofs.shown.shown_items.Goals as goal
 
 pub returns-in_err-shown : goal.returns-in_err-shown
 returns-in_err-shown c =

@@ -1,7 +1,7 @@
 use Rattle.std.proofs.Common.{◌≡◌, ◌∙◌, rules, arith}
 use Rattle.dms_memcalls.specs.Views.{view}
 use Rattle.dms_memcalls.proofs.Struck.{came_none, came_next, came_all}
-use Rattle.dms_memcalls.proofs.crash.begun.Goals as goal
+use Rattle.dms_memcalls.proofs.crash.begin_story.Goals as goal
 
 pub loop-file-init : goal.loop-file-init
 loop-file-init c = came_none _ _ c.new-story.ensures

@@ -5,7 +5,7 @@ use Rattle.dms_block.specs.declared.change.Change.{Change}
 use Rattle.dms_block.proofs.Sifting.{sift_on, takes_up_on}
 use Rattle.dms_block.specs.Changing.{no_change_of}
 use Rattle.dms_block.specs.Held.{Held}
-use Rattle.dms_block.proofs.sift.sifted.Goals as goal
+use Rattle.dms_block.proofs.sift.sift.Goals as goal
 
 pub returns-in-Err-clause-looks : goal.returns-in-Err-clause-looks
 returns-in-Err-clause-looks g c =

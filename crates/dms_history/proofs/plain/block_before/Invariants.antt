@@ -3,7 +3,7 @@ use Rattle.std.specs.Option.{option_copied}
 use Rattle.dms_history.specs.Images.{first_before, else_stored}
 use Rattle.dms_history.specs.Plain.{events_seen}
 use Rattle.dms_history.proofs.PlainPick.{undone_so_far}
-use Rattle.dms_history.proofs.plain.undone.Given as goal
+use Rattle.dms_history.proofs.plain.block_before.Given as goal
 
 abbrev pub invariant-loop-event : goal.invariant-loop-event
 invariant-loop-event l =
