@@ -48,6 +48,23 @@ It can't be changed any more. A transaction may begin, and what needs a block of
   $ "$DMS" print audit | tail -n 1 | cut -d' ' -f3-
   CONTROL 13 NEXT 14
 
+So a transaction can be taken back: a back-out may go on there, too.
+
+  $ "$DMS" run <<'END'
+  > A: OPEN UPDATE
+  > A: BEGIN-TRANSACTION NO-AUDIT RDS
+  > A: ABORT-TRANSACTION RDS
+  > END
+  1 A DONE
+  2 A DONE
+  3 A DONE
+  $ "$DMS" print audit | tail -n 5 | cut -d' ' -f3-
+  BEGIN 13 BACKOUT
+  SCHEMA 1 OF 1 LENGTH 62
+  CONTROL 13 NEXT 14
+  SCHEMA 1 OF 1 LENGTH 62
+  CONTROL 13 NEXT 14
+
 Nothing is written through: with a store in each transaction the file of D isn't there before a control point, since the pool has room.
 
   $ cd ../stores
@@ -86,3 +103,36 @@ The next run writes it. All thirteen records are there.
   F30002.DMS 1024
   $ od -An -v -tx1 -w22 -N286 F30002.DMS | cut -c1-15 | uniq -c | tr -s ' '
    13 01 00 00 00 00
+
+A control point that is due goes no further here. With one behind each syncpoint, each takes two blocks: the seventh quiet point is in the last block
+of file 2, and the control point behind it would be in file 3. That line isn't answered, and the next run finds its point.
+
+  $ mkdir ../due && cd ../due
+  $ "$DMS" compile <<'END'
+  > PARAMETERS (CONTROLPOINT = 1 SYNCPOINTS);
+  > AUDIT TRAIL (BLOCKS = 8, FILES = 2);
+  > RDS RESTART DATA SET (PID ALPHA(10););
+  > D DATA SET (X NUMBER(4););
+  > END
+  COMPILED 2 STRUCTURES
+  $ "$DMS" initialize
+  INITIALIZED AT POINT 0
+  $ { echo 'A: OPEN UPDATE'; for n in $(seq 8); do echo 'A: BEGIN-TRANSACTION NO-AUDIT RDS'; echo 'A: END-TRANSACTION NO-AUDIT RDS SYNC'; done; } > ../script
+  $ "$DMS" run < ../script > ../out
+  dms: audit file 2 full
+  [8]
+  $ tail -n 2 ../out
+  SYNCPOINT 6
+  14 A DONE
+  $ "$DMS" print audit | tail -n 4
+  2 6 QUIET 6
+  2 7 SCHEMA 1 OF 1 LENGTH 62
+  2 7 CONTROL 6 NEXT 7
+  2 8 QUIET 7
+  $ "$DMS" run < /dev/null
+  $ "$DMS" print audit | tail -n 5
+  3 1 BEGIN 7 HALTLOAD
+  3 2 SCHEMA 1 OF 1 LENGTH 62
+  3 2 CONTROL 7 NEXT 8
+  3 3 SCHEMA 1 OF 1 LENGTH 62
+  3 3 CONTROL 7 NEXT 8

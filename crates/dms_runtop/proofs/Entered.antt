@@ -3,6 +3,7 @@ use Rattle.std.proofs.Common.{ℕ, ◌+◌, ◌≤◌, ◌≡◌, ◌∙◌, inl
 use Rattle.std.specs.Prelude.{is_some}
 use Rattle.dms_desc.specs.Shape.{Described}
 use Rattle.dms_desc_bytes.specs.Spelling.{spelling}
+use Rattle.dms_desc_bytes.specs.WellFormed.{IsWellFormed}
 use Rattle.dms_feed.specs.Lines.{raw_lines}
 use Rattle.dms_runner.specs.Answers.{script_events}
 use Rattle.dms_runner.specs.Events.{RunEvent}
@@ -98,7 +99,7 @@ module _ {S : Type 0} (g : Ghosts S) (old : S) (s : DatabaseState) where
   state_here : (o : Opened S) → OpensAt o.log.end.total o.log.first (g.files old) o.point o.next o.schema.items o.counts.items → HoldsState (g.files old) s → LivesEndWith s.desc (points_of (telling (view_of g o.log)) (g.files old)) s.point s.db
   state_here o opens h = here_now (λ a b. LivesEndWith s.desc (points_of (telling_of a b) (g.files old)) s.point s.db) o opens h h.state
 
-  whole_here : (o : Opened S) → OpensAt o.log.end.total o.log.first (g.files old) o.point o.next o.schema.items o.counts.items → HoldsState (g.files old) s → IsWhole (telling_of o.log.end.total o.log.first) (g.files old)
+  pub whole_here : (o : Opened S) → OpensAt o.log.end.total o.log.first (g.files old) o.point o.next o.schema.items o.counts.items → HoldsState (g.files old) s → IsWhole (telling_of o.log.end.total o.log.first) (g.files old)
   whole_here o opens h = here_now (λ a b. IsWhole (telling_of a b) (g.files old)) o opens h h.whole
 
   -- what `run_opened` needs
@@ -167,7 +168,7 @@ refuses_no_state g old hold status never tells s stands refusal =
 
 -- ---- the command, where a state is told
 
-some_told : (state : Option DatabaseState) (s : DatabaseState) → state ≡ Some s → IsTrue (is_some state)
+pub some_told : (state : Option DatabaseState) (s : DatabaseState) → state ≡ Some s → IsTrue (is_some state)
 some_told state s is = subst (λ (o : Option DatabaseState). IsTrue (is_some o)) (sym is) refl
 
 module _ {S : Type 0} (g : Ghosts S) (old : S) (state : Option DatabaseState) where
@@ -191,6 +192,15 @@ module _ {S : Type 0} (g : Ghosts S) (old : S) (state : Option DatabaseState) wh
   runs_refused hold one_next told fault new none grows since said left left' status status_is tells s is next has_next room all held =
       subst (λ (x : Status). RunsAlong g s next all old new left' x) (sym status_is)
       (runs_unopened g old s one_next fault new (none tells) (grows tells) (since tells) said left' (hold (g.files old) s (told tells s is)) next has_next all)
+
+  -- the description of what is told is that of the opening
+  pub told_description : StatesHold → (IsTrue g.tells → HoldsTold state (g.files old)) → (o : Opened S) → (IsTrue g.tells → OpensAt o.log.end.total o.log.first (g.files old) o.point o.next o.schema.items o.counts.items)
+      → (IsTrue g.tells → IsWhole (telling_of o.log.end.total o.log.first) (g.files old) → RunsFrom (g.files old) o.point o.next o.schema.items o.counts.items (view_of g o.log)) → (s : DatabaseState) → state ≡ Some s → IsTrue g.tells → IsWellFormed s.desc × (spelling s.desc ≡ o.schema.items)
+  unfolding opened_stands
+  told_description hold told o opens runs s is tells =
+      let h : HoldsState (g.files old) s = hold (g.files old) s (told tells s is) in
+      let st : StandsOpened g o = opened_stands g old s o (opens tells) (runs tells) h in
+      (h.formed, st.spelled)
 
   -- and its trail stays
   pub keeps_found : (o : Opened S) (new : S) → (IsTrue g.tells → OpensAt o.log.end.total o.log.first (g.files old) o.point o.next o.schema.items o.counts.items) → (IsTrue g.tells → OpeningGrows g old o.log.site) → GrowsOpened g o (is_some state) new

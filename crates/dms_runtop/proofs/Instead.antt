@@ -108,3 +108,8 @@ module _ {S : Type 0} (g : Ghosts S) where
         trail = r.trail;
         runs = ran_instead 19 _ _ _ _ _ _ _ (seen_site g old) (seen_site g x) (seen_site g x) left' s Memory place (λ events. runs_none _ _) refl refl r.runs;
       }
+
+  -- where the database was opened
+  pub opened_refused : (o : Opened S) (x : S) (known : Bool) (left left' : Option (List ℕ)) (s : Status) → TakesPlace s Memory → RunsOpened g o known left left' s x → RunsOpened g o known left left' Memory x
+  opened_refused o x known left left' s place ran told knows st n db all state room is =
+      ran_instead 0 _ _ _ _ _ _ _ (seen_site g o.log.site) (seen_site g x) (seen_site g x) left' s Memory place (λ events. runs_none _ _) refl refl (ran told knows st n db all state room is)

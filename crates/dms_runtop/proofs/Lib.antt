@@ -20,3 +20,5 @@ pub mod Fulls
 pub mod Bounds
 pub mod Inputs
 pub mod Grows
+pub mod Adding
+pub mod Naming

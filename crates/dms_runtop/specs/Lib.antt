@@ -6,6 +6,8 @@ pub mod Describing
 pub mod Command
 pub mod Guard
 pub mod GuardLaws
+pub mod Adding
+pub mod Naming
 pub mod Full
 pub mod Bound
 pub mod Inputs

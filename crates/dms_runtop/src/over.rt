@@ -6,12 +6,16 @@ ghost use Rattle.dms_desc.specs.Shape.{as_described};
 ghost use Rattle.dms_desc_bytes.specs.WellFormed.{IsWellFormed};
 ghost use Rattle.dms_model.specs.Db.{Db};
 ghost use Rattle.dms_model.specs.Session.{fresh_session};
+ghost use Rattle.dms_restore.specs.Logging.{entries, telling};
+ghost use Rattle.dms_restore.specs.Views.{view_of};
 ghost use Rattle.dms_runtop.specs.Inputs.{BlamesInput};
+ghost use Rattle.dms_runtop.specs.Naming.{AppendsOver};
 ghost use Rattle.dms_runtop.specs.Over.{RunsOver, ClosesOver, GrowsOver};
 ghost use Rattle.dms_runtop.specs.Statuses.{IsOfClosing, IsOfScript};
 ghost use Rattle.dms_store.specs.Lifted.{Serves};
 ghost use Rattle.dms_storeverbs.specs.View.{StandsFor, engine_view, view};
 ghost use Rattle.dms_wal.specs.Database.{running_held};
+ghost use Rattle.dms_wal.specs.Following.{AppendsOldPoints};
 
 use crate::ended::Ended;
 use crate::ending::{fault_within, status_of_block, status_of_run};
@@ -36,6 +40,7 @@ fn running_under<S: Site>(engine: Engine<BlockStore<Running<S>>>) -> Running<S>
 fn close_over<S: Site>(alloc: Global, running: Running<S>) -> Ended<S>
     requires { (running_held S.Site running).sound }
     ensures closes { ClosesOver S.Site running result.status result.site }
+    ensures appends { IsTrue S.tells → result.status ≡ Status.Ok → AppendsOldPoints (entries (view_of S.Site running.log)) ((telling (view_of S.Site running.log)).entries (S.files result.site)) }
     ensures said { IsTrue S.tells_said → S.said result.site ≡ S.said running.log.site }
     ensures statuses { (result.status ≡ Status.Ok) ⊎ IsOfClosing result.status }
     ensures disk { CountedAt (result.status ≡ Status.DiskFault) (S.disk_faults running.log.site) (S.disk_faults result.site) }
@@ -73,6 +78,7 @@ fn run_engine<S: Site, I: Source>(
     requires found { engine.store.found ≡ 0 }
     ensures ran { RunsOver S.Site engine.store.over.below (as_described engine.desc) (I.left source.old) (I.left source.new) result.status result.site }
     ensures grown { GrowsOver S.Site engine.store.over.below result.site }
+    ensures appends { AppendsOver S.Site engine.store.over.below result.status result.site }
     ensures by_input { BlamesInput (I.left source.old) (I.left source.new) result.status }
     ensures end { result.status ≡ Status.Ok → (all : List ℕ) → I.left source.old ≡ Some all → I.left source.new ≡ Some [] }
     ensures statuses { (result.status ≡ Status.Ok) ⊎ IsOfScript result.status }
@@ -113,6 +119,7 @@ pub fn run_over<S: Site, I: Source>(
     requires mark { IsTrue S.tells → (running_held S.Site running).mark ≡ (running_held S.Site running).content }
     ensures ran { RunsOver S.Site running (as_described desc.now) (I.left source.old) (I.left source.new) result.status result.site }
     ensures grown { GrowsOver S.Site running result.site }
+    ensures appends { AppendsOver S.Site running result.status result.site }
     ensures by_input { BlamesInput (I.left source.old) (I.left source.new) result.status }
     ensures end { result.status ≡ Status.Ok → (all : List ℕ) → I.left source.old ≡ Some all → I.left source.new ≡ Some [] }
     ensures statuses { (result.status ≡ Status.Ok) ⊎ IsOfScript result.status }

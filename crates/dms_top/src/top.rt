@@ -19,10 +19,12 @@ ghost use Rattle.dms_top.specs.Answering.{Printed, PrintedFront, PrintedPrefix, 
 ghost use Rattle.dms_status.specs.declared.status.LimitKind.{LimitKind as Kind};
 ghost use Rattle.dms_top.specs.Premises.{OnTry, OnCompile, OnInitialize, OnPrintAudit, OnOthers, OnReading, OnRun, OfInput, OfSchema, OfSealed, OfNoSchema, OfTriedScript, OfNoScript};
 ghost use Rattle.dms_audfile.specs.Counting.{CountedAt};
+ghost use Rattle.dms_runtop.specs.Adding.{AddsNoneTold};
 ghost use Rattle.dms_runtop.specs.Command.{DatabaseState, HoldsTold, NeverRefuses, NeverRefusesState, RefusesRun, RunKeepsTrail, RunsCommand, EndsInState, StandsThroughout, OpensOrStays};
 ghost use Rattle.dms_runtop.specs.Full.{HasNoRoom};
 ghost use Rattle.dms_runtop.specs.Guard.{StaysBeside};
 ghost use Rattle.dms_runtop.specs.Inputs.{BlamesInput};
+ghost use Rattle.dms_runtop.specs.Naming.{AppendsTold};
 ghost use Rattle.dms_runtop.specs.Statuses.{IsOfRun, IsRefusal};
 ghost use Rattle.dms_top.specs.SiteText.{text_told};
 ghost use Rattle.dms_top.specs.Words.{IsTry, IsCompile, IsRun, IsCommand, IsOfTry, IsOfCompile, IsPast, ComesUnsaid, IsUntouched};
@@ -276,6 +278,11 @@ pub fn dms<S: Site, I: Source>(
     ensures run_complete_state { OnRun words.now (NeverRefusesState S.Site site.old result) }
     // status 8 of an audit file comes only where the trail of entry goes on behind that file: it begins behind it, or all gates of that file are open
     ensures run_full { OnRun words.now (HasNoRoom S.Site site.old site.new result) }
+    // of the state that is told: at each status but 5 and 7, where the count of failed calls of the disk wasn't at its end at entry, each block behind audit
+    // file FILES of its description whose gate is 1 had that gate and that content at entry, or it holds no Image and no quiet point
+    ensures run_behind { OnRun words.now (AddsNoneTold S.Site state result site.old site.new) }
+    // at each status but 5, 7 and 8 of 9,999, under the same premise: each Control that was appended has the number of a quiet point or a Control that is live before it
+    ensures run_points { OnRun words.now (AppendsTold S.Site state result site.old site.new) }
     // whatever the files stand for, at status 0 the input has no more lines and bytes than a script may have, status 8 of either comes only where it has
     // more of them, before it has too many of the other, and at status 6 taking failed behind so many whole lines, each with its line feed, and a part of the next one
     ensures run_by_input { OnRun words.now (BlamesInput (I.left input.old) (I.left input.new) result) }

@@ -27,7 +27,9 @@ use Rattle.dms_wal.specs.Changing.{LogsChanges}
 use Rattle.dms_wal.specs.Controls.{KeepsPace}
 use Rattle.dms_restore.specs.Views.{view_of}
 use Rattle.dms_wal.specs.Faults.{IsSeenAs, IsSeenInBack}
-use Rattle.dms_wal.specs.Growing.{accounts, close_limit, controls_among, GivesGrown, GrowsBy, IsCounted, LogsAtMost, over_site, TrailGrows}
+use Rattle.dms_wal.specs.Following.{AppendsOldPoints, NameOldPoints}
+use Rattle.dms_wal.specs.FollowLaws.{names_first}
+use Rattle.dms_wal.specs.Growing.{accounts, close_limit, controls_among, FailsNever, GivesGrown, GrowsBy, IsCounted, LogsAtMost, over_site, TrailGrows}
 use Rattle.dms_wal.specs.PaceLaws.{pace_kind}
 use Rattle.dms_wal.proofs.Logged.{logs_many}
 use Rattle.dms_wal.proofs.Reaching.{EndsAlike, entries_alike}
@@ -48,17 +50,17 @@ pub logged_image : (a b : LogView) (f k : ℕ) (before : Option (List ℕ)) (aft
 logged_image a b f k before after l = omega (arith, ap (λ (es : List Entry). length es) l.entries_are, length-append (entries a) (image f k before after ∷ []))
 
 pub some_none : (n : ℕ) (a b : LogView) → entries b ≡ entries a → LogsAtMost n a b
-some_none n a b same = record { more = []; few = omega arith; entries_are = same ∙ sym (append-nil (entries a)) }
+some_none n a b same = record { more = []; few = omega arith; names = tt; entries_are = same ∙ sym (append-nil (entries a)) }
 
 -- the first so many of so many
-pub some_part : (n : ℕ) (a b : LogView) (es : List Entry) → length es ≤ n → LogsPart a b es → LogsAtMost n a b
-some_part n a b es few p = record { more = take p.some es; few = omega (arith, few, length-take p.some es); entries_are = p.entries_are }
+pub some_part : (n : ℕ) (a b : LogView) (es : List Entry) → length es ≤ n → NameOldPoints (entries a) es → LogsPart a b es → LogsAtMost n a b
+some_part n a b es few names p = record { more = take p.some es; few = omega (arith, few, length-take p.some es); names = names_first p.some (entries a) es names; entries_are = p.entries_are }
 
 pub some_from : (n : ℕ) (a b c : LogView) → entries b ≡ entries a → LogsAtMost n b c → LogsAtMost n a c
-some_from n a b c same l = record { more = l.more; few = l.few; entries_are = l.entries_are ∙ ap (λ (es : List Entry). es ++ l.more) same }
+some_from n a b c same l = record { more = l.more; few = l.few; names = subst (λ (es : List Entry). NameOldPoints es l.more) same l.names; entries_are = l.entries_are ∙ ap (λ (es : List Entry). es ++ l.more) same }
 
 pub some_alike : (n : ℕ) (a b c d : LogView) → entries b ≡ entries a → entries d ≡ entries c → LogsAtMost n b c → LogsAtMost n a d
-some_alike n a b c d one two l = record { more = l.more; few = l.few; entries_are = two ∙ l.entries_are ∙ ap (λ (es : List Entry). es ++ l.more) one }
+some_alike n a b c d one two l = record { more = l.more; few = l.few; names = subst (λ (es : List Entry). NameOldPoints es l.more) one l.names; entries_are = two ∙ l.entries_are ∙ ap (λ (es : List Entry). es ++ l.more) one }
 
 -- a description has 17 parts at most
 pub parts_few : (description : List ℕ) → length description ≤ 65535 → length (schema_entries (bodies description)) ≤ 17
@@ -73,12 +75,12 @@ pub back_entries_few : (m : ℕ) (description : List ℕ) (number : ℕ) (counts
 back_entries_few m description number counts low = omega (arith, control_few description (control_point m number (counts_at (length counts / 8) counts)) low)
 
 -- what a back-out logs, whatever it answers but a fault of the disk
-pub back_few : (r : Result (Unit {0}) AudFault) (m limit : ℕ) (a b : LogView) (es : List Entry) → length es ≤ 19 → IfErr r (IsBackFault limit) → OnOk r (WentBackTo m a b es) → (IsErrOf r (audit.Full limit) → LogsPart a b es) → (IsErrOf r audit.Memory → SealedAlone a b)
+pub back_few : (r : Result (Unit {0}) AudFault) (m limit : ℕ) (a b : LogView) (es : List Entry) → length es ≤ 19 → NameOldPoints (entries a) es → IfErr r (IsBackFault limit) → OnOk r (WentBackTo m a b es) → (IsErrOf r (audit.Full limit) → LogsPart a b es) → (IsErrOf r audit.Memory → SealedAlone a b)
     → (IsErrOf r audit.Disk → ⊥) → LogsAtMost 19 a b
-back_few (Ok x) m limit a b es few only back full memory off = record { more = es; few = few; entries_are = back.entries_are }
-back_few (Err e) m limit a b es few (inl is) back full memory off = some_part 19 a b es few (full (λ i. Err (is i)))
-back_few (Err e) m limit a b es few (inr (inl is)) back full memory off = absurd (off (λ i. Err (is i)))
-back_few (Err e) m limit a b es few (inr (inr is)) back full memory off = some_none 19 a b (memory (λ i. Err (is i))).same.entries_same
+back_few (Ok x) m limit a b es few names only back full memory off = record { more = es; few = few; names = names; entries_are = back.entries_are }
+back_few (Err e) m limit a b es few names (inl is) back full memory off = some_part 19 a b es few names (full (λ i. Err (is i)))
+back_few (Err e) m limit a b es few names (inr (inl is)) back full memory off = absurd (off (λ i. Err (is i)))
+back_few (Err e) m limit a b es few names (inr (inr is)) back full memory off = some_none 19 a b (memory (λ i. Err (is i))).same.entries_same
 
 -- ---- faults
 
@@ -128,7 +130,8 @@ change_more g a b x logs tells =
     let l = logs tells in
     omega (arith, ap (λ (es : List Entry). length es) l.entries_are, length-append (entries (view_of g a.log)) l.images, logs_many (view_of g a.log) (view_of g b.log) (x ∷ []) l)
 
-module _ {S : Type 0} (g : Ghosts S) (a b : Running S) (unbroken : a.broken ≡ false) (pace : KeepsPace a b) (spent : a.spent ≤ b.spent) (syncs : a.syncs ≤ b.syncs) (outs : a.outs ≤ b.outs) (next : a.next ≤ b.next) where
+module _ {S : Type 0} (g : Ghosts S) (a b : Running S) (unbroken : a.broken ≡ false) (pace : KeepsPace a b) (spent : a.spent ≤ b.spent) (syncs : a.syncs ≤ b.syncs) (outs : a.outs ≤ b.outs) (next : a.next ≤ b.next)
+    (later : g.disk_faults a.log.site ≤ g.disk_faults b.log.site) (appends : IsTrue g.tells → FailsNever g a b → AppendsOldPoints (entries (view_of g a.log)) (entries (view_of g b.log))) where
   -- at most so many entries were logged or sealed besides, and so many are accounted for
   grows_by : (n : ℕ) → (IsCounted b → n + accounts a ≤ accounts b) → TrailGrows g n a b → (IsTrue g.tells → b.broken ≡ false → length (entries (view_of g b.log)) ≤ length (entries (view_of g a.log)) + n) → GrowsBy g a b
   grows_by n paid grown few = record {
@@ -138,6 +141,8 @@ module _ {S : Type 0} (g : Ghosts S) (a b : Running S) (unbroken : a.broken ≡ 
     outs = outs;
     next = next;
     last = λ broken. absurd (true≢false (sym broken ∙ unbroken));
+    counted = later;
+    appends = appends;
     stays = λ tells. (grown tells).stays;
     grows = λ tells whole counted. omega (arith, few tells whole, paid counted);
     sealed = λ tells counted.

@@ -24,6 +24,7 @@ pub mod Closed
 pub mod Limits
 pub mod BackFaults
 pub mod BackedOut
+pub mod Followed
 pub mod Grown
 pub mod Passes
 pub mod Fulls

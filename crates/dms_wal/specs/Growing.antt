@@ -7,13 +7,15 @@ use Rattle.dms_block.specs.declared.block_fault.BlockFault.{BlockFault}
 use Rattle.dms_history.specs.Entries.{Entry}
 use Rattle.dms_restore.specs.Logging.{LogGrows, LogStays, LogView, entries, telling, view}
 use Rattle.dms_wal.specs.declared.running.Running.{Running}
+use Rattle.dms_wal.specs.Following.{AppendsOldPoints, NameOldPoints}
 use Rattle.dms_block.specs.Held.{is_due_at}
 use Rattle.dms_restore.specs.Views.{view_of}
 
--- At most so many entries were logged.
+-- At most so many entries were logged, and each Control among them has the number of a quiet point or a Control that is live before it.
 pub record LogsAtMost (n : ℕ) (a b : LogView) : Type 0 where
   pub more : List Entry
   pub few : length more ≤ n
+  pub names : NameOldPoints (entries a) more
   pub entries_are : entries b ≡ entries a ++ more
 
 -- how many of the first so many syncs a control point follows
@@ -37,9 +39,13 @@ pub record IsCounted {S : Type 0} (r : Running S) : Type 0 where
 abbrev pub TrailGrows : {S : Type 0} → Ghosts S → ℕ → Running S → Running S → Type 0
 TrailGrows g n a b = IsTrue g.tells → LogGrows n (view_of g a.log) (view_of g b.log)
 
+-- no call on its disk failed, and their count isn't at its type's end
+abbrev pub FailsNever : {S : Type 0} → Ghosts S → Running S → Running S → Type 0
+FailsNever g a b = (g.disk_faults b.log.site ≡ g.disk_faults a.log.site) × (g.disk_faults a.log.site < 2 ^ 64 - 1)
+
 -- The uses of a running database only rise, and so does its next number. Its trail grows by blocks that hold an entry alone, and whatever failed, its
 -- files hold no more entries than it accounts for. Once a call failed there is none behind it; until then its log has no more, either, waiting ones
--- among them.
+-- among them. While no call on its disk failed, no Control that was logged has a new number.
 pub record GrowsBy {S : Type 0} (g : Ghosts S) (a b : Running S) : Type 0 where
   pub every : b.every ≡ a.every
   pub spent : a.spent ≤ b.spent
@@ -49,6 +55,8 @@ pub record GrowsBy {S : Type 0} (g : Ghosts S) (a b : Running S) : Type 0 where
   pub last : a.broken ≡ true → b ≡ a
   pub stays : IsTrue g.tells → LogStays (view_of g a.log) (view_of g b.log)
   pub grows : IsTrue g.tells → b.broken ≡ false → IsCounted b → length (entries (view_of g b.log)) + accounts a ≤ length (entries (view_of g a.log)) + accounts b
+  pub counted : g.disk_faults a.log.site ≤ g.disk_faults b.log.site
+  pub appends : IsTrue g.tells → FailsNever g a b → AppendsOldPoints (entries (view_of g a.log)) (entries (view_of g b.log))
   pub sealed : IsTrue g.tells → IsCounted b → length ((telling (view_of g b.log)).entries (g.files b.log.site)) + accounts a ≤ length (entries (view_of g a.log)) + accounts b
 
 -- a log over another site

@@ -11,4 +11,6 @@ pub mod Closing
 pub mod BackOuts
 pub mod AgreeLaws
 pub mod PaceLaws
+pub mod Following
+pub mod FollowLaws
 pub mod Growing

@@ -6,7 +6,8 @@ use Rattle.dms_restore.specs.Logging.{entries, telling, telling_of}
 use Rattle.dms_restore.specs.Views.{view_of}
 use Rattle.dms_wal.specs.declared.running.Running.{Running}
 use Rattle.dms_wal.specs.Controls.{KeepsPace}
-use Rattle.dms_wal.specs.Growing.{accounts, GrowsBy, IsCounted, TrailGrows}
+use Rattle.dms_wal.specs.FollowLaws.{appends_none, appends_on}
+use Rattle.dms_wal.specs.Growing.{accounts, FailsNever, GrowsBy, IsCounted, TrailGrows}
 use Rattle.dms_site.specs.declared.site.Site.{Ghosts}
 
 pub pace_none : {S : Type 0} (a : Running S) → KeepsPace a a
@@ -48,6 +49,8 @@ module _ {S : Type 0} {g : Ghosts S} where
     last = λ broken. refl;
     stays = λ tells. stays_none (view_of g a.log);
     grows = λ tells whole counted. omega arith;
+    counted = omega arith;
+    appends = λ tells never. appends_none (entries (view_of g a.log));
     sealed = λ tells counted. omega (arith, few_none (view_of g a.log));
   }
 
@@ -65,6 +68,11 @@ module _ {S : Type 0} {g : Ghosts S} where
         grows = λ tells whole counted. by_cases _ b.broken
             (λ failed. absurd (not_both c.broken (ap (λ (x : Running S). x.broken) (q.last failed) ∙ failed) whole))
             (λ no. omega (arith, p.grows tells no (then counted), q.grows tells whole counted));
+        counted = omega (arith, p.counted, q.counted);
+        appends = λ tells never.
+            let first : FailsNever g a b = (omega (arith, never.0, p.counted, q.counted), never.1) in
+            let then : FailsNever g b c = (omega (arith, never.0, first.0), omega (arith, never.1, first.0)) in
+            appends_on (entries (view_of g a.log)) (entries (view_of g b.log)) (entries (view_of g c.log)) (p.appends tells first) (q.appends tells then);
         sealed = λ tells counted. by_cases _ b.broken
             (λ failed. subst (λ (x : Running S). length ((telling (view_of g x.log)).entries (g.files x.log.site)) + accounts a ≤ length (entries (view_of g a.log)) + accounts x) (sym (q.last failed)) (p.sealed tells (then counted)))
             (λ no. omega (arith, p.grows tells no (then counted), q.sealed tells counted));

@@ -1,8 +1,11 @@
 use Rattle.std.proofs.Common.{◌⊎◌, rules, MutBor, refl, sym, subst}
+use Rattle.dms_limit.specs.Behind.{AddsNoneBehind}
 use Rattle.dms_opening.specs.Openings.{CanOpen}
 use Rattle.dms_runtop.specs.Command.{IsUnopened, RunKeepsTrail, RunsCommand}
 use Rattle.dms_runtop.proofs.Opening.{opens_below}
 use Rattle.dms_runtop.proofs.Entered.{refuses_no_state, stands_at_end, stands_throughout}
+use Rattle.dms_audfile.specs.TrailEntries.{trail_entries}
+use Rattle.dms_wal.specs.Following.{AppendsOldPoints}
 use Rattle.dms_runtop.proofs.command.run_command.Goals as goal
 
 pub returns-clause-ran : goal.returns-clause-ran
@@ -30,3 +33,13 @@ returns-clause-opens g c tells =
     subst (λ (x : g.row.S.Denot). CanOpen (g.S.Site.files c.args.site.now) ⊎ IsUnopened g.S.Site c.args.site.now x c.run_guarded-ended.result.status) (search rules)
     (subst (λ (x : MutBor g.row.S.Denot). CanOpen (g.S.Site.files c.args.site.now) ⊎ IsUnopened g.S.Site c.args.site.now x.now c.run_guarded-ended.result.status) (sym c.into_site-site.ensures)
     (opens_below g.S.Site c.args.site.now c.run_guarded-ended.result.site.now refl refl (λ s. s) c.run_guarded-ended.result.status (c.run_guarded-ended.ensures.opens tells)))
+
+pub returns-clause-adds : goal.returns-clause-adds
+returns-clause-adds g c = λ s is tells room disk memory.
+    subst (λ (x : g.row.S.Denot). AddsNoneBehind s.desc.files (g.S.Site.files c.args.site.now) (g.S.Site.files x)) (search rules)
+    (subst (λ (x : MutBor g.row.S.Denot). AddsNoneBehind s.desc.files (g.S.Site.files c.args.site.now) (g.S.Site.files x.now)) (sym c.into_site-site.ensures) (c.run_guarded-ended.ensures.adds s is tells room disk memory))
+
+pub returns-clause-appends : goal.returns-clause-appends
+returns-clause-appends g c = λ tells s is ends total first found.
+    subst (λ (x : g.row.S.Denot). AppendsOldPoints (trail_entries total first (g.S.Site.files c.args.site.now)) (trail_entries total first (g.S.Site.files x))) (search rules)
+    (subst (λ (x : MutBor g.row.S.Denot). AppendsOldPoints (trail_entries total first (g.S.Site.files c.args.site.now)) (trail_entries total first (g.S.Site.files x.now))) (sym c.into_site-site.ensures) (c.run_guarded-ended.ensures.appends tells s is ends total first found))

@@ -12,6 +12,7 @@ use Rattle.dms_runtop.proofs.Inputs.{blames_undone}
 use Rattle.dms_runtop.proofs.Looked.{runs_left}
 use Rattle.dms_runtop.proofs.Serving.{counts_each, serves_by}
 use Rattle.dms_runtop.proofs.Unveiled.{files_under, runs_unveiled, same_end}
+use Rattle.dms_runtop.proofs.Naming.{memory_names, unveiled_names}
 use Rattle.dms_runtop.proofs.command.run_described.Goals as goal
 
 pub into_running-requires-clause-frames : goal.into_running-requires-clause-frames
@@ -78,3 +79,14 @@ returns-in_default-clause-by_input g c = blames_undone Memory tt
 
 pub returns-clause-by_input : goal.returns-clause-by_input
 returns-clause-by_input g c = subst (λ (x : Status). BlamesInput (g.I.Source.left c.args.source.now) (g.I.Source.left c.args.source.now) x) (sym c.unveil-in-Err.ensures.0) (blames_undone Memory tt)
+
+pub returns-in-Ok-clause-appends : goal.returns-in-Ok-clause-appends
+returns-in-Ok-clause-appends g c =
+    unveiled_names g.S.Site (λ v. v.site) g.K.Knows.known _ (both_of g.S.Site.tells g.K.Knows.known) c.args.opened c.in-Ok.running (ap (λ v. v.site) c.in-Ok.ensures.log.0) c.run_over.result.site _ _ _ refl refl
+    (ap (λ v. g.S.Site.disk_faults v.site) c.in-Ok.ensures.log.0) c.in-Ok.ensures.log.2 c.in-Ok.ensures.log.1 c.in-Ok.ensures.nothing _ _ c.run_over.result.status c.unveil.ensures.1 c.unveil.ensures.0 c.run_over.ensures.appends
+
+pub returns-clause-appends : goal.returns-clause-appends
+returns-clause-appends g c = memory_names g.S.Site c.args.opened g.K.Knows.known _ _ c.unveil-in-Err.ensures.0
+
+pub returns-in_default-clause-appends : goal.returns-in_default-clause-appends
+returns-in_default-clause-appends g c = memory_names g.S.Site c.args.opened g.K.Knows.known _ Memory refl

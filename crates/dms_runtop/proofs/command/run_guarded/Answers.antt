@@ -1,4 +1,5 @@
-use Rattle.std.proofs.Common.{◌<◌, ◌⊎◌, refl, sym, subst}
+use Rattle.std.proofs.Common.{◌<◌, ◌⊎◌, refl, sym, subst, arith}
+use Rattle.dms_limit.specs.Behind.{AddsNoneBehind}
 use Rattle.dms_status.specs.declared.status.Status.TheVariants.{Memory}
 use Rattle.dms_runtop.proofs.Inputs.{blames_undone}
 use Rattle.dms_opening.specs.Openings.{CanOpen}
@@ -6,6 +7,9 @@ use Rattle.dms_runtop.specs.Command.{IsUnopened, RunKeepsTrail, RunsCommand}
 use Rattle.dms_runtop.proofs.Opening.{opens_below, unopened_memory}
 use Rattle.dms_runtop.proofs.Guarding.{refused_counts}
 use Rattle.dms_runtop.proofs.Instead.{command_instead, refused_place}
+use Rattle.dms_audfile.specs.TrailEntries.{trail_entries}
+use Rattle.dms_wal.specs.Following.{AppendsOldPoints}
+use Rattle.dms_runtop.proofs.Naming.{memory_told}
 use Rattle.dms_runtop.proofs.command.run_guarded.Goals as goal
 
 pub returns-then-refused-gt0-clause-ran : goal.returns-then-refused-gt0-clause-ran
@@ -42,3 +46,15 @@ returns-then-refused-gt0-clause-opens g c tells =
 
 pub returns-then-refused-gt0-clause-by_input : goal.returns-then-refused-gt0-clause-by_input
 returns-then-refused-gt0-clause-by_input g c = blames_undone Memory tt
+
+pub returns-clause-adds : goal.returns-clause-adds
+returns-clause-adds g c = λ s is tells room disk memory.
+    subst (λ x. AddsNoneBehind s.desc.files (g.S.Site.files c.args.site) (g.S.Site.files x.site)) (sym c.into_site-site.ensures) (c.run_found-ended.ensures.adds s is tells (omega (arith, room)) disk memory)
+
+pub returns-clause-appends : goal.returns-clause-appends
+returns-clause-appends g c = λ tells s is ends total first found.
+    subst (λ x. AppendsOldPoints (trail_entries total first (g.S.Site.files c.args.site)) (trail_entries total first (g.S.Site.files x.site))) (sym c.into_site-site.ensures)
+    (c.run_found-ended.ensures.appends tells s is (record { room = omega (arith, ends.room); not_disk = ends.not_disk; not_memory = ends.not_memory; not_full = ends.not_full }) total first found)
+
+pub returns-then-refused-gt0-clause-appends : goal.returns-then-refused-gt0-clause-appends
+returns-then-refused-gt0-clause-appends g c = memory_told g.S.Site c.args.site g.state Memory c.into_site-site.result.site refl

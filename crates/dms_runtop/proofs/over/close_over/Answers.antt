@@ -1,7 +1,11 @@
-use Rattle.std.proofs.Common.{◌∙◌, sym}
+use Rattle.std.proofs.Common.{◌∙◌, ◌++◌, Bool, sym, ap}
 use Rattle.dms_runner.specs.declared.run.RunFault.TheVariants.{Block}
 use Rattle.dms_runtop.proofs.Endings.{run_not_ok}
 use Rattle.dms_runtop.proofs.Grows.{closed_few, left_unclosed}
+use Rattle.dms_restore.specs.Logging.{entries}
+use Rattle.dms_restore.specs.Views.{view_of}
+use Rattle.dms_wal.specs.Closing.{entries_closing}
+use Rattle.dms_runtop.proofs.Naming.{closing_names}
 use Rattle.dms_runtop.proofs.over.close_over.Goals as goal
 
 pub returns-then-running-clause-closes : goal.returns-then-running-clause-closes
@@ -26,3 +30,12 @@ returns-in-Err-clause-closes g c = record {
   only = λ ok tells. absurd (run_not_ok (Block c.in-Err.fault) (sym c.status_of_block.ensures ∙ ok));
   grown = closed_few g.S.Site c.args.running _ c.if-running.false c.in-Err.ensures.grown;
 }
+
+pub returns-in-Ok-clause-appends : goal.returns-in-Ok-clause-appends
+returns-in-Ok-clause-appends g c = λ tells ok.
+    let r = c.args.running in
+    closing_names (view_of g.S.Site r.log) r.point r.next r.schema.items r.marks.items _ (c.requires.pointed tells).number
+    ((c.in-Ok.ensures.closed tells).entries_are ∙ ap (λ (b : Bool). entries (view_of g.S.Site r.log) ++ entries_closing b r.point r.schema.items r.next r.marks.items) c.if-running.false)
+
+pub returns-in-Err-clause-appends : goal.returns-in-Err-clause-appends
+returns-in-Err-clause-appends g c = λ tells ok. absurd (run_not_ok (Block c.in-Err.fault) (sym c.status_of_block.ensures ∙ ok))

@@ -1,4 +1,4 @@
-use Rattle.std.proofs.Common.{◌≡◌, ◌∙◌, ℕ, IsTrue, List, take, inr, refl, sym, ap, subst}
+use Rattle.std.proofs.Common.{◌≡◌, ◌≤◌, ◌∙◌, ℕ, IsTrue, List, take, inr, refl, sym, ap, subst}
 use Rattle.dms_audfile.specs.Counting.{not_counted}
 use Rattle.dms_block.specs.Counts.{Faults}
 use Rattle.dms_status.specs.declared.status.Status.TheVariants.{DiskFault, SayFault}
@@ -6,7 +6,7 @@ use Rattle.dms_runner.specs.declared.run.RunFault.TheVariants.{Bytes, Input, Lin
 use Rattle.dms_wal.specs.declared.running.Running.{Running}
 use Rattle.dms_runtop.specs.Faults.{run_status}
 use Rattle.dms_runtop.specs.Statuses.{IsOfScript}
-use Rattle.dms_runtop.proofs.Counted.{within_disk, within_say, within_input, input_within, left_nothing, held_nothing, on_upto, on_status, no_error, an_error, error_is}
+use Rattle.dms_runtop.proofs.Counted.{within_disk, within_say, within_input, input_within, left_nothing, held_nothing, on_from, on_upto, on_status, no_error, an_error, error_is}
 use Rattle.dms_runtop.proofs.Endings.{closing_say, closing_input, run_of_script, run_input}
 use Rattle.dms_desc.specs.Shape.{as_described}
 use Rattle.dms_run.specs.Starting.{BeginsWith, StopsLeave}
@@ -24,6 +24,10 @@ use Rattle.dms_runner.proofs.Counting.{counted_law}
 use Rattle.dms_runner.specs.EventLaws.{AreCounted}
 use Rattle.dms_runtop.proofs.Bounds.{closed_bound, closes, failed_bound}
 use Rattle.dms_runtop.proofs.Grows.{grows_left, grows_over}
+use Rattle.dms_restore.specs.Logging.{entries, telling}
+use Rattle.dms_wal.specs.Following.{AppendsOldPoints}
+use Rattle.dms_status.specs.declared.status.Status.TheVariants as status
+use Rattle.dms_runtop.proofs.Naming.{closed_names, left_names}
 use Rattle.dms_runtop.proofs.Inputs.{blames_closing, blames_script}
 use Rattle.dms_runtop.proofs.over.run_engine.Goals as goal
 
@@ -151,3 +155,19 @@ returns-in-Err-clause-input g c = record {
   once = c.in-Err.ensures.once;
   clean = λ none. c.in-Err.ensures.clean (λ is. none (c.status_of_run.ensures ∙ ap run_status (input_within _ c.in-Err.fault c.fault_within-fault.result c.fault_within-fault.ensures (error_is c.in-Err.fault Input is))));
 }
+
+pub returns-in-Ok-clause-appends : goal.returns-in-Ok-clause-appends
+returns-in-Ok-clause-appends g c =
+    let same = c.in-Ok.ensures.lasts.same in
+    let r' = c.run_script.new.engine.store.over.below in
+    closed_names g.S.Site c.args.engine.store.over.below r' c.close_over.result.site c.close_over.result.status same.1 same.2
+    (subst (λ (r : Running g.row.S.Denot). g.S.Site.disk_faults r.log.site ≤ g.S.Site.disk_faults c.close_over.result.site) c.running_under-running.ensures c.close_over.ensures.disk.later)
+    (on_from _ _ _ _ (ap (λ (r : Running g.row.S.Denot). g.S.Site.disk_faults r.log.site) c.running_under-running.ensures ∙ ap (λ (f : Faults). f.disk) c.in-Ok.ensures.lasts.cause) c.close_over.ensures.disk) c.close_over.ensures.statuses
+    (subst (λ (r : Running g.row.S.Denot). IsTrue g.S.Site.tells → c.close_over.result.status ≡ status.Ok → AppendsOldPoints (entries (view_of g.S.Site r.log)) ((telling (view_of g.S.Site r.log)).entries (g.S.Site.files c.close_over.result.site))) c.running_under-running.ensures c.close_over.ensures.appends)
+
+pub returns-in-Err-clause-appends : goal.returns-in-Err-clause-appends
+returns-in-Err-clause-appends g c =
+    let same = c.in-Err.ensures.lasts.same in
+    let r' = c.run_script.new.engine.store.over.below in
+    left_names g.S.Site c.args.engine.store.over.below r' c.into_site.result c.status_of_run.result same.1 same.2
+    (c.into_site.ensures ∙ ap (λ (x : Running g.row.S.Denot). x.log.site) c.running_under-running-in-Err.ensures) (returns-in-Err-clause-disk g c)

@@ -213,6 +213,12 @@ returns-then-is_run-clause-run_stands g c = λ is. c.run_command.ensures.stands
 pub returns-then-is_run-clause-run_full : goal.returns-then-is_run-clause-run_full
 returns-then-is_run-clause-run_full g c = λ is. c.run_command.ensures.full
 
+pub returns-then-is_run-clause-run_behind : goal.returns-then-is_run-clause-run_behind
+returns-then-is_run-clause-run_behind g c = λ is. c.run_command.ensures.adds
+
+pub returns-then-is_run-clause-run_points : goal.returns-then-is_run-clause-run_points
+returns-then-is_run-clause-run_points g c = λ is. c.run_command.ensures.appends
+
 pub returns-then-is_run-clause-run_by_input : goal.returns-then-is_run-clause-run_by_input
 returns-then-is_run-clause-run_by_input g c = λ is. c.run_command.ensures.by_input
 

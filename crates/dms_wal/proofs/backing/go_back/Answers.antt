@@ -1,4 +1,8 @@
-use Rattle.std.proofs.Common.{refl, take}
+use Rattle.std.proofs.Common.{List, refl, sym, subst, take}
+use Rattle.dms_history.specs.Entries.{Entry}
+use Rattle.dms_restore.specs.Logging.{entries}
+use Rattle.dms_wal.specs.Following.{NameOldPoints}
+use Rattle.dms_wal.proofs.Followed.{back_names, last_place}
 use Rattle.dms_restore.specs.BackOuts.{back_entries}
 use Rattle.dms_restore.proofs.CountBytes.{counts_entry, counts_few}
 use Rattle.dms_restore.proofs.Results.{one_ok}
@@ -64,4 +68,6 @@ returns-clause-few g c off t =
     let es = back_entries c.args.point c.args.schema.now c.args.next (take c.count_bytes-used.result c.count_bytes-used.new.into) in
     some_alike 19 (view_of g.S.Site c.args.log.now) _ (view_of g.S.Site now) _ (entries_alike c.args.log.now.end _ (record { file = refl; total = refl; tag = refl; count = refl; used = refl; block = refl }) c.args.log.now.first (g.S.Site.files c.args.log.now.site) (g.S.Site.clock c.args.log.now.site))
     (entries_alike now.end _ (record { file = refl; total = refl; tag = refl; count = refl; used = refl; block = refl }) now.first (g.S.Site.files now.site) (g.S.Site.clock now.site))
-    (back_few c.back_out-done.result c.args.point 9999 _ _ es (back_entries_few c.args.point c.args.schema.now c.args.next _ c.requires.described.1) e.only (one_ok c.back_out-done.result e.back (λ back. back t)) (λ full. e.part full t) (λ memory. e.memory memory t) off)
+    (back_few c.back_out-done.result c.args.point 9999 _ _ es (back_entries_few c.args.point c.args.schema.now c.args.next _ c.requires.described.1)
+    (subst (λ (l : List Entry). NameOldPoints l es) (sym (entries_alike c.args.log.now.end _ (record { file = refl; total = refl; tag = refl; count = refl; used = refl; block = refl }) c.args.log.now.first (g.S.Site.files c.args.log.now.site) (g.S.Site.clock c.args.log.now.site)))
+    (back_names (entries (view_of g.S.Site c.args.log.now)) _ _ c.args.point c.args.next _ (last_place (view_of g.S.Site c.args.log.now) c.args.point (c.requires.pointed t).number))) e.only (one_ok c.back_out-done.result e.back (λ back. back t)) (λ full. e.part full t) (λ memory. e.memory memory t) off)

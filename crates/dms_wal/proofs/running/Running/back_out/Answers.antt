@@ -6,6 +6,7 @@ use Rattle.dms_restore.specs.Views.{view_of}
 use Rattle.dms_wal.specs.BackOuts.{entries_back}
 use Rattle.dms_wal.proofs.BackFaults.{caused_back, back_silent, back_only, back_full, back_memory}
 use Rattle.dms_restore.proofs.Sealed.{ok_not_disk}
+use Rattle.dms_wal.proofs.Followed.{appends_at}
 use Rattle.dms_wal.proofs.Grown.{back_disk, grows_back}
 use Rattle.dms_wal.proofs.BackedOut.{passes_back, stays_back, marked_content}
 use Rattle.dms_wal.proofs.running.Running.back_out.Goals as goal
@@ -67,11 +68,11 @@ returns-in-Err-clause-ends g c is = c.in-Err.ensures.ends (back_full c.in-Err.fa
 
 pub returns-in-Err-clause-grows : goal.returns-in-Err-clause-grows
 returns-in-Err-clause-grows g c =
-    grows_back g.S.Site c.args.self.now _ c.requires.unbroken (record { every = refl; limit = c.go_back.ensures.passes.limit; total = c.go_back.ensures.passes.total; first = c.go_back.ensures.passes.first; schema = refl }) (omega arith) (omega arith) (omega (arith, c.saturating_add-self.ensures)) (omega arith) (omega (arith, c.saturating_add-self.ensures)) c.go_back.ensures.passes.grown (λ tells whole. absurd (true≢false whole))
+    grows_back g.S.Site c.args.self.now _ c.requires.unbroken (record { every = refl; limit = c.go_back.ensures.passes.limit; total = c.go_back.ensures.passes.total; first = c.go_back.ensures.passes.first; schema = refl }) (omega arith) (omega arith) (omega (arith, c.saturating_add-self.ensures)) (omega arith) c.go_back.ensures.disk.later (λ tells never. appends_at 19 _ _ (c.in-Err.ensures.few (λ is. let rose = c.in-Err.ensures.disk.failed is in absurd (omega (arith, rose, never.0, never.1))) tells)) (omega (arith, c.saturating_add-self.ensures)) c.go_back.ensures.passes.grown (λ tells whole. absurd (true≢false whole))
 
 pub returns-clause-grows : goal.returns-clause-grows
 returns-clause-grows g c =
-    grows_back g.S.Site c.args.self.now _ c.requires.unbroken (record { every = refl; limit = c.go_back.ensures.passes.limit; total = c.go_back.ensures.passes.total; first = c.go_back.ensures.passes.first; schema = refl }) (omega arith) (omega arith) (omega (arith, c.saturating_add-self.ensures)) (omega arith) (omega (arith, c.saturating_add-self.ensures)) c.go_back.ensures.passes.grown (λ tells whole. c.in-Ok.ensures.few (ok_not_disk _) tells)
+    grows_back g.S.Site c.args.self.now _ c.requires.unbroken (record { every = refl; limit = c.go_back.ensures.passes.limit; total = c.go_back.ensures.passes.total; first = c.go_back.ensures.passes.first; schema = refl }) (omega arith) (omega arith) (omega (arith, c.saturating_add-self.ensures)) (omega arith) c.go_back.ensures.disk.later (λ tells never. appends_at 19 _ _ (c.in-Ok.ensures.few (ok_not_disk _) tells)) (omega (arith, c.saturating_add-self.ensures)) c.go_back.ensures.passes.grown (λ tells whole. c.in-Ok.ensures.few (ok_not_disk _) tells)
 
 pub returns-in-Err-clause-few : goal.returns-in-Err-clause-few
 returns-in-Err-clause-few g c off t = c.in-Err.ensures.few (λ is. off (back_disk c.in-Err.fault c.back_fault.result _ _ c.back_fault.ensures is)) t

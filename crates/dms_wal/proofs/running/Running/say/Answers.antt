@@ -1,4 +1,5 @@
 use Rattle.std.proofs.Common.{false, refl, arith}
+use Rattle.dms_wal.specs.FollowLaws.{appends_same}
 use Rattle.dms_wal.proofs.Grown.{grows_still}
 use Rattle.dms_wal.proofs.Logged.{entries_still}
 use Rattle.dms_wal.proofs.Passes.{grows_kept}
@@ -24,12 +25,14 @@ pub returns-in-Ok-clause-grows : goal.returns-in-Ok-clause-grows
 returns-in-Ok-clause-grows g c =
     let r = c.args.self.now in
     let same = c.say.ensures.files in
-    grows_still g.S.Site r _ c.requires.unbroken (record { every = refl; limit = refl; total = refl; first = refl; schema = refl }) (omega arith) (omega arith) (omega arith) (omega arith) (λ tells. grows_kept r.log.end r.log.first _ _ _ _ (same tells) (λ x y p. p.files) c.say.ensures.moments)
+    grows_still g.S.Site r _ c.requires.unbroken (record { every = refl; limit = refl; total = refl; first = refl; schema = refl }) (omega arith) (omega arith) (omega arith) (omega arith) (omega (arith, c.say.ensures.disk_faults))
+    (λ tells never. appends_same _ _ (entries_still r.log.end r.log.first _ _ (g.S.Site.clock r.log.site) (g.S.Site.clock c.say.new.self) (same tells))) (λ tells. grows_kept r.log.end r.log.first _ _ _ _ (same tells) (λ x y p. p.files) c.say.ensures.moments)
     (λ tells whole. entries_still r.log.end r.log.first _ _ (g.S.Site.clock r.log.site) (g.S.Site.clock c.say.new.self) (same tells))
 
 pub returns-in-Err-clause-grows : goal.returns-in-Err-clause-grows
 returns-in-Err-clause-grows g c =
     let r = c.args.self.now in
     let same = c.say.ensures.files in
-    grows_still g.S.Site r _ c.requires.unbroken (record { every = refl; limit = refl; total = refl; first = refl; schema = refl }) (omega arith) (omega arith) (omega arith) (omega arith) (λ tells. grows_kept r.log.end r.log.first _ _ _ _ (same tells) (λ x y p. p.files) c.say.ensures.moments)
+    grows_still g.S.Site r _ c.requires.unbroken (record { every = refl; limit = refl; total = refl; first = refl; schema = refl }) (omega arith) (omega arith) (omega arith) (omega arith) (omega (arith, c.say.ensures.disk_faults))
+    (λ tells never. appends_same _ _ (entries_still r.log.end r.log.first _ _ (g.S.Site.clock r.log.site) (g.S.Site.clock c.say.new.self) (same tells))) (λ tells. grows_kept r.log.end r.log.first _ _ _ _ (same tells) (λ x y p. p.files) c.say.ensures.moments)
     (λ tells whole. entries_still r.log.end r.log.first _ _ (g.S.Site.clock r.log.site) (g.S.Site.clock c.say.new.self) (same tells))

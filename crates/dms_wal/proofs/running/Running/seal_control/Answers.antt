@@ -9,6 +9,8 @@ use Rattle.dms_restore.specs.Views.{view_of}
 use Rattle.dms_restore.proofs.CountBytes.{counts_entry, counts_few}
 use Rattle.dms_wal.proofs.Causes.{full_left, full_seen, seen_only}
 use Rattle.dms_wal.proofs.Controlling.{control_by, control_leaves, control_made, count_table, makes_control}
+use Rattle.dms_restore.specs.Logging.{entries}
+use Rattle.dms_wal.proofs.Followed.{control_names, last_place}
 use Rattle.dms_wal.proofs.Grown.{control_few, kept_append, some_part}
 use Rattle.dms_wal.proofs.Stepped.{passes_step}
 use Rattle.dms_wal.proofs.Synced.{kind_is}
@@ -61,13 +63,15 @@ pub returns-in-Ok-clause-few : goal.returns-in-Ok-clause-few
 returns-in-Ok-clause-few g c off t = record {
   more = _;
   few = control_few _ _ (subst (λ (d : List ℕ). length d ≤ 65535) (sym c.deref-2.ensures.value) c.requires.sound.described.1);
+  names = control_names (entries (view_of g.S.Site c.args.self.now.log)) _ c.args.self.now.point c.args.self.now.next _ (last_place (view_of g.S.Site c.args.self.now.log) c.args.self.now.point (c.requires.sound.pointed t).number);
   entries_are = (c.in-Ok.ensures.controlled t).entries_are;
 }
 
 pub returns-in-Err-clause-few : goal.returns-in-Err-clause-few
 returns-in-Err-clause-few g c off t =
     kept_append c.in-Err.fault c.append_fault.result _ _ _ c.in-Err.ensures.only c.append_fault.ensures
-    (λ full. some_part 18 _ _ _ (control_few _ _ (subst (λ (d : List ℕ). length d ≤ 65535) (sym c.deref-2.ensures.value) c.requires.sound.described.1)) (c.in-Err.ensures.part full t)) (λ is. off (λ i. Err (is i)))
+    (λ full. some_part 18 _ _ _ (control_few _ _ (subst (λ (d : List ℕ). length d ≤ 65535) (sym c.deref-2.ensures.value) c.requires.sound.described.1))
+    (control_names (entries (view_of g.S.Site c.args.self.now.log)) _ c.args.self.now.point c.args.self.now.next _ (last_place (view_of g.S.Site c.args.self.now.log) c.args.self.now.point (c.requires.sound.pointed t).number)) (c.in-Err.ensures.part full t)) (λ is. off (λ i. Err (is i)))
 
 pub returns-in-Ok-clause-grown : goal.returns-in-Ok-clause-grown
 returns-in-Ok-clause-grown g c = λ tells. log_grows_more _ 18 (view_of g.S.Site c.args.self.now.log) (view_of g.S.Site c.control.new.self) (control_few _ _ (subst (λ (d : List ℕ). length d ≤ 65535) (sym c.deref-2.ensures.value) c.requires.sound.described.1)) (c.control.ensures.grown tells)

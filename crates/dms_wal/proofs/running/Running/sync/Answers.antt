@@ -1,3 +1,4 @@
+use Rattle.std.specs.declared.result.Result.TheVariants.{Err}
 use Rattle.std.proofs.Common.{◌∙◌, IsTrue, sym, arith}
 use Rattle.std.proofs.lemmas.Bool.{true≢false}
 use Rattle.dms_block.specs.Held.{is_due_at}
@@ -9,6 +10,9 @@ use Rattle.dms_wal.specs.PaceLaws.{pace_on, trail_then}
 use Rattle.dms_restore.specs.Views.{view_of}
 use Rattle.dms_restore.proofs.Results.{one_ok}
 use Rattle.dms_wal.proofs.Keeping.{tells_sealed}
+use Rattle.dms_wal.specs.Database.{running_held}
+use Rattle.dms_wal.specs.FollowLaws.{appends_same}
+use Rattle.dms_wal.proofs.Followed.{appends_at, appends_from, later_disk, never_disk}
 use Rattle.dms_wal.proofs.Grown.{grows_controlled, grows_still, never_failed, some_from}
 use Rattle.dms_wal.proofs.running.Running.sync.Goals as goal
 
@@ -20,13 +24,15 @@ returns-clause-passes g c =
 pub returns-in-Err-clause-grows : goal.returns-in-Err-clause-grows
 returns-in-Err-clause-grows g c =
     let uses = c.in-Err.ensures.uses in
-    grows_still g.S.Site c.args.self.now c.seal.new.self c.requires.unbroken c.seal.ensures.kept.pace (omega (arith, uses.spent)) uses.few.0 (omega (arith, uses.outs)) (omega (arith, c.seal.ensures.kept.next)) c.seal.ensures.grown
+    grows_still g.S.Site c.args.self.now c.seal.new.self c.requires.unbroken c.seal.ensures.kept.pace (omega (arith, uses.spent)) uses.few.0 (omega (arith, uses.outs)) (omega (arith, c.seal.ensures.kept.next))
+    (later_disk c.seal.result (running_held g.S.Site c.args.self.now) (running_held g.S.Site c.seal.new.self) c.seal.ensures.causes) (λ tells never. absurd (never_disk {T = Unit {0}} (Err c.in-Err.fault) (running_held g.S.Site c.args.self.now) (running_held g.S.Site c.seal.new.self) c.in-Err.ensures.causes never.0 never.1 (λ i. Err (c.in-Err.ensures.only i)))) c.seal.ensures.grown
     (λ tells whole. absurd (true≢false (sym c.in-Err.ensures.broken ∙ whole)))
 
 pub returns-then-not-follows-clause-grows : goal.returns-then-not-follows-clause-grows
 returns-then-not-follows-clause-grows g c =
     let uses = c.in-Ok.ensures.uses in
-    grows_still g.S.Site c.args.self.now c.seal.new.self c.requires.unbroken c.seal.ensures.kept.pace (omega (arith, uses.spent)) uses.few.0 (omega (arith, uses.outs)) (omega (arith, c.seal.ensures.kept.next)) c.seal.ensures.grown
+    grows_still g.S.Site c.args.self.now c.seal.new.self c.requires.unbroken c.seal.ensures.kept.pace (omega (arith, uses.spent)) uses.few.0 (omega (arith, uses.outs)) (omega (arith, c.seal.ensures.kept.next))
+    (later_disk c.seal.result (running_held g.S.Site c.args.self.now) (running_held g.S.Site c.seal.new.self) c.seal.ensures.causes) (λ tells never. appends_same _ _ (c.in-Ok.ensures.seals tells).entries_same) c.seal.ensures.grown
     (λ tells whole. (c.in-Ok.ensures.seals tells).entries_same)
 
 pub returns-clause-grows : goal.returns-clause-grows
@@ -39,7 +45,11 @@ returns-clause-grows g c =
     let uses = c.in-Ok.ensures.uses in
     let more = c.control.ensures.uses in
     let same = λ (tells : IsTrue g.S.Site.tells). (c.in-Ok.ensures.seals tells).entries_same in
-    grows_controlled g.S.Site a d c.requires.unbroken (pace_on one.pace two.pace) (omega (arith, uses.spent, more.not_less)) (omega (arith, uses.few.0, more.syncs)) (omega (arith, uses.outs, more.outs)) (omega (arith, one.next, two.next)) (more.syncs ∙ uses.done)
+    let before = later_disk c.seal.result (running_held g.S.Site a) (running_held g.S.Site b) c.seal.ensures.causes in
+    let behind = later_disk c.control.result (running_held g.S.Site b) (running_held g.S.Site d) c.control.ensures.causes in
+    grows_controlled g.S.Site a d c.requires.unbroken (pace_on one.pace two.pace) (omega (arith, uses.spent, more.not_less)) (omega (arith, uses.few.0, more.syncs)) (omega (arith, uses.outs, more.outs)) (omega (arith, one.next, two.next)) (omega (arith, before, behind))
+    (λ tells never. appends_from _ _ _ (same tells) (appends_at 18 _ _ (c.control.ensures.few (never_disk c.control.result (running_held g.S.Site b) (running_held g.S.Site d) c.control.ensures.causes (omega (arith, before, behind, never.0)) (omega (arith, before, behind, never.0, never.1))) tells)))
+    (more.syncs ∙ uses.done)
     ((λ i. is_due_at (sym one.pace.every i) (sym uses.done i)) ∙ sym c.follows.ensures ∙ c.if-not-follows.false) (trail_then g.S.Site 18 a b d one.pace same c.seal.ensures.grown c.control.ensures.grown)
     (λ tells whole. some_from 18 (view_of g.S.Site a.log) (view_of g.S.Site b.log) (view_of g.S.Site d.log) (same tells) (c.control.ensures.few (never_failed c.control.result d.broken c.control.ensures.broken whole Disk) tells))
 

@@ -1,0 +1,3 @@
+pub mod NoEntries
+pub mod Written
+pub mod Limits

@@ -1,0 +1,4 @@
+pub mod Behind
+pub mod Places
+pub mod Same
+pub mod SameLaws
