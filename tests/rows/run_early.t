@@ -13,7 +13,7 @@ A transaction that changes more blocks than BUFFERS: some are written before it 
   $ { echo 'A: OPEN UPDATE'; echo 'A: BEGIN-TRANSACTION NO-AUDIT RDS'; for n in $(seq 80); do echo 'A: CREATE D'; echo 'A: STORE D'; done; } > script
   $ printf 'A: OPEN INQUIRY\nA: FIND FIRST D\n' > look
   $ mkfifo input
-  $ killed() { rm -rf t; cp -r "$1" t; cd t; "$DMS" run < ../input > ../out & exec 3> ../input; head -n $2 ../script >&3; for turn in $(seq 600); do grep -qx "$2 A DONE" ../out && break; sleep 0.1; done; kill -9 $!; wait $! 2> /dev/null; exec 3>&-; cd ..; }
+  $ killed() { : > out; rm -rf t; cp -r "$1" t; cd t; "$DMS" run < ../input > ../out & exec 3> ../input; head -n $2 ../script >&3; for turn in $(seq 600); do grep -qx "$2 A DONE" ../out && break; sleep 0.1; done; kill -9 $!; wait $! 2> /dev/null; exec 3>&-; cd ..; }
 
 Wherever the run is stopped, nothing of the transaction is left, also where the file of D was written. With line 36 nine blocks are changed, and eight
 are kept.

@@ -57,6 +57,7 @@ A second run is killed in its second transaction.
 
   $ sed 's/X = 1$/X = 3/; s/X = 2$/X = 4/' ../first > ../second
   $ mkfifo ../input
+  $ : > ../out
   $ "$DMS" run < ../input > ../out &
   $ exec 3> ../input
   $ head -n 10 ../second >&3

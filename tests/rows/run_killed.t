@@ -48,7 +48,7 @@ The script's lines come through a pipe. The run is killed when the line is print
 richest one, on one line.
 
   $ mkfifo input
-  $ start() { cd db; "$DMS" run < ../input > ../out & exec 3> ../input; cd ..; }
+  $ start() { : > out; cd db; "$DMS" run < ../input > ../out & exec 3> ../input; cd ..; }
   $ wait_for() { for turn in $(seq 600); do grep -qx "$1" out && return; sleep 0.1; done; echo "no line '$1'"; }
   $ stop() { kill -${1:-9} $!; wait $! 2> /dev/null; exec 3>&-; }
   $ left() { (cd db; "$DMS" run < ../look) | tail -n +2 | cut -d' ' -f3- | paste -s -d' '; }

@@ -10,7 +10,7 @@ Several programs work, and the run is killed behind each line in turn. What the 
   INITIALIZED AT POINT 0
   $ cd ..
   $ mkfifo input
-  $ start() { rm -rf db; cp -r new db; cd db; "$DMS" run < ../input > ../out & exec 3> ../input; cd ..; }
+  $ start() { : > out; rm -rf db; cp -r new db; cd db; "$DMS" run < ../input > ../out & exec 3> ../input; cd ..; }
   $ wait_for() { for turn in $(seq 600); do grep -qx "$1" out && return; sleep 0.1; done; echo "no line '$1'"; }
   $ stop() { kill -9 $!; wait $! 2> /dev/null; exec 3>&-; }
   $ point() { (cd db; printf 'A: OPEN INQUIRY\nA: FIND LAST D\nA: GET D\n' | "$DMS" run | tail -n +2 | cut -d' ' -f3- | paste -s -d' '; "$DMS" print audit | tail -n 1 | cut -d' ' -f3-) | paste -s -d' '; }

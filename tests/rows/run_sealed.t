@@ -9,6 +9,7 @@ A quiet point counts once the gate of its audit block is open.
   $ "$DMS" initialize
   INITIALIZED AT POINT 0
   $ mkfifo ../input
+  $ : > ../out
   $ "$DMS" run < ../input > ../out &
   $ exec 3> ../input
   $ cat >&3 <<'END'
