@@ -12,6 +12,7 @@ ghost use Rattle.dms_audrec.specs.Seen.{entry_seen};
 ghost use Rattle.dms_audfile.specs.BlockLaws.{AreNoBegins};
 ghost use Rattle.dms_audfile.specs.Ends.{EndsAt, Seals, SealsAll, Appends, Grown, next_file, is_past};
 ghost use Rattle.dms_audfile.specs.Counting.{CountedAt};
+ghost use Rattle.dms_audfile.specs.Within.{StaysWithin};
 
 use crate::{AudFault, AuditEnd};
 use dms_audrec::{Entry, length};
@@ -32,6 +33,7 @@ impl AuditEnd {
         ensures durable { OnOk result (0 < self.old.used → IsTrue S.tells → Only (S.files site.new) (S.clock site.new)) }
         ensures empty { OnOk result (self.new.used ≡ 0) }
         ensures next { OnOk result (self.new.file ≡ next_file self.old) }
+        ensures within { OnOk result ((k : ℕ) → StaysWithin k self.old self.new) }
         ensures grown { OnOk result ((first : ℕ) (waiting : List meaning.Entry) → IsTrue S.tells → EndsAt self.old first waiting (S.files site.old) (S.clock site.old)
             → Grown self.old.total first (S.files site.old) (S.files site.new)) }
         ensures before { OnOk result (IsTrue S.tells → (g : ℕ) → g < self.old.file → S.files site.new g ≡ S.files site.old g) }
@@ -64,12 +66,14 @@ impl AuditEnd {
             → EndsAt self.new first [] (S.files site.new) (S.clock site.new)) }
         ensures empty { OnOk result (IsTrue needed → self.new.used ≡ 0) }
         ensures next { OnOk result (IsTrue needed → self.new.file ≡ next_file self.old) }
+        ensures within { OnOk result ((k : ℕ) → StaysWithin k self.old self.new) }
         ensures grown { OnOk result ((first : ℕ) (waiting : List meaning.Entry) → IsTrue S.tells → EndsAt self.old first waiting (S.files site.old) (S.clock site.old)
             → Grown self.old.total first (S.files site.old) (S.files site.new)) }
         ensures before { OnOk result (IsTrue S.tells → (g : ℕ) → g < self.old.file → S.files site.new g ≡ S.files site.old g) }
         ensures behind { OnOk result (IsTrue S.tells → (g : ℕ) → self.new.file < g → S.files site.new g ≡ S.files site.old g) }
         ensures place { (self.old.file ≤ self.new.file) × (self.new.file ≤ self.old.file + 1) }
         ensures idle { needed ≡ false → (self.new ≡ self.old) × (site.new ≡ site.old) }
+        ensures unused { self.old.used ≡ 0 → (self.new ≡ self.old) × (site.new ≡ site.old) }
         ensures kind { (self.new.total ≡ self.old.total) × (self.new.tag ≡ self.old.tag) × (self.new.limit ≡ self.old.limit) }
         ensures only { IfErr result (λ e. e ≡ AudFault.Disk) }
         ensures said { S.said site.new ≡ S.said site.old }
@@ -97,6 +101,7 @@ impl AuditEnd {
         ensures room { OnOk result (self.new.used + size ≤ 4094) }
         ensures alone { OnOk result (IsTrue alone → self.new.used ≡ 0) }
         ensures allowed { OnOk result (self.new.file < 20000) }
+        ensures begun { OnOk result (self.new.used ≡ 0 → self.new.file ≤ 10000 + self.old.limit) }
         ensures before { OnOk result (IsTrue S.tells → (g : ℕ) → g < self.old.file → S.files site.new g ≡ S.files site.old g) }
         ensures behind { OnOk result (IsTrue S.tells → (g : ℕ) → self.new.file < g → S.files site.new g ≡ S.files site.old g) }
         ensures place { (self.old.file ≤ self.new.file) × (self.new.file ≤ self.old.file + 1) }
@@ -107,6 +112,8 @@ impl AuditEnd {
         ensures kept { IsErrOf result (AudFault.Full self.old.limit) → (first : ℕ) (waiting : List meaning.Entry) → IsTrue S.tells → EndsAt self.old first waiting (S.files site.old) (S.clock site.old)
             → SealsAll self.new first waiting (S.files site.old) (S.files site.new) (S.clock site.new) }
         ensures within { OnOk result (is_past self.old size alone ≡ false) }
+        ensures stays { (IsErrOf result AudFault.Disk → ⊥) → StaysWithin self.old.limit self.old self.new }
+        ensures idle { self.old.used ≡ 0 → 10000 + self.old.limit < self.old.file → (self.new ≡ self.old) × (site.new ≡ site.old) }
         ensures said { S.said site.new ≡ S.said site.old }
         ensures same_site { S.same_site site.old site.new }
         ensures disk { CountedAt (IsErrOf result AudFault.Disk) (S.disk_faults site.old) (S.disk_faults site.new) }
@@ -142,6 +149,7 @@ impl AuditEnd {
         ensures before { OnOk result (IsTrue S.tells → (g : ℕ) → g < self.old.file → S.files site.new g ≡ S.files site.old g) }
         ensures behind { OnOk result (IsTrue S.tells → (g : ℕ) → self.new.file < g → S.files site.new g ≡ S.files site.old g) }
         ensures waits { OnOk result (is_begin (entry_seen entry.now) ≡ false → 0 < self.new.used) }
+        ensures alone { OnOk result (is_begin (entry_seen entry.now) ≡ true → self.new.used ≡ 0) }
         ensures place { (self.old.file ≤ self.new.file) × (self.new.file ≤ self.old.file + 2) }
         ensures kind { (self.new.total ≡ self.old.total) × (self.new.tag ≡ self.old.tag) × (self.new.limit ≡ self.old.limit) }
         ensures only { IfErr result (λ e. (e ≡ AudFault.Disk) ⊎ (e ≡ AudFault.Full self.old.limit)) }
@@ -150,6 +158,8 @@ impl AuditEnd {
             → SealsAll self.new first waiting (S.files site.old) (S.files site.new) (S.clock site.new) }
         ensures past { IsErrOf result (AudFault.Full self.old.limit) → is_past self.old (length (spelling (entry_seen entry.now))) (is_begin (entry_seen entry.now)) ≡ true }
         ensures within { OnOk result (is_past self.old (length (spelling (entry_seen entry.now))) (is_begin (entry_seen entry.now)) ≡ false) }
+        ensures stays { (IsErrOf result AudFault.Disk → ⊥) → StaysWithin self.old.limit self.old self.new }
+        ensures idle { self.old.used ≡ 0 → 10000 + self.old.limit < self.old.file → (self.new ≡ self.old) × (site.new ≡ site.old) }
         ensures said { S.said site.new ≡ S.said site.old }
         ensures same_site { S.same_site site.old site.new }
         ensures disk { CountedAt (IsErrOf result AudFault.Disk) (S.disk_faults site.old) (S.disk_faults site.new) }

@@ -1,12 +1,13 @@
 //! Going back to the last point, over a log that is lent.
 
-ghost use Rattle.std.specs.Prelude.{◌≡◌, ◌⊎◌, ◌+◌, ◌/◌, ◌<◌, ◌≤◌, ◌++◌, [], ◌∷◌, length, OnOk, IfOk, IfErr, IsErrOf, IsTrue};
+ghost use Rattle.std.specs.Prelude.{◌≡◌, ◌⊎◌, ◌+◌, ◌/◌, ◌<◌, ◌≤◌, ◌++◌, [], ◌∷◌, ℕ, length, OnOk, IfOk, IfErr, IsErrOf, IsTrue};
 ghost use Rattle.dms_history.specs.Events.{back_out};
 ghost use Rattle.dms_history.specs.History.{Pending};
 ghost use Rattle.dms_history.specs.Entries.{begin_restore, by_back_out, control_point};
 ghost use Rattle.dms_audrec.specs.Spelling.{IsEntry};
 ghost use Rattle.dms_audrec.specs.Reading.{counts_at};
 ghost use Rattle.dms_audfile.specs.Counting.{CountedAt};
+ghost use Rattle.dms_audfile.specs.Within.{SealsFirst, StaysWithin};
 ghost use Rattle.dms_restore.specs.Views.{view_of, StaysSilent, IsSameTrail};
 ghost use Rattle.dms_restore.specs.Logging as logs;
 ghost use Rattle.dms_restore.specs.Logging.{Ends, TakesEntries, entries, waits, points, LogLeaves, LogGrows, LogRuns, LogsPart};
@@ -38,6 +39,7 @@ impl<S: Site> Log<S> {
         ensures moments { IsTrue S.tells → let a = view_of S.Site self.old in LogLeaves a (view_of S.Site self.new) (points a) (logs.next a) }
         ensures grown { IsTrue S.tells → LogGrows 1 (view_of S.Site self.old) (view_of S.Site self.new) }
         ensures silent { IsTrue S.tells → StaysSilent S.Site self.old.site self.new.site }
+        ensures empty { (IsErrOf result AudFault.Disk → ⊥) → self.new.end.used ≡ 0 }
         ensures kind { IsSameTrail self.old self.new }
         ensures only { IfErr result (λ e. (e ≡ AudFault.Disk) ⊎ (e ≡ AudFault.Full self.old.end.limit)) }
         ensures full { IsErrOf result (AudFault.Full self.old.end.limit) → (self.new.end.used ≡ 0) × (10000 + self.old.end.limit < self.new.end.file) }
@@ -102,6 +104,7 @@ impl<S: Site> Log<S> {
         ensures grown { IsTrue S.tells → TakesEntries (view_of S.Site self.old)
             → LogGrows (length (schema_control description.now point next counts.now)) (view_of S.Site self.old) (view_of S.Site self.new) }
         ensures silent { (p : Pending) → IsTrue S.tells → EndsBy p (view_of S.Site self.old) point next counts.now → StaysSilent S.Site self.old.site self.new.site }
+        ensures empty { (IsErrOf result AudFault.Disk → ⊥) → self.new.end.used ≡ 0 }
         ensures kind { IsSameTrail self.old self.new }
         ensures only { IfErr result (λ e. (e ≡ AudFault.Disk) ⊎ (e ≡ AudFault.Full self.old.end.limit)) }
         ensures full { IsErrOf result (AudFault.Full self.old.end.limit) → (self.new.end.used ≡ 0) × (10000 + self.old.end.limit < self.new.end.file) }
@@ -136,6 +139,8 @@ impl<S: Site> Log<S> {
         ensures moments { IsTrue S.tells → let a = view_of S.Site self.old in LogLeaves a (view_of S.Site self.new) (points a) (logs.next a) }
         ensures grown { IsTrue S.tells → LogGrows 0 (view_of S.Site self.old) (view_of S.Site self.new) }
         ensures silent { IsTrue S.tells → StaysSilent S.Site self.old.site self.new.site }
+        ensures empty { (IsErrOf result AudFault.Disk → ⊥) → self.new.end.used ≡ 0 }
+        ensures stays { (IsErrOf result AudFault.Disk → ⊥) → (k : ℕ) → StaysWithin k self.old.end self.new.end }
         ensures kind { IsSameTrail self.old self.new }
         ensures only { IfErr result IsDiskOrMemory }
         ensures said { S.said self.new.site ≡ S.said self.old.site }
@@ -173,6 +178,7 @@ impl<S: Site> Log<S> {
         ensures moments { IsTrue S.tells → let a = view_of S.Site self.old in LogLeaves a (view_of S.Site self.new) (points a) (logs.next a) }
         ensures grown { IsTrue S.tells → LogGrows (length (back_entries point description.now next counts.now)) (view_of S.Site self.old) (view_of S.Site self.new) }
         ensures silent { IsTrue S.tells → StaysSilent S.Site self.old.site self.new.site }
+        ensures empty { (IsErrOf result AudFault.Disk → ⊥) → self.new.end.used ≡ 0 }
         ensures kind { IsSameTrail self.old self.new }
         ensures only { IfErr result (IsBackFault self.old.end.limit) }
         ensures memory { IsErrOf result AudFault.Memory → IsTrue S.tells → ⊥ }
@@ -220,6 +226,8 @@ impl<S: Site> Log<S> {
         ensures moments { IsTrue S.tells → let a = view_of S.Site self.old in LogLeaves a (view_of S.Site self.new) (points a) (logs.next a) }
         ensures grown { IsTrue S.tells → LogGrows (length (back_entries point description.now next counts.now)) (view_of S.Site self.old) (view_of S.Site self.new) }
         ensures silent { IsTrue S.tells → StaysSilent S.Site self.old.site self.new.site }
+        ensures empty { (IsErrOf result AudFault.Disk → ⊥) → self.new.end.used ≡ 0 }
+        ensures first { (IsErrOf result AudFault.Disk → ⊥) → IsTrue S.tells → SealsFirst self.old.end self.old.first (entries (view_of S.Site self.old)) (S.files self.new.site) }
         ensures kind { IsSameTrail self.old self.new }
         ensures only { IfErr result (IsBackFault self.old.end.limit) }
         ensures memory { IsErrOf result AudFault.Memory → IsTrue S.tells → SealedAlone (view_of S.Site self.old) (view_of S.Site self.new) }

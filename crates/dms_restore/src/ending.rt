@@ -6,6 +6,7 @@ ghost use Rattle.dms_history.specs.Entries.{control_point};
 ghost use Rattle.dms_audrec.specs.Spelling.{IsEntry};
 ghost use Rattle.dms_audrec.specs.Reading.{counts_at};
 ghost use Rattle.dms_audfile.specs.Counting.{CountedAt};
+ghost use Rattle.dms_audfile.specs.Within.{StaysWithin};
 ghost use Rattle.dms_restore.specs.Views.{view_of, StaysSilent, BlocksStay, LogStarts, IsSameTrail};
 ghost use Rattle.dms_restore.specs.Parts.{SealsPart};
 ghost use Rattle.dms_restore.specs.Logging.{Ends, TakesEntries, LogGrows, LogRuns, LogsPart};
@@ -96,6 +97,9 @@ impl<S: Site> Log<S> {
         ensures blocks { IsTrue S.tells → BlocksStay S.Site self.old.site self.new.site }
         ensures grown { IsTrue S.tells → LogGrows (length (schema_control description.now point next counts.now)) (view_of S.Site self.old) (view_of S.Site self.new) }
         ensures silent { IsTrue S.tells → StaysSilent S.Site self.old.site self.new.site }
+        ensures stays { (IsErrOf result AudFault.Disk → ⊥) → StaysWithin self.old.end.limit self.old.end self.new.end }
+        ensures idle { self.old.end.used ≡ 0 → 10000 + self.old.end.limit < self.old.end.file → (self.new.end ≡ self.old.end) × (self.new.site ≡ self.old.site) }
+        ensures empty { (IsErrOf result AudFault.Disk → ⊥) → self.new.end.used ≡ 0 }
         ensures kind { IsSameTrail self.old self.new }
         ensures only { IfErr result (λ e. (e ≡ AudFault.Disk) ⊎ (e ≡ AudFault.Full self.old.end.limit)) }
         ensures full { IsErrOf result (AudFault.Full self.old.end.limit) → (self.new.end.used ≡ 0) × (10000 + self.old.end.limit < self.new.end.file) }

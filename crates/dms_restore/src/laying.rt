@@ -8,6 +8,7 @@ ghost use Rattle.dms_audrec.specs.Spelling.{IsEntry};
 ghost use Rattle.dms_audrec.specs.Reading.{counts_at};
 ghost use Rattle.dms_audfile.specs.Counting.{CountedAt};
 ghost use Rattle.dms_audfile.specs.Ends.{EndsAt};
+ghost use Rattle.dms_audfile.specs.Within.{StaysWithin};
 ghost use Rattle.dms_restore.specs.Views.{StaysSilent};
 ghost use Rattle.dms_audrec.specs.Bodies.{part_count, bodies};
 ghost use Rattle.dms_running.specs.Plans.{Planned};
@@ -49,6 +50,8 @@ fn lay_parts<S: Site>(end: &mut AuditEnd, site: &mut S, description: &[u8]) -> R
         TakesEntries a → length (entries (view end.new first (S.files site.new) (S.clock site.new))) ≡ length (entries a) + length (schema_entries (bodies description.now))) }
     ensures grown { (first : ℕ) → IsTrue S.tells → let a = view end.old first (S.files site.old) (S.clock site.old) in
         TakesEntries a → LogGrows (length (schema_entries (bodies description.now))) a (view end.new first (S.files site.new) (S.clock site.new)) }
+    ensures stays { (IsErrOf result AudFault.Disk → ⊥) → StaysWithin end.old.limit end.old end.new }
+    ensures idle { end.old.used ≡ 0 → 10000 + end.old.limit < end.old.file → (end.new ≡ end.old) × (site.new ≡ site.old) }
     ensures kind { (end.new.total ≡ end.old.total) × (end.new.tag ≡ end.old.tag) × (end.new.limit ≡ end.old.limit) }
     ensures only { IfErr result (λ e. (e ≡ AudFault.Disk) ⊎ (e ≡ AudFault.Full end.old.limit)) }
     ensures full { IsErrOf result (AudFault.Full end.old.limit) → (end.new.used ≡ 0) × (10000 + end.old.limit < end.new.file) }
@@ -88,6 +91,9 @@ pub(crate) fn seal_control<S: Site>(
         → SealsSince end.old.total end.new first (schema_control description.now point next counts.now) (S.files site.old) (S.files site.new) (S.clock site.new)) }
     ensures grown { (first : ℕ) → IsTrue S.tells → let a = view end.old first (S.files site.old) (S.clock site.old) in
         TakesEntries a → LogGrows (length (schema_control description.now point next counts.now)) a (view end.new first (S.files site.new) (S.clock site.new)) }
+    ensures stays { (IsErrOf result AudFault.Disk → ⊥) → StaysWithin end.old.limit end.old end.new }
+    ensures idle { end.old.used ≡ 0 → 10000 + end.old.limit < end.old.file → (end.new ≡ end.old) × (site.new ≡ site.old) }
+    ensures empty { (IsErrOf result AudFault.Disk → ⊥) → end.new.used ≡ 0 }
     ensures kind { (end.new.total ≡ end.old.total) × (end.new.tag ≡ end.old.tag) × (end.new.limit ≡ end.old.limit) }
     ensures only { IfErr result (λ e. (e ≡ AudFault.Disk) ⊎ (e ≡ AudFault.Full end.old.limit)) }
     ensures full { IsErrOf result (AudFault.Full end.old.limit) → (end.new.used ≡ 0) × (10000 + end.old.limit < end.new.file) }

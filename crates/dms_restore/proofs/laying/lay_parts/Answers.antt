@@ -4,12 +4,14 @@ use Rattle.dms_history.specs.Entries.{Entry}
 use Rattle.dms_history.specs.Schemas.{schema_entries}
 use Rattle.dms_moments.specs.Moments.{Runs}
 use Rattle.dms_audrec.specs.Bodies.{bodies}
+use Rattle.dms_audfile.proofs.Within.{stays_none}
 use Rattle.dms_running.specs.Plans.{Planned}
 use Rattle.dms_restore.specs.Logging.{telling_of, view, entries, LogGrows}
 use Rattle.dms_restore.specs.Laying.{LaysEnd}
 use Rattle.dms_restore.proofs.Laid.{bodies_many, both_silent, none_silent, lay_none, lay_since, lay_silent, lay_one, part_next, parts_all, some_parts}
 use Rattle.dms_restore.proofs.Sizes.{part_size}
-use Rattle.dms_restore.proofs.Sealed.{full_limit}
+use Rattle.dms_restore.proofs.Sealed.{full_limit, ok_not_disk}
+use Rattle.dms_restore.proofs.Within.{handed_off, then_within, then_idle}
 use Rattle.dms_restore.proofs.Results.{is_fault}
 use Rattle.dms_restore.specs.GrowLaws.{log_grows_none, log_grows_more}
 use Rattle.dms_restore.proofs.Grows.{appends_takes, append_counts, lay_grows, none_more, one_more}
@@ -23,6 +25,8 @@ loop-number-init g c = record {
   takes = λ first tells t. t;
   counts = λ first tells t. none_more _;
   grown = λ first tells t. log_grows_none (view c.args.end.now first (g.S.Site.files c.args.site.now) (g.S.Site.clock c.args.site.now));
+  stays = stays_none c.args.end.now.limit c.args.end.now;
+  idle = λ none past. (refl, refl);
   said = refl;
   same = g.met.S.Site.same_again _;
   disk = refl;
@@ -75,6 +79,8 @@ loop-number-preserved g c =
           subst (λ k. LogGrows k (view c.args.end.now first (g.S.Site.files c.args.site.now) (g.S.Site.clock c.args.site.now)) (view c.append.new.self first (g.S.Site.files c.append.new.site) (g.S.Site.clock c.append.new.site))) (sym (one_more (take c.loop-number.number all) _ _ next))
           (lay_grows _ (view c.args.end.now first (g.S.Site.files c.args.site.now) (g.S.Site.clock c.args.site.now)) (view c.loop-number.end first (g.S.Site.files c.loop-number.site) (g.S.Site.clock c.loop-number.site)) (view c.append.new.self first (g.S.Site.files c.append.new.site) (g.S.Site.clock c.append.new.site)) _ inv.kind.0 refl (inv.takes first tells t) (inv.counts first tells t) (inv.grown first tells t) (g.met.S.Site.may_stay c.append.new.site tells)
           (λ first waiting plain ends. c.append.ensures.moments first waiting tells plain ends));
+      stays = then_within c.args.end.now c.loop-number.end c.append.new.self inv.kind.2 inv.stays (c.in_ok-append.ensures.stays (ok_not_disk _));
+      idle = then_idle c.args.end.now c.loop-number.end c.append.new.self c.args.site.now c.loop-number.site c.append.new.site inv.idle c.append.ensures.idle;
       said = c.append.ensures.said ∙ inv.said;
       same = g.met.S.Site.same_then _ _ _ inv.same c.append.ensures.same_site;
       disk = c.in_ok-append.ensures.disk.clean (λ e. subst (λ r. is_fault r) (sym e) tt) ∙ inv.disk;
@@ -111,3 +117,12 @@ returns-clause-grown g c first tells t =
     let le : length bs ≤ c.loop-number.number = omega (arith, bodies_many c.args.description.now, c.loop-number-test.false) in
     subst (λ (l : List Entry). LogGrows (length l) (view c.args.end.now first (g.S.Site.files c.args.site.now) (g.S.Site.clock c.args.site.now)) (view c.loop-number.end first (g.S.Site.files c.loop-number.site) (g.S.Site.clock c.loop-number.site)))
     (parts_all bs c.loop-number.number le) (c.loop-number.invariant.grown first tells t)
+
+pub returns-in_err-append-clause-stays : goal.returns-in_err-append-clause-stays
+returns-in_err-append-clause-stays g c off =
+    let inv = c.loop-number.invariant in
+    then_within c.args.end.now c.loop-number.end c.append.new.self inv.kind.2 inv.stays (c.in_err-append.ensures.stays (handed_off c.from_residual.result _ c.from_residual.ensures.1 off))
+
+pub returns-in_err-append-clause-idle : goal.returns-in_err-append-clause-idle
+returns-in_err-append-clause-idle g c =
+    then_idle c.args.end.now c.loop-number.end c.append.new.self c.args.site.now c.loop-number.site c.append.new.site c.loop-number.invariant.idle c.append.ensures.idle

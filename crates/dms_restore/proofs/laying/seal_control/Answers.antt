@@ -4,7 +4,8 @@ use Rattle.dms_audrec.specs.Bodies.{bodies}
 use Rattle.dms_restore.specs.GrowLaws.{log_grows_more}
 use Rattle.dms_restore.specs.Laying.{schema_control}
 use Rattle.dms_restore.specs.Logging.{view, entries, LogGrows}
-use Rattle.dms_restore.proofs.Sealed.{full_limit}
+use Rattle.dms_restore.proofs.Sealed.{full_limit, ok_not_disk}
+use Rattle.dms_restore.proofs.Within.{if_off, then_within}
 use Rattle.dms_restore.proofs.Results.{four_ok}
 use Rattle.dms_restore.proofs.Laid.{both_silent, lay_since, lay_silent, lay_one, lay_more, lay_sealing, lay_sealing_silent, lay_sealed}
 use Rattle.dms_restore.proofs.Sizes.{control_size}
@@ -85,3 +86,9 @@ returns-clause-grown g c first tells t =
     log_grows_more (length parts + 1 + 0) (length (schema_control c.args.description.now c.args.point c.args.next c.args.counts.now)) a e (omega (arith, one_more parts (schema_control c.args.description.now c.args.point c.args.next c.args.counts.now) _ refl))
     (lay_sealing_grows (length parts + 1) a d e (c.append.ensures.kind.0 ∙ c.lay_parts.ensures.kind.0) refl (appends_takes c.append.new.self first _ _ _ _ more) counts grown
     (g.met.S.Site.may_stay c.seal.new.site tells) (λ first waiting ends. c.seal.ensures.moments first waiting tells ends))
+
+pub returns-clause-stays : goal.returns-clause-stays
+returns-clause-stays g c off =
+    then_within c.args.end.now c.append.new.self c.seal.new.self (c.append.ensures.kind.2 ∙ c.lay_parts.ensures.kind.2)
+    (then_within c.args.end.now c.lay_parts.new.end c.append.new.self c.lay_parts.ensures.kind.2 (c.in_ok-lay_parts.ensures.stays (ok_not_disk _)) (c.in_ok-append.ensures.stays (ok_not_disk _)))
+    (if_off c.seal.result c.seal.ensures.only off c.seal.ensures.within c.append.new.self.limit)

@@ -1,4 +1,4 @@
-use Rattle.std.proofs.Common.{◌≡◌, ◌∙◌, ◌++◌, ap, arith, false, sym, subst, inl, inr, [], ◌∷◌, drop}
+use Rattle.std.proofs.Common.{ℕ, ◌≡◌, ◌∙◌, ◌++◌, ap, arith, false, sym, subst, inl, inr, [], ◌∷◌, drop}
 use Rattle.std.proofs.lemmas.Result.{on_ok_weaker}
 use Rattle.std.proofs.lemmas.Bool.{cases_Bool}
 use Rattle.dms_moments.specs.MomentLaws.{steps_on, steps_weaken}
@@ -7,6 +7,8 @@ use Rattle.dms_audfile.specs.declared.audit_end.AuditEnd.{AuditEnd}
 use Rattle.dms_audfile.specs.TrailEntries.{trail_entries}
 use Rattle.dms_audfile.specs.Ends.{EndsAt, Appends, Grown, is_past}
 use Rattle.dms_audfile.proofs.Ended.{seals_first, seals_then, between, held_ends, appends_held, appends_begun, on_both, steps_as, entry_long}
+use Rattle.dms_audfile.specs.Within.{StaysWithin}
+use Rattle.dms_audfile.proofs.Within.{stays_on, stays_held, none_failed}
 use Rattle.dms_audfile.proofs.audit_end.AuditEnd.append.Goals as goal
 
 pub returns-in-Err-clause-moments : goal.returns-in-Err-clause-moments
@@ -81,3 +83,13 @@ returns-clause-waits g c = on_ok_weaker c.seal_where.result (λ done plain.
     let off : c.begins-alone.result ≡ false = c.begins-alone.ensures ∙ plain in
     let same = ap (λ (s : AuditEnd). s.used) (c.seal_where.ensures.idle off).0 in
     omega (arith, same, c.hold.ensures.used, entry_long (entry_seen c.args.entry.now) c.requires.entry)) c.seal_where.ensures.empty
+
+pub returns-clause-stays : goal.returns-clause-stays
+returns-clause-stays g c not =
+    let s = c.args.self.now in
+    let one = c.make_room.new.self in
+    let held = c.hold.new.self in
+    let new = c.seal_where.new.self in
+    stays_on s.limit s one new (c.in-Ok.ensures.stays (λ is. absurd cc))
+    (stays_on s.limit one held new (stays_held s.limit one held c.in-Ok.ensures.begun c.hold.ensures.place.0 c.hold.ensures.place.1)
+    (none_failed ((k : ℕ) → StaysWithin k held new) c.seal_where.result c.seal_where.ensures.only not c.seal_where.ensures.within s.limit))

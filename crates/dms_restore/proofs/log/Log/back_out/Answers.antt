@@ -7,7 +7,8 @@ use Rattle.dms_restore.proofs.Results.{one_ok, is_fault}
 use Rattle.dms_restore.proofs.Endings.{part_from}
 use Rattle.dms_restore.proofs.Backed.{silent_on, counted_on, back_full, never_full}
 use Rattle.dms_restore.proofs.Sealed.{goes_back_then, went_back_then, leaves_then, not_disk, ok_not_disk, full_of, back_limit}
-use Rattle.dms_restore.specs.GrowLaws.{log_grows_more, log_grows_on}
+use Rattle.dms_restore.specs.GrowLaws.{trail_stays, log_grows_more, log_grows_on}
+use Rattle.dms_restore.proofs.Within.{seals_first, still_off}
 use Rattle.dms_restore.proofs.log.Log.back_out.Goals as goal
 
 pub returns-in-Err-clause-only : goal.returns-in-Err-clause-only
@@ -85,3 +86,15 @@ returns-clause-grown g c tells =
     log_grows_more (0 + n) n a d (omega arith)
     (log_grows_on a b d c.table_back.ensures.kind.0 c.table_back.ensures.kind.3 0 n (omega (arith, ap (λ (l : List Entry). length l) (c.in-Ok.ensures.sealed (ok_not_disk _) tells).same.entries_same))
     (c.table_back.ensures.grown tells) (c.go_back_by.ensures.grown tells))
+
+pub returns-in-Err-clause-first : goal.returns-in-Err-clause-first
+returns-in-Err-clause-first g c off tells =
+    let b = view_of g.S.Site c.table_back.new.self in
+    let ended = still_off c.in-Err.fault off in
+    seals_first (view_of g.S.Site c.args.self.now) b b.files (c.in-Err.ensures.sealed ended tells) c.table_back.ensures.kind.0 c.table_back.ensures.kind.3 (c.in-Err.ensures.stays ended) (trail_stays b.end.total b.first b.files)
+
+pub returns-clause-first : goal.returns-clause-first
+returns-clause-first g c off tells =
+    let d = view_of g.S.Site c.go_back_by.new.self in
+    seals_first (view_of g.S.Site c.args.self.now) (view_of g.S.Site c.table_back.new.self) d.files (c.in-Ok.ensures.sealed (ok_not_disk _) tells) c.table_back.ensures.kind.0 c.table_back.ensures.kind.3
+    (c.in-Ok.ensures.stays (ok_not_disk _)) (c.go_back_by.ensures.grown tells).stays.kept.grown
