@@ -90,6 +90,7 @@ impl<S: Site> Opened<S> {
         ensures kept { IfOk result (λ r. (r.schema ≡ self.schema) × (r.counts ≡ self.counts) × (r.next ≡ self.next) × (r.point ≡ self.point)
             × (r.every ≡ every) × (r.changed ≡ false) × (r.syncs ≡ 0) × (r.spent ≡ 0) × (r.outs ≡ 0)) }
         ensures nothing { IfOk result (λ r. waits self.log.end ≡ [] → waits r.log.end ≡ []) }
+        ensures used { IfOk result (λ r. r.log.end.used ≡ self.log.end.used) }
         ensures site { IfErr result (λ e. e.1 ≡ self.log.site) }
     {
         let Opened {

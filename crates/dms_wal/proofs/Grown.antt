@@ -1,5 +1,5 @@
 -- How much the audit grew by a call.
-use Rattle.std.proofs.Common.{ℕ, zero, suc, ◌+◌, ◌-◌, ◌/◌, ◌^◌, ◌<◌, ◌≤◌, ◌≡◌, ◌⊎◌, inl, inr, Bool, true, false, IsTrue, Option, List, [], ◌∷◌, ◌++◌, length, append-nil, length-append, length-take, take, sym, ◌∙◌, ap, subst, arith}
+use Rattle.std.proofs.Common.{ℕ, zero, suc, ◌+◌, ◌-◌, ◌/◌, ◌≤◌, ◌≡◌, ◌⊎◌, inl, inr, Bool, true, false, IsTrue, Option, List, [], ◌∷◌, ◌++◌, length, append-nil, length-append, length-take, take, sym, ◌∙◌, ap, subst, arith}
 use Rattle.std.specs.Prelude.{if◌then◌else◌, IfErr, IsErrOf, OnOk}
 use Rattle.std.specs.declared.result.Result.{Result}
 use Rattle.std.specs.declared.result.Result.TheVariants.{Ok, Err}
@@ -24,13 +24,16 @@ use Rattle.dms_restore.specs.BackOuts.{back_entries, IsBackFault, SealedAlone, W
 use Rattle.dms_restore.proofs.Laid.{bodies_many, parts_length}
 use Rattle.dms_wal.specs.declared.running.Running.{Running}
 use Rattle.dms_wal.specs.Changing.{LogsChanges}
+use Rattle.dms_wal.specs.Controlled.{AddsControls}
 use Rattle.dms_wal.specs.Controls.{KeepsPace}
 use Rattle.dms_restore.specs.Views.{view_of}
 use Rattle.dms_wal.specs.Faults.{IsSeenAs, IsSeenInBack}
 use Rattle.dms_wal.specs.Following.{AppendsOldPoints, NameOldPoints}
 use Rattle.dms_wal.specs.FollowLaws.{names_first}
+use Rattle.dms_wal.specs.Filling.{FillsWithin, WritesTrail}
 use Rattle.dms_wal.specs.Growing.{accounts, close_limit, controls_among, FailsNever, GivesGrown, GrowsBy, IsCounted, LogsAtMost, over_site, TrailGrows}
 use Rattle.dms_wal.specs.PaceLaws.{pace_kind}
+use Rattle.dms_wal.proofs.Counted.{due_risen}
 use Rattle.dms_wal.proofs.Logged.{logs_many}
 use Rattle.dms_wal.proofs.Reaching.{EndsAlike, entries_alike}
 use Rattle.dms_restore.proofs.Results.{same_error}
@@ -97,14 +100,15 @@ pub never_failed : {T : Type 0} (r : Result T BlockFault) (broken : Bool) → If
 never_failed (Ok x) broken failed whole e is = ok_never is
 never_failed (Err f) broken failed whole e is = true≢false (sym failed ∙ whole)
 
+-- so it did what it does where it answers none
+pub done_whole : {P T : Type 0} (r : Result T BlockFault) (broken : Bool) → OnOk r P → IfErr r (λ e. broken ≡ true) → broken ≡ false → P
+done_whole (Ok x) broken done failed whole = done
+done_whole (Err f) broken done failed whole = absurd (true≢false (sym failed ∙ whole))
+
 pub back_disk : {T U : Type 0} (f : AudFault) (e : BlockFault) (old new : ℕ) → IsSeenInBack f e old new → IsErrOf {T = T} (Err f) audit.Disk → IsErrOf {T = U} (Err e) Disk
 back_disk f e old new seen is = λ i. Err ((subst (λ (x : AudFault). IsSeenInBack x e old new) (same_error f audit.Disk is) seen).0 i)
 
 -- ---- syncs
-
--- one more sync that is counted
-next_sync : (n m : ℕ) → m ≡ one_more n → m < 2 ^ 64 - 1 → m ≡ suc n
-next_sync n m is low = omega (arith, is, low)
 
 pub stays_or_rises : (b : Bool) (n : ℕ) → n ≤ (if b then suc n else n)
 stays_or_rises true n = omega arith
@@ -131,7 +135,10 @@ change_more g a b x logs tells =
     omega (arith, ap (λ (es : List Entry). length es) l.entries_are, length-append (entries (view_of g a.log)) l.images, logs_many (view_of g a.log) (view_of g b.log) (x ∷ []) l)
 
 module _ {S : Type 0} (g : Ghosts S) (a b : Running S) (unbroken : a.broken ≡ false) (pace : KeepsPace a b) (spent : a.spent ≤ b.spent) (syncs : a.syncs ≤ b.syncs) (outs : a.outs ≤ b.outs) (next : a.next ≤ b.next)
-    (later : g.disk_faults a.log.site ≤ g.disk_faults b.log.site) (appends : IsTrue g.tells → FailsNever g a b → AppendsOldPoints (entries (view_of g a.log)) (entries (view_of g b.log))) where
+    (later : g.disk_faults a.log.site ≤ g.disk_faults b.log.site) (appends : IsTrue g.tells → FailsNever g a b → AppendsOldPoints (entries (view_of g a.log)) (entries (view_of g b.log)))
+    (within : IsTrue g.tells → FailsNever g a b → FillsWithin a.log.end.limit (view_of g a.log) (view_of g b.log))
+    (writes : IsTrue g.tells → FailsNever g a b → WritesTrail (view_of g a.log) → WritesTrail (view_of g b.log))
+    (controls : IsTrue g.tells → b.broken ≡ false → IsCounted b → AddsControls (controls_among a.every a.syncs) (controls_among b.every b.syncs) (entries (view_of g a.log)) (entries (view_of g b.log))) where
   -- at most so many entries were logged or sealed besides, and so many are accounted for
   grows_by : (n : ℕ) → (IsCounted b → n + accounts a ≤ accounts b) → TrailGrows g n a b → (IsTrue g.tells → b.broken ≡ false → length (entries (view_of g b.log)) ≤ length (entries (view_of g a.log)) + n) → GrowsBy g a b
   grows_by n paid grown few = record {
@@ -143,6 +150,9 @@ module _ {S : Type 0} (g : Ghosts S) (a b : Running S) (unbroken : a.broken ≡ 
     last = λ broken. absurd (true≢false (sym broken ∙ unbroken));
     counted = later;
     appends = appends;
+    within = within;
+    writes = writes;
+    controls = controls;
     stays = λ tells. (grown tells).stays;
     grows = λ tells whole counted. omega (arith, few tells whole, paid counted);
     sealed = λ tells counted.
@@ -164,14 +174,8 @@ module _ {S : Type 0} (g : Ghosts S) (a b : Running S) (unbroken : a.broken ≡ 
 
   -- those of a control point, behind one more sync
   pub grows_controlled : b.syncs ≡ one_more a.syncs → is_due_at a.every (one_more a.syncs) ≡ true → TrailGrows g 18 a b → (IsTrue g.tells → b.broken ≡ false → LogsAtMost 18 (view_of g a.log) (view_of g b.log)) → GrowsBy g a b
-  grows_controlled one due grown few = grows_by 18
-      (λ counted.
-      let at : b.syncs ≡ suc a.syncs = next_sync a.syncs b.syncs one counted.syncs in
-      let follows : is_due_at a.every (suc a.syncs) ≡ true = subst (λ n. is_due_at a.every n ≡ true) (sym one ∙ at) due in
-      let rises : controls_among a.every (suc a.syncs) ≡ suc (controls_among a.every a.syncs) = ap (λ (d : Bool). if d then suc (controls_among a.every a.syncs) else controls_among a.every a.syncs) follows in
-      let now : controls_among b.every b.syncs ≡ controls_among a.every (suc a.syncs) = λ i. controls_among (pace.every i) (at i) in
-      omega (arith, rises, now, spent, next, outs))
-      grown (λ tells whole. logged_more 18 (view_of g a.log) (view_of g b.log) (few tells whole))
+  grows_controlled one due grown few =
+      grows_by 18 (λ counted. omega (arith, due_risen a.every a.syncs b.every b.syncs pace.every one counted.syncs due, spent, next, outs)) grown (λ tells whole. logged_more 18 (view_of g a.log) (view_of g b.log) (few tells whole))
 
   -- those of a back-out
   pub grows_back : b.outs ≡ one_more a.outs → TrailGrows g 19 a b → (IsTrue g.tells → b.broken ≡ false → LogsAtMost 19 (view_of g a.log) (view_of g b.log)) → GrowsBy g a b

@@ -25,6 +25,10 @@ pub mod Limits
 pub mod BackFaults
 pub mod BackedOut
 pub mod Followed
+pub mod Filled
+pub mod Written
+pub mod Counted
 pub mod Grown
 pub mod Passes
 pub mod Fulls
+pub mod Behind

@@ -8,6 +8,8 @@ use Rattle.dms_history.specs.Entries.{Entry}
 use Rattle.dms_restore.specs.Logging.{LogGrows, LogStays, LogView, entries, telling, view}
 use Rattle.dms_wal.specs.declared.running.Running.{Running}
 use Rattle.dms_wal.specs.Following.{AppendsOldPoints, NameOldPoints}
+use Rattle.dms_wal.specs.Controlled.{AddsControls}
+use Rattle.dms_wal.specs.Filling.{FillsWithin, WritesTrail}
 use Rattle.dms_block.specs.Held.{is_due_at}
 use Rattle.dms_restore.specs.Views.{view_of}
 
@@ -45,7 +47,9 @@ FailsNever g a b = (g.disk_faults b.log.site ≡ g.disk_faults a.log.site) × (g
 
 -- The uses of a running database only rise, and so does its next number. Its trail grows by blocks that hold an entry alone, and whatever failed, its
 -- files hold no more entries than it accounts for. Once a call failed there is none behind it; until then its log has no more, either, waiting ones
--- among them. While no call on its disk failed, no Control that was logged has a new number.
+-- among them. While no call on its disk failed, no Control that was logged has a new number, and behind the last audit file that may be written it
+-- appended entries of restores alone; and its files stay a trail that a writer keeps. As long as no call failed, there is one more control point for each
+-- sync at which one is due, besides those of restores.
 pub record GrowsBy {S : Type 0} (g : Ghosts S) (a b : Running S) : Type 0 where
   pub every : b.every ≡ a.every
   pub spent : a.spent ≤ b.spent
@@ -56,7 +60,10 @@ pub record GrowsBy {S : Type 0} (g : Ghosts S) (a b : Running S) : Type 0 where
   pub stays : IsTrue g.tells → LogStays (view_of g a.log) (view_of g b.log)
   pub grows : IsTrue g.tells → b.broken ≡ false → IsCounted b → length (entries (view_of g b.log)) + accounts a ≤ length (entries (view_of g a.log)) + accounts b
   pub counted : g.disk_faults a.log.site ≤ g.disk_faults b.log.site
+  pub controls : IsTrue g.tells → b.broken ≡ false → IsCounted b → AddsControls (controls_among a.every a.syncs) (controls_among b.every b.syncs) (entries (view_of g a.log)) (entries (view_of g b.log))
   pub appends : IsTrue g.tells → FailsNever g a b → AppendsOldPoints (entries (view_of g a.log)) (entries (view_of g b.log))
+  pub within : IsTrue g.tells → FailsNever g a b → FillsWithin a.log.end.limit (view_of g a.log) (view_of g b.log)
+  pub writes : IsTrue g.tells → FailsNever g a b → WritesTrail (view_of g a.log) → WritesTrail (view_of g b.log)
   pub sealed : IsTrue g.tells → IsCounted b → length ((telling (view_of g b.log)).entries (g.files b.log.site)) + accounts a ≤ length (entries (view_of g a.log)) + accounts b
 
 -- a log over another site

@@ -13,4 +13,7 @@ pub mod AgreeLaws
 pub mod PaceLaws
 pub mod Following
 pub mod FollowLaws
+pub mod Controlled
+pub mod Filling
+pub mod FillLaws
 pub mod Growing

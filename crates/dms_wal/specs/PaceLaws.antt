@@ -7,6 +7,8 @@ use Rattle.dms_restore.specs.Views.{view_of}
 use Rattle.dms_wal.specs.declared.running.Running.{Running}
 use Rattle.dms_wal.specs.Controls.{KeepsPace}
 use Rattle.dms_wal.specs.FollowLaws.{appends_none, appends_on}
+use Rattle.dms_wal.specs.Filling.{FillsWithin}
+use Rattle.dms_wal.specs.FillLaws.{fills_none, fills_on}
 use Rattle.dms_wal.specs.Growing.{accounts, FailsNever, GrowsBy, IsCounted, TrailGrows}
 use Rattle.dms_site.specs.declared.site.Site.{Ghosts}
 
@@ -51,6 +53,9 @@ module _ {S : Type 0} {g : Ghosts S} where
     grows = λ tells whole counted. omega arith;
     counted = omega arith;
     appends = λ tells never. appends_none (entries (view_of g a.log));
+    within = λ tells never. fills_none a.log.end.limit (view_of g a.log);
+    writes = λ tells never w. w;
+    controls = λ tells whole counted. omega arith;
     sealed = λ tells counted. omega (arith, few_none (view_of g a.log));
   }
 
@@ -73,6 +78,18 @@ module _ {S : Type 0} {g : Ghosts S} where
             let first : FailsNever g a b = (omega (arith, never.0, p.counted, q.counted), never.1) in
             let then : FailsNever g b c = (omega (arith, never.0, first.0), omega (arith, never.1, first.0)) in
             appends_on (entries (view_of g a.log)) (entries (view_of g b.log)) (entries (view_of g c.log)) (p.appends tells first) (q.appends tells then);
+        controls = λ tells whole counted. by_cases _ b.broken
+            (λ failed. absurd (not_both c.broken (ap (λ (x : Running S). x.broken) (q.last failed) ∙ failed) whole))
+            (λ no. omega (arith, p.controls tells no (then counted), q.controls tells whole counted));
+        writes = λ tells never w.
+            let first : FailsNever g a b = (omega (arith, never.0, p.counted, q.counted), never.1) in
+            let then : FailsNever g b c = (omega (arith, never.0, first.0), omega (arith, never.1, first.0)) in
+            q.writes tells then (p.writes tells first w);
+        within = λ tells never.
+            let first : FailsNever g a b = (omega (arith, never.0, p.counted, q.counted), never.1) in
+            let then : FailsNever g b c = (omega (arith, never.0, first.0), omega (arith, never.1, first.0)) in
+            fills_on a.log.end.limit (view_of g a.log) (view_of g b.log) (view_of g c.log) pace.total pace.first (q.stays tells).kept.grown (p.within tells first)
+            (subst (λ k. FillsWithin k (view_of g b.log) (view_of g c.log)) pace.limit (q.within tells then));
         sealed = λ tells counted. by_cases _ b.broken
             (λ failed. subst (λ (x : Running S). length ((telling (view_of g x.log)).entries (g.files x.log.site)) + accounts a ≤ length (entries (view_of g a.log)) + accounts x) (sym (q.last failed)) (p.sealed tells (then counted)))
             (λ no. omega (arith, p.grows tells no (then counted), q.sealed tells counted));

@@ -1,6 +1,6 @@
 //! Going back to the last quiet point.
 
-ghost use Rattle.std.specs.Prelude.{◌≡◌, ◌⊎◌, ◌<◌, IfErr, IsErrOf, IsTrue, OnOk, false, true};
+ghost use Rattle.std.specs.Prelude.{◌≡◌, ◌⊎◌, ◌<◌, IfErr, IsErrOf, IsTrue, OnOk, false, true, ℕ};
 ghost use Rattle.dms_block.specs.Held.{HasCauses, MakesNoPoint, Stays, WentBack};
 ghost use Rattle.dms_audfile.specs.Counting.{CountedAt};
 ghost use Rattle.dms_restore.specs.BackOuts.{FilesStay, IsBackFault, SealedAlone, WentBackTo};
@@ -13,6 +13,7 @@ ghost use Rattle.dms_wal.specs.Lifting.{AreCounts};
 ghost use Rattle.dms_wal.specs.Marks.{IsDescription, IsMarkOf};
 ghost use Rattle.dms_wal.specs.Database.{running_held};
 ghost use Rattle.dms_wal.specs.Faults.{IsSeenInBack};
+ghost use Rattle.dms_wal.specs.Filling.{FillsWithin};
 ghost use Rattle.dms_wal.specs.Growing.{GrowsBy, LogsAtMost, TrailGrows};
 ghost use Rattle.dms_wal.specs.Passing.{LogPasses};
 
@@ -58,6 +59,7 @@ fn go_back<S: Site>(
     ensures few { (IsErrOf result AudFault.Disk → ⊥) → IsTrue S.tells → LogsAtMost 19 (view_of S.Site log.old) (view_of S.Site log.new) }
     ensures ends { IsErrOf result (AudFault.Full 9999) → IsTrue S.tells → Ends (view_of S.Site log.new) }
     ensures full { IsErrOf result (AudFault.Full 9999) → (log.new.end.used ≡ 0) × (19999 < log.new.end.file) }
+    ensures within { (IsErrOf result AudFault.Disk → ⊥) → IsTrue S.tells → (k : ℕ) → FillsWithin k (view_of S.Site log.old) (view_of S.Site log.new) }
     ensures disk { CountedAt (IsErrOf result AudFault.Disk) (S.disk_faults log.old.site) (S.disk_faults log.new.site) }
 {
     let mut room = [0u8; 1600];

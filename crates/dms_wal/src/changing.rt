@@ -1,9 +1,10 @@
 //! Changes: each is logged by one Image before the pool has it.
 
-ghost use Rattle.std.specs.Prelude.{◌≡◌, ◌≤◌, ◌<◌, ◌+◌, ◌-◌, ◌^◌, [], ◌∷◌, IfErr, IfOk, IfSome, IsErrOf, IsTrue, OnOk, length, min, option_map, true};
+ghost use Rattle.std.specs.Prelude.{◌≡◌, ◌≤◌, ◌<◌, ◌+◌, ◌-◌, ◌^◌, [], ◌∷◌, IfErr, IfOk, IfSome, IsErrOf, IsTrue, OnOk, length, min, option_map, true, ℕ};
 ghost use Rattle.std.specs.Option.{option_copied};
 ghost use Rattle.dms_base.specs.Causes.{HasCause};
 ghost use Rattle.dms_block.specs.Content.{apply_changes, counts_after, limit, raise_count, FitsIn};
+ghost use Rattle.dms_audfile.specs.Within.{StaysWithin};
 ghost use Rattle.dms_block.specs.Held.{Alters, HasCauses, Looks};
 ghost use Rattle.dms_restore.specs.Logging.{entries};
 ghost use Rattle.dms_restore.specs.Views.{view_of};
@@ -12,6 +13,7 @@ ghost use Rattle.dms_wal.specs.Lifting.{owns_of};
 ghost use Rattle.dms_wal.specs.Controls.{KeepsPace};
 ghost use Rattle.dms_wal.specs.Database.{running_held, HoldsCounted};
 ghost use Rattle.dms_wal.specs.Faults.{StandsFull};
+ghost use Rattle.dms_wal.specs.Filling.{FillsWithin, WritesTrail};
 ghost use Rattle.dms_wal.specs.Growing.{GrowsBy, TrailGrows};
 ghost use Rattle.dms_wal.specs.Passing.{LogPasses};
 ghost use Rattle.dms_wal.specs.Changing.{DamagedOnly, HasChange, IsImaged, KeepsLog, LogsChanges, LogsFirst, TellsOld};
@@ -60,6 +62,7 @@ fn keep<S: Site>(
     requires imaged { IsTrue S.tells → IsImaged (view_of S.Site log.old) pool.old id.file id.block block.now.0 }
     ensures kept { OnOk result (IsTrue S.tells → KeepsLog (view_of S.Site log.old) (view_of S.Site log.new) pool.new) }
     ensures counted { (counts : _) → HoldsCounted pool.old counts → id.block < count_of counts id.file → HoldsCounted pool.new counts }
+    ensures stays { (IsErrOf result BlockFault.Disk → ⊥) → (k : ℕ) → StaysWithin k log.old.end log.new.end }
     ensures passes { LogPasses S.Site 0 log.old log.new }
     ensures only { IfErr result (λ e. e ≡ BlockFault.Disk) }
     ensures faults { HasCause (S.disk_faults log.old.site) (S.disk_faults log.new.site) result }
@@ -129,6 +132,8 @@ impl<S: Site> Running<S> {
         ensures pace { KeepsPace self.old self.new }
         ensures broken { IfErr result (λ e. self.new.broken ≡ true) }
         ensures kept { IfErr result (λ e. (e ≡ BlockFault.Disk → ⊥) → IsTrue S.tells → entries (view_of S.Site self.new.log) ≡ entries (view_of S.Site self.old.log)) }
+        ensures within { (IsErrOf result BlockFault.Disk → ⊥) → IsTrue S.tells → FillsWithin self.old.log.end.limit (view_of S.Site self.old.log) (view_of S.Site self.new.log) }
+        ensures writes { (IsErrOf result BlockFault.Disk → ⊥) → IsTrue S.tells → WritesTrail (view_of S.Site self.new.log) }
         ensures grown { TrailGrows S.Site 1 self.old self.new }
         ensures same { S.same_site self.old.log.site self.new.log.site }
     {
@@ -152,6 +157,8 @@ impl<S: Site> Running<S> {
         ensures pace { KeepsPace self.old self.new }
         ensures broken { IfErr result (λ e. self.new.broken ≡ true) }
         ensures kept { IfErr result (λ e. (e ≡ BlockFault.Disk → ⊥) → IsTrue S.tells → entries (view_of S.Site self.new.log) ≡ entries (view_of S.Site self.old.log)) }
+        ensures stays { (IsErrOf result BlockFault.Disk → ⊥) → (k : ℕ) → StaysWithin k self.old.log.end self.new.log.end }
+        ensures writes { (IsErrOf result BlockFault.Disk → ⊥) → IsTrue S.tells → WritesTrail (view_of S.Site self.new.log) }
         ensures grown { TrailGrows S.Site 0 self.old self.new }
         ensures same { S.same_site self.old.log.site self.new.log.site }
     {
@@ -190,6 +197,8 @@ impl<S: Site> Running<S> {
         ensures pace { KeepsPace self.old self.new }
         ensures broken { IfErr result (λ e. self.new.broken ≡ true) }
         ensures kept { IfErr result (λ e. (e ≡ BlockFault.Disk → ⊥) → IsTrue S.tells → entries (view_of S.Site self.new.log) ≡ entries (view_of S.Site self.old.log)) }
+        ensures within { (IsErrOf result BlockFault.Disk → ⊥) → IsTrue S.tells → FillsWithin self.old.log.end.limit (view_of S.Site self.old.log) (view_of S.Site self.new.log) }
+        ensures writes { (IsErrOf result BlockFault.Disk → ⊥) → IsTrue S.tells → WritesTrail (view_of S.Site self.new.log) }
         ensures grown { TrailGrows S.Site 1 self.old self.new }
         ensures same { S.same_site self.old.log.site self.new.log.site }
     {

@@ -1,15 +1,17 @@
 //! Control points: each changed block is written, all is made stable, and then the Schema and a Control are sealed.
 
-ghost use Rattle.std.specs.Prelude.{◌≡◌, ◌⊎◌, ◌<◌, IfErr, IsErrOf, IsTrue, OnOk, [], false, true};
+ghost use Rattle.std.specs.Prelude.{◌≡◌, ◌⊎◌, ◌<◌, IfErr, IsErrOf, IsTrue, OnOk, [], false, true, ℕ};
 ghost use Rattle.dms_base.specs.Causes.{HasCause};
 ghost use Rattle.dms_site.specs.Files.{Only};
+ghost use Rattle.dms_audfile.specs.Within.{SealsFirst, StaysWithin};
 ghost use Rattle.dms_block.specs.Held.{HasCauses, Looks, MadeDurable, MakesNoPoint, Used};
 ghost use Rattle.dms_pool.specs.Held.{is_dirty, to_write};
-ghost use Rattle.dms_restore.specs.Logging.{Ends, waits, LogRuns, LogsNothing, trail_of};
+ghost use Rattle.dms_restore.specs.Logging.{Ends, waits, LogRuns, LogsNothing, trail_of, entries};
 ghost use Rattle.dms_restore.specs.Views.{view_of};
 ghost use Rattle.dms_wal.specs.Controls.{IsSettled, KeepsFields, MakesControl, TellsSame};
 ghost use Rattle.dms_wal.specs.Database.{running_held};
 ghost use Rattle.dms_wal.specs.Faults.{StandsFull};
+ghost use Rattle.dms_wal.specs.Filling.{FillsWithin};
 ghost use Rattle.dms_wal.specs.Growing.{LogsAtMost, TrailGrows};
 ghost use Rattle.dms_wal.specs.Passing.{LogPasses};
 
@@ -27,6 +29,8 @@ fn make_stable<S: Site>(log: &mut Log<S>) -> Result<(), BlockFault>
     ensures nothing { OnOk result (IsTrue S.tells → LogsNothing (view_of S.Site log.old) (view_of S.Site log.new)) }
     ensures waits { OnOk result (IsTrue S.tells → waits log.new.end ≡ []) }
     ensures stable { OnOk result (IsTrue S.tells → Only (S.files log.new.site) (S.clock log.new.site)) }
+    ensures stays { (IsErrOf result BlockFault.Disk → ⊥) → (k : ℕ) → StaysWithin k log.old.end log.new.end }
+    ensures empty { OnOk result (log.new.end.used ≡ 0) }
     ensures passes { LogPasses S.Site 0 log.old log.new }
     ensures only { IfErr result (λ e. e ≡ BlockFault.Disk) }
     ensures faults { HasCause (S.disk_faults log.old.site) (S.disk_faults log.new.site) result }
@@ -54,6 +58,7 @@ impl<S: Site> Running<S> {
         ensures causes { HasCauses result (running_held S.Site self.old) (running_held S.Site self.new) }
         ensures only { IfErr result (λ e. e ≡ BlockFault.Disk) }
         ensures broken { IfErr result (λ e. self.new.broken ≡ true) }
+        ensures stays { (IsErrOf result BlockFault.Disk → ⊥) → (k : ℕ) → StaysWithin k self.old.log.end self.new.log.end }
         ensures grown { TrailGrows S.Site 0 self.old self.new }
         ensures same { S.same_site self.old.log.site self.new.log.site }
     {
@@ -83,6 +88,7 @@ impl<S: Site> Running<S> {
         ensures causes { HasCauses result (running_held S.Site self.old) (running_held S.Site self.new) }
         ensures only { IfErr result (λ e. e ≡ BlockFault.Disk) }
         ensures broken { IfErr result (λ e. self.new.broken ≡ true) }
+        ensures stays { (IsErrOf result BlockFault.Disk → ⊥) → (k : ℕ) → StaysWithin k self.old.log.end self.new.log.end }
         ensures grown { TrailGrows S.Site 0 self.old self.new }
         ensures same { S.same_site self.old.log.site self.new.log.site }
     {
@@ -107,6 +113,8 @@ impl<S: Site> Running<S> {
         ensures causes { HasCauses result (running_held S.Site self.old) (running_held S.Site self.new) }
         ensures only { IfErr result (λ e. e ≡ BlockFault.Disk) }
         ensures broken { IfErr result (λ e. self.new.broken ≡ true) }
+        ensures stays { (IsErrOf result BlockFault.Disk → ⊥) → (k : ℕ) → StaysWithin k self.old.log.end self.new.log.end }
+        ensures empty { OnOk result (self.new.log.end.used ≡ 0) }
         ensures grown { TrailGrows S.Site 0 self.old self.new }
         ensures same { S.same_site self.old.log.site self.new.log.site }
     {
@@ -143,6 +151,7 @@ impl<S: Site> Running<S> {
         ensures silent { IsErrOf result BlockFault.Say → ⊥ }
         ensures broken { IfErr result (λ e. self.new.broken ≡ true) }
         ensures few { (IsErrOf result BlockFault.Disk → ⊥) → IsTrue S.tells → LogsAtMost 18 (view_of S.Site self.old.log) (view_of S.Site self.new.log) }
+        ensures within { (IsErrOf result BlockFault.Disk → ⊥) → IsTrue S.tells → FillsWithin self.old.log.end.limit (view_of S.Site self.old.log) (view_of S.Site self.new.log) }
         ensures grown { TrailGrows S.Site 18 self.old self.new }
         ensures same { S.same_site self.old.log.site self.new.log.site }
     {
@@ -182,6 +191,8 @@ impl<S: Site> Running<S> {
         ensures silent { IsErrOf result BlockFault.Say → ⊥ }
         ensures broken { IfErr result (λ e. self.new.broken ≡ true) }
         ensures few { (IsErrOf result BlockFault.Disk → ⊥) → IsTrue S.tells → LogsAtMost 18 (view_of S.Site self.old.log) (view_of S.Site self.new.log) }
+        ensures within { (IsErrOf result BlockFault.Disk → ⊥) → IsTrue S.tells → FillsWithin self.old.log.end.limit (view_of S.Site self.old.log) (view_of S.Site self.new.log) }
+        ensures first { OnOk result (IsTrue S.tells → SealsFirst self.old.log.end self.old.log.first (entries (view_of S.Site self.old.log)) (S.files self.new.log.site)) }
         ensures grown { TrailGrows S.Site 18 self.old self.new }
         ensures same { S.same_site self.old.log.site self.new.log.site }
     {

@@ -1,8 +1,9 @@
 //! Quiet points, syncs and printing.
 
-ghost use Rattle.std.specs.Prelude.{◌≡◌, ◌⊎◌, ◌≤◌, ◌+◌, ◌++◌, [], ◌∷◌, IfErr, IfOk, IsErrOf, IsOkUnless, IsTrue, OnOk, false, length, true};
+ghost use Rattle.std.specs.Prelude.{◌≡◌, ◌⊎◌, ◌≤◌, ◌+◌, ◌++◌, [], ◌∷◌, IfErr, IfOk, IsErrOf, IsOkUnless, IsTrue, OnOk, false, length, true, ℕ};
 ghost use Rattle.dms_block.specs.Held.{HasCauses, HasNextNumber, IfTold, is_due, is_due_at, Lasts, Leaves, LeavesText, MadeDurable, MadeQuiet, MakesNoPoint, SameBlocks, Stays, Synced};
 ghost use Rattle.dms_block.specs.Texts.{Prints, PrintsPrefix};
+ghost use Rattle.dms_audfile.specs.Within.{StaysWithin};
 ghost use Rattle.dms_restore.specs.Logging.{LogsNothing, SealsWaiting};
 ghost use Rattle.dms_restore.specs.Views.{view_of};
 ghost use Rattle.dms_wal.specs.Controls.{KeepsFields, KeepsPace, MakesControl};
@@ -123,6 +124,7 @@ impl<S: Site> Running<S> {
         ensures silent { IsErrOf result BlockFault.Say → ⊥ }
         ensures kept { KeepsFields self.old self.new }
         ensures broken { IfErr result (λ e. self.new.broken ≡ true) }
+        ensures stays { (IsErrOf result BlockFault.Disk → ⊥) → (k : ℕ) → StaysWithin k self.old.log.end self.new.log.end }
         ensures grown { TrailGrows S.Site 0 self.old self.new }
         ensures same { S.same_site self.old.log.site self.new.log.site }
     {

@@ -1,5 +1,5 @@
 use Rattle.std.proofs.Common.{List, refl, sym, subst, take}
-use Rattle.dms_history.specs.Entries.{Entry}
+use Rattle.dms_history.specs.Entries.{Entry, by_back_out}
 use Rattle.dms_restore.specs.Logging.{entries}
 use Rattle.dms_wal.specs.Following.{NameOldPoints}
 use Rattle.dms_wal.proofs.Followed.{back_names, last_place}
@@ -12,6 +12,7 @@ use Rattle.dms_wal.proofs.BackedOut.{back_by, back_counts}
 use Rattle.dms_wal.proofs.Limits.{by_with, sealed_from, sealed_to, went_from, went_to, leaves_with}
 use Rattle.dms_wal.proofs.Grown.{back_entries_few, back_few, grows_alike, some_alike}
 use Rattle.dms_wal.proofs.Reaching.{ends_alike, entries_alike, runs_alike}
+use Rattle.dms_wal.proofs.Behind.{back_fills, back_restores, fills_alike}
 use Rattle.dms_wal.proofs.backing.go_back.Goals as goal
 
 pub back_out-done-requires-clause-runs : goal.back_out-done-requires-clause-runs
@@ -71,3 +72,12 @@ returns-clause-few g c off t =
     (back_few c.back_out-done.result c.args.point 9999 _ _ es (back_entries_few c.args.point c.args.schema.now c.args.next _ c.requires.described.1)
     (subst (λ (l : List Entry). NameOldPoints l es) (sym (entries_alike c.args.log.now.end _ (record { file = refl; total = refl; tag = refl; count = refl; used = refl; block = refl }) c.args.log.now.first (g.S.Site.files c.args.log.now.site) (g.S.Site.clock c.args.log.now.site)))
     (back_names (entries (view_of g.S.Site c.args.log.now)) _ _ c.args.point c.args.next _ (last_place (view_of g.S.Site c.args.log.now) c.args.point (c.requires.pointed t).number))) e.only (one_ok c.back_out-done.result e.back (λ back. back t)) (λ full. e.part full t) (λ memory. e.memory memory t) off)
+
+pub returns-clause-within : goal.returns-clause-within
+returns-clause-within g c off t k =
+    let was = c.args.log.now in
+    let now = c.back_out-done.new.self in
+    let e = c.back_out-done.ensures in
+    let es = back_entries c.args.point c.args.schema.now c.args.next (take c.count_bytes-used.result c.count_bytes-used.new.into) in
+    fills_alike k was.end _ now.end _ (record { file = refl; total = refl; tag = refl; count = refl; used = refl; block = refl }) (record { file = refl; total = refl; tag = refl; count = refl; used = refl; block = refl }) was.first now.first (g.S.Site.files was.site) (g.S.Site.files now.site) (g.S.Site.clock was.site) (g.S.Site.clock now.site)
+    (back_fills c.back_out-done.result c.args.point 9999 k _ _ es (λ begun. back_restores begun by_back_out _ _ _ c.args.point _) (e.empty off) (e.first off t) e.only (one_ok c.back_out-done.result e.back (λ back. back t)) (λ full. e.part full t) (λ memory. e.memory memory t) off)

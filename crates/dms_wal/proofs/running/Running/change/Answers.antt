@@ -1,5 +1,6 @@
 use Rattle.std.proofs.Common.{ℕ, Bool, IsTrue, Option, sym, ◌∙◌, ap, subst, arith}
 use Rattle.std.specs.Prelude.{option_map}
+use Rattle.std.specs.declared.result.Result.TheVariants.{Err}
 use Rattle.dms_block.specs.Content.{Content, with_block}
 use Rattle.dms_history.specs.Replay.{TellsBefore}
 use Rattle.dms_block.specs.declared.block.Block.{Block}
@@ -9,6 +10,9 @@ use Rattle.dms_wal.specs.PaceLaws.{trail_then}
 use Rattle.dms_wal.proofs.Causes.{not_full}
 use Rattle.dms_restore.proofs.Results.{one_if_err, one_ok}
 use Rattle.dms_wal.proofs.Logged.{logs_from}
+use Rattle.dms_wal.specs.FillLaws.{fills_same}
+use Rattle.dms_wal.proofs.Filled.{fills_then, still_disk}
+use Rattle.dms_wal.proofs.Grown.{ok_never}
 use Rattle.dms_restore.specs.GrowLaws.{log_grows_more}
 use Rattle.dms_restore.specs.Views.{view_of}
 use Rattle.dms_wal.proofs.running.Running.change.Goals as goal
@@ -45,3 +49,14 @@ log_change-requires-clause-before g c t =
 pub returns-in-Ok-clause-content : goal.returns-in-Ok-clause-content
 returns-in-Ok-clause-content g c = one_ok c.log_change.result c.log_change.ensures.content (λ has t.
     let x = c.args.change.now in has t ∙ ap (λ (k : Content). with_block k x.id.file x.id.block x.block.0) (c.in-Ok.ensures.looks.same.content t))
+
+pub returns-in-Ok-clause-within : goal.returns-in-Ok-clause-within
+returns-in-Ok-clause-within g c off t =
+    let p = c.before-2.ensures.pace in
+    fills_then g.S.Site c.args.self.now.log c.before-2.new.self.log c.log_change.new.self.log p.limit p.total p.first (c.in-Ok.ensures.stays ok_never _) (c.in-Ok.ensures.logs t) (c.log_change.ensures.grown t) (c.log_change.ensures.within off t)
+
+pub returns-in-Err-clause-within : goal.returns-in-Err-clause-within
+returns-in-Err-clause-within g c off t = fills_same _ _ _ (c.in-Err.ensures.stays (λ is. off (still_disk c.in-Err.fault is)) _) (c.in-Err.ensures.kept (λ is. off (λ i. Err (is i))) t)
+
+pub returns-in-Err-clause-writes : goal.returns-in-Err-clause-writes
+returns-in-Err-clause-writes g c off t = c.in-Err.ensures.writes (λ is. off (still_disk c.in-Err.fault is)) t

@@ -1,3 +1,4 @@
+use Rattle.std.proofs.lemmas.Bool.{true≢false}
 use Rattle.std.proofs.Common.{◌≡◌, sym, ◌∙◌, ap, subst, arith}
 use Rattle.std.specs.declared.result.Result.TheVariants.{Err}
 use Rattle.dms_block.specs.declared.block_fault.BlockFault.TheVariants.{Disk}
@@ -108,3 +109,6 @@ returns-in-Err-clause-grown g c = λ tells.
     subst (λ n. LogGrows n v (over_site g.S.Site v c.into_site.result)) (sym (ap close_limit c.if-not-self.false))
     (subst (λ (x : _). LogGrows 37 v (over_site g.S.Site v x)) (sym c.into_site.ensures)
     (grows_as 37 v (view_of g.S.Site c.back_out.new.self.log) v.end v.first (log_grows_more 19 37 v (view_of g.S.Site c.back_out.new.self.log) (omega arith) (c.back_out.ensures.grown tells))))
+
+pub returns-in-Ok-clause-first : goal.returns-in-Ok-clause-first
+returns-in-Ok-clause-first g c = one_if_ok c.close_by_control-in-Ok.result c.close_by_control-in-Ok.ensures.first (λ s f none. absurd (true≢false (sym c.if-not-self.false ∙ none)))

@@ -4,10 +4,12 @@ use Rattle.std.specs.declared.result.Result.TheVariants.{Err}
 use Rattle.dms_wal.proofs.Closed.{full_trail, said_told}
 use Rattle.dms_wal.specs.Closing.{IsFullTrail}
 use Rattle.dms_restore.specs.Views.{view_of}
-use Rattle.dms_restore.specs.Logging.{LogGrows}
+use Rattle.dms_restore.specs.Logging.{LogGrows, entries}
 use Rattle.dms_wal.specs.Growing.{over_site}
 use Rattle.dms_wal.proofs.Grown.{grows_alike}
 use Rattle.dms_wal.proofs.Reaching.{closes_all, closes_leaves, usable_alike}
+use Rattle.dms_audfile.specs.Within.{SealsFirst}
+use Rattle.dms_wal.proofs.Behind.{first_alike}
 use Rattle.dms_wal.proofs.running.Running.close_by_control.Goals as goal
 
 pub control-requires : goal.control-requires
@@ -51,3 +53,9 @@ returns-in-Err-clause-grown g c = λ tells.
     let log = c.args.self.log in
     subst (λ (x : _). LogGrows 18 (view_of g.S.Site log) (over_site g.S.Site (view_of g.S.Site log) x)) (sym c.into_site-in-Err.ensures)
     (grows_alike 18 18 log.end _ (record { file = refl; total = refl; tag = refl; count = refl; used = refl; block = refl }) log.first _ _ (view_of g.S.Site c.control.new.self.log) _ _ (omega arith) (c.control.ensures.grown tells))
+
+pub returns-in-Ok-clause-first : goal.returns-in-Ok-clause-first
+returns-in-Ok-clause-first g c = λ tells.
+    let log = c.args.self.log in
+    subst (λ (x : _). SealsFirst log.end log.first (entries (view_of g.S.Site log)) (g.S.Site.files x)) (sym c.into_site.ensures)
+    (first_alike log.end _ (record { file = refl; total = refl; tag = refl; count = refl; used = refl; block = refl }) log.first (g.S.Site.files log.site) (g.S.Site.clock log.site) _ (c.in-Ok.ensures.first tells))

@@ -7,9 +7,12 @@ use Rattle.dms_restore.specs.GrowLaws.{log_grows_more}
 use Rattle.dms_restore.specs.Views.{view_of}
 use Rattle.dms_wal.specs.Database.{running_held}
 use Rattle.dms_wal.specs.PaceLaws.{trail_then}
-use Rattle.dms_wal.proofs.Grown.{some_from}
+use Rattle.dms_wal.proofs.Grown.{ok_never, some_from}
 use Rattle.dms_wal.proofs.Controlling.{durable_on, makes_on}
 use Rattle.dms_wal.proofs.Keeping.{keeps_on}
+use Rattle.dms_wal.specs.Filling.{FillsWithin}
+use Rattle.dms_wal.specs.FillLaws.{fills_on, fills_same}
+use Rattle.dms_wal.proofs.Behind.{settled_first}
 use Rattle.dms_wal.proofs.running.Running.control.Goals as goal
 
 pub returns-clause-made : goal.returns-clause-made
@@ -46,3 +49,20 @@ returns-in-Err-clause-grown g c = λ tells. log_grows_more 0 18 (view_of g.S.Sit
 
 pub returns-clause-grown : goal.returns-clause-grown
 returns-clause-grown g c = trail_then g.S.Site 18 c.args.self.now c.settle.new.self c.seal_control.new.self c.settle.ensures.kept.pace (λ t. (c.in-Ok.ensures.tells t).entries_same) c.settle.ensures.grown c.seal_control.ensures.grown
+
+pub returns-clause-within : goal.returns-clause-within
+returns-clause-within g c off t =
+    let p = c.settle.ensures.kept.pace in
+    let a = view_of g.S.Site c.args.self.now.log in
+    let b = view_of g.S.Site c.settle.new.self.log in
+    let k = c.args.self.now.log.end.limit in
+    fills_on k a b (view_of g.S.Site c.seal_control.new.self.log) p.total p.first (c.seal_control.ensures.grown t).stays.kept.grown
+    (fills_same k a b (c.in-Ok.ensures.stays ok_never k) (c.in-Ok.ensures.tells t).entries_same)
+    (subst (λ n. FillsWithin n b (view_of g.S.Site c.seal_control.new.self.log)) p.limit (c.seal_control.ensures.within off t))
+
+pub returns-clause-first : goal.returns-clause-first
+returns-clause-first g c = one_ok c.seal_control.result c.seal_control.ensures.made (λ d t.
+    let p = c.settle.ensures.kept.pace in
+    let a = view_of g.S.Site c.args.self.now.log in
+    let b = view_of g.S.Site c.settle.new.self.log in
+    settled_first a b _ (c.in-Ok.ensures.looks.stays.sound.goes t).runs.ends (c.in-Ok.ensures.settled t).nothing (c.in-Ok.ensures.tells t).entries_same p.total p.first (λ k. c.in-Ok.ensures.stays ok_never k) (c.seal_control.ensures.grown t).stays.kept.grown)

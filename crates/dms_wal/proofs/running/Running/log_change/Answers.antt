@@ -11,8 +11,11 @@ use Rattle.dms_wal.proofs.Synced.{kind_is}
 use Rattle.dms_wal.proofs.Imaged.{alters_made, alters_failed, counted_more, imaged, usable_changed, with_same, then_left}
 use Rattle.dms_wal.proofs.Roomed.{then_silent}
 use Rattle.dms_wal.proofs.Tabled.{raised_there}
-use Rattle.dms_wal.proofs.Grown.{kept_append, logged_image}
+use Rattle.dms_wal.proofs.Grown.{kept_append, logged_image, ok_never}
+use Rattle.dms_wal.proofs.Filled.{fills_append, fills_before, seen_disk}
 use Rattle.dms_wal.proofs.Logged.{logs_one}
+use Rattle.std.specs.declared.result.Result.TheVariants.{Err}
+use Rattle.dms_wal.proofs.Written.{runs_writes}
 use Rattle.dms_wal.proofs.running.Running.log_change.Goals as goal
 
 pub returns-in-Err-clause-alters : goal.returns-in-Err-clause-alters
@@ -78,3 +81,20 @@ returns-in-Ok-keep-clause-grown g c = λ t. log_grows_on (view_of g.S.Site c.arg
 
 pub returns-in-Err-keep-clause-grown : goal.returns-in-Err-keep-clause-grown
 returns-in-Err-keep-clause-grown g c = λ t. log_grows_on (view_of g.S.Site c.args.self.now.log) (view_of g.S.Site c.image.new.self) (view_of g.S.Site c.keep.new.log) c.image.ensures.kind.0 c.image.ensures.kind.3 1 0 (logged_image _ _ _ _ _ _ (c.in-Ok.ensures.logs t)) (c.image.ensures.grown t) (c.keep.ensures.passes.grown t)
+
+pub returns-in-Err-clause-within : goal.returns-in-Err-clause-within
+returns-in-Err-clause-within g c off t =
+    fills_append g.S.Site c.args.self.now.log c.image.new.self c.image.ensures.kind.3 (c.in-Err.ensures.stays (λ is. off (seen_disk c.in-Err.fault c.append_fault.result _ _ c.append_fault.ensures is))) c.image.ensures.idle
+
+pub returns-in-Ok-keep-clause-within : goal.returns-in-Ok-keep-clause-within
+returns-in-Ok-keep-clause-within g c off t =
+    let r = c.args.self.now in
+    fills_before g.S.Site r.log c.image.new.self c.keep.new.log c.image.ensures.kind.0 c.image.ensures.kind.3 (fills_append g.S.Site r.log c.image.new.self c.image.ensures.kind.3 (c.in-Ok.ensures.stays ok_never) c.image.ensures.idle)
+    (c.in-Ok-keep.ensures.stays ok_never _) (c.in-Ok-keep.ensures.kept t).entries_same (c.keep.ensures.passes.grown t)
+
+pub returns-in-Err-clause-writes : goal.returns-in-Err-clause-writes
+returns-in-Err-clause-writes g c off t =
+    kept_append c.in-Err.fault c.append_fault.result _ _ _ c.in-Err.ensures.only c.append_fault.ensures (λ full. runs_writes (view_of g.S.Site c.image.new.self) (c.in-Err.ensures.kept full t).runs) (λ is. off (λ i. Err (is i)))
+
+pub returns-in-Ok-keep-clause-writes : goal.returns-in-Ok-keep-clause-writes
+returns-in-Ok-keep-clause-writes g c off t = runs_writes (view_of g.S.Site c.keep.new.log) (c.in-Ok-keep.ensures.kept t).runs

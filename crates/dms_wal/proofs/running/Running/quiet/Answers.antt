@@ -2,12 +2,15 @@ use Rattle.std.proofs.Common.{◌∙◌, refl, true, false, arith}
 use Rattle.dms_restore.specs.Views.{view_of}
 use Rattle.dms_wal.specs.PaceLaws.{grows_none}
 use Rattle.dms_wal.specs.FollowLaws.{appends_same}
+use Rattle.dms_wal.proofs.Filled.{fills_append}
 use Rattle.dms_wal.proofs.Followed.{kept_unless}
-use Rattle.dms_wal.proofs.Grown.{grows_logged, logged_quiet}
+use Rattle.dms_wal.proofs.Counted.{adds_neither}
+use Rattle.dms_wal.proofs.Grown.{grows_logged, logged_quiet, ok_never}
 use Rattle.dms_wal.proofs.Synced.{kind_is, quiet_done, quiet_left, sync_passes}
 use Rattle.std.specs.declared.result.Result.TheVariants.{Err}
 use Rattle.std.proofs.lemmas.Bool.{true≢false}
 use Rattle.dms_wal.proofs.Causes.{full_left, full_seen}
+use Rattle.dms_wal.proofs.Written.{runs_writes}
 use Rattle.dms_wal.proofs.running.Running.quiet.Goals as goal
 
 pub returns-in-Ok-clause-made : goal.returns-in-Ok-clause-made
@@ -44,13 +47,18 @@ returns-in-Err-clause-kept g c n is =
 
 pub returns-in-Ok-clause-grows : goal.returns-in-Ok-clause-grows
 returns-in-Ok-clause-grows g c =
-    grows_logged g.S.Site c.args.self.now _ c.requires.unbroken (let k = c.quiet.ensures.kind in record { every = refl; limit = k.2; total = k.0; first = k.3; schema = refl }) (omega arith) (omega arith) (omega arith) (omega arith) c.quiet.ensures.disk.later (λ tells never. record { more = _; are = (c.in-Ok.ensures.logs tells).entries_are; names = (tt, tt) }) 1 (λ counted. omega arith) c.quiet.ensures.grown
+    grows_logged g.S.Site c.args.self.now _ c.requires.unbroken (let k = c.quiet.ensures.kind in record { every = refl; limit = k.2; total = k.0; first = k.3; schema = refl }) (omega arith) (omega arith) (omega arith) (omega arith) c.quiet.ensures.disk.later (λ tells never. record { more = _; are = (c.in-Ok.ensures.logs tells).entries_are; names = (tt, tt) })
+    (λ tells never. fills_append g.S.Site c.args.self.now.log c.quiet.new.self c.quiet.ensures.kind.3 (c.in-Ok.ensures.stays ok_never) c.quiet.ensures.idle) (λ tells never w. runs_writes (view_of g.S.Site c.quiet.new.self) (c.in-Ok.ensures.runs tells))
+    (λ tells whole counted. adds_neither _ _ _ _ _ refl (c.in-Ok.ensures.logs tells).entries_are refl refl) 1 (λ counted. omega arith) c.quiet.ensures.grown
     (λ tells whole. omega (arith, logged_quiet (view_of g.S.Site c.args.self.now.log) (view_of g.S.Site c.quiet.new.self) (c.in-Ok.ensures.logs tells)))
 
 pub returns-in-Err-clause-grows : goal.returns-in-Err-clause-grows
 returns-in-Err-clause-grows g c =
     grows_logged g.S.Site c.args.self.now _ c.requires.unbroken (let k = c.quiet.ensures.kind in record { every = refl; limit = k.2; total = k.0; first = k.3; schema = refl }) (omega arith) (omega arith) (omega arith) (omega arith) c.quiet.ensures.disk.later
-    (λ tells never. appends_same _ _ (kept_unless c.in-Err.fault c.args.self.now.log.end.limit c.in-Err.ensures.only (λ is. let rose = c.in-Err.ensures.disk.failed is in omega (arith, rose, never.0, never.1)) (λ full. (c.in-Err.ensures.kept full tells).entries_same))) 1 (λ counted. omega arith) c.quiet.ensures.grown (λ tells whole. absurd (true≢false whole))
+    (λ tells never. appends_same _ _ (kept_unless c.in-Err.fault c.args.self.now.log.end.limit c.in-Err.ensures.only (λ is. let rose = c.in-Err.ensures.disk.failed is in omega (arith, rose, never.0, never.1)) (λ full. (c.in-Err.ensures.kept full tells).entries_same)))
+    (λ tells never. fills_append g.S.Site c.args.self.now.log c.quiet.new.self c.quiet.ensures.kind.3 (c.in-Err.ensures.stays (λ is. let rose = c.in-Err.ensures.disk.failed is in omega (arith, rose, never.0, never.1))) c.quiet.ensures.idle)
+    (λ tells never w. kept_unless c.in-Err.fault c.args.self.now.log.end.limit c.in-Err.ensures.only (λ is. let rose = c.in-Err.ensures.disk.failed is in omega (arith, rose, never.0, never.1)) (λ full. runs_writes (view_of g.S.Site c.quiet.new.self) (c.in-Err.ensures.kept full tells).runs))
+    (λ tells whole counted. absurd (true≢false whole)) 1 (λ counted. omega arith) c.quiet.ensures.grown (λ tells whole. absurd (true≢false whole))
 
 pub returns-then-number-clause-grows : goal.returns-then-number-clause-grows
 returns-then-number-clause-grows g c = grows_none c.args.self.now

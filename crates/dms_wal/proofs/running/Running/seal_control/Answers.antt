@@ -11,7 +11,8 @@ use Rattle.dms_wal.proofs.Causes.{full_left, full_seen, seen_only}
 use Rattle.dms_wal.proofs.Controlling.{control_by, control_leaves, control_made, count_table, makes_control}
 use Rattle.dms_restore.specs.Logging.{entries}
 use Rattle.dms_wal.proofs.Followed.{control_names, last_place}
-use Rattle.dms_wal.proofs.Grown.{control_few, kept_append, some_part}
+use Rattle.dms_wal.proofs.Grown.{control_few, kept_append, ok_never, some_part}
+use Rattle.dms_wal.proofs.Filled.{fills_append, seen_disk}
 use Rattle.dms_wal.proofs.Stepped.{passes_step}
 use Rattle.dms_wal.proofs.Synced.{kind_is}
 use Rattle.dms_wal.proofs.running.Running.seal_control.Goals as goal
@@ -78,3 +79,10 @@ returns-in-Ok-clause-grown g c = λ tells. log_grows_more _ 18 (view_of g.S.Site
 
 pub returns-in-Err-clause-grown : goal.returns-in-Err-clause-grown
 returns-in-Err-clause-grown g c = λ tells. log_grows_more _ 18 (view_of g.S.Site c.args.self.now.log) (view_of g.S.Site c.control.new.self) (control_few _ _ (subst (λ (d : List ℕ). length d ≤ 65535) (sym c.deref-2.ensures.value) c.requires.sound.described.1)) (c.control.ensures.grown tells)
+
+pub returns-in-Ok-clause-within : goal.returns-in-Ok-clause-within
+returns-in-Ok-clause-within g c off t = fills_append g.S.Site c.args.self.now.log c.control.new.self c.control.ensures.kind.3 (c.in-Ok.ensures.stays ok_never) c.control.ensures.idle
+
+pub returns-in-Err-clause-within : goal.returns-in-Err-clause-within
+returns-in-Err-clause-within g c off t =
+    fills_append g.S.Site c.args.self.now.log c.control.new.self c.control.ensures.kind.3 (c.in-Err.ensures.stays (λ is. off (seen_disk c.in-Err.fault c.append_fault.result _ _ c.append_fault.ensures is))) c.control.ensures.idle
