@@ -11,8 +11,8 @@ use Rattle.dms_model.specs.Db.{Db}
 use Rattle.dms_model.specs.Session.{fresh_session}
 use Rattle.dms_moments.specs.Moments.{Runs}
 use Rattle.dms_runner.specs.Answers.{answers_text, last_quiet, script_events}
-use Rattle.dms_runner.specs.Events.{RunEvent, quiets_of}
-use Rattle.dms_runner.specs.Starting.{CarriesOut}
+use Rattle.dms_runner.specs.Events.{RunEvent, quiets_of, syncs_after}
+use Rattle.dms_runner.specs.Starting.{CarriesOut, events_at}
 use Rattle.dms_runner.specs.declared.run.RunFault.{RunFault}
 use Rattle.dms_storeverbs.specs.declared.engine.Engine.{Engine}
 use Rattle.dms_storeverbs.specs.View.{StandsFor, engine_view, view}
@@ -32,6 +32,10 @@ module _ {St : Type 0} {g : Ghosts St} where
   -- It holds of the point, the database, the first number and the input that a run begins with.
   abbrev pub AtBegin : Engine St g → List ℕ → Option (List ℕ) → (ℕ → Db → ℕ → List ℕ → Type 0) → Type 0
   AtBegin e feed left P = (n : ℕ) (db : Db) (first : ℕ) (all : List ℕ) → BeginsWith e n db first → Remains feed left all → P n db first all
+
+  -- its syncs are counted, as many as the events of the script take
+  abbrev pub CountsSyncs : Engine St g → Engine St g → Db → ℕ → List ℕ → Type 0
+  CountsSyncs old new db first all = (engine_view new).effort.syncs ≡ syncs_after (engine_view old).effort.syncs (events_at old db first all)
 
   -- It holds of the point and the database that a run begins with, and of the events of its script.
   abbrev pub OfScript : Engine St g → List ℕ → Option (List ℕ) → (ℕ → Db → ℕ → List RunEvent → Type 0) → Type 0

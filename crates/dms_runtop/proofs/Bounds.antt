@@ -1,14 +1,15 @@
 -- How much audit a run takes, step by step.
-use Rattle.std.proofs.Common.{ℕ, ◌+◌, ◌-◌, ◌*◌, ◌^◌, ◌<◌, ◌≤◌, ◌≡◌, ◌⊎◌, ◌∙◌, inl, inr, false, true, IsTrue, List, [], ◌++◌, length, take, Option, Some, refl, sym, ap, subst, arith}
+use Rattle.std.proofs.Common.{ℕ, ◌+◌, ◌-◌, ◌*◌, ◌^◌, ◌<◌, ◌≤◌, ◌≡◌, ◌⊎◌, ◌∙◌, inl, inr, Bool, false, true, IsTrue, List, [], ◌∷◌, ◌++◌, length, take, Option, Some, is_some, refl, sym, ap, subst, arith}
 use Rattle.std.proofs.lemmas.List.{append-nil, take_all}
 use Rattle.dms_block.specs.declared.block_fault.BlockFault.TheVariants as block
+use Rattle.dms_block.specs.Held.{one_more}
 use Rattle.dms_block.specs.Texts.{Prints, PrintsPrefix}
 use Rattle.dms_desc.specs.Shape.{Described}
 use Rattle.dms_history.specs.Entries.{Entry}
 use Rattle.dms_history.proofs.Order.{append_none}
 use Rattle.dms_model.specs.Seen.{Effort, Seen}
 use Rattle.dms_runner.specs.EventLaws.{AreCounted}
-use Rattle.dms_runner.specs.Events.{RunEvent, SaidAtLeast, TakesEvents, TookAll, TookOneMore, TookPart, backs_of, blocks_of, quiets_of, syncs_of, text_of}
+use Rattle.dms_runner.specs.Events.{RunEvent, SaidAtLeast, TakesEvents, TookAll, TookOneMore, TookPart, backs_of, blocks_of, one_if, quiets_of, syncs_after, syncs_of, text_of}
 use Rattle.dms_runner.specs.declared.run.RunFault.{RunFault}
 use Rattle.dms_runner.specs.declared.run.RunFault.TheVariants as run
 use Rattle.dms_runner.specs.declared.run.RunFault.TheVariants.{Block}
@@ -21,11 +22,16 @@ use Rattle.dms_site.specs.Files.{Files}
 use Rattle.dms_status.specs.declared.status.Status.{Status}
 use Rattle.dms_status.specs.declared.status.LimitKind.TheVariants.{AuditFile, Lines, Bytes, Held}
 use Rattle.dms_status.specs.declared.status.Status.TheVariants.{Ok, BadWords, SchemaRefused, NoDatabase, Needed, InputFault, Memory, Limit, Damaged, SayFault, DiskFault, Exists}
-use Rattle.dms_storeverbs.specs.Costs.{limit_if}
+use Rattle.dms_storeverbs.specs.Costs.{limit_if, up_if}
 use Rattle.dms_wal.specs.declared.running.Running.{Running}
+use Rattle.dms_wal.specs.Controlled.{AddsControls}
 use Rattle.dms_wal.specs.Growing.{GrowsBy, IsCounted, controls_among}
+use Rattle.dms_audrec.specs.Bodies.{bodies}
+use Rattle.dms_restore.specs.Counts.{file_counts}
+use Rattle.dms_wal.proofs.Counted.{adds_control}
 use Rattle.dms_wal.proofs.Grown.{controls_low}
-use Rattle.dms_runtop.specs.Bound.{BoundsAudit, GrewWithin, PrintsEvents, StopsAtLine, audit_begun, audit_of, closing_of}
+use Rattle.dms_runtop.specs.Bound.{BoundsAudit, GrewWithin, PrintsEvents, StopsAtLine, audit_begun, audit_of, closing_of, restores_ended}
+use Rattle.dms_runtop.specs.Filling.{ClosesBehind, IsControlPoint}
 use Rattle.dms_runtop.specs.Faults.{IsWithin, run_status}
 use Rattle.dms_runtop.specs.Statuses.{IsOfClosing}
 use Rattle.dms_runtop.proofs.Endings.{run_not_ok, run_input, run_lines_is, run_bytes_is, run_held_is}
@@ -109,10 +115,11 @@ grew_since : (n m : ℕ) (t : Telling) (desc : Described) (whole k : ℕ) (event
 grew_since n m t desc whole k events a0 a b grew (inl all) = inl (omega (arith, grew, all))
 grew_since n m t desc whole k events a0 a b grew (inr more) = inr (more.0, omega (arith, grew, more.1))
 
-pub bounds_since : {n m : ℕ} {t : Telling} {desc : Described} {events : List RunEvent} {a0 a b : Files} {x y : Option (List ℕ)} {s : Status} → length (t.entries a) + n ≤ length (t.entries a0) + m → BoundsAudit n t desc events a b x y s
+pub bounds_since : {n m : ℕ} {t : Telling} {desc : Described} {events : List RunEvent} {a0 a b : Files} {x y : Option (List ℕ)} {s : Status} → length (t.entries a) + n ≤ length (t.entries a0) + m → AddsControls (restores_ended n (t.entries a)) (restores_ended m (t.entries a0)) (t.entries a0) (t.entries a) → BoundsAudit n t desc events a b x y s
     → BoundsAudit m t desc events a0 b x y s
-bounds_since {n} {m} {t} {desc} {events} {a0} {a} {b} {s = s} grew bound = record {
+bounds_since {n} {m} {t} {desc} {events} {a0} {a} {b} {s = s} grew ended bound = record {
   at_ok = λ is. omega (arith, grew, bound.at_ok is);
+  controls = λ is. omega (arith, ended, bound.controls is);
   at_line = λ at. omega (arith, grew, bound.at_line at);
   at_end =
       let p = bound.at_end in
@@ -126,6 +133,7 @@ pub bounds_instead : {n : ℕ} {t : Telling} {desc : Described} {events : List R
 unfolding says_same says_uncut
 bounds_instead {n} {t} {desc} {events} {a} {b} {x = x} s0 s unsaid not_ok closing not_line files said bound = record {
   at_ok = λ is. absurd (not_ok is);
+  controls = λ is. absurd (not_ok is);
   at_line = λ at. absurd (not_line at);
   at_end =
       let q = bound.at_end in
@@ -143,6 +151,7 @@ bounds_instead {n} {t} {desc} {events} {a} {b} {x = x} s0 s unsaid not_ok closin
 pub bounds_opening : {n : ℕ} {t : Telling} {desc : Described} {events : List RunEvent} {a b : Files} {x y : Option (List ℕ)} (s : Status) → (s ≡ Ok → ⊥) → length (t.entries b) ≤ length (t.entries a) + n → y ≡ x → BoundsAudit n t desc events a b x y s
 bounds_opening {events = events} {x = x} {y = y} s not_ok few same = record {
   at_ok = λ is. absurd (not_ok is);
+  controls = λ is. absurd (not_ok is);
   at_line = λ at. omega (arith, few);
   at_end = record { k = 0; within = omega arith; printed = says_none (s ≡ SayFault) events x y same; grew = inl (omega (arith, few)) };
 }
@@ -171,6 +180,21 @@ at_line_of {X} last fault then (inl within) input lines bytes full at = by_fault
     by_fault (inr (inr (inl is))) = bytes (run_bytes_is fault is)
     by_fault (inr (inr (inr is))) = full (run_held_is fault is)
 at_line_of last fault then (inr memory) input lines bytes full at = absurd (closes_not Memory refl (subst (λ (f : RunFault). StopsAtLine (run_status f)) memory.0 at))
+
+-- ---- control points
+
+-- syncs are counted one by one, below the end of the count
+syncs_all : (n : ℕ) (es : List RunEvent) → n + syncs_of es < 2 ^ 64 - 1 → syncs_after n es ≡ n + syncs_of es
+syncs_all n [] low = omega arith
+syncs_all n (e ∷ es) low = by (is_some e.sync) (λ m less. syncs_all m es less) low
+  where
+    by : (b : Bool) → ((m : ℕ) → m + syncs_of es < 2 ^ 64 - 1 → syncs_after m es ≡ m + syncs_of es) → n + (one_if b + syncs_of es) < 2 ^ 64 - 1 → syncs_after (up_if b n) es ≡ n + (one_if b + syncs_of es)
+    by true more less = let up : one_more n ≡ n + 1 = omega (arith, less) in ap (λ k. syncs_after k es) up ∙ more (n + 1) (omega (arith, less)) ∙ omega arith
+    by false more less = more n (omega (arith, less)) ∙ omega arith
+
+-- one control point more
+control_point_adds : (es closing : List Entry) → IsControlPoint closing → AddsControls 0 1 es (es ++ closing)
+control_point_adds es closing is = adds_control 0 1 es (es ++ closing) (bodies is.schema) is.point is.next (file_counts 30001 is.counts) refl (ap (λ (l : List Entry). es ++ l) is.is)
 
 -- ---- a run over a running database
 
@@ -256,6 +280,7 @@ module _ {S : Type 0} (g : Ghosts S) (d : Described) (r r' : Running S) (t : Tel
         → BoundsAudit 0 t d events (g.files r.log.site) (g.files r'.log.site) old.said new.said (run_status then)
     failed_bound last fault then within part took = record {
       at_ok = λ is. absurd (run_not_ok then is);
+      controls = λ is. absurd (run_not_ok then is);
       at_line = λ at. omega (arith, files_all events (took at) all_counted);
       at_end = record {
         k = part.k;
@@ -266,13 +291,29 @@ module _ {S : Type 0} (g : Ghosts S) (d : Described) (r r' : Running S) (t : Tel
     }
 
     module _ (takes : TakesEvents old.desc events old.effort new.effort) (numbers : new.next ≡ old.next + length (quiets_of events)) where
+      -- the control points that were made, and the one that closes
+      all_controls : (files : Files) → r'.broken ≡ false → new.effort.syncs ≡ syncs_after old.effort.syncs events → ClosesBehind (view_of g r'.log) files → AddsControls 0 (controls_among d.controlpoint (syncs_of events) + 1) (t.entries (g.files r.log.site)) (t.entries files)
+      all_controls files unbroken synced closed =
+          let counts : IsCounted r' = counted (blocks_of d events) (length (quiets_of events)) (syncs_of events) (backs_of events) (omega (arith, takes.spent, spent_now, spent_then, blocks_same events)) (omega (arith, numbers, next_is, next_is')) (omega (arith, takes.syncs, syncs_now, syncs_then))
+          (omega (arith, takes.outs, outs_now, outs_then)) (omega (arith, all_counted.blocks)) (omega (arith, all_counted.syncs)) (omega (arith, all_counted.backs)) in
+          let all : r'.syncs ≡ syncs_of events = sym syncs_now ∙ synced ∙ ap (λ n. syncs_after n events) syncs_then ∙ syncs_all 0 events (omega (arith, all_counted.syncs)) ∙ omega arith in
+          let due : controls_among r'.every r'.syncs ≡ controls_among d.controlpoint (syncs_of events) = λ i. controls_among ((grows.every ∙ every) i) (all i) in
+          let none : controls_among r.every r.syncs ≡ 0 = ap (controls_among r.every) syncs in
+          let made = grows.controls tells unbroken counts in
+          let then : entries (view_of g r.log) ≡ t.entries (g.files r.log.site) = ap (λ (l : List Entry). (telling (view_of g r.log)).entries (g.files r.log.site) ++ l) nothing ∙ append_none ((telling (view_of g r.log)).entries (g.files r.log.site)) ∙ ap (λ (k : Telling). k.entries (g.files r.log.site)) told in
+          let now : t.entries files ≡ entries (view_of g r'.log) ++ closed.closing = ap (λ (k : Telling). k.entries files) (sym told') ∙ closed.are in
+          let one = control_point_adds (entries (view_of g r'.log)) closed.closing closed.closes in
+          subst (λ (es : List Entry). AddsControls 0 (controls_among d.controlpoint (syncs_of events) + 1) es (t.entries files)) then
+          (subst (λ (es : List Entry). AddsControls 0 (controls_among d.controlpoint (syncs_of events) + 1) (entries (view_of g r.log)) es) (sym now) (omega (arith, due, none, made, one)))
+
       -- all events happened, and so many entries the files have then
       all_bound : (status : Status) (files : Files) (said : Option (List ℕ)) → closing_of status ≡ 18 → Prints old.said said (text_of events) → length (t.entries files) ≤ length (t.entries (g.files r.log.site)) + audit_of d events + 18
-          → BoundsAudit 0 t d events (g.files r.log.site) files old.said said status
-      all_bound status files said closing text few =
+          → (status ≡ Ok → AddsControls 0 (controls_among d.controlpoint (syncs_of events) + 1) (t.entries (g.files r.log.site)) (t.entries files)) → BoundsAudit 0 t d events (g.files r.log.site) files old.said said status
+      all_bound status files said closing text few controls =
           let all : take (length events) events ≡ events = take_all (length events) events (omega arith) in
           record {
             at_ok = λ is. omega (arith, few);
+            controls = λ ok. omega (arith, controls ok);
             at_line = λ at. absurd (closes_not status closing at);
             at_end = record {
               k = length events;
@@ -283,7 +324,8 @@ module _ {S : Type 0} (g : Ghosts S) (d : Described) (r r' : Running S) (t : Tel
           }
 
       -- the script was carried out, and then the database closed, or not closed
-      pub closed_bound : (status : Status) (files : Files) (said : Option (List ℕ)) → closing_of status ≡ 18 → r'.broken ≡ false → FilesGrew 18 (view_of g r'.log) files → Prints old.said said (text_of events) → BoundsAudit 0 t d events (g.files r.log.site) files old.said said status
-      closed_bound status files said is_closing unbroken few text =
+      pub closed_bound : (status : Status) (files : Files) (said : Option (List ℕ)) → closing_of status ≡ 18 → r'.broken ≡ false → FilesGrew 18 (view_of g r'.log) files → new.effort.syncs ≡ syncs_after old.effort.syncs events → (status ≡ Ok → ClosesBehind (view_of g r'.log) files) → Prints old.said said (text_of events) → BoundsAudit 0 t d events (g.files r.log.site) files old.said said status
+      closed_bound status files said is_closing unbroken few synced closes text =
           let closing : length (t.entries files) ≤ length (entries (view_of g r'.log)) + 18 = subst (λ (k : Telling). length (k.entries files) ≤ length (entries (view_of g r'.log)) + 18) told' few in
           all_bound status files said is_closing text (omega (arith, closing, log_all events unbroken takes (omega (arith, numbers)) all_counted))
+          (λ ok. all_controls files unbroken synced (closes ok))

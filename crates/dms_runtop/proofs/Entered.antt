@@ -1,12 +1,18 @@
 -- A run of the files that stand for a state, from the opening on.
-use Rattle.std.proofs.Common.{ℕ, ◌+◌, ◌≤◌, ◌≡◌, ◌∙◌, inl, inr, Bool, IsTrue, List, [], ◌∷◌, ◌++◌, map, Option, Some, None, cond, length, refl, sym, ap, subst, arith}
+use Rattle.std.proofs.Common.{ℕ, ◌+◌, ◌≤◌, ◌≡◌, ◌∙◌, inl, inr, Bool, IsTrue, List, [], ◌∷◌, ◌++◌, map, Option, Some, None, cond, length, append-nil, refl, sym, ap, subst, arith}
 use Rattle.std.specs.Prelude.{is_some}
+use Rattle.dms_audrec.specs.Bodies.{bodies}
+use Rattle.dms_history.specs.Entries.{Entry, by_halt_load}
+use Rattle.dms_history.specs.History.{Pending}
+use Rattle.dms_restore.specs.Counts.{file_counts}
+use Rattle.dms_wal.specs.Controlled.{AddsControls}
+use Rattle.dms_wal.proofs.Counted.{adds_back, adds_control}
 use Rattle.dms_desc.specs.Shape.{Described}
 use Rattle.dms_desc_bytes.specs.Spelling.{spelling}
 use Rattle.dms_desc_bytes.specs.WellFormed.{IsWellFormed}
 use Rattle.dms_feed.specs.Lines.{raw_lines}
 use Rattle.dms_runner.specs.Answers.{script_events}
-use Rattle.dms_runner.specs.Events.{RunEvent}
+use Rattle.dms_runner.specs.Events.{RunEvent, one_if}
 use Rattle.dms_model.specs.Db.{Db}
 use Rattle.dms_moments.specs.Moments.{Runs}
 use Rattle.dms_moments.specs.MomentLaws.{runs_weaken}
@@ -25,7 +31,7 @@ use Rattle.dms_restore.specs.Logging.{telling_of, telling}
 use Rattle.dms_restore.specs.Views.{view_of}
 use Rattle.dms_wal.specs.Marks.{last_number}
 use Rattle.dms_opening.specs.declared.opened.Opened.{Opened}
-use Rattle.dms_opening.specs.Openings.{IsNoRefusal, IsOpenable, OpeningGrows, OpensAt, ReopensSince, RunsFrom}
+use Rattle.dms_opening.specs.Openings.{IsNoRefusal, IsOpenable, OpeningGrows, OpensAt, ReopensSince, RunsFrom, opening_entries}
 use Rattle.dms_opening.proofs.Callers.{trail_is_one}
 use Rattle.dms_run.specs.Files.{RunLeavesFiles}
 use Rattle.dms_run.specs.State.{HasNext}
@@ -44,6 +50,13 @@ use Rattle.dms_runtop.proofs.Grows.{keeps_entered, keeps_opening}
 use Rattle.dms_runtop.proofs.Holding.{trail_of}
 use Rattle.dms_runtop.proofs.Ran.{ran_nothing}
 use Rattle.dms_runtop.proofs.Since.{last_is, reopens_leaves, runs_since}
+
+-- ---- the control point of an opening
+
+-- it ends a restore
+opening_adds : (pending : Option Pending) (old new : List Entry) (point next : ℕ) (schema counts : List ℕ) → new ≡ old ++ opening_entries pending point next schema counts → AddsControls 0 (one_if (is_some pending)) old new
+opening_adds None old new point next schema counts is = adds_back 0 0 old new by_halt_load (bodies schema) point point next (file_counts 30001 counts) refl is
+opening_adds (Some p) old new point next schema counts is = adds_control 0 1 old new (bodies schema) point next (file_counts 30001 counts) refl is
 
 -- ---- the description of the last point
 
@@ -124,13 +137,16 @@ module _ {S : Type 0} (g : Ghosts S) (old : S) (s : DatabaseState) where
       subst (λ m. ScriptRuns 0 t s.desc ps s.point s.db m all (seen_site g o.log.site) (seen_site g new) left' status) (sym opens.next_is ∙ next_is)
       (ran told knows st s.point s.db all state (subst HasNumbersLeft (sym next_is ∙ opens.next_is) room) is) in
       let few : length (t.entries (g.files o.log.site)) ≤ length (t.entries files) + 19 = grows.few o.log.end.total o.log.first opens.trail whole in
+      let from = runs whole in
+      let here : t.entries (g.files o.log.site) ≡ t.entries files ++ opening_entries (history_of (t.entries files)).pending o.point o.next o.schema.items o.counts.items =
+      sym (append-nil (t.entries (g.files o.log.site))) ∙ ap (λ (l : List Entry). t.entries (g.files o.log.site) ++ l) (sym from.nothing) ∙ from.entries_are in
       let before = λ (events : List RunEvent). runs_weaken (since o.log.end.total o.log.first opens.trail whole) (reopens_leaves t files (seen_site g old).said s.desc s.point s.db state next next_is events) in
       record {
         total = o.log.end.total;
         first = o.log.first;
         trail = opens.trail;
         runs = runs_since 0 19 t s.desc ps s.point s.db next all (seen_site g old) (seen_site g o.log.site) (seen_site g new) left' status
-            (ap (λ (l : List ℕ). cond g.tells_said (Some l) None) said) before (omega (arith, few)) script;
+            (ap (λ (l : List ℕ). cond g.tells_said (Some l) None) said) before (omega (arith, few)) (opening_adds (history_of (t.entries files)).pending (t.entries files) (t.entries (g.files o.log.site)) o.point o.next o.schema.items o.counts.items here) script;
       }
 
   -- ---- it wasn't opened

@@ -21,4 +21,5 @@ pub mod Bounds
 pub mod Inputs
 pub mod Grows
 pub mod Adding
+pub mod Filled
 pub mod Naming

@@ -4,10 +4,12 @@ use Rattle.std.specs.Prelude.{is_some}
 use Rattle.std.proofs.lemmas.List.{append_cancel_left, take_at}
 use Rattle.dms_audfile.specs.Blocks.{block_entries}
 use Rattle.dms_audfile.specs.Counting.{CountedAt}
-use Rattle.dms_audfile.specs.Ends.{Grown}
+use Rattle.dms_audfile.specs.Ends.{EndsAt, Grown}
 use Rattle.dms_audfile.specs.TrailEntries.{entries_in, entries_of, trail_entries}
 use Rattle.dms_audfile.specs.Trail.{trail_from}
 use Rattle.dms_history.specs.Lists.{has}
+use Rattle.dms_desc_bytes.specs.Spelling.{spelling}
+use Rattle.dms_desc_bytes.specs.WellFormed.{IsWellFormed}
 use Rattle.dms_descfile.specs.declared.fault.FileFault.{FileFault}
 use Rattle.dms_descfile.specs.declared.fault.FileFault.TheVariants as file
 use Rattle.dms_history.specs.Entries.{Entry, by_halt_load}
@@ -29,6 +31,7 @@ use Rattle.dms_status.specs.declared.status.Status.TheVariants.{Ok, BadWords, Sc
 use Rattle.dms_wal.specs.declared.running.Running.{Running}
 use Rattle.dms_wal.specs.Closing.{entries_control}
 use Rattle.dms_wal.specs.Controls.{KeepsPace}
+use Rattle.dms_wal.specs.Filling.{WritesTrail}
 use Rattle.dms_wal.specs.Following.{AppendsOldPoints, NameOldPoints}
 use Rattle.dms_wal.specs.FollowLaws.{appends_on, appends_same, names_first}
 use Rattle.dms_wal.specs.Growing.{FailsNever, GrowsBy}
@@ -36,10 +39,13 @@ use Rattle.dms_wal.specs.Marks.{last_number}
 use Rattle.dms_wal.specs.PaceLaws.{pace_kind}
 use Rattle.dms_wal.proofs.Followed.{back_names, control_names, last_place}
 use Rattle.dms_runtop.proofs.Entered.{some_told, whole_here}
+use Rattle.dms_runtop.proofs.Filled.{fills_closed, fills_found, fills_left, fills_opened, nothing_used}
+use Rattle.dms_runtop.proofs.Refused.{open_ok}
 use Rattle.dms_runtop.specs.Command.{DatabaseState, HoldsState, HoldsTold, StatesHold}
 use Rattle.dms_runtop.specs.Faults.{open_status}
 use Rattle.dms_runtop.specs.Full.{IsOfFull}
-use Rattle.dms_runtop.specs.Naming.{AppendsOpened, AppendsOver, AppendsTold, EndsPlain}
+use Rattle.dms_runtop.specs.Filling.{AreOpened, ClosesBehind}
+use Rattle.dms_runtop.specs.Naming.{Appends, AppendsDescribed, AppendsOpened, AppendsOver, AppendsTo, AppendsTold, EndsPlain, IsSealed}
 use Rattle.dms_runtop.specs.Statuses.{IsOfClosing}
 
 -- ---- entries of blocks
@@ -98,10 +104,14 @@ module _ {S : Type 0} (g : Ghosts S) where
       subst (λ (l : List Entry). AppendsOldPoints l new) (sym here) (subst (λ (l : List Entry). AppendsOldPoints old l) (sym sealed) front)
 
   -- a run that isn't closed
-  pub left_names : (r r' : Running S) (site : S) (status : Status) → KeepsPace r r' → GrowsBy g r r' → site ≡ r'.log.site → CountedAt (status ≡ DiskFault) (g.disk_faults r.log.site) (g.disk_faults site) → AppendsOver g r status site
-  left_names r r' site status pace grows is counted tells none ends =
-      subst (λ x. AppendsOldPoints (entries (view_of g r.log)) ((telling (view_of g r.log)).entries (g.files x))) (sym is)
-      (over_names r r' none pace grows tells (ap g.disk_faults (sym is) ∙ counted.clean ends.not_disk, ends.room))
+  pub left_names : (r r' : Running S) (site : S) (status : Status) → (status ≡ Ok → ⊥) → (IsTrue g.tells → WritesTrail (view_of g r.log)) → KeepsPace r r' → GrowsBy g r r' → site ≡ r'.log.site → CountedAt (status ≡ DiskFault) (g.disk_faults r.log.site) (g.disk_faults site) → AppendsOver g r status site
+  left_names r r' site status fault writes pace grows is counted tells sealed ends =
+      let never : FailsNever g r r' = (ap g.disk_faults (sym is) ∙ counted.clean ends.not_disk, ends.room) in
+      let k = r.log.end.limit in
+      subst (λ x. AppendsTo k r.log.end.total r.log.first (entries (view_of g r.log)) (g.files x) status) (sym is) (record {
+        names = over_names r r' sealed.nothing pace grows tells never;
+        fills = fills_left k (view_of g r.log) (view_of g r'.log) status fault pace.total pace.first sealed.empty (grows.writes tells never (writes tells)) (grows.within tells never);
+      })
 
   -- its site was given back
   pub same_names : (r : Running S) (site : S) (status : Status) → status ≡ Memory → AppendsOver g r status site
@@ -109,14 +119,17 @@ module _ {S : Type 0} (g : Ghosts S) where
 
   -- one that is closed
   pub closed_names : (r r' : Running S) (site : S) (status : Status) → KeepsPace r r' → GrowsBy g r r' → g.disk_faults r'.log.site ≤ g.disk_faults site → CountedAt (status ≡ DiskFault) (g.disk_faults r.log.site) (g.disk_faults site) → (status ≡ Ok) ⊎ IsOfClosing status
-      → (IsTrue g.tells → status ≡ Ok → AppendsOldPoints (entries (view_of g r'.log)) ((telling (view_of g r'.log)).entries (g.files site))) → AppendsOver g r status site
-  closed_names r r' site status pace grows later counted (inr of) closed tells none ends = absurd (closed_plain (g.disk_faults r.log.site) status of ends)
-  closed_names r r' site status pace grows later counted (inl ok) closed tells none ends =
+      → (IsTrue g.tells → status ≡ Ok → AppendsOldPoints (entries (view_of g r'.log)) (trail_entries r'.log.end.total r'.log.first (g.files site))) → (IsTrue g.tells → status ≡ Ok → ClosesBehind (view_of g r'.log) (g.files site)) → AppendsOver g r status site
+  closed_names r r' site status pace grows later counted (inr of) names closes tells sealed ends = absurd (closed_plain (g.disk_faults r.log.site) status of ends)
+  closed_names r r' site status pace grows later counted (inl ok) names closes tells sealed ends =
       let still = counted.clean ends.not_disk in
       let never : FailsNever g r r' = (omega (arith, still, later, grows.counted), ends.room) in
-      let last : AppendsOldPoints (entries (view_of g r'.log)) ((telling (view_of g r.log)).entries (g.files site)) =
-      subst (λ t. AppendsOldPoints (entries (view_of g r'.log)) (t.entries (g.files site))) (pace_kind pace) (closed tells ok) in
-      appends_on (entries (view_of g r.log)) (entries (view_of g r'.log)) ((telling (view_of g r.log)).entries (g.files site)) (grows.appends tells never) last
+      let last : AppendsOldPoints (entries (view_of g r'.log)) (trail_entries r.log.end.total r.log.first (g.files site)) =
+      subst (λ t. AppendsOldPoints (entries (view_of g r'.log)) (t.entries (g.files site))) (pace_kind pace) (names tells ok) in
+      record {
+        names = appends_on (entries (view_of g r.log)) (entries (view_of g r'.log)) (trail_entries r.log.end.total r.log.first (g.files site)) (grows.appends tells never) last;
+        fills = fills_closed r.log.end.limit (view_of g r.log) (view_of g r'.log) (g.files site) status ok pace.total pace.first sealed.empty (grows.within tells never) (closes tells ok);
+      }
 
 -- the control point that closes
 pub closing_names : (v : LogView) (n next : ℕ) (schema marks : List ℕ) (new : List Entry) → last_number (points v) ≡ Some n → new ≡ entries v ++ entries_control n schema next marks → AppendsOldPoints (entries v) new
@@ -125,42 +138,47 @@ closing_names v n next schema marks new last is = record { more = entries_contro
 -- ---- over a database that was opened
 
 module _ {S : Type 0} (g : Ghosts S) where
-  pub memory_names : (o : Opened S) (known : Bool) (site : S) (status : Status) → status ≡ Memory → AppendsOpened g o known status site
-  memory_names o known site status is told knows none ends = absurd (ends.not_memory is)
+  pub memory_names : (k : ℕ) (o : Opened S) (known : Bool) (site : S) (status : Status) → status ≡ Memory → AppendsOpened g k o known status site
+  memory_names k o known site status is told knows none ends = absurd (ends.not_memory is)
 
   -- a description that couldn't be read
-  pub undone_names : (fault : FileFault) (o : Opened S) (known : Bool) (site : S) (status : Status) → (fault ≡ file.Disk → status ≡ DiskFault) → (fault ≡ file.Memory → status ≡ Memory) → AppendsOpened g o known status site
-  undone_names file.Disk o known site status disk memory told knows none ends = absurd (ends.not_disk (disk refl))
-  undone_names file.Memory o known site status disk memory told knows none ends = absurd (ends.not_memory (memory refl))
+  pub undone_names : (fault : FileFault) (o : Opened S) (known : Bool) (site : S) (status : Status) → (fault ≡ file.Disk → status ≡ DiskFault) → (fault ≡ file.Memory → status ≡ Memory) → AppendsDescribed g o known status site
+  undone_names file.Disk o known site status disk memory d formed spelled told knows none ends = absurd (ends.not_disk (disk refl))
+  undone_names file.Memory o known site status disk memory d formed spelled told knows none ends = absurd (ends.not_memory (memory refl))
 
   -- a call that only looked before it
-  pub looked_names : (o : Opened S) (mid new : S) (known : Bool) (status : Status) → (IsTrue g.tells → g.files mid ≡ g.files o.log.site) → g.disk_faults mid ≡ g.disk_faults o.log.site → AppendsOpened g (record o { log = record o.log { site = mid } }) known status new → AppendsOpened g o known status new
-  looked_names o mid new known status same still later told knows none ends =
-      let v = view_of g o.log in
-      subst (λ (f : Files). AppendsOldPoints ((telling v).entries f ++ waits o.log.end) ((telling v).entries (g.files new))) (same told)
+  pub looked_names : (k : ℕ) (o : Opened S) (mid new : S) (known : Bool) (status : Status) → (IsTrue g.tells → g.files mid ≡ g.files o.log.site) → g.disk_faults mid ≡ g.disk_faults o.log.site → AppendsOpened g k (record o { log = record o.log { site = mid } }) known status new → AppendsOpened g k o known status new
+  looked_names k o mid new known status same still later told knows none ends =
+      subst (λ (f : Files). AppendsTo k o.log.end.total o.log.first (trail_entries o.log.end.total o.log.first f ++ waits o.log.end) (g.files new) status) (same told)
       (later told knows none (record { room = omega (arith, still, ends.room); not_disk = ends.not_disk; not_memory = ends.not_memory; not_full = ends.not_full }))
 
   -- a full audit was looked at behind it
-  pub full_names : (o : Opened S) (n : ℕ) (was status : Status) (mid new : S) (known : Bool) → was ≡ Limit (AuditFile n) → IsOfFull n status → (IsTrue g.tells → g.files new ≡ g.files mid) → AppendsOpened g o known was mid → AppendsOpened g o known status new
-  full_names o n was status mid new known is (inr (inl disk)) same before told knows none ends = absurd (ends.not_disk disk)
-  full_names o n was status mid new known is (inr (inr memory)) same before told knows none ends = absurd (ends.not_memory memory)
-  full_names o n was status mid new known is (inl full) same before told knows none ends =
+  pub full_names : (o : Opened S) (n : ℕ) (was status : Status) (mid new : S) (known : Bool) → was ≡ Limit (AuditFile n) → IsOfFull n status → (IsTrue g.tells → g.files new ≡ g.files mid) → AppendsDescribed g o known was mid → AppendsDescribed g o known status new
+  full_names o n was status mid new known is (inr (inl disk)) same before d formed spelled told knows none ends = absurd (ends.not_disk disk)
+  full_names o n was status mid new known is (inr (inr memory)) same before d formed spelled told knows none ends = absurd (ends.not_memory memory)
+  full_names o n was status mid new known is (inl full) same before d formed spelled told knows none ends =
       let v = view_of g o.log in
-      subst (λ (f : Files). AppendsOldPoints (entries v) ((telling v).entries f)) (sym (same told))
-      (before told knows none (subst (λ (x : Status). EndsPlain (g.disk_faults o.log.site) x) (full ∙ sym is) ends))
+      let one : status ≡ was = full ∙ sym is in
+      subst (λ (f : Files). AppendsTo d.files o.log.end.total o.log.first (entries v) f status) (sym (same told))
+      (subst (λ (x : Status). AppendsTo d.files o.log.end.total o.log.first (entries v) (g.files mid) x) (sym one)
+      (before d formed spelled told knows none (subst (λ (x : Status). EndsPlain (g.disk_faults o.log.site) x) one ends)))
 
 -- over a site whose files are told only where it is known what they stand for
-pub unveiled_names : {S V : Type 0} (g : Ghosts S) (of : V → S) (known told_there : Bool) → (IsTrue g.tells → IsTrue known → IsTrue told_there) → (o : Opened S) (r : Running V) → of r.log.site ≡ o.log.site → (v : V) (old new : Files) (failed : ℕ)
-    → old ≡ g.files (of r.log.site) → new ≡ g.files (of v) → failed ≡ g.disk_faults o.log.site → r.log.end.total ≡ o.log.end.total → r.log.first ≡ o.log.first → (waits o.log.end ≡ [] → waits r.log.end ≡ []) → (site : S) (s t : Status) → site ≡ of v → s ≡ t
-    → (IsTrue told_there → waits r.log.end ≡ [] → EndsPlain failed t → AppendsOldPoints (trail_entries r.log.end.total r.log.first old ++ waits r.log.end) (trail_entries r.log.end.total r.log.first new)) → AppendsOpened g o known s site
-unveiled_names g of known told_there tells o r entry v old new failed old_is new_is failed_is total_is first_is waiting site s t same is ran told knows none ends =
+pub unveiled_names : {S V : Type 0} (g : Ghosts S) (k : ℕ) (of : V → S) (known told_there : Bool) → (IsTrue g.tells → IsTrue known → IsTrue told_there) → (o : Opened S) (r : Running V) → of r.log.site ≡ o.log.site → (v : V) (old new : Files) (failed : ℕ)
+    → old ≡ g.files (of r.log.site) → new ≡ g.files (of v) → failed ≡ g.disk_faults o.log.site → r.log.end.total ≡ o.log.end.total → r.log.first ≡ o.log.first → r.log.end.limit ≡ k → (waits o.log.end ≡ [] → waits r.log.end ≡ []) → r.log.end.used ≡ o.log.end.used → (site : S) (s t : Status) → site ≡ of v → s ≡ t
+    → (IsTrue told_there → IsSealed r.log.end → EndsPlain failed t → AppendsTo r.log.end.limit r.log.end.total r.log.first (trail_entries r.log.end.total r.log.first old ++ waits r.log.end) new t) → AppendsOpened g k o known s site
+unveiled_names g k of known told_there tells o r entry v old new failed old_is new_is failed_is total_is first_is limit_is waiting used site s t same is ran told knows sealed ends =
     let plain : EndsPlain failed t = subst (λ (x : Status). EndsPlain failed x) is (subst (λ n. EndsPlain n s) (sym failed_is) ends) in
-    let a = ran (tells told knows) (waiting none) plain in
-    let here : old ≡ g.files o.log.site = old_is ∙ ap g.files entry in
     let there : new ≡ g.files site = new_is ∙ ap g.files (sym same) in
-    let empty : waits r.log.end ≡ waits o.log.end = waiting none ∙ sym none in
-    subst (λ (l : List Entry). AppendsOldPoints l (trail_entries o.log.end.total o.log.first (g.files site))) (λ i. trail_entries (total_is i) (first_is i) (here i) ++ empty i)
-    (subst (λ (l : List Entry). AppendsOldPoints (trail_entries r.log.end.total r.log.first old ++ waits r.log.end) l) (λ i. trail_entries (total_is i) (first_is i) (there i)) a)
+    let empty : waits r.log.end ≡ waits o.log.end = waiting sealed.nothing ∙ sym sealed.nothing in
+    let a = ran (tells told knows) (record { nothing = waiting sealed.nothing; empty = used ∙ sealed.empty }) plain in
+    let here : trail_entries r.log.end.total r.log.first old ++ waits r.log.end ≡ entries (view_of g o.log) = λ i. trail_entries (total_is i) (first_is i) ((old_is ∙ ap g.files entry) i) ++ empty i in
+    subst (λ n. AppendsTo k n o.log.first (entries (view_of g o.log)) (g.files site) s) total_is
+    (subst (λ n. AppendsTo k r.log.end.total n (entries (view_of g o.log)) (g.files site) s) first_is
+    (subst (λ (l : List Entry). AppendsTo k r.log.end.total r.log.first l (g.files site) s) here
+    (subst (λ (f : Files). AppendsTo k r.log.end.total r.log.first (trail_entries r.log.end.total r.log.first old ++ waits r.log.end) f s) there
+    (subst (λ n. AppendsTo n r.log.end.total r.log.first (trail_entries r.log.end.total r.log.first old ++ waits r.log.end) new s) limit_is
+    (subst (λ (x : Status). AppendsTo r.log.end.limit r.log.end.total r.log.first (trail_entries r.log.end.total r.log.first old ++ waits r.log.end) new x) (sym is) a)))))
 
 -- ---- from the opening on
 
@@ -181,22 +199,32 @@ module _ {S : Type 0} (g : Ghosts S) (old : S) (state : Option DatabaseState) wh
       record { more = _; are = runs.entries_are; names = opening_names trail _ o.point o.next o.schema.items o.counts.items place }
 
   pub found_names : StatesHold → (IsTrue g.tells → HoldsTold state (g.files old)) → (o : Opened S) → (IsTrue g.tells → OpensAt o.log.end.total o.log.first (g.files old) o.point o.next o.schema.items o.counts.items)
-      → (IsTrue g.tells → IsWhole (telling_of o.log.end.total o.log.first) (g.files old) → RunsFrom (g.files old) o.point o.next o.schema.items o.counts.items (view_of g o.log)) → g.disk_faults o.log.site ≡ g.disk_faults old → (status : Status) (new : S) → AppendsOpened g o (is_some state) status new → AppendsTold g state status old new
-  found_names hold told o opens runs still status new later tells s is ends total first found =
+      → (IsTrue g.tells → IsWhole (telling_of o.log.end.total o.log.first) (g.files old) → RunsFrom (g.files old) o.point o.next o.schema.items o.counts.items (view_of g o.log)) → g.disk_faults o.log.site ≡ g.disk_faults old
+      → ((s : DatabaseState) → state ≡ Some s → IsTrue g.tells → IsWellFormed s.desc × (spelling s.desc ≡ o.schema.items)) → (status : Status) (new : S) → AppendsDescribed g o (is_some state) status new → AppendsTold g state status old new
+  found_names hold told o opens runs still described status new later tells s is ends total first found =
       let h : HoldsState (g.files old) s = hold (g.files old) s (told tells s is) in
       let from : RunsFrom (g.files old) o.point o.next o.schema.items o.counts.items (view_of g o.log) = runs tells (whole_here g old s o (opens tells) h) in
       let one = trail_is_one o.log.end.total o.log.first total first (g.files old) (opens tells).trail found in
-      let next = later tells (some_told state s is) from.nothing (record { room = omega (arith, still, ends.room); not_disk = ends.not_disk; not_memory = ends.not_memory; not_full = ends.not_full }) in
-      let all : AppendsOldPoints (trail_entries o.log.end.total o.log.first (g.files old)) (trail_entries o.log.end.total o.log.first (g.files new)) =
-      appends_on (trail_entries o.log.end.total o.log.first (g.files old)) (entries (view_of g o.log)) (trail_entries o.log.end.total o.log.first (g.files new)) (opened_names o from) next in
-      subst (λ k. AppendsOldPoints (trail_entries total k (g.files old)) (trail_entries total k (g.files new))) one.1
-      (subst (λ k. AppendsOldPoints (trail_entries k o.log.first (g.files old)) (trail_entries k o.log.first (g.files new))) one.0 all)
+      let d = described s is tells in
+      let sealed : IsSealed o.log.end = record { nothing = from.nothing; empty = nothing_used o.log.end o.log.first (g.files o.log.site) (g.clock o.log.site) (subst (λ (l : List Entry). EndsAt o.log.end o.log.first l (g.files o.log.site) (g.clock o.log.site)) from.nothing from.runs.ends) } in
+      let next = later s.desc d.0 d.1 tells (some_told state s is) sealed (record { room = omega (arith, still, ends.room); not_disk = ends.not_disk; not_memory = ends.not_memory; not_full = ends.not_full }) in
+      let before = trail_entries o.log.end.total o.log.first (g.files old) in
+      let all : Appends s.desc.files o.log.end.total o.log.first (AreOpened before) before (g.files new) status = record {
+        names = appends_on before (entries (view_of g o.log)) (trail_entries o.log.end.total o.log.first (g.files new)) (opened_names o from) next.names;
+        fills = fills_opened s.desc.files o.log.end.total o.log.first before (entries (view_of g o.log)) (g.files new) status (inr (record { point = _; next = _; schema = _; counts = _; are = from.entries_are })) next.fills;
+      } in
+      subst (λ k. Appends s.desc.files total k (AreOpened (trail_entries total k (g.files old))) (trail_entries total k (g.files old)) (g.files new) status) one.1
+      (subst (λ k. Appends s.desc.files k o.log.first (AreOpened (trail_entries k o.log.first (g.files old))) (trail_entries k o.log.first (g.files old)) (g.files new) status) one.0 all)
 
   -- it wasn't opened
   pub refused_names : (fault : OpenFault) (status : Status) (new : S) → status ≡ open_status fault → (IsTrue g.tells → (MayHaveWritten fault → ⊥) → g.files new ≡ g.files old) → AppendsTold g state status old new
   refused_names fault status new is files tells s state_is ends total first found =
       let none : MayHaveWritten fault → ⊥ = λ may. written fault status is ends may in
-      appends_same (trail_entries total first (g.files old)) (trail_entries total first (g.files new)) (ap (trail_entries total first) (files tells none))
+      let same : trail_entries total first (g.files new) ≡ trail_entries total first (g.files old) = ap (trail_entries total first) (files tells none) in
+      record {
+        names = appends_same (trail_entries total first (g.files old)) (trail_entries total first (g.files new)) same;
+        fills = fills_found s.desc.files total first (AreOpened (trail_entries total first (g.files old))) (g.files new) status (λ ok. open_ok fault (sym is ∙ ok)) (inl same);
+      }
     where
       written : (f : OpenFault) (x : Status) → x ≡ open_status f → EndsPlain (g.disk_faults old) x → MayHaveWritten f → ⊥
       written f x at plain (inl disk) = plain.not_disk (at ∙ ap open_status disk)

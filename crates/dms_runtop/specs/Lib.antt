@@ -7,6 +7,7 @@ pub mod Command
 pub mod Guard
 pub mod GuardLaws
 pub mod Adding
+pub mod Filling
 pub mod Naming
 pub mod Full
 pub mod Bound

@@ -14,7 +14,7 @@ ghost use Rattle.dms_runtop.specs.Describing.{IsUnderSchema};
 ghost use Rattle.dms_runtop.specs.Full.{HasNoRoom, PassesAtFull};
 ghost use Rattle.dms_runtop.specs.Guard.{StaysBeside};
 ghost use Rattle.dms_runtop.specs.Inputs.{BlamesInput};
-ghost use Rattle.dms_runtop.specs.Naming.{AppendsOpened, AppendsTold};
+ghost use Rattle.dms_runtop.specs.Naming.{AppendsDescribed, AppendsOpened, AppendsTold};
 ghost use Rattle.dms_runtop.specs.Statuses.{IsOfRun, IsOfScript, IsRefusal};
 ghost use Rattle.dms_site.specs.Files.{Same};
 ghost use Rattle.dms_wal.specs.Lifting.{AreCounts};
@@ -108,7 +108,7 @@ fn run_described<S: Site, I: Source, K: Knows>(
     requires known { IsTrue S.tells → IsTrue K.known → StandsOpened S.Site opened }
     ensures ran { RunsOpened S.Site opened K.known (I.left source.old) (I.left source.new) result.status result.site }
     ensures grown { GrowsOpened S.Site opened K.known result.site }
-    ensures appends { AppendsOpened S.Site opened K.known result.status result.site }
+    ensures appends { AppendsOpened S.Site (as_described desc.now).files opened K.known result.status result.site }
     ensures by_input { BlamesInput (I.left source.old) (I.left source.new) result.status }
     ensures end { result.status ≡ Status.Ok → (all : List ℕ) → I.left source.old ≡ Some all → I.left source.new ≡ Some [] }
     ensures statuses { (result.status ≡ Status.Ok) ⊎ IsOfScript result.status }
@@ -175,7 +175,7 @@ fn run_limited<S: Site, I: Source, K: Knows>(
     ensures ran { RunsOpened S.Site opened K.known (I.left source.old) (I.left source.new) result.status result.site }
     ensures adds { AddsNoneAt S.Site (as_described desc.now).files result.status opened.log.site result.site }
     ensures grown { GrowsOpened S.Site opened K.known result.site }
-    ensures appends { AppendsOpened S.Site opened K.known result.status result.site }
+    ensures appends { AppendsOpened S.Site (as_described desc.now).files opened K.known result.status result.site }
     ensures by_input { BlamesInput (I.left source.old) (I.left source.new) result.status }
     ensures end { result.status ≡ Status.Ok → (all : List ℕ) → I.left source.old ≡ Some all → I.left source.new ≡ Some [] }
     ensures statuses { (result.status ≡ Status.Ok) ⊎ IsOfScript result.status }
@@ -234,7 +234,7 @@ fn run_opened<S: Site, I: Source, K: Knows>(
     ensures ran { RunsOpened S.Site opened K.known (I.left source.old) (I.left source.new) result.status result.site }
     ensures adds { AddsNoneOpened S.Site opened result.status result.site }
     ensures grown { GrowsOpened S.Site opened K.known result.site }
-    ensures appends { AppendsOpened S.Site opened K.known result.status result.site }
+    ensures appends { AppendsDescribed S.Site opened K.known result.status result.site }
     ensures by_input { BlamesInput (I.left source.old) (I.left source.new) result.status }
     ensures end { result.status ≡ Status.Ok → (all : List ℕ) → I.left source.old ≡ Some all → I.left source.new ≡ Some [] }
     ensures statuses { (result.status ≡ Status.Ok) ⊎ IsOfScript result.status }
@@ -287,7 +287,7 @@ fn run_confirmed<S: Site, I: Source, K: Knows>(
     ensures ran { RunsOpened S.Site opened K.known (I.left source.old) (I.left source.new) result.status result.site }
     ensures adds { AddsNoneOpened S.Site opened result.status result.site }
     ensures grown { GrowsOpened S.Site opened K.known result.site }
-    ensures appends { AppendsOpened S.Site opened K.known result.status result.site }
+    ensures appends { AppendsDescribed S.Site opened K.known result.status result.site }
     ensures by_input { BlamesInput (I.left source.old) (I.left source.new) result.status }
     ensures end { result.status ≡ Status.Ok → (all : List ℕ) → I.left source.old ≡ Some all → I.left source.new ≡ Some [] }
     ensures statuses { (result.status ≡ Status.Ok) ⊎ IsOfScript result.status }

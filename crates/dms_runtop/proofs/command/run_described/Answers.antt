@@ -82,11 +82,11 @@ returns-clause-by_input g c = subst (λ (x : Status). BlamesInput (g.I.Source.le
 
 pub returns-in-Ok-clause-appends : goal.returns-in-Ok-clause-appends
 returns-in-Ok-clause-appends g c =
-    unveiled_names g.S.Site (λ v. v.site) g.K.Knows.known _ (both_of g.S.Site.tells g.K.Knows.known) c.args.opened c.in-Ok.running (ap (λ v. v.site) c.in-Ok.ensures.log.0) c.run_over.result.site _ _ _ refl refl
-    (ap (λ v. g.S.Site.disk_faults v.site) c.in-Ok.ensures.log.0) c.in-Ok.ensures.log.2 c.in-Ok.ensures.log.1 c.in-Ok.ensures.nothing _ _ c.run_over.result.status c.unveil.ensures.1 c.unveil.ensures.0 c.run_over.ensures.appends
+    unveiled_names g.S.Site (as_described c.args.desc.now).files (λ v. v.site) g.K.Knows.known _ (both_of g.S.Site.tells g.K.Knows.known) c.args.opened c.in-Ok.running (ap (λ v. v.site) c.in-Ok.ensures.log.0) c.run_over.result.site _ _ _ refl refl
+    (ap (λ v. g.S.Site.disk_faults v.site) c.in-Ok.ensures.log.0) c.in-Ok.ensures.log.2 c.in-Ok.ensures.log.1 (c.in-Ok.ensures.log.3 ∙ c.from-3.ensures) c.in-Ok.ensures.nothing c.in-Ok.ensures.used _ _ c.run_over.result.status c.unveil.ensures.1 c.unveil.ensures.0 c.run_over.ensures.appends
 
 pub returns-clause-appends : goal.returns-clause-appends
-returns-clause-appends g c = memory_names g.S.Site c.args.opened g.K.Knows.known _ _ c.unveil-in-Err.ensures.0
+returns-clause-appends g c = memory_names g.S.Site (as_described c.args.desc.now).files c.args.opened g.K.Knows.known _ _ c.unveil-in-Err.ensures.0
 
 pub returns-in_default-clause-appends : goal.returns-in_default-clause-appends
-returns-in_default-clause-appends g c = memory_names g.S.Site c.args.opened g.K.Knows.known _ Memory refl
+returns-in_default-clause-appends g c = memory_names g.S.Site (as_described c.args.desc.now).files c.args.opened g.K.Knows.known _ Memory refl

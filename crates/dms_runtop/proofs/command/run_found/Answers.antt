@@ -111,7 +111,8 @@ returns-then-refused-gt0-clause-opens g c tells =
 
 pub returns-in-Ok-clause-appends : goal.returns-in-Ok-clause-appends
 returns-in-Ok-clause-appends g c =
-    found_names g.S.Site c.args.site g.state c.states_law.ensures c.requires.1.1 c.in-Ok.opened c.in-Ok.ensures.opens c.in-Ok.ensures.runs c.in-Ok.ensures.clean.0 c.run_confirmed.result.status c.run_confirmed.result.site c.run_confirmed.ensures.appends
+    found_names g.S.Site c.args.site g.state c.states_law.ensures c.requires.1.1 c.in-Ok.opened c.in-Ok.ensures.opens c.in-Ok.ensures.runs c.in-Ok.ensures.clean.0
+    (told_description g.S.Site c.args.site g.state c.states_law.ensures c.requires.1.1 c.in-Ok.opened c.in-Ok.ensures.opens c.in-Ok.ensures.runs) c.run_confirmed.result.status c.run_confirmed.result.site c.run_confirmed.ensures.appends
 
 pub returns-else-refused-gt0-clause-appends : goal.returns-else-refused-gt0-clause-appends
 returns-else-refused-gt0-clause-appends g c = refused_names g.S.Site c.args.site g.state c.in-Err.fault c.status_of_open.result c.in-Err.limited.site c.status_of_open.ensures c.in-Err.ensures.files_then

@@ -1,4 +1,5 @@
 use Rattle.std.proofs.Common.{◌<◌, refl, sym, subst, arith}
+use Rattle.dms_desc.specs.Shape.{as_described}
 use Rattle.dms_runtop.specs.Command.{RunsOpened}
 use Rattle.dms_runtop.proofs.Guarding.{refused_counts}
 use Rattle.dms_runtop.proofs.Instead.{opened_refused, refused_place}
@@ -22,9 +23,9 @@ returns-clause-ran g c =
     (λ tells knows st n db all state room is. c.run_described-ended.ensures.ran tells knows (record { files = st.files; runs = st.runs; desc = st.desc; formed = st.formed; spelled = st.spelled }) n db all state room is)
 
 pub returns-then-refused-gt0-clause-appends : goal.returns-then-refused-gt0-clause-appends
-returns-then-refused-gt0-clause-appends g c = memory_names g.S.Site c.args.opened g.K.Knows.known c.into_site-site.result.site Memory refl
+returns-then-refused-gt0-clause-appends g c = memory_names g.S.Site (as_described c.args.desc.now).files c.args.opened g.K.Knows.known c.into_site-site.result.site Memory refl
 
 pub returns-clause-appends : goal.returns-clause-appends
 returns-clause-appends g c =
-    subst (λ x. AppendsOpened g.S.Site c.args.opened g.K.Knows.known c.run_described-ended.result.status x.site) (sym c.into_site-site.ensures)
+    subst (λ x. AppendsOpened g.S.Site (as_described c.args.desc.now).files c.args.opened g.K.Knows.known c.run_described-ended.result.status x.site) (sym c.into_site-site.ensures)
     (λ tells knows none ends. c.run_described-ended.ensures.appends tells knows none (record { room = omega (arith, ends.room); not_disk = ends.not_disk; not_memory = ends.not_memory; not_full = ends.not_full }))

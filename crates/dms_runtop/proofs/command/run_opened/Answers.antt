@@ -2,6 +2,7 @@ use Rattle.std.proofs.Common.{ℕ, ◌≡◌, List, subst}
 use Rattle.dms_desc.specs.Shape.{Described, as_described}
 use Rattle.dms_moments.specs.SeenLaws.{runs_looking}
 use Rattle.dms_runtop.specs.Adding.{AddsNoneAt}
+use Rattle.dms_runtop.specs.Naming.{AppendsOpened}
 use Rattle.dms_runtop.specs.Describing.{IsUnderSchema}
 use Rattle.dms_runtop.proofs.Opened.{same_description}
 use Rattle.dms_runtop.proofs.Adding.{adds_looked, adds_undone}
@@ -51,8 +52,11 @@ returns-in-Err-clause-adds g c = λ d formed spelled.
     adds_undone g.S.Site c.in-Err.fault d.files c.status_of_description.result c.args.opened.log.site c.describe.new.site c.status_of_description.ensures.disk.1 c.status_of_description.ensures.memory
 
 pub returns-in-Ok-clause-appends : goal.returns-in-Ok-clause-appends
-returns-in-Ok-clause-appends g c =
-    looked_names g.S.Site c.args.opened c.describe.new.site c.run_limited.result.site g.K.Knows.known c.run_limited.result.status c.describe.ensures.files (c.in-Ok.ensures.disk.clean (λ is. absurd cc)) c.run_limited.ensures.appends
+returns-in-Ok-clause-appends g c = λ d formed spelled.
+    let o = c.args.opened in
+    let same : as_described c.in-Ok.desc ≡ d = same_description c.spelling_law.ensures o.schema.items (as_described c.in-Ok.desc) d c.in-Ok.ensures.formed (subst (λ (l : List ℕ). IsUnderSchema l (as_described c.in-Ok.desc)) c.as_slice.ensures.value c.in-Ok.ensures.under) formed spelled in
+    looked_names g.S.Site d.files o c.describe.new.site c.run_limited.result.site g.K.Knows.known c.run_limited.result.status c.describe.ensures.files (c.in-Ok.ensures.disk.clean (λ is. absurd cc))
+    (subst (λ (x : Described). AppendsOpened g.S.Site x.files (record o { log = record o.log { site = c.describe.new.site } }) g.K.Knows.known c.run_limited.result.status c.run_limited.result.site) same c.run_limited.ensures.appends)
 
 pub returns-in-Err-clause-appends : goal.returns-in-Err-clause-appends
 returns-in-Err-clause-appends g c = undone_names g.S.Site c.in-Err.fault c.args.opened g.K.Knows.known c.describe.new.site c.status_of_description.result c.status_of_description.ensures.disk.1 c.status_of_description.ensures.memory

@@ -1,4 +1,4 @@
-use Rattle.std.proofs.Common.{◌∙◌, ◌++◌, Bool, sym, ap}
+use Rattle.std.proofs.Common.{◌∙◌, ◌++◌, Bool, false, refl, sym, ap}
 use Rattle.dms_runner.specs.declared.run.RunFault.TheVariants.{Block}
 use Rattle.dms_runtop.proofs.Endings.{run_not_ok}
 use Rattle.dms_runtop.proofs.Grows.{closed_few, left_unclosed}
@@ -36,6 +36,23 @@ returns-in-Ok-clause-appends g c = λ tells ok.
     let r = c.args.running in
     closing_names (view_of g.S.Site r.log) r.point r.next r.schema.items r.marks.items _ (c.requires.pointed tells).number
     ((c.in-Ok.ensures.closed tells).entries_are ∙ ap (λ (b : Bool). entries (view_of g.S.Site r.log) ++ entries_closing b r.point r.schema.items r.next r.marks.items) c.if-running.false)
+
+pub returns-then-running-clause-closing : goal.returns-then-running-clause-closing
+returns-then-running-clause-closing g c = λ tells ok. absurd cc
+
+pub returns-in-Ok-clause-closing : goal.returns-in-Ok-clause-closing
+returns-in-Ok-clause-closing g c = λ tells ok.
+    let r = c.args.running in
+    record {
+      closing = entries_closing false r.point r.schema.items r.next r.marks.items;
+      closes = record { point = r.point; next = r.next; schema = r.schema.items; counts = r.marks.items; some = c.requires.described.0; is = refl };
+      are = (c.in-Ok.ensures.closed tells).entries_are ∙ ap (λ (b : Bool). entries (view_of g.S.Site r.log) ++ entries_closing b r.point r.schema.items r.next r.marks.items) c.if-running.false;
+      first = c.in-Ok.ensures.first c.if-running.false tells;
+      grown = (c.in-Ok.ensures.grown tells).stays.kept.grown;
+    }
+
+pub returns-in-Err-clause-closing : goal.returns-in-Err-clause-closing
+returns-in-Err-clause-closing g c = λ tells ok. absurd (run_not_ok (Block c.in-Err.fault) (sym c.status_of_block.ensures ∙ ok))
 
 pub returns-in-Err-clause-appends : goal.returns-in-Err-clause-appends
 returns-in-Err-clause-appends g c = λ tells ok. absurd (run_not_ok (Block c.in-Err.fault) (sym c.status_of_block.ensures ∙ ok))

@@ -7,7 +7,7 @@ use Rattle.dms_wal.specs.declared.running.Running.{Running}
 use Rattle.dms_runtop.specs.Faults.{run_status}
 use Rattle.dms_runtop.specs.Statuses.{IsOfScript}
 use Rattle.dms_runtop.proofs.Counted.{within_disk, within_say, within_input, input_within, left_nothing, held_nothing, on_from, on_upto, on_status, no_error, an_error, error_is}
-use Rattle.dms_runtop.proofs.Endings.{closing_say, closing_input, run_of_script, run_input}
+use Rattle.dms_runtop.proofs.Endings.{closing_say, closing_input, run_not_ok, run_of_script, run_input}
 use Rattle.dms_desc.specs.Shape.{as_described}
 use Rattle.dms_run.specs.Starting.{BeginsWith, StopsLeave}
 use Rattle.dms_runtop.specs.Over.{ClosesOver, GrowsOver}
@@ -24,7 +24,9 @@ use Rattle.dms_runner.proofs.Counting.{counted_law}
 use Rattle.dms_runner.specs.EventLaws.{AreCounted}
 use Rattle.dms_runtop.proofs.Bounds.{closed_bound, closes, failed_bound}
 use Rattle.dms_runtop.proofs.Grows.{grows_left, grows_over}
-use Rattle.dms_restore.specs.Logging.{entries, telling}
+use Rattle.dms_restore.specs.Logging.{entries}
+use Rattle.dms_audfile.specs.TrailEntries.{trail_entries}
+use Rattle.dms_runtop.specs.Filling.{ClosesBehind}
 use Rattle.dms_wal.specs.Following.{AppendsOldPoints}
 use Rattle.dms_status.specs.declared.status.Status.TheVariants as status
 use Rattle.dms_runtop.proofs.Naming.{closed_names, left_names}
@@ -64,6 +66,8 @@ returns-in-Ok-clause-ran g c = λ total first ps n db all b left.
     (subst (λ (es : List RunEvent). (i : ℕ) → AreCounted (as_described e.desc) (take i es)) k.carried.whole (counted_law (as_described e.desc) e.formed db r.next (raw_lines all) k.carried.n k.carried.events k.carried.front k.carried.are)) (c.in-Ok.ensures.effort db r.next all stands b.room fed) (c.in-Ok.ensures.numbers db r.next all stands b.room fed) c.close_over.result.status (g.S.Site.files c.close_over.result.site) _ (closes c.close_over.result.status c.close_over.ensures.statuses)
     c.in-Ok.ensures.lasts.sound.sound.unbroken
     (subst (λ (x : Running g.row.S.Denot). FilesGrew 18 (view_of g.S.Site x.log) (g.S.Site.files c.close_over.result.site)) c.running_under-running.ensures (c.close_over.ensures.closes.grown b.tells).few)
+    (c.in-Ok.ensures.synced db r.next all stands b.room fed)
+    (λ ok. subst (λ (x : Running g.row.S.Denot). ClosesBehind (view_of g.S.Site x.log) (g.S.Site.files c.close_over.result.site)) c.running_under-running.ensures (c.close_over.ensures.closing b.tells ok))
     (c.in-Ok.ensures.prints db r.next all stands b.room fed))
 
 pub returns-in-Err-clause-ran : goal.returns-in-Err-clause-ran
@@ -160,14 +164,18 @@ pub returns-in-Ok-clause-appends : goal.returns-in-Ok-clause-appends
 returns-in-Ok-clause-appends g c =
     let same = c.in-Ok.ensures.lasts.same in
     let r' = c.run_script.new.engine.store.over.below in
-    closed_names g.S.Site c.args.engine.store.over.below r' c.close_over.result.site c.close_over.result.status same.1 same.2
-    (subst (λ (r : Running g.row.S.Denot). g.S.Site.disk_faults r.log.site ≤ g.S.Site.disk_faults c.close_over.result.site) c.running_under-running.ensures c.close_over.ensures.disk.later)
+    let site = c.close_over.result.site in
+    closed_names g.S.Site c.args.engine.store.over.below r' site c.close_over.result.status same.1 same.2
+    (subst (λ (r : Running g.row.S.Denot). g.S.Site.disk_faults r.log.site ≤ g.S.Site.disk_faults site) c.running_under-running.ensures c.close_over.ensures.disk.later)
     (on_from _ _ _ _ (ap (λ (r : Running g.row.S.Denot). g.S.Site.disk_faults r.log.site) c.running_under-running.ensures ∙ ap (λ (f : Faults). f.disk) c.in-Ok.ensures.lasts.cause) c.close_over.ensures.disk) c.close_over.ensures.statuses
-    (subst (λ (r : Running g.row.S.Denot). IsTrue g.S.Site.tells → c.close_over.result.status ≡ status.Ok → AppendsOldPoints (entries (view_of g.S.Site r.log)) ((telling (view_of g.S.Site r.log)).entries (g.S.Site.files c.close_over.result.site))) c.running_under-running.ensures c.close_over.ensures.appends)
+    (subst (λ (r : Running g.row.S.Denot). IsTrue g.S.Site.tells → c.close_over.result.status ≡ status.Ok → AppendsOldPoints (entries (view_of g.S.Site r.log)) (trail_entries r.log.end.total r.log.first (g.S.Site.files site))) c.running_under-running.ensures c.close_over.ensures.appends)
+    (subst (λ (r : Running g.row.S.Denot). IsTrue g.S.Site.tells → c.close_over.result.status ≡ status.Ok → ClosesBehind (view_of g.S.Site r.log) (g.S.Site.files site)) c.running_under-running.ensures c.close_over.ensures.closing)
 
 pub returns-in-Err-clause-appends : goal.returns-in-Err-clause-appends
 returns-in-Err-clause-appends g c =
     let same = c.in-Err.ensures.lasts.same in
+    let r = c.args.engine.store.over.below in
     let r' = c.run_script.new.engine.store.over.below in
-    left_names g.S.Site c.args.engine.store.over.below r' c.into_site.result c.status_of_run.result same.1 same.2
+    left_names g.S.Site r r' c.into_site.result c.status_of_run.result (λ ok. run_not_ok c.fault_within-fault.result (sym c.status_of_run.ensures ∙ ok))
+    (λ tells. let at = (c.requires.sound.sound.goes tells).runs.ends in record { low = at.low; writes = at.writes }) same.1 same.2
     (c.into_site.ensures ∙ ap (λ (x : Running g.row.S.Denot). x.log.site) c.running_under-running-in-Err.ensures) (returns-in-Err-clause-disk g c)

@@ -248,3 +248,18 @@ returns-in-Some-clause-run g c = λ is. absurd (not_both c.is_run.result (c.is_r
 
 pub returns-in-None-clause-run : goal.returns-in-None-clause-run
 returns-in-None-clause-run g c = λ is. absurd (not_both c.is_run.result (c.is_run.ensures.1 is) c.if-is_run.false)
+
+pub returns-then-is_try-clause-run_points : goal.returns-then-is_try-clause-run_points
+returns-then-is_try-clause-run_points g c = λ is. absurd (try_no_run _ (c.is_try.ensures.0 c.if-is_try.true) is)
+
+pub returns-then-is_compile-clause-run_points : goal.returns-then-is_compile-clause-run_points
+returns-then-is_compile-clause-run_points g c = λ is. absurd (compile_no_run _ (c.is_compile.ensures.0 c.if-is_compile.true) is)
+
+pub returns-then-is_print_audit-clause-run_points : goal.returns-then-is_print_audit-clause-run_points
+returns-then-is_print_audit-clause-run_points g c = λ is. absurd (print_no_run _ (c.is_print_audit.ensures.0 c.if-is_print_audit.true) is)
+
+pub returns-in-Some-clause-run_points : goal.returns-in-Some-clause-run_points
+returns-in-Some-clause-run_points g c = λ is. absurd (not_both c.is_run.result (c.is_run.ensures.1 is) c.if-is_run.false)
+
+pub returns-in-None-clause-run_points : goal.returns-in-None-clause-run_points
+returns-in-None-clause-run_points g c = λ is. absurd (not_both c.is_run.result (c.is_run.ensures.1 is) c.if-is_run.false)
