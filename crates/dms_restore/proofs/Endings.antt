@@ -21,8 +21,8 @@ use Rattle.dms_running.specs.Begun.{LeavesAll, IsSchemaControl}
 use Rattle.dms_running.proofs.Stopped.{blocks_same}
 use Rattle.dms_running.proofs.Ending.{end_leaves, end_runs, end_same, end_points}
 use Rattle.dms_running.proofs.Controlled.{control_leaves, control_runs, control_same, control_points}
-use Rattle.dms_restore.specs.Logging.{telling_of, waits, LogView, telling, state, Ends, LogRuns, LogsPart, entries, points, durable, next}
-use Rattle.dms_restore.specs.Laying.{schema_control, IsAtStart, SealsSince}
+use Rattle.dms_restore.specs.Logging.{telling_of, waits, LogView, telling, state, Ends, LogRuns, LogsPart, LogsShort, entries, points, durable, next}
+use Rattle.dms_restore.specs.Laying.{schema_control, IsAtStart, SealsShort, SealsSince}
 use Rattle.dms_restore.specs.Endings.{EndsBy, EndedAt, ControlBy, ControlledAt, KeepsBlocks}
 use Rattle.dms_restore.proofs.Trails.{is_telling, first_low, waits_is, ends_waiting}
 use Rattle.dms_restore.proofs.Logs.{ReadsNow}
@@ -100,6 +100,27 @@ part_behind a b c d e es logged same p = record {
 -- nothing was logged before
 pub part_from : (a b c : LogView) (es : List Entry) → entries b ≡ entries a → LogsPart b c es → LogsPart a c es
 part_from a b c es same p = record { some = p.some; entries_are = p.entries_are ∙ ap (λ (l : List Entry). l ++ take p.some es) same }
+
+-- the same where not all were sealed
+pub short_logged : (a b : LogView) → b.end.total ≡ a.end.total → b.first ≡ a.first → (es : List Entry) → waits a.end ≡ [] → waits b.end ≡ [] → SealsShort a.end.total a.first es a.files b.files → LogsShort a b es
+short_logged a b kind start es none empty s = record {
+  some = s.some;
+  lacks = s.lacks;
+  entries_are = ap (λ (t : Telling). entries_now t (state b)) (λ i. telling_of (kind i) (start i)) ∙ then_entries (telling a) (state a) (state b) (take s.some es) none empty s.sealed;
+}
+
+pub short_none : (a b : LogView) (e : Entry) (es : List Entry) → entries b ≡ entries a → LogsShort a b (e ∷ es)
+short_none a b e es same = record { some = 0; lacks = omega arith; entries_are = same ∙ sym (append_none (entries a)) }
+
+pub short_behind : (a b c d : LogView) (e : Entry) (es : List Entry) → entries b ≡ entries a ++ e ∷ [] → entries c ≡ entries b → LogsShort c d es → LogsShort a d (e ∷ es)
+short_behind a b c d e es logged same p = record {
+  some = suc p.some;
+  lacks = omega (arith, p.lacks);
+  entries_are = p.entries_are ∙ ap (λ (l : List Entry). l ++ take p.some es) (same ∙ logged) ∙ append_assoc (entries a) (e ∷ []) (take p.some es);
+}
+
+pub short_from : (a b c : LogView) (es : List Entry) → entries b ≡ entries a → LogsShort b c es → LogsShort a c es
+short_from a b c es same p = record { some = p.some; lacks = p.lacks; entries_are = p.entries_are ∙ ap (λ (l : List Entry). l ++ take p.some es) same }
 
 module _ (a b : LogView) (kind : b.end.total ≡ a.end.total) (start : b.first ≡ a.first) (es : List Entry) (s : SealsSince a.end.total b.end a.first es a.files b.files b.clock) where
   same_telling : telling a ≡ telling b

@@ -183,3 +183,9 @@ pub record LogsWrite (a b : LogView) : Type 0 where
 pub record LogsPart (a b : LogView) (es : List Entry) : Type 0 where
   pub some : ℕ
   pub entries_are : entries b ≡ entries a ++ take some es
+
+-- So it is, and not all of them were.
+pub record LogsShort (a b : LogView) (es : List Entry) : Type 0 where
+  pub some : ℕ
+  pub lacks : some < length es
+  pub entries_are : entries b ≡ entries a ++ take some es

@@ -9,7 +9,7 @@ ghost use Rattle.dms_audfile.specs.Counting.{CountedAt};
 ghost use Rattle.dms_audfile.specs.Within.{StaysWithin};
 ghost use Rattle.dms_restore.specs.Views.{view_of, StaysSilent, BlocksStay, LogStarts, IsSameTrail};
 ghost use Rattle.dms_restore.specs.Parts.{SealsPart};
-ghost use Rattle.dms_restore.specs.Logging.{Ends, TakesEntries, LogGrows, LogRuns, LogsPart};
+ghost use Rattle.dms_restore.specs.Logging.{Ends, TakesEntries, LogGrows, LogRuns, LogsPart, LogsShort};
 ghost use Rattle.dms_restore.specs.Begins.{LeavesEach};
 ghost use Rattle.dms_restore.specs.Laying.{schema_control};
 ghost use Rattle.dms_restore.specs.Endings.{EndsBy, EndedAt, ControlBy, ControlledAt};
@@ -106,6 +106,8 @@ impl<S: Site> Log<S> {
         ensures ends { IsErrOf result (AudFault.Full self.old.end.limit) → IsTrue S.tells → Ends (view_of S.Site self.new) }
         ensures part { IsErrOf result (AudFault.Full self.old.end.limit) → IsTrue S.tells
             → LogsPart (view_of S.Site self.old) (view_of S.Site self.new) (schema_control description.now point next counts.now) }
+        ensures short { IsErrOf result (AudFault.Full self.old.end.limit) → IsTrue S.tells
+            → LogsShort (view_of S.Site self.old) (view_of S.Site self.new) (schema_control description.now point next counts.now) }
         ensures said { S.said self.new.site ≡ S.said self.old.site }
         ensures same_site { S.same_site self.old.site self.new.site }
         ensures disk { CountedAt (IsErrOf result AudFault.Disk) (S.disk_faults self.old.site) (S.disk_faults self.new.site) }

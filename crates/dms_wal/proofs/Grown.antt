@@ -18,7 +18,7 @@ use Rattle.dms_history.specs.Entries.{Entry, image, quiet_point, control_point}
 use Rattle.dms_history.specs.Schemas.{schema_entries}
 use Rattle.dms_audrec.specs.Bodies.{bodies}
 use Rattle.dms_restore.specs.GrowLaws.{log_grows_on}
-use Rattle.dms_restore.specs.Logging.{LogGrows, LogView, LeavesTrail, LogsImage, LogsPart, LogsQuiet, TrailKept, entries, telling, telling_of, view}
+use Rattle.dms_restore.specs.Logging.{LogGrows, LogView, LeavesTrail, LogsImage, LogsPart, LogsQuiet, LogsShort, TrailKept, entries, telling, telling_of, view}
 use Rattle.dms_audrec.specs.Reading.{counts_at}
 use Rattle.dms_restore.specs.BackOuts.{back_entries, IsBackFault, SealedAlone, WentBackTo}
 use Rattle.dms_restore.proofs.Laid.{bodies_many, parts_length}
@@ -64,6 +64,10 @@ some_from n a b c same l = record { more = l.more; few = l.few; names = subst (�
 
 pub some_alike : (n : ℕ) (a b c d : LogView) → entries b ≡ entries a → entries d ≡ entries c → LogsAtMost n b c → LogsAtMost n a d
 some_alike n a b c d one two l = record { more = l.more; few = l.few; names = subst (λ (es : List Entry). NameOldPoints es l.more) one l.names; entries_are = two ∙ l.entries_are ∙ ap (λ (es : List Entry). es ++ l.more) one }
+
+-- not all of them, between logs with the same entries
+pub short_alike : (a b c d : LogView) (es : List Entry) → entries b ≡ entries a → entries d ≡ entries c → LogsShort b c es → LogsShort a d es
+short_alike a b c d es one two l = record { some = l.some; lacks = l.lacks; entries_are = two ∙ l.entries_are ∙ ap (λ (k : List Entry). k ++ take l.some es) one }
 
 -- a description has 17 parts at most
 pub parts_few : (description : List ℕ) → length description ≤ 65535 → length (schema_entries (bodies description)) ≤ 17

@@ -5,7 +5,7 @@ ghost use Rattle.dms_block.specs.Held.{HasCauses, MakesNoPoint, Stays, WentBack}
 ghost use Rattle.dms_audfile.specs.Counting.{CountedAt};
 ghost use Rattle.dms_restore.specs.BackOuts.{FilesStay, IsBackFault, SealedAlone, WentBackTo};
 ghost use Rattle.dms_restore.specs.Logging as logs;
-ghost use Rattle.dms_restore.specs.Logging.{Ends, points, LogRuns};
+ghost use Rattle.dms_restore.specs.Logging.{Ends, points, LogRuns, LogsShort};
 ghost use Rattle.dms_restore.specs.Views.{view_of};
 ghost use Rattle.dms_wal.specs.BackOuts.{entries_back, WentBackFrom};
 ghost use Rattle.dms_wal.specs.Controls.{KeepsPace};
@@ -60,6 +60,7 @@ fn go_back<S: Site>(
     ensures ends { IsErrOf result (AudFault.Full 9999) → IsTrue S.tells → Ends (view_of S.Site log.new) }
     ensures full { IsErrOf result (AudFault.Full 9999) → (log.new.end.used ≡ 0) × (19999 < log.new.end.file) }
     ensures within { (IsErrOf result AudFault.Disk → ⊥) → IsTrue S.tells → (k : ℕ) → FillsWithin k (view_of S.Site log.old) (view_of S.Site log.new) }
+    ensures short { IsErrOf result (AudFault.Full 9999) → IsTrue S.tells → LogsShort (view_of S.Site log.old) (view_of S.Site log.new) (entries_back point schema.now next marks.now) }
     ensures disk { CountedAt (IsErrOf result AudFault.Disk) (S.disk_faults log.old.site) (S.disk_faults log.new.site) }
 {
     let mut room = [0u8; 1600];
@@ -92,6 +93,7 @@ impl<S: Site> Running<S> {
         ensures memory { IsErrOf result BlockFault.Memory → IsTrue S.tells → SealedAlone (view_of S.Site self.old.log) (view_of S.Site self.new.log) }
         ensures idle { IsErrOf result BlockFault.Memory → self.old.log.end.used ≡ 0 → IsTrue S.tells → FilesStay (view_of S.Site self.old.log) (view_of S.Site self.new.log) }
         ensures ends { IsErrOf result (BlockFault.Full 9999) → IsTrue S.tells → Ends (view_of S.Site self.new.log) }
+        ensures short { IsErrOf result (BlockFault.Full 9999) → IsTrue S.tells → LogsShort (view_of S.Site self.old.log) (view_of S.Site self.new.log) (entries_back self.old.point self.old.schema.items self.old.next self.old.marks.items) }
         ensures unchanged { OnOk result (self.new.changed ≡ false) }
         ensures causes { HasCauses result (running_held S.Site self.old) (running_held S.Site self.new) }
         ensures silent { IsErrOf result BlockFault.Say → ⊥ }

@@ -8,9 +8,9 @@ use Rattle.dms_restore.proofs.CountBytes.{counts_entry, counts_few}
 use Rattle.dms_restore.proofs.Results.{one_ok}
 use Rattle.dms_restore.specs.Views.{view_of}
 use Rattle.dms_wal.proofs.Controlling.{count_table}
-use Rattle.dms_wal.proofs.BackedOut.{back_by, back_counts}
+use Rattle.dms_wal.proofs.BackedOut.{back_by, back_counts, back_short}
 use Rattle.dms_wal.proofs.Limits.{by_with, sealed_from, sealed_to, went_from, went_to, leaves_with}
-use Rattle.dms_wal.proofs.Grown.{back_entries_few, back_few, grows_alike, some_alike}
+use Rattle.dms_wal.proofs.Grown.{back_entries_few, back_few, grows_alike, short_alike, some_alike}
 use Rattle.dms_wal.proofs.Reaching.{ends_alike, entries_alike, runs_alike}
 use Rattle.dms_wal.proofs.Behind.{back_fills, back_restores, fills_alike}
 use Rattle.dms_wal.proofs.backing.go_back.Goals as goal
@@ -81,3 +81,12 @@ returns-clause-within g c off t k =
     let es = back_entries c.args.point c.args.schema.now c.args.next (take c.count_bytes-used.result c.count_bytes-used.new.into) in
     fills_alike k was.end _ now.end _ (record { file = refl; total = refl; tag = refl; count = refl; used = refl; block = refl }) (record { file = refl; total = refl; tag = refl; count = refl; used = refl; block = refl }) was.first now.first (g.S.Site.files was.site) (g.S.Site.files now.site) (g.S.Site.clock was.site) (g.S.Site.clock now.site)
     (back_fills c.back_out-done.result c.args.point 9999 k _ _ es (λ begun. back_restores begun by_back_out _ _ _ c.args.point _) (e.empty off) (e.first off t) e.only (one_ok c.back_out-done.result e.back (λ back. back t)) (λ full. e.part full t) (λ memory. e.memory memory t) off)
+
+pub returns-clause-short : goal.returns-clause-short
+returns-clause-short g c full tells =
+    let was = c.args.log.now in
+    let now = c.back_out-done.new.self in
+    let bytes = take c.count_bytes-used.result c.count_bytes-used.new.into in
+    back_short (view_of g.S.Site was) _ c.args.point c.args.next c.args.schema.now c.args.marks.now bytes c.requires.table c.count_bytes-used.ensures.bytes
+    (short_alike (view_of g.S.Site was) _ (view_of g.S.Site now) _ (back_entries c.args.point c.args.schema.now c.args.next bytes) (entries_alike was.end _ (record { file = refl; total = refl; tag = refl; count = refl; used = refl; block = refl }) was.first (g.S.Site.files was.site) (g.S.Site.clock was.site))
+    (entries_alike now.end _ (record { file = refl; total = refl; tag = refl; count = refl; used = refl; block = refl }) now.first (g.S.Site.files now.site) (g.S.Site.clock now.site)) (c.back_out-done.ensures.short full tells))

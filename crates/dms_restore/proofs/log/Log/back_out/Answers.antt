@@ -4,7 +4,7 @@ use Rattle.dms_restore.specs.Logging.{telling_of}
 use Rattle.dms_restore.specs.Views.{view_of}
 use Rattle.dms_restore.specs.BackOuts.{ServesBehind, back_entries}
 use Rattle.dms_restore.proofs.Results.{one_ok, is_fault}
-use Rattle.dms_restore.proofs.Endings.{part_from}
+use Rattle.dms_restore.proofs.Endings.{part_from, short_from}
 use Rattle.dms_restore.proofs.Backed.{silent_on, counted_on, back_full, never_full}
 use Rattle.dms_restore.proofs.Sealed.{goes_back_then, went_back_then, leaves_then, not_disk, ok_not_disk, full_of, back_limit}
 use Rattle.dms_restore.specs.GrowLaws.{trail_stays, log_grows_more, log_grows_on}
@@ -98,3 +98,11 @@ returns-clause-first g c off tells =
     let d = view_of g.S.Site c.go_back_by.new.self in
     seals_first (view_of g.S.Site c.args.self.now) (view_of g.S.Site c.table_back.new.self) d.files (c.in-Ok.ensures.sealed (ok_not_disk _) tells) c.table_back.ensures.kind.0 c.table_back.ensures.kind.3
     (c.in-Ok.ensures.stays (ok_not_disk _)) (c.go_back_by.ensures.grown tells).stays.kept.grown
+
+pub returns-in-Err-clause-short : goal.returns-in-Err-clause-short
+returns-in-Err-clause-short g c full = absurd (never_full c.in-Err.fault _ c.in-Err.ensures.only full)
+
+pub returns-clause-short : goal.returns-clause-short
+returns-clause-short g c full tells =
+    short_from (view_of g.S.Site c.args.self.now) (view_of g.S.Site c.table_back.new.self) (view_of g.S.Site c.go_back_by.new.self) _ (c.in-Ok.ensures.sealed (ok_not_disk _) tells).same.entries_same
+    (c.go_back_by.ensures.short (full_of c.go_back_by.result _ _ c.table_back.ensures.kind.2 full) tells)

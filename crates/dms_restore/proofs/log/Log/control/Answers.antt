@@ -1,7 +1,7 @@
 use Rattle.std.proofs.Common.{[], refl}
 use Rattle.dms_restore.proofs.Results.{one_ok}
 use Rattle.dms_restore.proofs.Sealed.{ends_of}
-use Rattle.dms_restore.proofs.Endings.{control_starts, control_leave, controlled, part_logged, plan_blocks}
+use Rattle.dms_restore.proofs.Endings.{control_starts, control_leave, controlled, part_logged, short_logged, plan_blocks}
 use Rattle.dms_restore.proofs.Trails.{waits_is}
 use Rattle.dms_restore.proofs.Grows.{runs_takes}
 use Rattle.dms_restore.proofs.log.Log.control.Goals as goal
@@ -38,3 +38,10 @@ returns-clause-part g c full tells =
 
 pub returns-clause-grown : goal.returns-clause-grown
 returns-clause-grown g c tells = c.seal_control.ensures.grown c.args.self.now.first tells (runs_takes _ (c.requires.runs tells))
+
+pub returns-clause-short : goal.returns-clause-short
+returns-clause-short g c full tells =
+    let by = c.requires.by tells in
+    let starts = control_starts _ (c.requires.runs tells) (g.met.S.Site.may_stay c.args.self.now.site tells) c.args.description.now c.requires.some c.args.point c.args.next c.args.counts.now by in
+    short_logged _ _ c.seal_control.ensures.kind.0 refl _ by.nothing (waits_is c.seal_control.new.end c.args.self.now.first [] _ _ (c.seal_control.ensures.ends full c.args.self.now.first tells starts))
+    (c.seal_control.ensures.short full c.args.self.now.first tells starts)

@@ -1,7 +1,7 @@
 use Rattle.std.proofs.Common.{[], refl}
 use Rattle.dms_restore.proofs.Results.{one_ok}
 use Rattle.dms_restore.proofs.Sealed.{ends_of}
-use Rattle.dms_restore.proofs.Endings.{end_starts, end_leave, ended, part_logged}
+use Rattle.dms_restore.proofs.Endings.{end_starts, end_leave, ended, part_logged, short_logged}
 use Rattle.dms_restore.proofs.Trails.{waits_is}
 use Rattle.dms_restore.proofs.log.Log.end_back.Goals as goal
 
@@ -35,3 +35,9 @@ returns-clause-part g c full p tells by =
 
 pub returns-clause-grown : goal.returns-clause-grown
 returns-clause-grown g c tells takes = c.seal_control.ensures.grown c.args.self.now.first tells takes
+
+pub returns-clause-short : goal.returns-clause-short
+returns-clause-short g c full p tells by =
+    let starts = end_starts p _ (g.met.S.Site.may_stay c.args.self.now.site tells) c.args.description.now c.requires.some c.args.point c.args.next c.args.counts.now by in
+    short_logged _ _ c.seal_control.ensures.kind.0 refl _ by.begun.begun.nothing (waits_is c.seal_control.new.end c.args.self.now.first [] _ _ (c.seal_control.ensures.ends full c.args.self.now.first tells starts))
+    (c.seal_control.ensures.short full c.args.self.now.first tells starts)

@@ -9,7 +9,7 @@ use Rattle.dms_restore.specs.Views.{view_of}
 use Rattle.dms_restore.proofs.Results.{one_ok, is_fault}
 use Rattle.dms_restore.proofs.Sealed.{same_error, never_memory, none_memory, full_of}
 use Rattle.dms_restore.proofs.Backed.{silent_on, then_each, back_points, back_next, back_ends, counted_on, back_fault, back_full, never_full}
-use Rattle.dms_restore.proofs.Endings.{part_behind, part_none}
+use Rattle.dms_restore.proofs.Endings.{part_behind, part_none, short_behind, short_none}
 use Rattle.dms_restore.proofs.Returned.{went_back}
 use Rattle.dms_restore.specs.GrowLaws.{log_grows_on}
 use Rattle.dms_restore.proofs.Grows.{begun_takes, first_all, first_more, low_as, one_more, runs_low}
@@ -149,3 +149,19 @@ returns-clause-grown g c tells =
     (log_grows_on a b d c.begin_back.ensures.kind.0 c.begin_back.ensures.kind.3 1 0 (omega (arith, one)) (c.begin_back.ensures.grown tells)
     (c.restore_told.ensures.grown tells (low_as _ _ c.begin_back.ensures.kind.3 (runs_low a (c.requires.runs tells)))))
     (c.end_back.ensures.grown tells (begun_takes _ d stands.begun)))
+
+pub returns-in-Err-clause-short : goal.returns-in-Err-clause-short
+returns-in-Err-clause-short g c full tells = short_none (view_of g.S.Site c.args.self.now) (view_of g.S.Site c.begin_back.new.self) _ _ (c.in-Err.ensures.kept (λ i. Err (same_error _ _ full i)) tells)
+
+pub returns-in-Err-restore_told-clause-short : goal.returns-in-Err-restore_told-clause-short
+returns-in-Err-restore_told-clause-short g c full = absurd (never_full c.in-Err-restore_told.fault _ c.in-Err-restore_told.ensures.only full)
+
+pub returns-clause-short : goal.returns-clause-short
+returns-clause-short g c full tells =
+    let a = view_of g.S.Site c.args.self.now in
+    let b = view_of g.S.Site c.begin_back.new.self in
+    let d = view_of g.S.Site c.restore_told.new.self in
+    let stands = c.in-Ok-restore_told.ensures.stands _ tells (c.in-Ok.ensures.begun tells) (c.requires.serves tells _ (c.begin_back.ensures.grown tells).stays.kept.grown) in
+    short_behind a b d (view_of g.S.Site c.end_back.new.self) _ _ (c.in-Ok.ensures.logs tells) stands.entries_same
+    (c.end_back.ensures.short (full_of c.end_back.result _ _ (ap (λ (e : AuditEnd). e.limit) c.restore_told.ensures.kind.0 ∙ c.begin_back.ensures.kind.2) full) _ tells
+    (back_ends a b d c.args.point c.args.next c.args.counts.now (c.requires.by tells) (c.in-Ok.ensures.keeps tells) stands))

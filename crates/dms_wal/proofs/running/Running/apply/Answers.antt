@@ -87,7 +87,7 @@ returns-in-Err-clause-grows g c =
 
 pub returns-in-Err-clause-part : goal.returns-in-Err-clause-part
 returns-in-Err-clause-part g c off t =
-    logs_first (view_of g.S.Site c.args.self.now.log) (view_of g.S.Site c.loop-change.self.log) (view_of g.S.Site c.change.new.self.log) c.loop-change.change-index c.args.changes.now.items.items (c.loop-change.invariant.logs t) (c.in-Err.ensures.kept off t)
+    logs_first (view_of g.S.Site c.args.self.now.log) (view_of g.S.Site c.loop-change.self.log) (view_of g.S.Site c.change.new.self.log) c.args.changes.now.items.items c.as_slice-items.result.now c.loop-change.change-index c.as_slice-items.ensures c.loop-change-test.true (c.loop-change.invariant.logs t) (c.in-Err.ensures.kept off t)
 
 pub returns-clause-grows : goal.returns-clause-grows
 returns-clause-grows g c = c.loop-change.invariant.grows

@@ -2,6 +2,7 @@ use Rattle.dms_wal.proofs.Lifts.{told_same}
 use Rattle.std.proofs.Common.{ℕ, ◌∙◌, true, false, List, subst, length, refl, ap, arith}
 use Rattle.std.proofs.lemmas.Bool.{true≢false}
 use Rattle.dms_restore.specs.BackOuts.{WentBackTo}
+use Rattle.dms_restore.specs.Logging.{LogsShort}
 use Rattle.dms_restore.specs.Views.{view_of}
 use Rattle.dms_wal.specs.BackOuts.{entries_back}
 use Rattle.dms_wal.proofs.BackFaults.{caused_back, back_silent, back_only, back_full, back_memory}
@@ -93,3 +94,10 @@ returns-clause-back g c t =
     let r = c.args.self.now in
     subst (λ (l : List ℕ). WentBackTo r.point (view_of g.S.Site r.log) (view_of g.S.Site c.go_back.new.log) (entries_back r.point l r.next r.marks.items)) c.deref.ensures.value
     (subst (λ (l : List ℕ). WentBackTo r.point (view_of g.S.Site r.log) (view_of g.S.Site c.go_back.new.log) (entries_back r.point c.deref.result.now r.next l)) c.deref-2.ensures.value (c.in-Ok.ensures.back t))
+
+pub returns-in-Err-clause-short : goal.returns-in-Err-clause-short
+returns-in-Err-clause-short g c is t =
+    let r = c.args.self.now in
+    let full = back_full c.in-Err.fault c.back_fault.result 9999 _ _ c.in-Err.ensures.only c.back_fault.ensures is in
+    subst (λ (l : List ℕ). LogsShort (view_of g.S.Site r.log) (view_of g.S.Site c.go_back.new.log) (entries_back r.point l r.next r.marks.items)) c.deref.ensures.value
+    (subst (λ (l : List ℕ). LogsShort (view_of g.S.Site r.log) (view_of g.S.Site c.go_back.new.log) (entries_back r.point c.deref.result.now r.next l)) c.deref-2.ensures.value (c.in-Err.ensures.short full t))

@@ -8,7 +8,7 @@ use Rattle.dms_restore.specs.Views.{view_of}
 use Rattle.dms_wal.specs.Database.{running_held}
 use Rattle.dms_wal.specs.PaceLaws.{trail_then}
 use Rattle.dms_wal.proofs.Grown.{ok_never, some_from}
-use Rattle.dms_wal.proofs.Controlling.{durable_on, makes_on}
+use Rattle.dms_wal.proofs.Controlling.{durable_on, makes_on, short_on}
 use Rattle.dms_wal.proofs.Keeping.{keeps_on}
 use Rattle.dms_wal.specs.Filling.{FillsWithin}
 use Rattle.dms_wal.specs.FillLaws.{fills_on, fills_same}
@@ -66,3 +66,8 @@ returns-clause-first g c = one_ok c.seal_control.result c.seal_control.ensures.m
     let a = view_of g.S.Site c.args.self.now.log in
     let b = view_of g.S.Site c.settle.new.self.log in
     settled_first a b _ (c.in-Ok.ensures.looks.stays.sound.goes t).runs.ends (c.in-Ok.ensures.settled t).nothing (c.in-Ok.ensures.tells t).entries_same p.total p.first (λ k. c.in-Ok.ensures.stays ok_never k) (c.seal_control.ensures.grown t).stays.kept.grown)
+
+pub returns-clause-short : goal.returns-clause-short
+returns-clause-short g c n is t =
+    let k = c.settle.ensures.kept in
+    short_on _ _ _ _ _ _ _ _ _ _ _ (λ i. (k.pace.schema i).items) k.point k.next (λ i. (k.counts i).items) (c.in-Ok.ensures.tells t).entries_same (c.seal_control.ensures.short n is t)

@@ -8,8 +8,8 @@ use Rattle.dms_restore.specs.GrowLaws.{log_grows_more}
 use Rattle.dms_restore.specs.Views.{view_of}
 use Rattle.dms_restore.proofs.CountBytes.{counts_entry, counts_few}
 use Rattle.dms_wal.proofs.Causes.{full_left, full_seen, seen_only}
-use Rattle.dms_wal.proofs.Controlling.{control_by, control_leaves, control_made, count_table, makes_control}
-use Rattle.dms_restore.specs.Logging.{entries}
+use Rattle.dms_wal.proofs.Controlling.{control_by, control_leaves, control_made, count_table, makes_control, short_counts}
+use Rattle.dms_restore.specs.Logging.{LogsShort, entries}
 use Rattle.dms_wal.proofs.Followed.{control_names, last_place}
 use Rattle.dms_wal.proofs.Grown.{control_few, kept_append, ok_never, some_part}
 use Rattle.dms_wal.proofs.Filled.{fills_append, seen_disk}
@@ -86,3 +86,10 @@ returns-in-Ok-clause-within g c off t = fills_append g.S.Site c.args.self.now.lo
 pub returns-in-Err-clause-within : goal.returns-in-Err-clause-within
 returns-in-Err-clause-within g c off t =
     fills_append g.S.Site c.args.self.now.log c.control.new.self c.control.ensures.kind.3 (c.in-Err.ensures.stays (λ is. off (seen_disk c.in-Err.fault c.append_fault.result _ _ c.append_fault.ensures is))) c.control.ensures.idle
+
+pub returns-in-Err-clause-short : goal.returns-in-Err-clause-short
+returns-in-Err-clause-short g c n is tells =
+    let r = c.args.self.now in
+    let seen = full_seen c.in-Err.fault c.append_fault.result _ _ _ n c.in-Err.ensures.only c.append_fault.ensures is in
+    short_counts (view_of g.S.Site r.log) (view_of g.S.Site c.control.new.self) r.schema.items r.point r.next r.counts.items (take c.count_bytes-used.result c.count_bytes-used.new.into) c.requires.sound.table (c.count_bytes-used.ensures.bytes ∙ ap (λ (l : List ℕ). pair_bytes count_file count_blocks (file_counts 30001 l)) c.deref.ensures.value)
+    (subst (λ (d : List ℕ). LogsShort (view_of g.S.Site r.log) (view_of g.S.Site c.control.new.self) (schema_control d r.point r.next (take c.count_bytes-used.result c.count_bytes-used.new.into))) c.deref-2.ensures.value (c.in-Err.ensures.short (λ i. Err (seen.1 i)) tells))

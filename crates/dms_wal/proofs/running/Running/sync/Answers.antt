@@ -4,7 +4,7 @@ use Rattle.std.proofs.lemmas.Bool.{true≢false}
 use Rattle.dms_block.specs.Held.{is_due_at, one_more}
 use Rattle.dms_block.specs.declared.block_fault.BlockFault.TheVariants.{Disk}
 use Rattle.dms_block.specs.HeldLaws.{passes_on}
-use Rattle.dms_wal.proofs.Controlling.{durable_on, durable_stays, makes_on}
+use Rattle.dms_wal.proofs.Controlling.{durable_on, durable_stays, makes_on, short_on}
 use Rattle.dms_wal.specs.AgreeLaws.{agrees}
 use Rattle.dms_wal.specs.PaceLaws.{pace_on, trail_then}
 use Rattle.dms_restore.specs.Views.{view_of}
@@ -80,3 +80,8 @@ pub returns-clause-control : goal.returns-clause-control
 returns-clause-control g c = one_ok c.control.result c.control.ensures.control (λ made due t.
     let k = c.seal.ensures.kept in
     makes_on _ _ _ _ _ _ _ _ _ _ _ (λ i. (k.pace.schema i).items) k.point k.next (λ i. (k.counts i).items) (tells_sealed (c.in-Ok.ensures.seals t)) (made t))
+
+pub returns-clause-short : goal.returns-clause-short
+returns-clause-short g c n is t =
+    let k = c.seal.ensures.kept in
+    short_on _ _ _ _ _ _ _ _ _ _ _ (λ i. (k.pace.schema i).items) k.point k.next (λ i. (k.counts i).items) (c.in-Ok.ensures.seals t).entries_same (c.control.ensures.short n is t)
