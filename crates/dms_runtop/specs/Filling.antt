@@ -1,4 +1,4 @@
--- Where the entries stand that a run appends: behind audit file FILES those of an opening, of ways back, and of the control point that closes.
+-- Where the entries stand that a run appends: behind audit file FILES those of restores, and at status 0 of one control point.
 use Rattle.std.specs.Prelude.{ℕ, ◌<◌, ◌≡◌, ◌⊎◌, false, List, [], ◌++◌, length}
 use Rattle.dms_history.specs.Entries.{Entry}
 use Rattle.dms_history.specs.EntryEvents.{history_of}

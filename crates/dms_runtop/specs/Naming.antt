@@ -1,4 +1,4 @@
--- What a run appends: its Controls have no new numbers, and nothing of a script stands behind audit file FILES, but what a way back appends.
+-- What a run appends: its Controls have no new numbers, and no Image and no quiet point stands behind audit file FILES.
 use Rattle.std.specs.Prelude.{ℕ, ◌-◌, ◌^◌, ◌<◌, ◌≡◌, Bool, List, [], Some, IsTrue}
 use Rattle.std.specs.declared.option.Option.{Option}
 use Rattle.dms_audfile.specs.declared.audit_end.AuditEnd.{AuditEnd}
@@ -34,7 +34,7 @@ pub record IsSealed (end : AuditEnd) : Type 0 where
   pub empty : end.used ≡ 0
 
 -- The trail has the entries of before and some behind them, of which each Control has the number of a quiet point or a Control that is live before it;
--- and of those behind the ones that were found, what stands behind audit file k is of restores, or the control point that closes.
+-- and of those behind the ones that were found, what stands behind audit file k is of restores, or at status 0 one control point.
 pub record Appends (k total first : ℕ) (Found : List Entry → Type 0) (old : List Entry) (new : Files) (status : Status) : Type 0 where
   pub names : AppendsOldPoints old (trail_entries total first new)
   pub fills : FillsTo k total first Found new status

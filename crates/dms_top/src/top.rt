@@ -282,7 +282,7 @@ pub fn dms<S: Site, I: Source>(
     // file FILES of its description whose gate is 1 had that gate and that content at entry, or it holds no Image and no quiet point
     ensures run_behind { OnRun words.now (AddsNoneTold S.Site state result site.old site.new) }
     // at each status but 5, 7 and 8 of 9,999, under the same premise: each Control that was appended has the number of a quiet point or a Control that is live before it,
-    // and of what was appended behind the opening, behind audit file FILES stand Begins, what a Begin begins, and at status 0 the control point that closes
+    // and of what was appended behind the opening, behind audit file FILES stand entries of restores alone, and at status 0, last, one control point
     ensures run_points { OnRun words.now (AppendsTold S.Site state result site.old site.new) }
     // whatever the files stand for, at status 0 the input has no more lines and bytes than a script may have, status 8 of either comes only where it has
     // more of them, before it has too many of the other, and at status 6 taking failed behind so many whole lines, each with its line feed, and a part of the next one

@@ -48,8 +48,8 @@ FailsNever g a b = (g.disk_faults b.log.site ≡ g.disk_faults a.log.site) × (g
 -- The uses of a running database only rise, and so does its next number. Its trail grows by blocks that hold an entry alone, and whatever failed, its
 -- files hold no more entries than it accounts for. Once a call failed there is none behind it; until then its log has no more, either, waiting ones
 -- among them. While no call on its disk failed, no Control that was logged has a new number, and behind the last audit file that may be written it
--- appended entries of restores alone; and its files stay a trail that a writer keeps. As long as no call failed, there is one more control point for each
--- sync at which one is due, besides those of restores.
+-- appended entries of restores alone; and its files stay a trail that a writer keeps. As long as no call failed, at least as
+-- many Controls were logged as there are syncs at which one is due and Begins.
 pub record GrowsBy {S : Type 0} (g : Ghosts S) (a b : Running S) : Type 0 where
   pub every : b.every ≡ a.every
   pub spent : a.spent ≤ b.spent
