@@ -14,7 +14,10 @@ use Rattle.dms_running.specs.Points.{points_of, next_in}
 use Rattle.dms_audrec.specs.Bodies.{bodies}
 use Rattle.dms_restore.specs.Counts.{file_counts}
 use Rattle.dms_restore.specs.Logging as logs
-use Rattle.dms_restore.specs.Logging.{LogView, telling, entries, points}
+use Rattle.dms_restore.specs.Logging.{LogView, LogsShort, telling, entries, points}
+use Rattle.dms_restore.specs.Views.{view_of}
+use Rattle.dms_site.specs.declared.site.Site.{Ghosts}
+use Rattle.dms_wal.specs.declared.running.Running.{Running}
 use Rattle.dms_wal.specs.BackOuts.{entries_back}
 use Rattle.dms_wal.specs.Marks.{mark_of}
 
@@ -25,6 +28,10 @@ LeavesUntil a clock = IfTold a (Runs a.clock clock (λ stop. Prefix a.whole a.du
 -- the whole Schema of the description, and a Control of this point with this next number and these counts
 abbrev pub entries_control : ℕ → List ℕ → ℕ → List ℕ → List Entry
 entries_control point schema next counts = schema_entries (bodies schema) ++ control_point point next (file_counts 30001 counts) ∷ []
+
+-- only the first so many entries of such a control point were logged, and not all
+abbrev pub ControlsShort : {S : Type 0} → Ghosts S → Running S → Running S → Type 0
+ControlsShort g a b = LogsShort (view_of g a.log) (view_of g b.log) (entries_control a.point a.schema.items a.next a.counts.items)
 
 -- what is sealed last: the entries of a back-out where something was changed since the last point, and then a Schema and its Control
 abbrev pub entries_closing : Bool → ℕ → List ℕ → ℕ → List ℕ → List Entry

@@ -7,7 +7,7 @@ ghost use Rattle.dms_restore.specs.BackOuts.{FilesStay, IsBackFault, SealedAlone
 ghost use Rattle.dms_restore.specs.Logging as logs;
 ghost use Rattle.dms_restore.specs.Logging.{Ends, points, LogRuns, LogsShort};
 ghost use Rattle.dms_restore.specs.Views.{view_of};
-ghost use Rattle.dms_wal.specs.BackOuts.{entries_back, WentBackFrom};
+ghost use Rattle.dms_wal.specs.BackOuts.{BacksShort, entries_back, WentBackFrom};
 ghost use Rattle.dms_wal.specs.Controls.{KeepsPace};
 ghost use Rattle.dms_wal.specs.Lifting.{AreCounts};
 ghost use Rattle.dms_wal.specs.Marks.{IsDescription, IsMarkOf};
@@ -93,7 +93,7 @@ impl<S: Site> Running<S> {
         ensures memory { IsErrOf result BlockFault.Memory → IsTrue S.tells → SealedAlone (view_of S.Site self.old.log) (view_of S.Site self.new.log) }
         ensures idle { IsErrOf result BlockFault.Memory → self.old.log.end.used ≡ 0 → IsTrue S.tells → FilesStay (view_of S.Site self.old.log) (view_of S.Site self.new.log) }
         ensures ends { IsErrOf result (BlockFault.Full 9999) → IsTrue S.tells → Ends (view_of S.Site self.new.log) }
-        ensures short { IsErrOf result (BlockFault.Full 9999) → IsTrue S.tells → LogsShort (view_of S.Site self.old.log) (view_of S.Site self.new.log) (entries_back self.old.point self.old.schema.items self.old.next self.old.marks.items) }
+        ensures short { IsErrOf result (BlockFault.Full 9999) → IsTrue S.tells → BacksShort S.Site self.old self.new }
         ensures unchanged { OnOk result (self.new.changed ≡ false) }
         ensures causes { HasCauses result (running_held S.Site self.old) (running_held S.Site self.new) }
         ensures silent { IsErrOf result BlockFault.Say → ⊥ }

@@ -6,9 +6,9 @@ ghost use Rattle.dms_site.specs.Files.{Only};
 ghost use Rattle.dms_audfile.specs.Within.{SealsFirst, StaysWithin};
 ghost use Rattle.dms_block.specs.Held.{HasCauses, Looks, MadeDurable, MakesNoPoint, Used};
 ghost use Rattle.dms_pool.specs.Held.{is_dirty, to_write};
-ghost use Rattle.dms_restore.specs.Logging.{Ends, waits, LogRuns, LogsNothing, LogsShort, trail_of, entries};
+ghost use Rattle.dms_restore.specs.Logging.{Ends, waits, LogRuns, LogsNothing, trail_of, entries};
 ghost use Rattle.dms_restore.specs.Views.{view_of};
-ghost use Rattle.dms_wal.specs.Closing.{entries_control};
+ghost use Rattle.dms_wal.specs.Closing.{ControlsShort};
 ghost use Rattle.dms_wal.specs.Controls.{IsSettled, KeepsFields, MakesControl, TellsSame};
 ghost use Rattle.dms_wal.specs.Database.{running_held};
 ghost use Rattle.dms_wal.specs.Faults.{StandsFull};
@@ -153,7 +153,7 @@ impl<S: Site> Running<S> {
         ensures broken { IfErr result (λ e. self.new.broken ≡ true) }
         ensures few { (IsErrOf result BlockFault.Disk → ⊥) → IsTrue S.tells → LogsAtMost 18 (view_of S.Site self.old.log) (view_of S.Site self.new.log) }
         ensures within { (IsErrOf result BlockFault.Disk → ⊥) → IsTrue S.tells → FillsWithin self.old.log.end.limit (view_of S.Site self.old.log) (view_of S.Site self.new.log) }
-        ensures short { (n : _) → IsErrOf result (BlockFault.Full n) → IsTrue S.tells → LogsShort (view_of S.Site self.old.log) (view_of S.Site self.new.log) (entries_control self.old.point self.old.schema.items self.old.next self.old.counts.items) }
+        ensures short { (n : _) → IsErrOf result (BlockFault.Full n) → IsTrue S.tells → ControlsShort S.Site self.old self.new }
         ensures grown { TrailGrows S.Site 18 self.old self.new }
         ensures same { S.same_site self.old.log.site self.new.log.site }
     {
@@ -195,7 +195,7 @@ impl<S: Site> Running<S> {
         ensures few { (IsErrOf result BlockFault.Disk → ⊥) → IsTrue S.tells → LogsAtMost 18 (view_of S.Site self.old.log) (view_of S.Site self.new.log) }
         ensures within { (IsErrOf result BlockFault.Disk → ⊥) → IsTrue S.tells → FillsWithin self.old.log.end.limit (view_of S.Site self.old.log) (view_of S.Site self.new.log) }
         ensures first { OnOk result (IsTrue S.tells → SealsFirst self.old.log.end self.old.log.first (entries (view_of S.Site self.old.log)) (S.files self.new.log.site)) }
-        ensures short { (n : _) → IsErrOf result (BlockFault.Full n) → IsTrue S.tells → LogsShort (view_of S.Site self.old.log) (view_of S.Site self.new.log) (entries_control self.old.point self.old.schema.items self.old.next self.old.counts.items) }
+        ensures short { (n : _) → IsErrOf result (BlockFault.Full n) → IsTrue S.tells → ControlsShort S.Site self.old self.new }
         ensures grown { TrailGrows S.Site 18 self.old self.new }
         ensures same { S.same_site self.old.log.site self.new.log.site }
     {

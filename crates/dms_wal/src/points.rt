@@ -4,9 +4,9 @@ ghost use Rattle.std.specs.Prelude.{◌≡◌, ◌⊎◌, ◌≤◌, ◌+◌, �
 ghost use Rattle.dms_block.specs.Held.{HasCauses, HasNextNumber, IfTold, is_due, is_due_at, Lasts, Leaves, LeavesText, MadeDurable, MadeQuiet, MakesNoPoint, SameBlocks, Stays, Synced};
 ghost use Rattle.dms_block.specs.Texts.{Prints, PrintsPrefix};
 ghost use Rattle.dms_audfile.specs.Within.{StaysWithin};
-ghost use Rattle.dms_restore.specs.Logging.{LogsNothing, LogsShort, SealsWaiting};
+ghost use Rattle.dms_restore.specs.Logging.{LogsNothing, SealsWaiting};
 ghost use Rattle.dms_restore.specs.Views.{view_of};
-ghost use Rattle.dms_wal.specs.Closing.{entries_control};
+ghost use Rattle.dms_wal.specs.Closing.{ControlsShort};
 ghost use Rattle.dms_wal.specs.Controls.{KeepsFields, KeepsPace, MakesControl};
 ghost use Rattle.dms_wal.specs.Database.{running_held};
 ghost use Rattle.dms_wal.specs.Faults.{lacks_room, StandsFull};
@@ -96,7 +96,7 @@ impl<S: Site> Running<S> {
         ensures memory { IsErrOf result BlockFault.Memory → ⊥ }
         ensures only { IfErr result (λ e. (e ≡ BlockFault.Disk) ⊎ ((is_due self.old.every self.old.syncs ≡ true) × (e ≡ BlockFault.Full self.old.log.end.limit))) }
         ensures full { (n : _) → IsErrOf result (BlockFault.Full n) → StandsFull self.new.log.end n }
-        ensures short { (n : _) → IsErrOf result (BlockFault.Full n) → IsTrue S.tells → LogsShort (view_of S.Site self.old.log) (view_of S.Site self.new.log) (entries_control self.old.point self.old.schema.items self.old.next self.old.counts.items) }
+        ensures short { (n : _) → IsErrOf result (BlockFault.Full n) → IsTrue S.tells → ControlsShort S.Site self.old self.new }
         ensures causes { HasCauses result (running_held S.Site self.old) (running_held S.Site self.new) }
         ensures silent { IsErrOf result BlockFault.Say → ⊥ }
         ensures broken { IfErr result (λ e. self.new.broken ≡ true) }
