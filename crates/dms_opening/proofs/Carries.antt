@@ -27,7 +27,7 @@ use Rattle.dms_running.specs.Begun.{LeavesAll, outcome_now}
 use Rattle.dms_opening.specs.declared.choosing.OpenFault.TheVariants.{Audit}
 use Rattle.dms_audrec.specs.Bodies.{bodies}
 use Rattle.dms_restore.specs.Counts.{count_of, file_counts}
-use Rattle.dms_restore.specs.Laying.{schema_control}
+use Rattle.dms_restore.specs.Laying.{schema_control, SealsShort}
 use Rattle.dms_restore.specs.Logging.{LogView, telling_of, telling, state, entries, points, content, PrintsNothing}
 use Rattle.dms_restore.specs.Table.{IsTable}
 use Rattle.dms_restore.specs.declared.told.Told.{Told}
@@ -35,14 +35,16 @@ use Rattle.dms_opening.specs.Refusals.{IsOpening}
 use Rattle.dms_restore.specs.Begins.{BegunAt}
 use Rattle.dms_opening.specs.Starts.{MayOpen, MayGoOn, BegunFrom, OpenedAt}
 use Rattle.dms_restore.proofs.CountBytes.{IsCountTable, counts_read, counts_told}
+use Rattle.dms_restore.proofs.Laid.{short_more}
 use Rattle.dms_opening.proofs.GoneOn.{each_on}
+use Rattle.dms_opening.proofs.Sealings.{short_behind}
 use Rattle.dms_wal.specs.Lifting.{last_blocks}
 use Rattle.dms_wal.specs.Marks.{last_number}
 use Rattle.dms_wal.proofs.Under.{under_control}
 use Rattle.dms_opening.specs.declared.plan.OpeningPlan.{OpeningPlan}
 use Rattle.dms_opening.specs.Plans.{Plans}
 use Rattle.dms_opening.specs.Openings.{begin_where_none, opening_entries, RunsFrom, MayHaveWritten, Reopens, text_of}
-use Rattle.dms_opening.specs.Carrying.{IsFitPlan, IsPlanned}
+use Rattle.dms_opening.specs.Carrying.{IsFitPlan, IsPlanned, PlanShort}
 use Rattle.dms_opening.proofs.LastPoint.{last_is, left_is}
 
 -- By the plan of a trail that was scanned the restore is begun, or goes on: its Begin alone stands behind the entries that there were.
@@ -166,6 +168,30 @@ module _ (a b : LogView) (plan : OpeningPlan) (w : BeginsWhole a plan b) (ready 
       written = o.written;
       only = o.only;
     }
+
+-- ---- of what it seals not all is sealed
+
+-- what stands behind the Begin
+abbrev behind_begin : OpeningPlan → List FileCount → List Entry
+behind_begin plan counts = schema_entries (bodies plan.schema.items) ++ control_point plan.choice.point plan.next counts ∷ []
+
+-- not even the Begin
+pub begin_short : (a : LogView) (plan : OpeningPlan) (s : IsPlanned a plan) (new : Files) → plan.choice.begins ≡ true → SealsShort a.end.total a.first (begin_restore plan.choice.point by_halt_load ∷ []) a.files new → PlanShort a plan new
+begin_short a plan s new begins short =
+    let one : List Entry = begin_restore plan.choice.point by_halt_load ∷ [] in
+    let h = history_of (trail_entries a.end.total a.first a.files) in
+    let is : one ≡ begin_where_none h.pending plan.choice.point = ap (λ t. cond t one []) (sym begins) ∙ begin_is h plan.choice.begins plan.choice.point s.plans.chooses.restore s.plans.chooses.is in
+    let rest = behind_begin plan (file_counts 30001 plan.counts.items) in
+    subst (λ (l : List Entry). SealsShort a.end.total a.first (l ++ rest) a.files new) is (short_more a.end.total a.first one rest a.files new short)
+
+-- not all of the Schema and the Control behind it
+pub ends_short : (a b : LogView) (plan : OpeningPlan) → BeginsPlan a plan b → IsFitPlan plan → (bytes : List ℕ) → bytes ≡ pair_bytes count_file count_blocks (file_counts 30001 plan.counts.items)
+    → (new : Files) (schema : List ℕ) → schema ≡ plan.schema.items → SealsShort b.end.total b.first (schema_control schema plan.choice.point plan.next bytes) b.files new → PlanShort a plan new
+ends_short a b plan begins ready bytes is new schema described short =
+    let front = begin_where_none (history_of (trail_entries a.end.total a.first a.files)).pending plan.choice.point in
+    subst (λ (l : List FileCount). SealsShort a.end.total a.first (front ++ behind_begin plan l) a.files new) (counts_read plan.counts.items (count_table plan ready) bytes is)
+    (short_behind a b front (behind_begin plan (counts_at (length bytes / 8) bytes)) new begins.total_same begins.first_same begins.sealed
+    (subst (λ (l : List ℕ). SealsShort b.end.total b.first (schema_control l plan.choice.point plan.next bytes) b.files new) described short))
 
 -- ---- at every moment
 

@@ -7,9 +7,8 @@ ghost use Rattle.dms_audrec.specs.Spelling.{IsEntry};
 ghost use Rattle.dms_audrec.specs.Reading.{counts_at};
 ghost use Rattle.dms_audfile.specs.Counting.{CountedAt};
 ghost use Rattle.dms_restore.specs.Logging.{Ends, EndsSealed, LogGrows};
-ghost use Rattle.dms_restore.specs.Parts.{SealsPart};
 ghost use Rattle.dms_restore.specs.Views.{view_of, StaysSilent, IsSameTrail};
-ghost use Rattle.dms_restore.specs.Laying.{schema_control};
+ghost use Rattle.dms_restore.specs.Laying.{schema_control, SealsShort};
 ghost use Rattle.dms_restore.specs.Begins.{LeavesEach};
 ghost use Rattle.dms_opening.specs.Starts.{MayGoOn, OpenedAt};
 ghost use Rattle.dms_restore.specs.Table.{AreBlocks, IsTable};
@@ -57,8 +56,9 @@ pub(crate) fn go_on<S: Site>(
         → (e.1.end.used ≡ 0) × (10000 + begun.log.end.limit < e.1.end.file)) }
     ensures ends { IfErr result (λ e. (p : Pending) → IsTrue S.tells → IsTable p.entries p.point (S.files begun.log.site) table.now → EndsSealed (view_of S.Site begun.log)
         → e.0 ≡ AudFault.Full begun.log.end.limit → Ends (view_of S.Site e.1)) }
-    ensures part { IfErr result (λ e. (p : Pending) → IsTrue S.tells → MayGoOn p (view_of S.Site begun.log) table.now point next counts.now → e.0 ≡ AudFault.Full begun.log.end.limit
-        → SealsPart (view_of S.Site begun.log) (view_of S.Site e.1) (schema_control description.now point next counts.now)) }
+    ensures short { IfErr result (λ e. (p : Pending) → IsTrue S.tells → IsTable p.entries p.point (S.files begun.log.site) table.now → EndsSealed (view_of S.Site begun.log)
+        → e.0 ≡ AudFault.Full begun.log.end.limit
+        → SealsShort begun.log.end.total begun.log.first (schema_control description.now point next counts.now) (S.files begun.log.site) (S.files e.1.site)) }
     ensures disk { IfErr result (λ e. CountedAt (e.0 ≡ AudFault.Disk) (S.disk_faults begun.log.site) (S.disk_faults e.1.site)) }
     ensures say_faults { IfOk result (λ l. S.say_faults l.site ≡ S.say_faults begun.log.site) }
     ensures say_faults_then { IfErr result (λ e. S.say_faults e.1.site ≡ S.say_faults begun.log.site) }

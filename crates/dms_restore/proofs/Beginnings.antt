@@ -156,7 +156,3 @@ module _ (p : Pending) (a : LogView) (r : BegunAt p a) (read : ReadsNow a) (tabl
       next_same = restored_next (telling a) tells_it p (state a) r.begun read (state then_) written;
       outcome_same = restored_outcome (telling a) tells_it p (state a) r.begun read (state then_) written;
     }
-
-    -- the entries are the same
-    pub table_entries : trail_entries a.end.total a.first files ≡ trail_entries a.end.total a.first a.files
-    table_entries = tells_it.entries_low files a.files written.others

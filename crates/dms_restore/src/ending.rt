@@ -11,7 +11,7 @@ ghost use Rattle.dms_restore.specs.Views.{view_of, StaysSilent, BlocksStay, LogS
 ghost use Rattle.dms_restore.specs.Parts.{SealsPart};
 ghost use Rattle.dms_restore.specs.Logging.{Ends, TakesEntries, LogGrows, LogRuns, LogsPart, LogsShort};
 ghost use Rattle.dms_restore.specs.Begins.{LeavesEach};
-ghost use Rattle.dms_restore.specs.Laying.{schema_control};
+ghost use Rattle.dms_restore.specs.Laying.{schema_control, SealsShort};
 ghost use Rattle.dms_restore.specs.Endings.{EndsBy, EndedAt, ControlBy, ControlledAt};
 
 use crate::laying::seal_control;
@@ -56,6 +56,8 @@ impl<S: Site> Restored<S> {
         ensures ends { IfErr result (λ e. e.0 ≡ AudFault.Full self.log.end.limit → IsTrue S.tells → LogStarts (view_of S.Site self.log) → Ends (view_of S.Site e.1)) }
         ensures part { IfErr result (λ e. IsTrue S.tells → LogStarts (view_of S.Site self.log)
             → SealsPart (view_of S.Site self.log) (view_of S.Site e.1) (schema_control description.now point next counts.now)) }
+        ensures short { IfErr result (λ e. e.0 ≡ AudFault.Full self.log.end.limit → IsTrue S.tells → LogStarts (view_of S.Site self.log)
+            → SealsShort self.log.end.total self.log.first (schema_control description.now point next counts.now) (S.files self.log.site) (S.files e.1.site)) }
         ensures disk { IfErr result (λ e. CountedAt (e.0 ≡ AudFault.Disk) (S.disk_faults self.log.site) (S.disk_faults e.1.site)) }
         ensures say_faults { IfOk result (λ l. S.say_faults l.site ≡ S.say_faults self.log.site) }
         ensures say_faults_then { IfErr result (λ e. S.say_faults e.1.site ≡ S.say_faults self.log.site) }

@@ -71,6 +71,9 @@ returns-then-begins-clause-ends g c = c.begin.ensures.ends
 pub returns-then-begins-clause-part : goal.returns-then-begins-clause-part
 returns-then-begins-clause-part g c = c.begin.ensures.part
 
+pub returns-then-begins-clause-short : goal.returns-then-begins-clause-short
+returns-then-begins-clause-short g c = c.begin.ensures.short
+
 pub returns-then-begins-clause-grown : goal.returns-then-begins-clause-grown
 returns-then-begins-clause-grown g c = one_if_ok c.begin.result c.begin.ensures.grows (λ b grows tells start. grows tells (starts_takes _ start))
 
