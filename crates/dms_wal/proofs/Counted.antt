@@ -14,41 +14,41 @@ use Rattle.dms_wal.specs.Growing.{controls_among}
 
 -- ---- entries
 
-controls_append : (xs ys : List Entry) → controls_in (xs ++ ys) ≡ controls_in xs + controls_in ys
+pub controls_append : (xs ys : List Entry) → controls_in (xs ++ ys) ≡ controls_in xs + controls_in ys
 controls_append [] ys = omega arith
 controls_append (x ∷ xs) ys = omega (arith, controls_append xs ys)
 
-begins_append : (xs ys : List Entry) → begins_in (xs ++ ys) ≡ begins_in xs + begins_in ys
+pub begins_append : (xs ys : List Entry) → begins_in (xs ++ ys) ≡ begins_in xs + begins_in ys
 begins_append [] ys = omega arith
 begins_append (x ∷ xs) ys = omega (arith, begins_append xs ys)
 
 -- parts of a Schema are none
-parts_controls : (k all : ℕ) (bs : List (List ℕ)) → controls_in (parts_of_schema k all bs) ≡ 0
+pub parts_controls : (k all : ℕ) (bs : List (List ℕ)) → controls_in (parts_of_schema k all bs) ≡ 0
 parts_controls k all [] = refl
 parts_controls k all (b ∷ bs) = omega (arith, parts_controls (k + 1) all bs)
 
-parts_begins : (k all : ℕ) (bs : List (List ℕ)) → begins_in (parts_of_schema k all bs) ≡ 0
+pub parts_begins : (k all : ℕ) (bs : List (List ℕ)) → begins_in (parts_of_schema k all bs) ≡ 0
 parts_begins k all [] = refl
 parts_begins k all (b ∷ bs) = omega (arith, parts_begins (k + 1) all bs)
 
 -- and neither are Images
-images_controls : (c : Content) (xs : List Change) (es : List Entry) → AreImagesOf c xs es → controls_in es ≡ 0
+pub images_controls : (c : Content) (xs : List Change) (es : List Entry) → AreImagesOf c xs es → controls_in es ≡ 0
 images_controls c [] [] are = refl
 images_controls c [] (e ∷ es) are = absurd are
 images_controls c (x ∷ xs) [] are = absurd are
 images_controls c (x ∷ xs) (e ∷ es) are = omega (arith, ap one_control are.0.is, images_controls (with_block c x.id.file x.id.block x.block.0) xs es are.1)
 
-images_begins : (c : Content) (xs : List Change) (es : List Entry) → AreImagesOf c xs es → begins_in es ≡ 0
+pub images_begins : (c : Content) (xs : List Change) (es : List Entry) → AreImagesOf c xs es → begins_in es ≡ 0
 images_begins c [] [] are = refl
 images_begins c [] (e ∷ es) are = absurd are
 images_begins c (x ∷ xs) [] are = absurd are
 images_begins c (x ∷ xs) (e ∷ es) are = omega (arith, ap one_begin are.0.is, images_begins (with_block c x.id.file x.id.block x.block.0) xs es are.1)
 
 -- a Schema and a Control are one Control
-control_controls : (bs : List (List ℕ)) (n next : ℕ) (counts : List FileCount) → controls_in (schema_entries bs ++ control_point n next counts ∷ []) ≡ 1
+pub control_controls : (bs : List (List ℕ)) (n next : ℕ) (counts : List FileCount) → controls_in (schema_entries bs ++ control_point n next counts ∷ []) ≡ 1
 control_controls bs n next counts = omega (arith, controls_append (schema_entries bs) (control_point n next counts ∷ []), parts_controls 1 (length bs) bs)
 
-control_begins : (bs : List (List ℕ)) (n next : ℕ) (counts : List FileCount) → begins_in (schema_entries bs ++ control_point n next counts ∷ []) ≡ 0
+pub control_begins : (bs : List (List ℕ)) (n next : ℕ) (counts : List FileCount) → begins_in (schema_entries bs ++ control_point n next counts ∷ []) ≡ 0
 control_begins bs n next counts = omega (arith, begins_append (schema_entries bs) (control_point n next counts ∷ []), parts_begins 1 (length bs) bs)
 
 -- ---- syncs

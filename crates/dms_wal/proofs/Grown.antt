@@ -24,7 +24,7 @@ use Rattle.dms_restore.specs.BackOuts.{back_entries, IsBackFault, SealedAlone, W
 use Rattle.dms_restore.proofs.Laid.{bodies_many, parts_length}
 use Rattle.dms_wal.specs.declared.running.Running.{Running}
 use Rattle.dms_wal.specs.Changing.{LogsChanges}
-use Rattle.dms_wal.specs.Controlled.{AddsControls}
+use Rattle.dms_wal.specs.Controlled.{AddsControls, AddsFew}
 use Rattle.dms_wal.specs.Controls.{KeepsPace}
 use Rattle.dms_restore.specs.Views.{view_of}
 use Rattle.dms_wal.specs.Faults.{IsSeenAs, IsSeenInBack}
@@ -109,6 +109,11 @@ pub done_whole : {P T : Type 0} (r : Result T BlockFault) (broken : Bool) → On
 done_whole (Ok x) broken done failed whole = done
 done_whole (Err f) broken done failed whole = absurd (true≢false (sym failed ∙ whole))
 
+-- where a call failed, and none did or this is so, this is so
+pub still_never : {P : Type 0} (broken : Bool) → broken ≡ true → (broken ≡ false) ⊎ P → P
+still_never broken failed (inl whole) = absurd (true≢false (sym failed ∙ whole))
+still_never broken failed (inr never) = never
+
 pub back_disk : {T U : Type 0} (f : AudFault) (e : BlockFault) (old new : ℕ) → IsSeenInBack f e old new → IsErrOf {T = T} (Err f) audit.Disk → IsErrOf {T = U} (Err e) Disk
 back_disk f e old new seen is = λ i. Err ((subst (λ (x : AudFault). IsSeenInBack x e old new) (same_error f audit.Disk is) seen).0 i)
 
@@ -142,7 +147,8 @@ module _ {S : Type 0} (g : Ghosts S) (a b : Running S) (unbroken : a.broken ≡ 
     (later : g.disk_faults a.log.site ≤ g.disk_faults b.log.site) (appends : IsTrue g.tells → FailsNever g a b → AppendsOldPoints (entries (view_of g a.log)) (entries (view_of g b.log)))
     (within : IsTrue g.tells → FailsNever g a b → FillsWithin a.log.end.limit (view_of g a.log) (view_of g b.log))
     (writes : IsTrue g.tells → FailsNever g a b → WritesTrail (view_of g a.log) → WritesTrail (view_of g b.log))
-    (controls : IsTrue g.tells → b.broken ≡ false → IsCounted b → AddsControls (controls_among a.every a.syncs) (controls_among b.every b.syncs) (entries (view_of g a.log)) (entries (view_of g b.log))) where
+    (controls : IsTrue g.tells → b.broken ≡ false → IsCounted b → AddsControls (controls_among a.every a.syncs) (controls_among b.every b.syncs) (entries (view_of g a.log)) (entries (view_of g b.log)))
+    (fewer : IsTrue g.tells → (b.broken ≡ false) ⊎ FailsNever g a b → IsCounted b → AddsFew (controls_among a.every a.syncs) (controls_among b.every b.syncs) a.outs b.outs (entries (view_of g a.log)) (entries (view_of g b.log))) where
   -- at most so many entries were logged or sealed besides, and so many are accounted for
   grows_by : (n : ℕ) → (IsCounted b → n + accounts a ≤ accounts b) → TrailGrows g n a b → (IsTrue g.tells → b.broken ≡ false → length (entries (view_of g b.log)) ≤ length (entries (view_of g a.log)) + n) → GrowsBy g a b
   grows_by n paid grown few = record {
@@ -157,6 +163,7 @@ module _ {S : Type 0} (g : Ghosts S) (a b : Running S) (unbroken : a.broken ≡ 
     within = within;
     writes = writes;
     controls = controls;
+    few = fewer;
     stays = λ tells. (grown tells).stays;
     grows = λ tells whole counted. omega (arith, few tells whole, paid counted);
     sealed = λ tells counted.

@@ -28,7 +28,9 @@ pub mod Followed
 pub mod Filled
 pub mod Written
 pub mod Counted
+pub mod Fewer
 pub mod Grown
 pub mod Passes
 pub mod Fulls
+pub mod Short
 pub mod Behind

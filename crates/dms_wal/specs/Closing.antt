@@ -1,5 +1,5 @@
 -- How a database is closed.
-use Rattle.std.specs.Prelude.{ℕ, ◌<◌, ◌≤◌, ◌≡◌, Bool, true, false, List, [], ◌∷◌, ◌++◌, length, None}
+use Rattle.std.specs.Prelude.{ℕ, ◌<◌, ◌≤◌, ◌≡◌, Bool, true, false, List, [], ◌∷◌, ◌++◌, length, take, None}
 use Rattle.dms_moments.specs.Moments.{Clock, Runs}
 use Rattle.dms_site.specs.Files.{Files, Left, Only, stored_of}
 use Rattle.dms_block.specs.Content.{Content}
@@ -52,6 +52,12 @@ pub record FilesStand (v : LogView) (behind : List Entry) (blocks : Content) (fi
 -- So the files of a closed database stand: with the content of its last point, whether or not something was changed since.
 abbrev pub IsClosed : LogView → Bool → ℕ → List ℕ → ℕ → List ℕ → Files → Clock Left → Type 0
 IsClosed v changed point schema next marks files clock = FilesStand v (entries_closing changed point schema next marks) (mark_of v) files clock
+
+-- Only the first so many of these entries were sealed behind those that there were, and not all.
+pub record FilesShort (v : LogView) (es : List Entry) (files : Files) : Type 0 where
+  pub some : ℕ
+  pub lacks : some < length es
+  pub entries_are : (telling v).entries files ≡ entries v ++ take some es
 
 -- Each audit file of the trail is full, up to file 9,999.
 abbrev pub IsFullTrail : LogView → Files → Type 0

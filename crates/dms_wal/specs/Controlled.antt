@@ -27,6 +27,11 @@ abbrev pub begins_in : List Entry → ℕ
 begins_in [] = 0
 begins_in (e ∷ es) = one_begin e + begins_in es
 
+-- The new entries have at most m - k Controls more than Begins, as against the old ones, and at most p - o Begins more.
+pub record AddsFew (k m o p : ℕ) (old new : List Entry) : Type 0 where
+  pub controls : controls_in new + begins_in old + k ≤ controls_in old + begins_in new + m
+  pub begins : begins_in new + o ≤ begins_in old + p
+
 -- The new entries have at least m - k Controls more than Begins, as against the old ones.
 abbrev pub AddsControls : (k m : ℕ) → List Entry → List Entry → Type 0
 AddsControls k m old new = controls_in old + begins_in new + m ≤ controls_in new + begins_in old + k

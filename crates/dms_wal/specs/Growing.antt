@@ -1,5 +1,5 @@
 -- How the audit of a running database grows with what the database is used for.
-use Rattle.std.specs.Prelude.{ℕ, zero, suc, ◌+◌, ◌-◌, ◌*◌, ◌^◌, ◌<◌, ◌≤◌, ◌≡◌, IsTrue, if◌then◌else◌, Bool, true, false, List, ◌++◌, length}
+use Rattle.std.specs.Prelude.{ℕ, zero, suc, ◌+◌, ◌-◌, ◌*◌, ◌^◌, ◌<◌, ◌≤◌, ◌≡◌, ◌⊎◌, IsTrue, if◌then◌else◌, Bool, true, false, List, ◌++◌, length}
 use Rattle.std.specs.declared.result.Result.{Result}
 use Rattle.std.specs.declared.result.Result.TheVariants.{Ok, Err}
 use Rattle.dms_site.specs.declared.site.Site.{Ghosts}
@@ -8,7 +8,7 @@ use Rattle.dms_history.specs.Entries.{Entry}
 use Rattle.dms_restore.specs.Logging.{LogGrows, LogStays, LogView, entries, telling, view}
 use Rattle.dms_wal.specs.declared.running.Running.{Running}
 use Rattle.dms_wal.specs.Following.{AppendsOldPoints, NameOldPoints}
-use Rattle.dms_wal.specs.Controlled.{AddsControls}
+use Rattle.dms_wal.specs.Controlled.{AddsControls, AddsFew}
 use Rattle.dms_wal.specs.Filling.{FillsWithin, WritesTrail}
 use Rattle.dms_block.specs.Held.{is_due_at}
 use Rattle.dms_restore.specs.Views.{view_of}
@@ -49,7 +49,8 @@ FailsNever g a b = (g.disk_faults b.log.site ≡ g.disk_faults a.log.site) × (g
 -- files hold no more entries than it accounts for. Once a call failed there is none behind it; until then its log has no more, either, waiting ones
 -- among them. While no call on its disk failed, no Control that was logged has a new number, and behind the last audit file that may be written it
 -- appended entries of restores alone; and its files stay a trail that a writer keeps. As long as no call failed, at least as
--- many Controls were logged as there are syncs at which one is due and Begins.
+-- many Controls were logged as there are syncs at which one is due and Begins. While no call on its disk failed there are no more of them, and no more
+-- Begins than back-outs.
 pub record GrowsBy {S : Type 0} (g : Ghosts S) (a b : Running S) : Type 0 where
   pub every : b.every ≡ a.every
   pub spent : a.spent ≤ b.spent
@@ -61,6 +62,7 @@ pub record GrowsBy {S : Type 0} (g : Ghosts S) (a b : Running S) : Type 0 where
   pub grows : IsTrue g.tells → b.broken ≡ false → IsCounted b → length (entries (view_of g b.log)) + accounts a ≤ length (entries (view_of g a.log)) + accounts b
   pub counted : g.disk_faults a.log.site ≤ g.disk_faults b.log.site
   pub controls : IsTrue g.tells → b.broken ≡ false → IsCounted b → AddsControls (controls_among a.every a.syncs) (controls_among b.every b.syncs) (entries (view_of g a.log)) (entries (view_of g b.log))
+  pub few : IsTrue g.tells → (b.broken ≡ false) ⊎ FailsNever g a b → IsCounted b → AddsFew (controls_among a.every a.syncs) (controls_among b.every b.syncs) a.outs b.outs (entries (view_of g a.log)) (entries (view_of g b.log))
   pub appends : IsTrue g.tells → FailsNever g a b → AppendsOldPoints (entries (view_of g a.log)) (entries (view_of g b.log))
   pub within : IsTrue g.tells → FailsNever g a b → FillsWithin a.log.end.limit (view_of g a.log) (view_of g b.log)
   pub writes : IsTrue g.tells → FailsNever g a b → WritesTrail (view_of g a.log) → WritesTrail (view_of g b.log)

@@ -1,5 +1,5 @@
 -- Laws of what calls of a running database keep.
-use Rattle.std.proofs.Common.{ℕ, Bool, true, false, ◌≤◌, ◌+◌, ◌≡◌, IsTrue, List, length, refl, sym, ◌∙◌, ap, subst, arith}
+use Rattle.std.proofs.Common.{ℕ, inl, inr, Bool, true, false, ◌≤◌, ◌+◌, ◌≡◌, IsTrue, List, length, refl, sym, ◌∙◌, ap, subst, arith}
 use Rattle.dms_restore.specs.GrowLaws.{few_none, log_grows_more, log_grows_none, log_grows_on, stays_none, stays_on}
 use Rattle.dms_history.specs.Entries.{Entry}
 use Rattle.dms_restore.specs.Logging.{entries, telling, telling_of}
@@ -56,6 +56,7 @@ module _ {S : Type 0} {g : Ghosts S} where
     within = λ tells never. fills_none a.log.end.limit (view_of g a.log);
     writes = λ tells never w. w;
     controls = λ tells whole counted. omega arith;
+    few = λ tells never counted. record { controls = omega arith; begins = omega arith };
     sealed = λ tells counted. omega (arith, few_none (view_of g a.log));
   }
 
@@ -81,6 +82,16 @@ module _ {S : Type 0} {g : Ghosts S} where
         controls = λ tells whole counted. by_cases _ b.broken
             (λ failed. absurd (not_both c.broken (ap (λ (x : Running S). x.broken) (q.last failed) ∙ failed) whole))
             (λ no. omega (arith, p.controls tells no (then counted), q.controls tells whole counted));
+        few = λ tells either counted.
+            let one = p.few tells (elim either [
+              | inl whole ↦ inl (by_cases _ b.broken (λ failed. absurd (not_both c.broken (ap (λ (x : Running S). x.broken) (q.last failed) ∙ failed) whole)) (λ no. no))
+              | inr never ↦ inr (omega (arith, never.0, p.counted, q.counted), never.1)
+            ]) (then counted) in
+            let two = q.few tells (elim either [
+              | inl whole ↦ inl whole
+              | inr never ↦ inr (omega (arith, never.0, p.counted, q.counted), omega (arith, never.0, never.1, p.counted, q.counted))
+            ]) counted in
+            record { controls = omega (arith, one.controls, two.controls); begins = omega (arith, one.begins, two.begins) };
         writes = λ tells never w.
             let first : FailsNever g a b = (omega (arith, never.0, p.counted, q.counted), never.1) in
             let then : FailsNever g b c = (omega (arith, never.0, first.0), omega (arith, never.1, first.0)) in

@@ -5,7 +5,7 @@ ghost use Rattle.dms_audfile.specs.Counting.{CountedAt};
 ghost use Rattle.dms_audfile.specs.Within.{SealsFirst};
 ghost use Rattle.dms_restore.specs.Logging.{content, telling, entries};
 ghost use Rattle.dms_restore.specs.Views.{view_of};
-ghost use Rattle.dms_wal.specs.Closing.{entries_control, FilesStand, IsClosed, IsFullTrail, LeavesUntil};
+ghost use Rattle.dms_wal.specs.Closing.{entries_closing, entries_control, FilesShort, FilesStand, IsClosed, IsFullTrail, LeavesUntil};
 ghost use Rattle.dms_wal.specs.Database.{running_held};
 ghost use Rattle.dms_wal.specs.Growing.{GivesGrown, close_limit};
 ghost use Rattle.dms_wal.specs.Lifting.{lift_clock};
@@ -31,7 +31,9 @@ impl<S: Site> Running<S> {
         ensures stopped { IfErr result (λ e. LeavesUntil (running_held S.Site self) (lift_clock (telling (view_of S.Site self.log)) (S.clock e.1))) }
         ensures only { IfErr result (λ e. (e.0 ≡ BlockFault.Disk) ⊎ ((e.0 ≡ BlockFault.Full 9999) ⊎ ((self.changed ≡ true) × (e.0 ≡ BlockFault.Memory)))) }
         ensures full { IfErr result (λ e. e.0 ≡ BlockFault.Full 9999 → IsTrue S.tells → IsFullTrail (view_of S.Site self.log) (S.files e.1)) }
+        ensures short { IfErr result (λ e. e.0 ≡ BlockFault.Full 9999 → IsTrue S.tells → FilesShort (view_of S.Site self.log) (entries_closing self.changed self.point self.schema.items self.next self.marks.items) (S.files e.1)) }
         ensures first { IfOk result (λ s. self.changed ≡ false → IsTrue S.tells → SealsFirst self.log.end self.log.first (entries (view_of S.Site self.log)) (S.files s)) }
+        ensures first_then { IfErr result (λ e. self.changed ≡ false → e.0 ≡ BlockFault.Full 9999 → IsTrue S.tells → SealsFirst self.log.end self.log.first (entries (view_of S.Site self.log)) (S.files e.1)) }
         ensures grown { GivesGrown S.Site (close_limit self.changed) (view_of S.Site self.log) result }
         ensures clean { IfOk result (λ s. (S.disk_faults s ≡ S.disk_faults self.log.site) × (S.say_faults s ≡ S.say_faults self.log.site)) }
         ensures disk { IfErr result (λ e. CountedAt (e.0 ≡ BlockFault.Disk) (S.disk_faults self.log.site) (S.disk_faults e.1)) }
@@ -59,7 +61,9 @@ impl<S: Site> Running<S> {
         ensures stopped { IfErr result (λ e. LeavesUntil (running_held S.Site self) (lift_clock (telling (view_of S.Site self.log)) (S.clock e.1))) }
         ensures only { IfErr result (λ e. (e.0 ≡ BlockFault.Disk) ⊎ (e.0 ≡ BlockFault.Full 9999)) }
         ensures full { IfErr result (λ e. e.0 ≡ BlockFault.Full 9999 → IsTrue S.tells → IsFullTrail (view_of S.Site self.log) (S.files e.1)) }
+        ensures short { IfErr result (λ e. e.0 ≡ BlockFault.Full 9999 → IsTrue S.tells → FilesShort (view_of S.Site self.log) (entries_control self.point self.schema.items self.next self.counts.items) (S.files e.1)) }
         ensures first { IfOk result (λ s. IsTrue S.tells → SealsFirst self.log.end self.log.first (entries (view_of S.Site self.log)) (S.files s)) }
+        ensures first_then { IfErr result (λ e. e.0 ≡ BlockFault.Full 9999 → IsTrue S.tells → SealsFirst self.log.end self.log.first (entries (view_of S.Site self.log)) (S.files e.1)) }
         ensures grown { GivesGrown S.Site 18 (view_of S.Site self.log) result }
         ensures clean { IfOk result (λ s. (S.disk_faults s ≡ S.disk_faults self.log.site) × (S.say_faults s ≡ S.say_faults self.log.site)) }
         ensures disk { IfErr result (λ e. CountedAt (e.0 ≡ BlockFault.Disk) (S.disk_faults self.log.site) (S.disk_faults e.1)) }

@@ -12,7 +12,8 @@ use Rattle.dms_wal.specs.PaceLaws.{grows_none, grows_on, pace_none, pace_on}
 use Rattle.dms_wal.specs.FollowLaws.{appends_same}
 use Rattle.dms_wal.proofs.Followed.{appends_images, later_disk, never_disk}
 use Rattle.dms_wal.proofs.Counted.{adds_images, syncs_same}
-use Rattle.dms_wal.proofs.Grown.{change_more, grows_logged, ok_never}
+use Rattle.dms_wal.proofs.Fewer.{few_images, few_same}
+use Rattle.dms_wal.proofs.Grown.{change_more, grows_logged, ok_never, still_never}
 use Rattle.dms_wal.proofs.Stepped.{passes_sound}
 use Rattle.dms_wal.specs.Controls.{KeepsPace}
 use Rattle.dms_wal.proofs.Logged.{logs_first, logs_none, logs_more, logs_whole}
@@ -55,7 +56,8 @@ loop-change-preserved g c =
       pace = pace_on was.pace pace;
       grows = grows_on was.pace was.grows (grows_logged g.S.Site a b was.made.stays.sound.unbroken pace (omega (arith, alters.uses.not_less, rose, was.counted)) (omega (arith, alters.uses.syncs)) (omega (arith, alters.uses.outs)) (omega (arith, alters.passes.next))
           (later_disk c.change.result _ (running_held g.S.Site b) c.change.ensures.causes) (λ tells never. appends_images _ _ _ (c.in-Ok.ensures.logs tells)) (λ tells never. c.in-Ok.ensures.within ok_never tells) (λ tells never w. c.in-Ok.ensures.writes ok_never tells)
-          (λ tells whole counted. adds_images _ _ _ _ _ (syncs_same a.every a.syncs b.every b.syncs p.every alters.uses.syncs) (c.in-Ok.ensures.logs tells)) 1
+          (λ tells whole counted. adds_images _ _ _ _ _ (syncs_same a.every a.syncs b.every b.syncs p.every alters.uses.syncs) (c.in-Ok.ensures.logs tells))
+          (λ tells never counted. few_images _ _ _ _ _ _ _ (syncs_same a.every a.syncs b.every b.syncs p.every alters.uses.syncs) (omega (arith, alters.uses.outs)) (c.in-Ok.ensures.logs tells)) 1
           (λ counted. omega (arith, rose, was.counted, alters.uses.not_less, alters.uses.spent, counted.spent, alters.passes.next)) c.change.ensures.grown (λ tells whole. change_more g.S.Site a b _ c.in-Ok.ensures.logs tells));
       counted = omega (arith, alters.uses.not_less, alters.uses.spent);
       spent = omega (arith, was.spent, rose, longer_take all c.as_slice-items.result.now c.loop-change.change-index no_change_of c.as_slice-items.ensures c.loop-change-test.true);
@@ -82,7 +84,9 @@ returns-in-Err-clause-grows g c =
     (later_disk c.change.result _ (running_held g.S.Site b) c.change.ensures.causes) (λ tells never. appends_same _ _ (c.in-Err.ensures.kept (λ is. never_disk {T = Unit {0}} (Err c.in-Err.fault) _ (running_held g.S.Site b) c.in-Err.ensures.causes never.0 never.1 (λ i. Err (is i))) tells))
     (λ tells never. c.in-Err.ensures.within (never_disk {T = Unit {0}} (Err c.in-Err.fault) _ (running_held g.S.Site b) c.in-Err.ensures.causes never.0 never.1) tells)
     (λ tells never w. c.in-Err.ensures.writes (never_disk {T = Unit {0}} (Err c.in-Err.fault) _ (running_held g.S.Site b) c.in-Err.ensures.causes never.0 never.1) tells)
-    (λ tells whole counted. absurd (true≢false (sym c.in-Err.ensures.broken ∙ whole))) 1
+    (λ tells whole counted. absurd (true≢false (sym c.in-Err.ensures.broken ∙ whole)))
+    (λ tells either counted. let never = still_never b.broken c.in-Err.ensures.broken either in few_same _ _ _ _ _ _ (syncs_same a.every a.syncs b.every b.syncs p.every uses.syncs) (omega (arith, uses.outs))
+    (c.in-Err.ensures.kept (λ is. never_disk {T = Unit {0}} (Err c.in-Err.fault) _ (running_held g.S.Site b) c.in-Err.ensures.causes never.0 never.1 (λ i. Err (is i))) tells)) 1
     (λ counted. omega (arith, rose, was.counted, uses.not_less, uses.spent, counted.spent, alters.passes.next)) c.change.ensures.grown (λ tells whole. absurd (true≢false (sym c.in-Err.ensures.broken ∙ whole))))
 
 pub returns-in-Err-clause-part : goal.returns-in-Err-clause-part

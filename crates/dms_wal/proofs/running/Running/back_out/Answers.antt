@@ -10,7 +10,8 @@ use Rattle.dms_restore.proofs.Sealed.{ok_not_disk}
 use Rattle.dms_wal.proofs.Followed.{appends_at}
 use Rattle.dms_history.specs.Entries.{by_back_out}
 use Rattle.dms_wal.proofs.Counted.{adds_back}
-use Rattle.dms_wal.proofs.Grown.{back_disk, grows_back}
+use Rattle.dms_wal.proofs.Fewer.{few_back, few_back_short, few_same}
+use Rattle.dms_wal.proofs.Grown.{back_disk, grows_back, still_never}
 use Rattle.dms_wal.proofs.BackedOut.{passes_back, stays_back, marked_content}
 use Rattle.dms_wal.proofs.Written.{back_unless, ends_writes, runs_writes}
 use Rattle.dms_wal.proofs.running.Running.back_out.Goals as goal
@@ -76,12 +77,19 @@ returns-in-Err-clause-grows g c =
     (λ tells never. c.in-Err.ensures.within (λ is. let rose = c.in-Err.ensures.disk.failed is in absurd (omega (arith, rose, never.0, never.1))) tells _)
     (λ tells never w. back_unless c.in-Err.fault 9999 c.in-Err.ensures.only (λ full. ends_writes (view_of g.S.Site c.go_back.new.log) (c.in-Err.ensures.ends full tells)) (λ short. runs_writes (view_of g.S.Site c.go_back.new.log) (c.in-Err.ensures.memory short tells).runs)
     (λ is. let rose = c.in-Err.ensures.disk.failed is in absurd (omega (arith, rose, never.0, never.1))))
-    (λ tells whole counted. absurd (true≢false whole)) (omega (arith, c.saturating_add-self.ensures)) c.go_back.ensures.passes.grown (λ tells whole. absurd (true≢false whole))
+    (λ tells whole counted. absurd (true≢false whole))
+    (λ tells either counted. let never = still_never true refl either in back_unless c.in-Err.fault 9999 c.in-Err.ensures.only
+    (λ full. few_back_short _ _ _ _ _ _ by_back_out _ _ _ _ _ refl (omega (arith, c.saturating_add-self.ensures, counted.outs)) (c.in-Err.ensures.short full tells))
+    (λ short. few_same _ _ _ _ _ _ refl (omega (arith, c.saturating_add-self.ensures)) (c.in-Err.ensures.memory short tells).same.entries_same)
+    (λ is. let rose = c.in-Err.ensures.disk.failed is in absurd (omega (arith, rose, never.0, never.1))))
+    (omega (arith, c.saturating_add-self.ensures)) c.go_back.ensures.passes.grown (λ tells whole. absurd (true≢false whole))
 
 pub returns-clause-grows : goal.returns-clause-grows
 returns-clause-grows g c =
     grows_back g.S.Site c.args.self.now _ c.requires.unbroken (record { every = refl; limit = c.go_back.ensures.passes.limit; total = c.go_back.ensures.passes.total; first = c.go_back.ensures.passes.first; schema = refl }) (omega arith) (omega arith) (omega (arith, c.saturating_add-self.ensures)) (omega arith) c.go_back.ensures.disk.later (λ tells never. appends_at 19 _ _ (c.in-Ok.ensures.few (ok_not_disk _) tells)) (λ tells never. c.in-Ok.ensures.within (ok_not_disk _) tells _)
-    (λ tells never w. runs_writes (view_of g.S.Site c.go_back.new.log) (c.in-Ok.ensures.back tells).runs) (λ tells whole counted. adds_back _ _ _ _ by_back_out _ _ _ _ _ refl (c.in-Ok.ensures.back tells).entries_are) (omega (arith, c.saturating_add-self.ensures)) c.go_back.ensures.passes.grown (λ tells whole. c.in-Ok.ensures.few (ok_not_disk _) tells)
+    (λ tells never w. runs_writes (view_of g.S.Site c.go_back.new.log) (c.in-Ok.ensures.back tells).runs) (λ tells whole counted. adds_back _ _ _ _ by_back_out _ _ _ _ _ refl (c.in-Ok.ensures.back tells).entries_are)
+    (λ tells never counted. few_back _ _ _ _ _ _ by_back_out _ _ _ _ _ refl (omega (arith, c.saturating_add-self.ensures, counted.outs)) (c.in-Ok.ensures.back tells).entries_are)
+    (omega (arith, c.saturating_add-self.ensures)) c.go_back.ensures.passes.grown (λ tells whole. c.in-Ok.ensures.few (ok_not_disk _) tells)
 
 pub returns-in-Err-clause-few : goal.returns-in-Err-clause-few
 returns-in-Err-clause-few g c off t = c.in-Err.ensures.few (λ is. off (back_disk c.in-Err.fault c.back_fault.result _ _ c.back_fault.ensures is)) t

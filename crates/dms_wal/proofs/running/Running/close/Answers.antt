@@ -8,13 +8,14 @@ use Rattle.dms_restore.proofs.Results.{one_if_ok, one_if_err}
 use Rattle.dms_wal.proofs.Grown.{gives_as, gives_on, grows_as, ok_never}
 use Rattle.dms_wal.specs.Growing.{close_limit, over_site}
 use Rattle.dms_restore.specs.GrowLaws.{log_grows_more}
-use Rattle.dms_wal.specs.Closing.{IsFullTrail, LeavesUntil, entries_control}
+use Rattle.dms_wal.specs.Closing.{FilesShort, IsFullTrail, LeavesUntil, entries_closing, entries_control}
 use Rattle.dms_wal.specs.Database.{running_held}
 use Rattle.dms_restore.specs.Logging.{LogGrows, telling}
 use Rattle.dms_restore.specs.Views.{view_of}
 use Rattle.dms_wal.specs.Lifting.{lift_clock}
 use Rattle.dms_wal.specs.PaceLaws.{pace_kind}
 use Rattle.dms_wal.proofs.Closed.{backs_counted, backs_only, clock_as, closed_back, closed_same, control_only, counted_then, full_trail, leaves_until, said_told, trail_as}
+use Rattle.dms_wal.proofs.Short.{short_back, short_front, short_same}
 use Rattle.dms_wal.proofs.running.Running.close.Goals as goal
 
 pub returns-then-not-self-clause-closed : goal.returns-then-not-self-clause-closed
@@ -112,3 +113,31 @@ returns-in-Err-clause-grown g c = λ tells.
 
 pub returns-in-Ok-clause-first : goal.returns-in-Ok-clause-first
 returns-in-Ok-clause-first g c = one_if_ok c.close_by_control-in-Ok.result c.close_by_control-in-Ok.ensures.first (λ s f none. absurd (true≢false (sym c.if-not-self.false ∙ none)))
+
+pub returns-in-Ok-clause-first_then : goal.returns-in-Ok-clause-first_then
+returns-in-Ok-clause-first_then g c = one_if_err c.close_by_control-in-Ok.result c.close_by_control-in-Ok.ensures.first_then (λ e f none. absurd (true≢false (sym c.if-not-self.false ∙ none)))
+
+pub returns-in-Err-clause-first_then : goal.returns-in-Err-clause-first_then
+returns-in-Err-clause-first_then g c none = absurd (true≢false (sym c.if-not-self.false ∙ none))
+
+pub returns-then-not-self-clause-short : goal.returns-then-not-self-clause-short
+returns-then-not-self-clause-short g c = one_if_err c.close_by_control.result c.close_by_control.ensures.short (λ e f is tells.
+    let r = c.args.self in
+    short_same (view_of g.S.Site r.log) r.changed r.point r.schema.items r.next r.counts.items r.marks.items _ c.if-not-self.true (c.requires.unchanged c.if-not-self.true tells) (f is tells))
+
+pub returns-in-Ok-clause-short : goal.returns-in-Ok-clause-short
+returns-in-Ok-clause-short g c = one_if_err c.close_by_control-in-Ok.result c.close_by_control-in-Ok.ensures.short (λ e f is tells.
+    let r = c.args.self in
+    let k = c.back_out.ensures.kept in
+    short_back (view_of g.S.Site r.log) (view_of g.S.Site c.back_out.new.self.log) r.changed r.point r.schema.items r.next r.marks.items _ _ c.if-not-self.false (pace_kind c.back_out.ensures.pace)
+    (λ i. entries_control (k.2 i) (k.0 i).items (k.1 i) (c.in-Ok.ensures.counts i)) (c.in-Ok.ensures.back tells) (f is tells))
+
+pub returns-in-Err-clause-short : goal.returns-in-Err-clause-short
+returns-in-Err-clause-short g c is tells =
+    let r = c.args.self in
+    subst (λ (x : _). FilesShort (view_of g.S.Site r.log) (entries_closing r.changed r.point r.schema.items r.next r.marks.items) (g.S.Site.files x)) (sym c.into_site.ensures)
+    (short_front (view_of g.S.Site r.log) (view_of g.S.Site c.back_out.new.self.log) r.changed r.point r.schema.items r.next r.marks.items c.if-not-self.false (pace_kind c.back_out.ensures.pace)
+    (c.in-Err.ensures.ends (λ i. Err (is i)) tells) (c.in-Err.ensures.full (λ i. Err (is i))).0 (c.in-Err.ensures.short (λ i. Err (is i)) tells))
+
+pub returns-then-not-self-clause-first_then : goal.returns-then-not-self-clause-first_then
+returns-then-not-self-clause-first_then g c = one_if_err c.close_by_control.result c.close_by_control.ensures.first_then (λ e f none. f)

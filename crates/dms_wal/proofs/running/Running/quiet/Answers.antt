@@ -5,7 +5,8 @@ use Rattle.dms_wal.specs.FollowLaws.{appends_same}
 use Rattle.dms_wal.proofs.Filled.{fills_append}
 use Rattle.dms_wal.proofs.Followed.{kept_unless}
 use Rattle.dms_wal.proofs.Counted.{adds_neither}
-use Rattle.dms_wal.proofs.Grown.{grows_logged, logged_quiet, ok_never}
+use Rattle.dms_wal.proofs.Fewer.{few_neither, few_same}
+use Rattle.dms_wal.proofs.Grown.{grows_logged, logged_quiet, ok_never, still_never}
 use Rattle.dms_wal.proofs.Synced.{kind_is, quiet_done, quiet_left, sync_passes}
 use Rattle.std.specs.declared.result.Result.TheVariants.{Err}
 use Rattle.std.proofs.lemmas.Bool.{true≢false}
@@ -49,7 +50,8 @@ pub returns-in-Ok-clause-grows : goal.returns-in-Ok-clause-grows
 returns-in-Ok-clause-grows g c =
     grows_logged g.S.Site c.args.self.now _ c.requires.unbroken (let k = c.quiet.ensures.kind in record { every = refl; limit = k.2; total = k.0; first = k.3; schema = refl }) (omega arith) (omega arith) (omega arith) (omega arith) c.quiet.ensures.disk.later (λ tells never. record { more = _; are = (c.in-Ok.ensures.logs tells).entries_are; names = (tt, tt) })
     (λ tells never. fills_append g.S.Site c.args.self.now.log c.quiet.new.self c.quiet.ensures.kind.3 (c.in-Ok.ensures.stays ok_never) c.quiet.ensures.idle) (λ tells never w. runs_writes (view_of g.S.Site c.quiet.new.self) (c.in-Ok.ensures.runs tells))
-    (λ tells whole counted. adds_neither _ _ _ _ _ refl (c.in-Ok.ensures.logs tells).entries_are refl refl) 1 (λ counted. omega arith) c.quiet.ensures.grown
+    (λ tells whole counted. adds_neither _ _ _ _ _ refl (c.in-Ok.ensures.logs tells).entries_are refl refl)
+    (λ tells never counted. few_neither _ _ _ _ _ _ _ refl (omega arith) (c.in-Ok.ensures.logs tells).entries_are refl refl) 1 (λ counted. omega arith) c.quiet.ensures.grown
     (λ tells whole. omega (arith, logged_quiet (view_of g.S.Site c.args.self.now.log) (view_of g.S.Site c.quiet.new.self) (c.in-Ok.ensures.logs tells)))
 
 pub returns-in-Err-clause-grows : goal.returns-in-Err-clause-grows
@@ -58,7 +60,10 @@ returns-in-Err-clause-grows g c =
     (λ tells never. appends_same _ _ (kept_unless c.in-Err.fault c.args.self.now.log.end.limit c.in-Err.ensures.only (λ is. let rose = c.in-Err.ensures.disk.failed is in omega (arith, rose, never.0, never.1)) (λ full. (c.in-Err.ensures.kept full tells).entries_same)))
     (λ tells never. fills_append g.S.Site c.args.self.now.log c.quiet.new.self c.quiet.ensures.kind.3 (c.in-Err.ensures.stays (λ is. let rose = c.in-Err.ensures.disk.failed is in omega (arith, rose, never.0, never.1))) c.quiet.ensures.idle)
     (λ tells never w. kept_unless c.in-Err.fault c.args.self.now.log.end.limit c.in-Err.ensures.only (λ is. let rose = c.in-Err.ensures.disk.failed is in omega (arith, rose, never.0, never.1)) (λ full. runs_writes (view_of g.S.Site c.quiet.new.self) (c.in-Err.ensures.kept full tells).runs))
-    (λ tells whole counted. absurd (true≢false whole)) 1 (λ counted. omega arith) c.quiet.ensures.grown (λ tells whole. absurd (true≢false whole))
+    (λ tells whole counted. absurd (true≢false whole))
+    (λ tells either counted. let never = still_never true refl either in few_same _ _ _ _ _ _ refl (omega arith) (kept_unless c.in-Err.fault c.args.self.now.log.end.limit c.in-Err.ensures.only
+    (λ is. let rose = c.in-Err.ensures.disk.failed is in omega (arith, rose, never.0, never.1)) (λ full. (c.in-Err.ensures.kept full tells).entries_same)))
+    1 (λ counted. omega arith) c.quiet.ensures.grown (λ tells whole. absurd (true≢false whole))
 
 pub returns-then-number-clause-grows : goal.returns-then-number-clause-grows
 returns-then-number-clause-grows g c = grows_none c.args.self.now

@@ -1,4 +1,4 @@
-use Rattle.std.proofs.Common.{refl, arith}
+use Rattle.std.proofs.Common.{inl, inr, refl, arith}
 use Rattle.std.specs.declared.result.Result.TheVariants.{Ok}
 use Rattle.dms_block.specs.declared.block_fault.BlockFault.TheVariants.{Disk}
 use Rattle.dms_block.specs.HeldLaws.{causes_on, looks_on}
@@ -9,6 +9,7 @@ use Rattle.dms_wal.specs.FillLaws.{fills_none, fills_same}
 use Rattle.dms_wal.specs.FollowLaws.{appends_none, appends_same}
 use Rattle.dms_wal.proofs.Followed.{later_disk, never_disk}
 use Rattle.dms_wal.proofs.Counted.{adds_same, syncs_same}
+use Rattle.dms_wal.proofs.Fewer.{few_same}
 use Rattle.dms_wal.proofs.Grown.{grows_still, never_failed}
 use Rattle.dms_wal.proofs.Stepped.{looks_sound}
 use Rattle.dms_wal.proofs.running.Running.read.Goals as goal
@@ -34,7 +35,10 @@ returns-in-None-clause-looks g c =
 
 pub returns-in-Some-clause-grows : goal.returns-in-Some-clause-grows
 returns-in-Some-clause-grows g c =
-    grows_still g.S.Site c.args.self.now (record c.args.self.now { pool = c.get.new.self; reads = c.saturating_add-self.result }) c.requires.sound.unbroken (record { every = refl; limit = refl; total = refl; first = refl; schema = refl }) (omega arith) (omega arith) (omega arith) (omega arith) (omega arith) (λ tells never. appends_none _) (λ tells never. fills_none _ _) (λ tells never w. w) (λ tells whole counted. adds_same _ _ _ _ refl refl) (trail_none g.S.Site c.args.self.now) (λ tells whole. refl)
+    grows_still g.S.Site c.args.self.now (record c.args.self.now { pool = c.get.new.self; reads = c.saturating_add-self.result }) c.requires.sound.unbroken
+    (record { every = refl; limit = refl; total = refl; first = refl; schema = refl }) (omega arith) (omega arith) (omega arith) (omega arith) (omega arith)
+    (λ tells never. appends_none _) (λ tells never. fills_none _ _) (λ tells never w. w) (λ tells whole counted. adds_same _ _ _ _ refl refl)
+    (λ tells never counted. few_same _ _ _ _ _ _ refl (omega arith) refl) (trail_none g.S.Site c.args.self.now) (λ tells whole. refl)
 
 pub returns-in-None-clause-grows : goal.returns-in-None-clause-grows
 returns-in-None-clause-grows g c =
@@ -45,7 +49,13 @@ returns-in-None-clause-grows g c =
     (later_disk c.load.result _ (running_held g.S.Site c.load.new.self) c.load.ensures.causes) (λ tells never. appends_same _ _ (c.load.ensures.logs (never_disk c.load.result _ (running_held g.S.Site c.load.new.self) c.load.ensures.causes never.0 never.1) tells))
     (λ tells never. let off = never_disk c.load.result _ (running_held g.S.Site c.load.new.self) c.load.ensures.causes never.0 never.1 in fills_same _ _ _ (c.load.ensures.stays off _) (c.load.ensures.logs off tells))
     (λ tells never w. c.load.ensures.writes (never_disk c.load.result _ (running_held g.S.Site c.load.new.self) c.load.ensures.causes never.0 never.1) tells)
-    (λ tells whole counted. adds_same _ _ _ _ (syncs_same c.args.self.now.every c.args.self.now.syncs c.load.new.self.every c.load.new.self.syncs p.every uses.syncs) (c.load.ensures.logs (never_failed c.load.result _ c.load.ensures.broken whole Disk) tells)) c.load.ensures.grown
+    (λ tells whole counted. adds_same _ _ _ _ (syncs_same c.args.self.now.every c.args.self.now.syncs c.load.new.self.every c.load.new.self.syncs p.every uses.syncs)
+    (c.load.ensures.logs (never_failed c.load.result _ c.load.ensures.broken whole Disk) tells))
+    (λ tells either counted. few_same _ _ _ _ _ _ (syncs_same c.args.self.now.every c.args.self.now.syncs c.load.new.self.every c.load.new.self.syncs p.every uses.syncs) (omega (arith, uses.outs))
+    (c.load.ensures.logs (elim either [
+      | inl whole ↦ never_failed c.load.result _ c.load.ensures.broken whole Disk
+      | inr never ↦ never_disk c.load.result _ (running_held g.S.Site c.load.new.self) c.load.ensures.causes never.0 never.1
+    ]) tells)) c.load.ensures.grown
     (λ tells whole. c.load.ensures.logs (never_failed c.load.result _ c.load.ensures.broken whole Disk) tells)
 
 pub returns-in-None-clause-causes : goal.returns-in-None-clause-causes

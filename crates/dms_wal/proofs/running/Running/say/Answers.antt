@@ -3,6 +3,7 @@ use Rattle.dms_audfile.proofs.Within.{stays_none}
 use Rattle.dms_wal.specs.FillLaws.{fills_same}
 use Rattle.dms_wal.specs.FollowLaws.{appends_same}
 use Rattle.dms_wal.proofs.Counted.{adds_same}
+use Rattle.dms_wal.proofs.Fewer.{few_same}
 use Rattle.dms_wal.proofs.Grown.{grows_still}
 use Rattle.dms_wal.proofs.Logged.{entries_still}
 use Rattle.dms_wal.proofs.Passes.{grows_kept}
@@ -34,6 +35,7 @@ returns-in-Ok-clause-grows g c =
     (λ tells never. fills_same _ _ _ (stays_none _ _) (entries_still r.log.end r.log.first _ _ (g.S.Site.clock r.log.site) (g.S.Site.clock c.say.new.self) (same tells)))
     (λ tells never w. writes_still r.log.end r.log.first _ _ (g.S.Site.clock r.log.site) (g.S.Site.clock c.say.new.self) (same tells) w)
     (λ tells whole counted. adds_same _ _ _ _ refl (entries_still r.log.end r.log.first _ _ (g.S.Site.clock r.log.site) (g.S.Site.clock c.say.new.self) (same tells)))
+    (λ tells never counted. few_same _ _ _ _ _ _ refl (omega arith) (entries_still r.log.end r.log.first _ _ (g.S.Site.clock r.log.site) (g.S.Site.clock c.say.new.self) (same tells)))
     (λ tells. grows_kept r.log.end r.log.first _ _ _ _ (same tells) (λ x y p. p.files) c.say.ensures.moments)
     (λ tells whole. entries_still r.log.end r.log.first _ _ (g.S.Site.clock r.log.site) (g.S.Site.clock c.say.new.self) (same tells))
 
@@ -46,5 +48,6 @@ returns-in-Err-clause-grows g c =
     (λ tells never. fills_same _ _ _ (stays_none _ _) (entries_still r.log.end r.log.first _ _ (g.S.Site.clock r.log.site) (g.S.Site.clock c.say.new.self) (same tells)))
     (λ tells never w. writes_still r.log.end r.log.first _ _ (g.S.Site.clock r.log.site) (g.S.Site.clock c.say.new.self) (same tells) w)
     (λ tells whole counted. adds_same _ _ _ _ refl (entries_still r.log.end r.log.first _ _ (g.S.Site.clock r.log.site) (g.S.Site.clock c.say.new.self) (same tells)))
+    (λ tells never counted. few_same _ _ _ _ _ _ refl (omega arith) (entries_still r.log.end r.log.first _ _ (g.S.Site.clock r.log.site) (g.S.Site.clock c.say.new.self) (same tells)))
     (λ tells. grows_kept r.log.end r.log.first _ _ _ _ (same tells) (λ x y p. p.files) c.say.ensures.moments)
     (λ tells whole. entries_still r.log.end r.log.first _ _ (g.S.Site.clock r.log.site) (g.S.Site.clock c.say.new.self) (same tells))

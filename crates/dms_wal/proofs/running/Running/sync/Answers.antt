@@ -1,5 +1,5 @@
 use Rattle.std.specs.declared.result.Result.TheVariants.{Err}
-use Rattle.std.proofs.Common.{◌≡◌, ◌∙◌, IsTrue, true, sym, arith}
+use Rattle.std.proofs.Common.{inl, inr, ◌≤◌, ◌≡◌, ◌∙◌, IsTrue, true, sym, arith}
 use Rattle.std.proofs.lemmas.Bool.{true≢false}
 use Rattle.dms_block.specs.Held.{is_due_at, one_more}
 use Rattle.dms_block.specs.declared.block_fault.BlockFault.TheVariants.{Disk}
@@ -16,7 +16,8 @@ use Rattle.dms_wal.specs.FollowLaws.{appends_same}
 use Rattle.dms_wal.proofs.Filled.{fills_then}
 use Rattle.dms_wal.proofs.Followed.{appends_at, appends_from, later_disk, never_disk}
 use Rattle.dms_wal.proofs.Counted.{adds_control, adds_from, adds_same, due_risen, idle_same}
-use Rattle.dms_wal.proofs.Grown.{done_whole, grows_controlled, grows_still, never_failed, ok_never, some_from}
+use Rattle.dms_wal.proofs.Fewer.{few_control, few_control_short, few_from, few_same}
+use Rattle.dms_wal.proofs.Grown.{done_whole, grows_controlled, grows_still, never_failed, ok_never, some_from, still_never}
 use Rattle.dms_wal.proofs.Written.{done_unless, ends_writes, sound_writes}
 use Rattle.dms_wal.proofs.running.Running.sync.Goals as goal
 
@@ -32,7 +33,10 @@ returns-in-Err-clause-grows g c =
     (later_disk c.seal.result (running_held g.S.Site c.args.self.now) (running_held g.S.Site c.seal.new.self) c.seal.ensures.causes) (λ tells never. absurd (never_disk {T = Unit {0}} (Err c.in-Err.fault) (running_held g.S.Site c.args.self.now) (running_held g.S.Site c.seal.new.self) c.in-Err.ensures.causes never.0 never.1 (λ i. Err (c.in-Err.ensures.only i))))
     (λ tells never. absurd (never_disk {T = Unit {0}} (Err c.in-Err.fault) (running_held g.S.Site c.args.self.now) (running_held g.S.Site c.seal.new.self) c.in-Err.ensures.causes never.0 never.1 (λ i. Err (c.in-Err.ensures.only i))))
     (λ tells never w. absurd (never_disk {T = Unit {0}} (Err c.in-Err.fault) (running_held g.S.Site c.args.self.now) (running_held g.S.Site c.seal.new.self) c.in-Err.ensures.causes never.0 never.1 (λ i. Err (c.in-Err.ensures.only i))))
-    (λ tells whole counted. absurd (true≢false (sym c.in-Err.ensures.broken ∙ whole))) c.seal.ensures.grown
+    (λ tells whole counted. absurd (true≢false (sym c.in-Err.ensures.broken ∙ whole)))
+    (λ tells either counted. let never = still_never _ c.in-Err.ensures.broken either in absurd (never_disk {T = Unit {0}} (Err c.in-Err.fault) (running_held g.S.Site c.args.self.now) (running_held g.S.Site c.seal.new.self)
+    c.in-Err.ensures.causes never.0 never.1 (λ i. Err (c.in-Err.ensures.only i))))
+    c.seal.ensures.grown
     (λ tells whole. absurd (true≢false (sym c.in-Err.ensures.broken ∙ whole)))
 
 pub returns-then-not-follows-clause-grows : goal.returns-then-not-follows-clause-grows
@@ -42,7 +46,9 @@ returns-then-not-follows-clause-grows g c =
     (later_disk c.seal.result (running_held g.S.Site c.args.self.now) (running_held g.S.Site c.seal.new.self) c.seal.ensures.causes) (λ tells never. appends_same _ _ (c.in-Ok.ensures.seals tells).entries_same) (λ tells never. fills_same _ _ _ (c.in-Ok.ensures.stays ok_never _) (c.in-Ok.ensures.seals tells).entries_same)
     (λ tells never w. sound_writes g.S.Site c.seal.new.self c.in-Ok.ensures.made.sound tells)
     (λ tells whole counted. adds_same _ _ _ _ (idle_same c.args.self.now.every c.args.self.now.syncs c.seal.new.self.every c.seal.new.self.syncs c.seal.ensures.kept.pace.every uses.done counted.syncs
-    ((λ i. is_due_at (sym c.seal.ensures.kept.pace.every i) (sym uses.done i)) ∙ sym c.follows.ensures ∙ c.if-not-follows.true)) (c.in-Ok.ensures.seals tells).entries_same) c.seal.ensures.grown
+    ((λ i. is_due_at (sym c.seal.ensures.kept.pace.every i) (sym uses.done i)) ∙ sym c.follows.ensures ∙ c.if-not-follows.true)) (c.in-Ok.ensures.seals tells).entries_same)
+    (λ tells never counted. few_same _ _ _ _ _ _ (idle_same c.args.self.now.every c.args.self.now.syncs c.seal.new.self.every c.seal.new.self.syncs c.seal.ensures.kept.pace.every uses.done counted.syncs
+    ((λ i. is_due_at (sym c.seal.ensures.kept.pace.every i) (sym uses.done i)) ∙ sym c.follows.ensures ∙ c.if-not-follows.true)) (omega (arith, uses.outs)) (c.in-Ok.ensures.seals tells).entries_same) c.seal.ensures.grown
     (λ tells whole. (c.in-Ok.ensures.seals tells).entries_same)
 
 pub returns-clause-grows : goal.returns-clause-grows
@@ -66,6 +72,16 @@ returns-clause-grows g c =
     (never_disk c.control.result (running_held g.S.Site b) (running_held g.S.Site d) c.control.ensures.causes (omega (arith, before, behind, never.0)) (omega (arith, before, behind, never.0, never.1))))
     (λ tells whole counted. adds_from _ _ _ _ _ (same tells)
     (adds_control _ _ _ _ _ _ _ _ (due_risen a.every a.syncs d.every d.syncs (two.pace.every ∙ one.pace.every) (more.syncs ∙ uses.done) counted.syncs due) (done_whole c.control.result d.broken c.control.ensures.control c.control.ensures.broken whole tells).entries_are))
+    (λ tells either counted.
+    let rises = due_risen a.every a.syncs d.every d.syncs (two.pace.every ∙ one.pace.every) (more.syncs ∙ uses.done) counted.syncs due in
+    let outs : a.outs ≤ d.outs = omega (arith, uses.outs, more.outs) in
+    few_from _ _ _ _ _ _ _ (same tells) (done_unless c.control.result b.log.end.limit
+    (one_ok c.control.result c.control.ensures.control (λ made. few_control _ _ _ _ _ _ _ _ _ _ rises outs (made tells).entries_are)) c.control.ensures.only
+    (λ full. few_control_short _ _ _ _ _ _ _ _ _ _ rises outs (c.control.ensures.short b.log.end.limit full tells))
+    (elim either [
+      | inl whole ↦ never_failed c.control.result d.broken c.control.ensures.broken whole Disk
+      | inr never ↦ never_disk c.control.result (running_held g.S.Site b) (running_held g.S.Site d) c.control.ensures.causes (omega (arith, before, behind, never.0)) (omega (arith, before, behind, never.0, never.1))
+    ])))
     (more.syncs ∙ uses.done)
     due (trail_then g.S.Site 18 a b d one.pace same c.seal.ensures.grown c.control.ensures.grown)
     (λ tells whole. some_from 18 (view_of g.S.Site a.log) (view_of g.S.Site b.log) (view_of g.S.Site d.log) (same tells) (c.control.ensures.few (never_failed c.control.result d.broken c.control.ensures.broken whole Disk) tells))
