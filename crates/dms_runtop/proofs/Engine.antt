@@ -39,10 +39,12 @@ use Rattle.dms_run.specs.Files.{RunLeavesFiles}
 use Rattle.dms_run.specs.States.{EndsWith, LivesEndWith}
 use Rattle.dms_run.specs.Stops.{RunLeaves, last_quiet_number}
 use Rattle.dms_status.specs.declared.status.Status.{Status}
-use Rattle.dms_status.specs.declared.status.Status.TheVariants.{Ok, Memory}
-use Rattle.dms_runtop.specs.Bound.{BoundsAudit}
+use Rattle.dms_status.specs.declared.status.LimitKind.TheVariants.{AuditFile}
+use Rattle.dms_status.specs.declared.status.Status.TheVariants.{Limit, Ok, Memory}
+use Rattle.dms_runtop.specs.Bound.{AddsFewBy, BoundsAudit}
 use Rattle.dms_runtop.specs.Faults.{IsWithin, run_status}
 use Rattle.dms_runtop.proofs.Bounds.{bounds_none, full_not_say}
+use Rattle.dms_runtop.proofs.Endings.{memory_not_full}
 use Rattle.dms_runtop.specs.Over.{BeginsAt, ClosesOver, FilesEndWith, IsControlDue, RunsOver, ScriptRuns, seen_site}
 use Rattle.dms_runtop.specs.Statuses.{IsOfClosing}
 use Rattle.dms_runtop.proofs.Ran.{Carried, CarriedAll, all_durable, due_moved, moments_under, ends_under, closed_under, moments_below, closing_below, ran_nothing, ran_failed, ran_closed, state_under}
@@ -224,9 +226,9 @@ module _ {S : Type 0} (g : Ghosts S) (d e e' : Described) (r r' : Running S) (sa
       → EndsWith (map (point_of e') (running_held g r').points) (last_quiet_number n (quiets_of script)) (last_quiet db (quiets_of script))
       → Prints entry (said_of g r'.log) (answers_text d db r.next (raw_lines all))
       → KeepsLimits d db r.next (raw_lines all) → r'.next ≡ (end_session (script_run d db r.next (raw_lines all)).going.session).next
-      → BoundsAudit 0 t d script (g.files r.log.site) (g.files site) entry (said_of g r'.log) status
+      → BoundsAudit 0 t d script (g.files r.log.site) (g.files site) entry (said_of g r'.log) status → (status ≡ Limit (AuditFile 9999) → AddsFewBy 0 0 t d script (g.files r.log.site) (g.files site))
       → ScriptRuns 0 t d ps n db r.next all (seen_site g r.log.site) (seen_site g site) left' status
-  closed_over left' status site of closes said carried leaves behind ends prints limits next_is bound =
+  closed_over left' status site of closes said carried leaves behind ends prints limits next_is bound lacks =
       let text : (seen_site g site).said ≡ said_of g r'.log = told_text g.tells_said (g.said site) (g.said r'.log.site) said in
       let room : r'.next + 1 < 2 ^ 64 = room_after d db r.next r'.next (raw_lines all) b.room limits next_is in
       ran_closed 0 t d ps n db r.next all (seen_site g r.log.site) (seen_site g site) left' status of
@@ -236,6 +238,7 @@ module _ {S : Type 0} (g : Ghosts S) (d e e' : Described) (r r' : Running S) (sa
       (subst (λ (s : Option (List ℕ)). Prints entry s (answers_text d db r.next (raw_lines all))) (sym text) prints)
       limits
       (subst (λ (s : Option (List ℕ)). BoundsAudit 0 t d script (g.files r.log.site) (g.files site) entry s status) (sym text) bound)
+      lacks
 
 -- ---- before the script
 
@@ -247,5 +250,5 @@ fresh_over {St} seen v a b same stands x is = subst (λ (s : St). StandsFor v (f
 pub refused_over : {S : Type 0} (g : Ghosts S) (d : Described) (r : Running S) (site : S) (left left' : Option (List ℕ)) → site ≡ r.log.site → RunsOver g r d left left' Memory site
 refused_over {S} g d r site left left' same total first ps n db all b is =
     subst (λ (x : S). ScriptRuns 0 (telling_of total first) d ps n db r.next all (seen_site g r.log.site) (seen_site g x) left' Memory) (sym same)
-    (ran_nothing 0 (telling_of total first) d ps n db r.next all (seen_site g r.log.site) (seen_site g r.log.site) left' Memory tt
+    (ran_nothing 0 (telling_of total first) d ps n db r.next all (seen_site g r.log.site) (seen_site g r.log.site) left' Memory tt memory_not_full
     (runs_none (g.clock r.log.site) (RunLeavesFiles (telling_of total first) d (said_of g r.log) ps n db r.next (pause ∷ []))) refl (bounds_none Memory (λ is. absurd cc) refl refl))

@@ -1,12 +1,12 @@
 -- A run of the files that stand for a state, from the opening on.
 use Rattle.std.proofs.Common.{ℕ, ◌+◌, ◌≤◌, ◌≡◌, ◌∙◌, inl, inr, Bool, IsTrue, List, [], ◌∷◌, ◌++◌, map, Option, Some, None, cond, length, append-nil, refl, sym, ap, subst, arith}
-use Rattle.std.specs.Prelude.{is_some}
+use Rattle.std.specs.Prelude.{is_some, not}
 use Rattle.dms_audrec.specs.Bodies.{bodies}
 use Rattle.dms_history.specs.Entries.{Entry, by_halt_load}
 use Rattle.dms_history.specs.History.{Pending}
 use Rattle.dms_restore.specs.Counts.{file_counts}
-use Rattle.dms_wal.specs.Controlled.{AddsControls}
-use Rattle.dms_wal.proofs.Counted.{adds_back, adds_control}
+use Rattle.dms_wal.specs.Controlled.{AddsControls, AddsFew, begins_in, controls_in}
+use Rattle.dms_wal.proofs.Counted.{adds_back, adds_control, begins_append, control_begins, control_controls, controls_append}
 use Rattle.dms_desc.specs.Shape.{Described}
 use Rattle.dms_desc_bytes.specs.Spelling.{spelling}
 use Rattle.dms_desc_bytes.specs.WellFormed.{IsWellFormed}
@@ -31,20 +31,22 @@ use Rattle.dms_restore.specs.Logging.{telling_of, telling}
 use Rattle.dms_restore.specs.Views.{view_of}
 use Rattle.dms_wal.specs.Marks.{last_number}
 use Rattle.dms_opening.specs.declared.opened.Opened.{Opened}
-use Rattle.dms_opening.specs.Openings.{IsNoRefusal, IsOpenable, OpeningGrows, OpensAt, ReopensSince, RunsFrom, opening_entries}
+use Rattle.dms_opening.specs.Openings.{IsFullFault, IsNoRefusal, IsOpenable, OpeningGrows, OpensAt, OpensShort, ReopensSince, RunsFrom, opening_entries}
 use Rattle.dms_opening.proofs.Callers.{trail_is_one}
 use Rattle.dms_run.specs.Files.{RunLeavesFiles}
 use Rattle.dms_run.specs.State.{HasNext}
 use Rattle.dms_run.specs.States.{LivesEndWith}
 use Rattle.dms_runlaws.specs.Held.{HoldsLast, NextIsOne, StatesAreHeld}
 use Rattle.dms_runlaws.specs.RunStands.{EndsStand, StopsStand}
+use Rattle.dms_status.specs.declared.status.LimitKind.TheVariants.{AuditFile}
 use Rattle.dms_status.specs.declared.status.Status.{Status}
+use Rattle.dms_status.specs.declared.status.Status.TheVariants.{Limit}
 use Rattle.dms_runtop.proofs.Bounds.{bounds_opening}
 use Rattle.dms_runtop.proofs.Refused.{open_ok}
 use Rattle.dms_runtop.specs.Command.{DatabaseState, GrowsOpened, HasNumbersLeft, HoldsState, HoldsTold, NeverRefuses, NeverRefusesState, RunKeepsTrail, RunsAlong, RunsCommand, RunsOpened, EndsInState, StandsOpened, StandsThroughout, StatesHold}
 use Rattle.dms_runtop.specs.Faults.{open_status}
 use Rattle.dms_runtop.specs.Over.{ReachesFiles, ScriptRuns, seen_site}
-use Rattle.dms_runtop.proofs.Endings.{IsUndone}
+use Rattle.dms_runtop.proofs.Endings.{IsUndone, disk_not_full, memory_not_full}
 use Rattle.dms_runtop.proofs.Fronts.{leaves_wide, script_widens}
 use Rattle.dms_runtop.proofs.Grows.{keeps_entered, keeps_opening}
 use Rattle.dms_runtop.proofs.Holding.{trail_of}
@@ -57,6 +59,19 @@ use Rattle.dms_runtop.proofs.Since.{last_is, reopens_leaves, runs_since}
 opening_adds : (pending : Option Pending) (old new : List Entry) (point next : ℕ) (schema counts : List ℕ) → new ≡ old ++ opening_entries pending point next schema counts → AddsControls 0 (one_if (is_some pending)) old new
 opening_adds None old new point next schema counts is = adds_back 0 0 old new by_halt_load (bodies schema) point point next (file_counts 30001 counts) refl is
 opening_adds (Some p) old new point next schema counts is = adds_control 0 1 old new (bodies schema) point next (file_counts 30001 counts) refl is
+
+-- with at most one Begin, where no restore was pending
+opening_few : (pending : Option Pending) (old new : List Entry) (point next : ℕ) (schema counts : List ℕ) → new ≡ old ++ opening_entries pending point next schema counts → AddsFew 0 (one_if (is_some pending)) 0 (one_if (not (is_some pending))) old new
+opening_few None old new point next schema counts is =
+    let made = control_controls (bodies schema) point next (file_counts 30001 counts) in
+    let none = control_begins (bodies schema) point next (file_counts 30001 counts) in
+    let front = opening_entries None point next schema counts in
+    record { controls = omega (arith, ap controls_in is, ap begins_in is, controls_append old front, begins_append old front, made, none); begins = omega (arith, ap begins_in is, begins_append old front, none) }
+opening_few (Some p) old new point next schema counts is =
+    let made = control_controls (bodies schema) point next (file_counts 30001 counts) in
+    let none = control_begins (bodies schema) point next (file_counts 30001 counts) in
+    let front = opening_entries (Some p) point next schema counts in
+    record { controls = omega (arith, ap controls_in is, ap begins_in is, controls_append old front, begins_append old front, made, none); begins = omega (arith, ap begins_in is, begins_append old front, none) }
 
 -- ---- the description of the last point
 
@@ -146,7 +161,8 @@ module _ {S : Type 0} (g : Ghosts S) (old : S) (s : DatabaseState) where
         first = o.log.first;
         trail = opens.trail;
         runs = runs_since 0 19 t s.desc ps s.point s.db next all (seen_site g old) (seen_site g o.log.site) (seen_site g new) left' status
-            (ap (λ (l : List ℕ). cond g.tells_said (Some l) None) said) before (omega (arith, few)) (opening_adds (history_of (t.entries files)).pending (t.entries files) (t.entries (g.files o.log.site)) o.point o.next o.schema.items o.counts.items here) script;
+            (ap (λ (l : List ℕ). cond g.tells_said (Some l) None) said) before (omega (arith, few)) (opening_adds (history_of (t.entries files)).pending (t.entries files) (t.entries (g.files o.log.site)) o.point o.next o.schema.items o.counts.items here)
+            (opening_few (history_of (t.entries files)).pending (t.entries files) (t.entries (g.files o.log.site)) o.point o.next o.schema.items o.counts.items here) (λ none. absurd none) script;
       }
 
   -- ---- it wasn't opened
@@ -159,9 +175,14 @@ module _ {S : Type 0} (g : Ghosts S) (old : S) (s : DatabaseState) where
   undone_open fault (inl (inr is)) = subst (λ (f : OpenFault). IsUndone (open_status f)) (sym is) tt
   undone_open fault (inr is) = subst (λ (f : OpenFault). IsUndone (open_status f)) (sym is) refl
 
-  pub runs_unopened : NextIsOne → (fault : OpenFault) (new : S) → ((total first : ℕ) → IsOpenable total first (g.files old) → IsNoRefusal fault) → OpeningGrows g old new → ReopensSince g old new → g.said new ≡ g.said old → (left' : Option (List ℕ))
+  full_open : (fault : OpenFault) → IsNoRefusal fault → open_status fault ≡ Limit (AuditFile 9999) → IsFullFault fault
+  full_open fault (inl (inl is)) full = absurd (disk_not_full (sym (ap open_status is) ∙ full))
+  full_open fault (inl (inr is)) full = absurd (memory_not_full (sym (ap open_status is) ∙ full))
+  full_open fault (inr is) full = is
+
+  pub runs_unopened : NextIsOne → (fault : OpenFault) (new : S) → ((total first : ℕ) → IsOpenable total first (g.files old) → IsNoRefusal fault) → (IsFullFault fault → OpensShort (g.files old) (g.files new)) → OpeningGrows g old new → ReopensSince g old new → g.said new ≡ g.said old → (left' : Option (List ℕ))
       → HoldsState (g.files old) s → (next : ℕ) → HasNext (g.files old) next → (all : List ℕ) → RunsAlong g s next all old new left' (open_status fault)
-  runs_unopened one_next fault new none grows since said left' h next has_next all =
+  runs_unopened one_next fault new none short grows since said left' h next has_next all =
       let files : Files = g.files old in
       let t : Telling = telling_of h.total h.first in
       record {
@@ -169,7 +190,7 @@ module _ {S : Type 0} (g : Ghosts S) (old : S) (s : DatabaseState) where
         first = h.first;
         trail = h.trail;
         runs = ran_nothing 19 t s.desc (points_of t files) s.point s.db next all (seen_site g old) (seen_site g new) left' (open_status fault)
-            (undone_open fault (none h.total h.first (openable h)))
+            (undone_open fault (none h.total h.first (openable h))) (λ full. short (full_open fault (none h.total h.first (openable h)) full))
             (runs_weaken (since h.total h.first h.trail h.whole)
             (reopens_leaves t files (seen_site g old).said s.desc s.point s.db h.state next (one_next h.total h.first next files h.whole has_next) []))
             (ap (λ (l : List ℕ). cond g.tells_said (Some l) None) said)
@@ -203,11 +224,11 @@ module _ {S : Type 0} (g : Ghosts S) (old : S) (state : Option DatabaseState) wh
   runs_found hold one_next told o opens runs since grows said left left' status new ran tells s is next has_next room all held =
       runs_entered g old s one_next o (opens tells) (runs tells) (since tells) (grows tells) said (is_some state) left left' status new ran tells (some_told state s is) (hold (g.files old) s (told tells s is)) next has_next room all held
 
-  pub runs_refused : StatesHold → NextIsOne → (IsTrue g.tells → HoldsTold state (g.files old)) → (fault : OpenFault) (new : S) → (IsTrue g.tells → (total first : ℕ) → IsOpenable total first (g.files old) → IsNoRefusal fault) → (IsTrue g.tells → OpeningGrows g old new)
-      → (IsTrue g.tells → ReopensSince g old new) → g.said new ≡ g.said old → (left left' : Option (List ℕ)) (status : Status) → status ≡ open_status fault → RunsCommand g state old new left left' status
-  runs_refused hold one_next told fault new none grows since said left left' status status_is tells s is next has_next room all held =
+  pub runs_refused : StatesHold → NextIsOne → (IsTrue g.tells → HoldsTold state (g.files old)) → (fault : OpenFault) (new : S) → (IsTrue g.tells → (total first : ℕ) → IsOpenable total first (g.files old) → IsNoRefusal fault) → (IsTrue g.tells → IsFullFault fault → OpensShort (g.files old) (g.files new))
+      → (IsTrue g.tells → OpeningGrows g old new) → (IsTrue g.tells → ReopensSince g old new) → g.said new ≡ g.said old → (left left' : Option (List ℕ)) (status : Status) → status ≡ open_status fault → RunsCommand g state old new left left' status
+  runs_refused hold one_next told fault new none short grows since said left left' status status_is tells s is next has_next room all held =
       subst (λ (x : Status). RunsAlong g s next all old new left' x) (sym status_is)
-      (runs_unopened g old s one_next fault new (none tells) (grows tells) (since tells) said left' (hold (g.files old) s (told tells s is)) next has_next all)
+      (runs_unopened g old s one_next fault new (none tells) (short tells) (grows tells) (since tells) said left' (hold (g.files old) s (told tells s is)) next has_next all)
 
   -- the description of what is told is that of the opening
   pub told_description : StatesHold → (IsTrue g.tells → HoldsTold state (g.files old)) → (o : Opened S) → (IsTrue g.tells → OpensAt o.log.end.total o.log.first (g.files old) o.point o.next o.schema.items o.counts.items)

@@ -21,5 +21,6 @@ pub mod Bounds
 pub mod Inputs
 pub mod Grows
 pub mod Adding
+pub mod Partly
 pub mod Filled
 pub mod Naming

@@ -13,15 +13,17 @@ use Rattle.dms_opening.specs.declared.opened.Opened.{Opened}
 use Rattle.dms_opening.specs.Openings.{RunsFrom}
 use Rattle.dms_descfile.specs.declared.fault.FileFault.{FileFault}
 use Rattle.dms_descfile.specs.declared.fault.FileFault.TheVariants as file
+use Rattle.dms_status.specs.declared.status.LimitKind.TheVariants.{AuditFile}
 use Rattle.dms_status.specs.declared.status.Status.{Status}
-use Rattle.dms_status.specs.declared.status.Status.TheVariants.{DiskFault, Memory}
+use Rattle.dms_status.specs.declared.status.Status.TheVariants.{DiskFault, Limit, Memory}
 use Rattle.dms_runtop.specs.Command.{RunsOpened, StandsOpened}
 use Rattle.dms_runtop.proofs.Bounds.{bounds_none}
 use Rattle.dms_runtop.specs.Over.{seen_site}
-use Rattle.dms_runtop.proofs.Endings.{IsUndone, undone_ok}
+use Rattle.dms_runtop.proofs.Endings.{IsUndone, disk_not_full, memory_not_full, undone_ok}
 use Rattle.dms_runtop.proofs.Ran.{ran_nothing}
 use Rattle.dms_runtop.proofs.Since.{runs_since}
 use Rattle.dms_wal.proofs.Counted.{adds_same}
+use Rattle.dms_wal.proofs.Fewer.{few_same}
 
 -- it runs on
 pub looked_from : (files : Files) (point next : ℕ) (schema counts : List ℕ) (v : LogView) (now : Files) (later : Clock Left) → now ≡ v.files → Steps Same v.clock later → RunsFrom files point next schema counts v → RunsFrom files point next schema counts (view v.end v.first now later)
@@ -59,13 +61,14 @@ module _ {S : Type 0} (g : Ghosts S) where
   runs_looked counts o site new known left left' status same said steps ran t k st n db all state room is =
       runs_since 0 0 (telling (view_of g o.log)) st.desc (points_of (telling (view_of g o.log)) st.files) n db o.next all (seen_site g o.log.site) (seen_site g site) (seen_site g new) left' status
       (said_seen o.log.site site said) (λ events. runs_looking (counts o.log.site) steps) (omega (arith, ap (λ (f : Files). length ((telling (view_of g o.log)).entries f)) (same t))) (adds_same 0 0 _ _ refl (ap (telling (view_of g o.log)).entries (same t)))
+      (few_same 0 0 0 0 _ _ refl (omega arith) (ap (telling (view_of g o.log)).entries (same t))) (λ none. none)
       (ran t k (stands_looked o site (same t) steps st) n db all state room is)
 
   -- no line was run
-  pub runs_undone : (o : Opened S) (new : S) (known : Bool) (left left' : Option (List ℕ)) (status : Status) → IsUndone status → (IsTrue g.tells → g.files new ≡ g.files o.log.site)
+  pub runs_undone : (o : Opened S) (new : S) (known : Bool) (left left' : Option (List ℕ)) (status : Status) → IsUndone status → (status ≡ Limit (AuditFile 9999) → ⊥) → (IsTrue g.tells → g.files new ≡ g.files o.log.site)
       → ((P : Left → Type 0) → Runs (g.clock o.log.site) (g.clock new) P) → g.said new ≡ g.said o.log.site → RunsOpened g o known left left' status new
-  runs_undone o new known left left' status undone files moments said t k st n db all state room is =
-      ran_nothing 0 (telling (view_of g o.log)) st.desc (points_of (telling (view_of g o.log)) st.files) n db o.next all (seen_site g o.log.site) (seen_site g new) left' status undone
+  runs_undone o new known left left' status undone space files moments said t k st n db all state room is =
+      ran_nothing 0 (telling (view_of g o.log)) st.desc (points_of (telling (view_of g o.log)) st.files) n db o.next all (seen_site g o.log.site) (seen_site g new) left' status undone space
       (moments _) (said_seen o.log.site new said) (bounds_none status (undone_ok status undone) (files t) (said_seen o.log.site new said))
 
 -- a fault of the description
@@ -73,7 +76,11 @@ pub undone_description : (fault : FileFault) (status : Status) → (fault ≡ fi
 undone_description file.Disk status disk memory = subst IsUndone (sym (disk refl)) tt
 undone_description file.Memory status disk memory = subst IsUndone (sym (memory refl)) tt
 
+pub description_room : (fault : FileFault) (status : Status) → (fault ≡ file.Disk → status ≡ DiskFault) → (fault ≡ file.Memory → status ≡ Memory) → status ≡ Limit (AuditFile 9999) → ⊥
+description_room file.Disk status disk memory full = disk_not_full (sym (disk refl) ∙ full)
+description_room file.Memory status disk memory full = memory_not_full (sym (memory refl) ∙ full)
+
 -- memory was refused before the first line, and the site is the same
 pub runs_left : {S : Type 0} (g : Ghosts S) (o : Opened S) (new : S) (known : Bool) (left left' : Option (List ℕ)) → new ≡ o.log.site → RunsOpened g o known left left' Memory new
 runs_left g o new known left left' same =
-    subst (λ x. RunsOpened g o known left left' Memory x) (sym same) (runs_undone g o o.log.site known left left' Memory tt (λ tells. refl) (λ P. runs_none (g.clock o.log.site) P) refl)
+    subst (λ x. RunsOpened g o known left left' Memory x) (sym same) (runs_undone g o o.log.site known left left' Memory tt memory_not_full (λ tells. refl) (λ P. runs_none (g.clock o.log.site) P) refl)

@@ -14,10 +14,10 @@ use Rattle.dms_descfile.specs.declared.fault.FileFault.{FileFault}
 use Rattle.dms_descfile.specs.declared.fault.FileFault.TheVariants as file
 use Rattle.dms_history.specs.Entries.{Entry, by_halt_load}
 use Rattle.dms_history.specs.History.{Pending}
-use Rattle.dms_history.specs.EntryEvents.{is_place, live_entries}
+use Rattle.dms_history.specs.EntryEvents.{history_of, is_place, live_entries}
 use Rattle.dms_opening.specs.declared.choosing.OpenFault.{OpenFault}
 use Rattle.dms_opening.specs.declared.opened.Opened.{Opened}
-use Rattle.dms_opening.specs.Openings.{MayHaveWritten, OpensAt, RunsFrom, opening_entries}
+use Rattle.dms_opening.specs.Openings.{IsFullFault, IsTrailFound, MayHaveWritten, OpensAt, OpensShort, RunsFrom, opening_entries}
 use Rattle.dms_opening.proofs.Callers.{trail_is_one}
 use Rattle.dms_running.specs.Points.{points_of, points_told}
 use Rattle.dms_running.specs.Standing.{IsWhole}
@@ -40,11 +40,12 @@ use Rattle.dms_wal.specs.PaceLaws.{pace_kind}
 use Rattle.dms_wal.proofs.Followed.{back_names, control_names, last_place}
 use Rattle.dms_runtop.proofs.Entered.{some_told, whole_here}
 use Rattle.dms_runtop.proofs.Filled.{fills_closed, fills_found, fills_left, fills_opened, nothing_used}
-use Rattle.dms_runtop.proofs.Refused.{open_ok}
+use Rattle.dms_runtop.proofs.Partly.{opening_unnamed}
+use Rattle.dms_runtop.proofs.Refused.{full_or_not, open_ok}
 use Rattle.dms_runtop.specs.Command.{DatabaseState, HoldsState, HoldsTold, StatesHold}
 use Rattle.dms_runtop.specs.Faults.{open_status}
 use Rattle.dms_runtop.specs.Full.{IsOfFull}
-use Rattle.dms_runtop.specs.Filling.{AreOpened, ClosesBehind}
+use Rattle.dms_runtop.specs.Filling.{AreOpened, ClosesBehind, ClosesOrStops, IsFullAtLast}
 use Rattle.dms_runtop.specs.Naming.{Appends, AppendsDescribed, AppendsOpened, AppendsOver, AppendsTo, AppendsTold, EndsPlain, IsSealed}
 use Rattle.dms_runtop.specs.Statuses.{IsOfClosing}
 
@@ -67,23 +68,27 @@ front_names xs es ws more is names =
 
 -- ---- statuses
 
--- a close that is no fault ends at 0
-closed_plain : (failed : ℕ) (status : Status) → IsOfClosing status → EndsPlain failed status → ⊥
-closed_plain failed Ok of ends = of
-closed_plain failed BadWords of ends = of
-closed_plain failed (SchemaRefused f) of ends = of
-closed_plain failed NoDatabase of ends = of
-closed_plain failed (Needed n) of ends = of
-closed_plain failed InputFault of ends = of
-closed_plain failed Memory of ends = ends.not_memory refl
-closed_plain failed (Limit (AuditFile f)) of ends = ends.not_full (λ i. Limit (AuditFile (of i)))
-closed_plain failed (Limit Lines) of ends = of
-closed_plain failed (Limit Bytes) of ends = of
-closed_plain failed (Limit Held) of ends = of
-closed_plain failed (Damaged f b) of ends = of
-closed_plain failed SayFault of ends = of
-closed_plain failed DiskFault of ends = ends.not_disk refl
-closed_plain failed Exists of ends = of
+-- a close that doesn't end at 0 found no room
+closed_plain : (failed : ℕ) (status : Status) → IsOfClosing status → EndsPlain failed status → IsFullAtLast status
+closed_plain failed Ok of ends = absurd of
+closed_plain failed BadWords of ends = absurd of
+closed_plain failed (SchemaRefused f) of ends = absurd of
+closed_plain failed NoDatabase of ends = absurd of
+closed_plain failed (Needed n) of ends = absurd of
+closed_plain failed InputFault of ends = absurd of
+closed_plain failed Memory of ends = absurd (ends.not_memory refl)
+closed_plain failed (Limit (AuditFile f)) of ends = λ i. Limit (AuditFile (of i))
+closed_plain failed (Limit Lines) of ends = absurd of
+closed_plain failed (Limit Bytes) of ends = absurd of
+closed_plain failed (Limit Held) of ends = absurd of
+closed_plain failed (Damaged f b) of ends = absurd of
+closed_plain failed SayFault of ends = absurd of
+closed_plain failed DiskFault of ends = absurd (ends.not_disk refl)
+closed_plain failed Exists of ends = absurd of
+
+closed_over : (failed : ℕ) (status : Status) → (status ≡ Ok) ⊎ IsOfClosing status → EndsPlain failed status → ClosesOrStops status
+closed_over failed status (inl ok) ends = inl ok
+closed_over failed status (inr of) ends = inr (closed_plain failed status of ends)
 
 module _ {S : Type 0} (g : Ghosts S) where
   -- what a running database appends
@@ -119,16 +124,16 @@ module _ {S : Type 0} (g : Ghosts S) where
 
   -- one that is closed
   pub closed_names : (r r' : Running S) (site : S) (status : Status) → KeepsPace r r' → GrowsBy g r r' → g.disk_faults r'.log.site ≤ g.disk_faults site → CountedAt (status ≡ DiskFault) (g.disk_faults r.log.site) (g.disk_faults site) → (status ≡ Ok) ⊎ IsOfClosing status
-      → (IsTrue g.tells → status ≡ Ok → AppendsOldPoints (entries (view_of g r'.log)) (trail_entries r'.log.end.total r'.log.first (g.files site))) → (IsTrue g.tells → status ≡ Ok → ClosesBehind (view_of g r'.log) (g.files site)) → AppendsOver g r status site
-  closed_names r r' site status pace grows later counted (inr of) names closes tells sealed ends = absurd (closed_plain (g.disk_faults r.log.site) status of ends)
-  closed_names r r' site status pace grows later counted (inl ok) names closes tells sealed ends =
+      → (IsTrue g.tells → ClosesOrStops status → AppendsOldPoints (entries (view_of g r'.log)) (trail_entries r'.log.end.total r'.log.first (g.files site))) → (IsTrue g.tells → ClosesOrStops status → ClosesBehind status (view_of g r'.log) (g.files site)) → AppendsOver g r status site
+  closed_names r r' site status pace grows later counted of names closes tells sealed ends =
+      let over = closed_over (g.disk_faults r.log.site) status of ends in
       let still = counted.clean ends.not_disk in
       let never : FailsNever g r r' = (omega (arith, still, later, grows.counted), ends.room) in
       let last : AppendsOldPoints (entries (view_of g r'.log)) (trail_entries r.log.end.total r.log.first (g.files site)) =
-      subst (λ t. AppendsOldPoints (entries (view_of g r'.log)) (t.entries (g.files site))) (pace_kind pace) (names tells ok) in
+      subst (λ t. AppendsOldPoints (entries (view_of g r'.log)) (t.entries (g.files site))) (pace_kind pace) (names tells over) in
       record {
         names = appends_on (entries (view_of g r.log)) (entries (view_of g r'.log)) (trail_entries r.log.end.total r.log.first (g.files site)) (grows.appends tells never) last;
-        fills = fills_closed r.log.end.limit (view_of g r.log) (view_of g r'.log) (g.files site) status ok pace.total pace.first sealed.empty (grows.within tells never) (closes tells ok);
+        fills = fills_closed r.log.end.limit (view_of g r.log) (view_of g r'.log) (g.files site) status over pace.total pace.first sealed.empty (grows.within tells never) (closes tells over);
       }
 
 -- the control point that closes
@@ -150,7 +155,7 @@ module _ {S : Type 0} (g : Ghosts S) where
   pub looked_names : (k : ℕ) (o : Opened S) (mid new : S) (known : Bool) (status : Status) → (IsTrue g.tells → g.files mid ≡ g.files o.log.site) → g.disk_faults mid ≡ g.disk_faults o.log.site → AppendsOpened g k (record o { log = record o.log { site = mid } }) known status new → AppendsOpened g k o known status new
   looked_names k o mid new known status same still later told knows none ends =
       subst (λ (f : Files). AppendsTo k o.log.end.total o.log.first (trail_entries o.log.end.total o.log.first f ++ waits o.log.end) (g.files new) status) (same told)
-      (later told knows none (record { room = omega (arith, still, ends.room); not_disk = ends.not_disk; not_memory = ends.not_memory; not_full = ends.not_full }))
+      (later told knows none (record { room = omega (arith, still, ends.room); not_disk = ends.not_disk; not_memory = ends.not_memory }))
 
   -- a full audit was looked at behind it
   pub full_names : (o : Opened S) (n : ℕ) (was status : Status) (mid new : S) (known : Bool) → was ≡ Limit (AuditFile n) → IsOfFull n status → (IsTrue g.tells → g.files new ≡ g.files mid) → AppendsDescribed g o known was mid → AppendsDescribed g o known status new
@@ -207,28 +212,46 @@ module _ {S : Type 0} (g : Ghosts S) (old : S) (state : Option DatabaseState) wh
       let one = trail_is_one o.log.end.total o.log.first total first (g.files old) (opens tells).trail found in
       let d = described s is tells in
       let sealed : IsSealed o.log.end = record { nothing = from.nothing; empty = nothing_used o.log.end o.log.first (g.files o.log.site) (g.clock o.log.site) (subst (λ (l : List Entry). EndsAt o.log.end o.log.first l (g.files o.log.site) (g.clock o.log.site)) from.nothing from.runs.ends) } in
-      let next = later s.desc d.0 d.1 tells (some_told state s is) sealed (record { room = omega (arith, still, ends.room); not_disk = ends.not_disk; not_memory = ends.not_memory; not_full = ends.not_full }) in
+      let next = later s.desc d.0 d.1 tells (some_told state s is) sealed (record { room = omega (arith, still, ends.room); not_disk = ends.not_disk; not_memory = ends.not_memory }) in
       let before = trail_entries o.log.end.total o.log.first (g.files old) in
-      let all : Appends s.desc.files o.log.end.total o.log.first (AreOpened before) before (g.files new) status = record {
+      let all : Appends s.desc.files o.log.end.total o.log.first (AreOpened status before) before (g.files new) status = record {
         names = appends_on before (entries (view_of g o.log)) (trail_entries o.log.end.total o.log.first (g.files new)) (opened_names o from) next.names;
-        fills = fills_opened s.desc.files o.log.end.total o.log.first before (entries (view_of g o.log)) (g.files new) status (inr (record { point = _; next = _; schema = _; counts = _; are = from.entries_are })) next.fills;
+        fills = fills_opened s.desc.files o.log.end.total o.log.first before (entries (view_of g o.log)) (g.files new) status (inr (inl (record { point = _; next = _; schema = _; counts = _; are = from.entries_are }))) next.fills;
       } in
-      subst (λ k. Appends s.desc.files total k (AreOpened (trail_entries total k (g.files old))) (trail_entries total k (g.files old)) (g.files new) status) one.1
-      (subst (λ k. Appends s.desc.files k o.log.first (AreOpened (trail_entries k o.log.first (g.files old))) (trail_entries k o.log.first (g.files old)) (g.files new) status) one.0 all)
+      subst (λ k. Appends s.desc.files total k (AreOpened status (trail_entries total k (g.files old))) (trail_entries total k (g.files old)) (g.files new) status) one.1
+      (subst (λ k. Appends s.desc.files k o.log.first (AreOpened status (trail_entries k o.log.first (g.files old))) (trail_entries k o.log.first (g.files old)) (g.files new) status) one.0 all)
 
-  -- it wasn't opened
-  pub refused_names : (fault : OpenFault) (status : Status) (new : S) → status ≡ open_status fault → (IsTrue g.tells → (MayHaveWritten fault → ⊥) → g.files new ≡ g.files old) → AppendsTold g state status old new
-  refused_names fault status new is files tells s state_is ends total first found =
-      let none : MayHaveWritten fault → ⊥ = λ may. written fault status is ends may in
-      let same : trail_entries total first (g.files new) ≡ trail_entries total first (g.files old) = ap (trail_entries total first) (files tells none) in
+  -- it wasn't opened, and nothing was written
+  unwritten_names : (s : DatabaseState) (status : Status) (new : S) (total first : ℕ) → (status ≡ Ok → ⊥) → g.files new ≡ g.files old → Appends s.desc.files total first (AreOpened status (trail_entries total first (g.files old))) (trail_entries total first (g.files old)) (g.files new) status
+  unwritten_names s status new total first not_ok files =
+      let same : trail_entries total first (g.files new) ≡ trail_entries total first (g.files old) = ap (trail_entries total first) files in
       record {
         names = appends_same (trail_entries total first (g.files old)) (trail_entries total first (g.files new)) same;
-        fills = fills_found s.desc.files total first (AreOpened (trail_entries total first (g.files old))) (g.files new) status (λ ok. open_ok fault (sym is ∙ ok)) (inl same);
+        fills = fills_found s.desc.files total first (AreOpened status (trail_entries total first (g.files old))) (g.files new) status not_ok (inl same);
       }
+
+  -- or the audit had no room for it
+  short_names : (s : DatabaseState) (status : Status) (new : S) (total first : ℕ) → (status ≡ Ok → ⊥) → IsFullAtLast status → OpensShort (g.files old) (g.files new) → IsTrailFound total first (g.files old) → Appends s.desc.files total first (AreOpened status (trail_entries total first (g.files old))) (trail_entries total first (g.files old)) (g.files new) status
+  short_names s status new total first not_ok full short found =
+      let one = trail_is_one short.total short.first total first (g.files old) short.opens.trail found in
+      let before = trail_entries short.total short.first (g.files old) in
+      let part = short.short in
+      let all : Appends s.desc.files short.total short.first (AreOpened status before) before (g.files new) status = record {
+        names = record { more = _; are = part.sealed; names = opening_unnamed before (history_of before).pending short.point short.next short.schema short.counts part.some part.lacks };
+        fills = fills_found s.desc.files short.total short.first (AreOpened status before) (g.files new) status not_ok (inr (inr (full, record { point = short.point; next = short.next; schema = short.schema; counts = short.counts; some = part.some; lacks = part.lacks; are = part.sealed })));
+      } in
+      subst (λ k. Appends s.desc.files total k (AreOpened status (trail_entries total k (g.files old))) (trail_entries total k (g.files old)) (g.files new) status) one.1
+      (subst (λ k. Appends s.desc.files k short.first (AreOpened status (trail_entries k short.first (g.files old))) (trail_entries k short.first (g.files old)) (g.files new) status) one.0 all)
+
+  pub refused_names : (fault : OpenFault) (status : Status) (new : S) → status ≡ open_status fault → (IsTrue g.tells → (MayHaveWritten fault → ⊥) → g.files new ≡ g.files old) → (IsTrue g.tells → IsFullFault fault → OpensShort (g.files old) (g.files new)) → AppendsTold g state status old new
+  refused_names fault status new is files short tells s state_is ends total first found = by (full_or_not fault)
     where
-      written : (f : OpenFault) (x : Status) → x ≡ open_status f → EndsPlain (g.disk_faults old) x → MayHaveWritten f → ⊥
-      written f x at plain (inl disk) = plain.not_disk (at ∙ ap open_status disk)
-      written f x at plain (inr full) = plain.not_full (at ∙ ap open_status full)
+      not_ok : status ≡ Ok → ⊥
+      not_ok ok = open_ok fault (sym is ∙ ok)
+
+      by : IsFullFault fault ⊎ (IsFullFault fault → ⊥) → Appends s.desc.files total first (AreOpened status (trail_entries total first (g.files old))) (trail_entries total first (g.files old)) (g.files new) status
+      by (inl full) = short_names s status new total first not_ok (is ∙ ap open_status full) (short tells full) found
+      by (inr room) = unwritten_names s status new total first not_ok (files tells (λ may. elim may [ inl disk ↦ ends.not_disk (is ∙ ap open_status disk) | inr full ↦ room full ]))
 
   pub memory_told : (status : Status) (new : S) → status ≡ Memory → AppendsTold g state status old new
   memory_told status new is tells s state_is ends = absurd (ends.not_memory is)

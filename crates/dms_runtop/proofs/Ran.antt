@@ -50,7 +50,7 @@ use Rattle.dms_status.specs.declared.status.Status.{Status}
 use Rattle.dms_status.specs.declared.status.Status.TheVariants.{Ok, Limit}
 use Rattle.dms_runtop.specs.Bound.{BoundsAudit, StopsAtLine}
 use Rattle.dms_runtop.specs.Faults.{IsWithin, run_status}
-use Rattle.dms_runtop.specs.Over.{CutsScript, IsAtEnds, IsControlDue, ReachesFiles, PassesScript, ScriptRuns, SiteSeen}
+use Rattle.dms_runtop.specs.Over.{CutsScript, EndsLack, IsAtEnds, IsControlDue, ReachesFiles, PassesScript, ScriptRuns, SiteSeen, ends_lack, opening_lacks}
 use Rattle.dms_runtop.proofs.Bounds.{at_line_of}
 use Rattle.dms_runtop.proofs.Counted.{an_error}
 use Rattle.dms_runtop.proofs.Fronts.{leaves_wide, wider}
@@ -147,6 +147,10 @@ said_nothing said events = (0, λ t is. is ∙ ap (λ (s : List ℕ). Some s) (s
 
 -- ---- what was carried out
 
+-- nothing is lacked
+abbrev no_lack : EndsLack
+no_lack = record { opening = ⊥; closing = λ es. ⊥ }
+
 -- So much of a script was carried out where the run stopped with this fault, told by the text before it and behind it. What is changed may go on up to
 -- this audit file.
 pub record Carried (last : ℕ) (Stops Due : List RunEvent → Type 0) (d : Described) (db : Db) (next : ℕ) (all : List ℕ) (left' : Option (List ℕ)) (said said' : Option (List ℕ)) (fault : RunFault) : Type 0 where
@@ -157,9 +161,9 @@ pub record Carried (last : ℕ) (Stops Due : List RunEvent → Type 0) (d : Desc
   pub part : PrintsPrefix said said' (text_of events)
   pub answers : (fault ≡ Block Say → ⊥) → SaidWhole said said' events
   pub due : (f : ℕ) → fault ≡ Block (block.Full f) → IsDue last f Stops Due said said' events
-  pub many_lines : fault ≡ run.Lines → PassesScript Lines Stops d db next (raw_lines all) lines events said said'
-  pub many_bytes : fault ≡ run.Bytes → PassesScript Bytes Stops d db next (raw_lines all) lines events said said'
-  pub many_held : fault ≡ run.Held → PassesScript limits.Held Stops d db next (raw_lines all) lines events said said'
+  pub many_lines : fault ≡ run.Lines → PassesScript Lines Stops no_lack d db next (raw_lines all) lines events said said'
+  pub many_bytes : fault ≡ run.Bytes → PassesScript Bytes Stops no_lack d db next (raw_lines all) lines events said said'
+  pub many_held : fault ≡ run.Held → PassesScript limits.Held Stops no_lack d db next (raw_lines all) lines events said said'
   pub cut : fault ≡ run.Input → CutsScript d db next all left' lines events said said'
 
 -- All of it was.
@@ -238,13 +242,26 @@ due_moved last last' f before after events same stops due d = record {
   made = made_moved (stops (take d.k events)) (due (take d.k events)) d.made;
 }
 
-pub passes_moved : (Stops Stops' : List RunEvent → Type 0) (k : LimitKind) (d : Described) (db : Db) (next : ℕ) (lines : List (List ℕ)) (n : ℕ) (events : List RunEvent) (before after : Option (List ℕ))
-    → ((es : List RunEvent) → Stops (es ++ pause ∷ []) → Stops' (es ++ pause ∷ [])) → PassesScript k Stops d db next lines n events before after → PassesScript k Stops' d db next lines n events before after
-passes_moved Stops Stops' (AuditFile f) d db next lines n events before after stops (inl due) = inl (due_moved d.files d.files f before after events refl stops (λ es is. is) due)
-passes_moved Stops Stops' (AuditFile f) d db next lines n events before after stops (inr ends) = inr ends
-passes_moved Stops Stops' Lines d db next lines n events before after stops passes = passes
-passes_moved Stops Stops' Bytes d db next lines n events before after stops passes = passes
-passes_moved Stops Stops' limits.Held d db next lines n events before after stops passes = passes
+ends_moved : (lack lack' : EndsLack) (d : Described) (db : Db) (next : ℕ) (lines : List (List ℕ)) (events : List RunEvent) (before after : Option (List ℕ)) → (lack.opening → lack'.opening) → ((es : List RunEvent) → lack.closing es → lack'.closing es)
+    → IsAtEnds lack d db next lines events before after → IsAtEnds lack' d db next lines events before after
+ends_moved lack lack' d db next lines events before after opening closing (inl at) = inl (at.0, at.1, opening at.2)
+ends_moved lack lack' d db next lines events before after opening closing (inr at) = inr (at.0, at.1, closing events at.2)
+
+pub passes_moved : (Stops Stops' : List RunEvent → Type 0) (lack lack' : EndsLack) (k : LimitKind) (d : Described) (db : Db) (next : ℕ) (lines : List (List ℕ)) (n : ℕ) (events : List RunEvent) (before after : Option (List ℕ))
+    → ((es : List RunEvent) → Stops (es ++ pause ∷ []) → Stops' (es ++ pause ∷ [])) → (lack.opening → lack'.opening) → ((es : List RunEvent) → lack.closing es → lack'.closing es)
+    → PassesScript k Stops lack d db next lines n events before after → PassesScript k Stops' lack' d db next lines n events before after
+passes_moved Stops Stops' lack lack' (AuditFile f) d db next lines n events before after stops opening closing (inl due) = inl (due_moved d.files d.files f before after events refl stops (λ es is. is) due)
+passes_moved Stops Stops' lack lack' (AuditFile f) d db next lines n events before after stops opening closing (inr ends) = inr (ends.0, ends_moved lack lack' d db next lines events before after opening closing ends.1)
+passes_moved Stops Stops' lack lack' Lines d db next lines n events before after stops opening closing passes = passes
+passes_moved Stops Stops' lack lack' Bytes d db next lines n events before after stops opening closing passes = passes
+passes_moved Stops Stops' lack lack' limits.Held d db next lines n events before after stops opening closing passes = passes
+
+-- the last audit file is 9,999
+of_last : (k : LimitKind) → IsOfAuditLimit k → Limit k ≡ Limit (AuditFile 9999)
+of_last (AuditFile f) last = λ i. Limit (AuditFile (last i))
+of_last Lines last = absurd last
+of_last Bytes last = absurd last
+of_last limits.Held last = absurd last
 
 -- ---- a run, by how it ended
 
@@ -262,8 +279,11 @@ module _ (opening : ℕ) (t : Telling) (d : Described) (ps : List DescribedPoint
   paused : (events : List RunEvent) → Leaves events → Leaves (events ++ pause ∷ [])
   paused events moments = runs_weaken moments (leaves_wide (wider events (pause ∷ [])))
 
-  pub of_audit : (lines : ℕ) (events : List RunEvent) (k : LimitKind) → IsOfAuditLimit k → IsAtEnds d db next (raw_lines all) events a.said b.said → PassesScript k Leaves d db next (raw_lines all) lines events a.said b.said
-  of_audit lines events (AuditFile f) is ends = inr (is, ends)
+  abbrev lack : EndsLack
+  lack = ends_lack opening t d a.files b.files
+
+  of_audit : (lines : ℕ) (events : List RunEvent) (k : LimitKind) → IsOfAuditLimit k → (IsOfAuditLimit k → IsAtEnds lack d db next (raw_lines all) events a.said b.said) → PassesScript k Leaves lack d db next (raw_lines all) lines events a.said b.said
+  of_audit lines events (AuditFile f) is ends = inr (is, ends is)
   of_audit lines events Lines is ends = absurd is
   of_audit lines events Bytes is ends = absurd is
   of_audit lines events limits.Held is ends = absurd is
@@ -272,8 +292,8 @@ module _ (opening : ℕ) (t : Telling) (d : Described) (ps : List DescribedPoint
   no_lines = record { within = omega arith; few = omega arith; short = omega arith }
 
   -- nothing was done: the status is none of a script
-  pub ran_nothing : (status : Status) → IsUndone status → Leaves (pause ∷ []) → b.said ≡ a.said → Bound [] status → ScriptRuns opening t d ps n db next all a b left' status
-  ran_nothing status undone moments same bound = record {
+  pub ran_nothing : (status : Status) → IsUndone status → (status ≡ Limit (AuditFile 9999) → opening_lacks opening a.files b.files) → Leaves (pause ∷ []) → b.said ≡ a.said → Bound [] status → ScriptRuns opening t d ps n db next all a b left' status
+  ran_nothing status undone short moments same bound = record {
     lines = 0;
     front = no_lines;
     events = [];
@@ -286,7 +306,7 @@ module _ (opening : ℕ) (t : Telling) (d : Described) (ps : List DescribedPoint
     whole_answers = λ unsaid. subst (λ (s : Option (List ℕ)). SaidWhole a.said s []) (sym same) (said_nothing a.said []);
     whole = λ is. absurd (undone_ok status undone is);
     within = λ is. absurd (undone_ok status undone is);
-    limit = λ k is. of_audit 0 [] k (undone_limit status undone k is) (inl (refl, subst (λ (s : Option (List ℕ)). Prints a.said s []) (sym same) (still_prints a.said)));
+    limit = λ k is. of_audit 0 [] k (undone_limit status undone k is) (λ last. inl (refl, subst (λ (s : Option (List ℕ)). Prints a.said s []) (sym same) (still_prints a.said), short (is ∙ of_last k last)));
     input_cut = λ is. absurd (undone_input status undone is);
     undamaged = λ f k is high. undone_damaged status undone f k is high;
   }
@@ -312,7 +332,7 @@ module _ (opening : ℕ) (t : Telling) (d : Described) (ps : List DescribedPoint
     undamaged = λ f k is high. damaged f k (run_damaged fault f k is);
   }
     where
-      passes : (k : LimitKind) → run_status fault ≡ Limit k → PassesScript k Leaves d db next (raw_lines all) c.lines c.events a.said b.said
+      passes : (k : LimitKind) → run_status fault ≡ Limit k → PassesScript k Leaves lack d db next (raw_lines all) c.lines c.events a.said b.said
       passes (AuditFile f) is = inl (c.due f (run_full_is fault f is))
       passes Lines is = c.many_lines (run_lines_is fault is)
       passes Bytes is = c.many_bytes (run_bytes_is fault is)
@@ -321,8 +341,8 @@ module _ (opening : ℕ) (t : Telling) (d : Described) (ps : List DescribedPoint
   -- the script was carried out, and the database closed, or not closed
   pub ran_closed : (status : Status) → (status ≡ Ok) ⊎ IsOfClosing status → (c : CarriedAll d db next all a.said b.said) → Leaves script
       → (status ≡ Ok → ReachesFiles t d n db next (raw_lines all) b)
-      → Prints a.said b.said (answers_text d db next (raw_lines all)) → KeepsLimits d db next (raw_lines all) → Bound script status → ScriptRuns opening t d ps n db next all a b left' status
-  ran_closed status of c moments ends prints limits bound = record {
+      → Prints a.said b.said (answers_text d db next (raw_lines all)) → KeepsLimits d db next (raw_lines all) → Bound script status → (status ≡ Limit (AuditFile 9999) → lack.closing script) → ScriptRuns opening t d ps n db next all a b left' status
+  ran_closed status of c moments ends prints limits bound lacks = record {
     lines = c.lines;
     front = c.front;
     events = script;
@@ -335,11 +355,11 @@ module _ (opening : ℕ) (t : Telling) (d : Described) (ps : List DescribedPoint
     whole_answers = λ unsaid. c.answers;
     whole = λ is. refl;
     within = λ is. limits;
-    limit = λ k is. closing_limit status of k is;
+    limit = λ k is. closing_limit status of lacks k is;
     input_cut = λ is. absurd (closing_input status of is);
     undamaged = λ f k is high. closing_damaged status of f k is;
   }
     where
-      closing_limit : (s : Status) → (s ≡ Ok) ⊎ IsOfClosing s → (k : LimitKind) → s ≡ Limit k → PassesScript k Leaves d db next (raw_lines all) c.lines script a.said b.said
-      closing_limit s (inl ok) k is = absurd (ok_not_limit k (sym ok ∙ is))
-      closing_limit s (inr of) k is = of_audit c.lines script k (subst IsOfClosing is of) (inr (refl, prints))
+      closing_limit : (s : Status) → (s ≡ Ok) ⊎ IsOfClosing s → (s ≡ Limit (AuditFile 9999) → lack.closing script) → (k : LimitKind) → s ≡ Limit k → PassesScript k Leaves lack d db next (raw_lines all) c.lines script a.said b.said
+      closing_limit s (inl ok) short k is = absurd (ok_not_limit k (sym ok ∙ is))
+      closing_limit s (inr of) short k is = of_audit c.lines script k (subst IsOfClosing is of) (λ last. inr (refl, prints, short (is ∙ of_last k last)))

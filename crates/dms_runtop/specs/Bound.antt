@@ -1,5 +1,5 @@
 -- How much audit a run takes.
-use Rattle.std.specs.Prelude.{ℕ, zero, suc, is_some, ◌≡◌, ◌⊎◌, ◌+◌, ◌*◌, ◌<◌, ◌≤◌, true, List, length, take}
+use Rattle.std.specs.Prelude.{ℕ, zero, suc, is_some, not, ◌≡◌, ◌⊎◌, ◌+◌, ◌*◌, ◌<◌, ◌≤◌, true, List, length, take}
 use Rattle.std.specs.declared.option.Option.{Option}
 use Rattle.dms_block.specs.Texts.{Prints, PrintsPrefix}
 use Rattle.dms_desc.specs.Shape.{Described}
@@ -13,7 +13,7 @@ use Rattle.dms_status.specs.declared.status.Status.TheVariants.{Ok, BadWords, Sc
 use Rattle.dms_storeverbs.specs.Costs.{limit_if}
 use Rattle.dms_history.specs.Entries.{Entry}
 use Rattle.dms_history.specs.EntryEvents.{history_of}
-use Rattle.dms_wal.specs.Controlled.{AddsControls}
+use Rattle.dms_wal.specs.Controlled.{AddsControls, AddsFew}
 use Rattle.dms_wal.specs.Growing.{controls_among}
 
 -- How many entries these events may make: one for each block that is changed, 64 of each structure for each record that may be stored; one for each
@@ -92,6 +92,17 @@ abbrev pub restores_ended : ℕ → List Entry → ℕ
 restores_ended zero entries = 0
 restores_ended (suc n) entries = one_if (is_some (history_of entries).pending)
 
+-- how many Begins an opening before it makes, where there was one: one where no restore is pending
+abbrev pub begins_made : ℕ → List Entry → ℕ
+begins_made zero entries = 0
+begins_made (suc n) entries = one_if (not (is_some (history_of entries).pending))
+
+-- At most so many Controls were appended besides these: those of a restore that an opening before ended, of the m-th syncpoints among these events, and
+-- of Begins that were appended; and of these at most one by that opening, and one by each way back.
+abbrev pub AddsFewBy : ℕ → ℕ → Telling → Described → List RunEvent → Files → Files → Type 0
+AddsFewBy more n t desc events then now =
+    AddsFew 0 (restores_ended n (t.entries then) + controls_among desc.controlpoint (syncs_of events) + more) 0 (begins_made n (t.entries then) + backs_of events) (t.entries then) (t.entries now)
+
 -- So much audit a run takes, whatever failed, where an opening before it took at most n entries.
 pub record BoundsAudit (n : ℕ) (t : Telling) (desc : Described) (events : List RunEvent) (then now : Files) (said said' : Option (List ℕ)) (status : Status) : Type 0 where
   -- at status 0 no more than all events make
@@ -99,6 +110,8 @@ pub record BoundsAudit (n : ℕ) (t : Telling) (desc : Described) (events : List
   -- at status 0 at least as many Controls were appended as there are m-th syncpoints, Begins that were appended, and restores that were pending and that
   -- an opening before ended, and one for the close
   pub controls : status ≡ Ok → AddsControls 0 (restores_ended n (t.entries then) + controls_among desc.controlpoint (syncs_of events) + 1) (t.entries then) (t.entries now)
+  -- and no more, with at most as many Begins as an opening before and the ways back make
+  pub few : status ≡ Ok → AddsFewBy 1 n t desc events then now
   -- where it stopped at a line, no more than the opening and the events of the lines before make, of a line too many to hold its first try, too
   pub at_line : StopsAtLine status → AuditGrew t (n + audit_of desc events) then now
   -- at each status no more than those make whose text was printed, and one call whose answer wasn't; at 10 the last answer may be cut off

@@ -13,20 +13,18 @@ use Rattle.dms_restore.specs.Logging.{entries, waits}
 use Rattle.dms_restore.specs.Views.{view_of}
 use Rattle.dms_site.specs.declared.site.Site.{Ghosts}
 use Rattle.dms_site.specs.Files.{Files}
-use Rattle.dms_status.specs.declared.status.LimitKind.TheVariants.{AuditFile}
 use Rattle.dms_status.specs.declared.status.Status.{Status}
-use Rattle.dms_status.specs.declared.status.Status.TheVariants.{DiskFault, Limit, Memory}
+use Rattle.dms_status.specs.declared.status.Status.TheVariants.{DiskFault, Memory}
 use Rattle.dms_wal.specs.declared.running.Running.{Running}
 use Rattle.dms_wal.specs.Following.{AppendsOldPoints}
 use Rattle.dms_runtop.specs.Command.{DatabaseState}
 use Rattle.dms_runtop.specs.Filling.{AreOpened, FillsTo}
 
--- The count of failed calls wasn't at its end, and the status is none of 5, 7 and 8 of audit file 9,999.
+-- The count of failed calls wasn't at its end, and the status is none of 5 and 7.
 pub record EndsPlain (failed : ℕ) (status : Status) : Type 0 where
   pub room : failed < 2 ^ 64 - 1
   pub not_disk : status ≡ DiskFault → ⊥
   pub not_memory : status ≡ Memory → ⊥
-  pub not_full : status ≡ Limit (AuditFile 9999) → ⊥
 
 -- nothing waits at the end of a trail
 pub record IsSealed (end : AuditEnd) : Type 0 where
@@ -34,7 +32,7 @@ pub record IsSealed (end : AuditEnd) : Type 0 where
   pub empty : end.used ≡ 0
 
 -- The trail has the entries of before and some behind them, of which each Control has the number of a quiet point or a Control that is live before it;
--- and of those behind the ones that were found, what stands behind audit file k is of restores, or at status 0 one control point.
+-- and of those behind the ones that were found, what stands behind audit file k is of restores, or of the control point that closes.
 pub record Appends (k total first : ℕ) (Found : List Entry → Type 0) (old : List Entry) (new : Files) (status : Status) : Type 0 where
   pub names : AppendsOldPoints old (trail_entries total first new)
   pub fills : FillsTo k total first Found new status
@@ -62,4 +60,4 @@ module _ {S : Type 0} (g : Ghosts S) where
   abbrev pub AppendsTold : Option DatabaseState → Status → S → S → Type 0
   AppendsTold state status old new =
       IsTrue g.tells → (s : DatabaseState) → state ≡ Some s → EndsPlain (g.disk_faults old) status → (total first : ℕ) → IsTrailFound total first (g.files old)
-      → Appends s.desc.files total first (AreOpened (trail_entries total first (g.files old))) (trail_entries total first (g.files old)) (g.files new) status
+      → Appends s.desc.files total first (AreOpened status (trail_entries total first (g.files old))) (trail_entries total first (g.files old)) (g.files new) status

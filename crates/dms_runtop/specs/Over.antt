@@ -1,5 +1,5 @@
 -- A run of a script over a database that was opened.
-use Rattle.std.specs.Prelude.{ℕ, ◌≡◌, ◌⊎◌, ◌+◌, ◌<◌, ◌^◌, List, [], ◌∷◌, ◌++◌, length, map, true, Some, None, IsTrue, if◌then◌else◌}
+use Rattle.std.specs.Prelude.{ℕ, zero, suc, ◌≡◌, ◌⊎◌, ◌+◌, ◌<◌, ◌^◌, List, [], ◌∷◌, ◌++◌, length, map, true, Some, None, IsTrue, if◌then◌else◌}
 use Rattle.std.specs.declared.option.Option.{Option}
 use Rattle.dms_moments.specs.Moments.{Clock, Runs}
 use Rattle.dms_block.specs.Held.{is_due}
@@ -10,6 +10,7 @@ use Rattle.dms_model.specs.Db.{Db}
 use Rattle.dms_model.specs.Session.{end_session}
 use Rattle.dms_site.specs.declared.site.Site.{Ghosts}
 use Rattle.dms_site.specs.Files.{Files, Left, Only}
+use Rattle.dms_opening.specs.Openings.{OpensShort}
 use Rattle.dms_running.specs.Telling.{Telling}
 use Rattle.dms_running.specs.Standing.{IsWhole}
 use Rattle.dms_running.specs.Points.{DescribedPoint, points_of, next_in}
@@ -20,7 +21,7 @@ use Rattle.dms_wal.specs.Closing.{LeavesUntil}
 use Rattle.dms_wal.specs.Database.{running_held}
 use Rattle.dms_wal.specs.Growing.{over_site}
 use Rattle.dms_wal.specs.Lifting.{lift_clock}
-use Rattle.dms_runtop.specs.Bound.{BoundsAudit}
+use Rattle.dms_runtop.specs.Bound.{AddsFewBy, BoundsAudit}
 use Rattle.dms_store.specs.Lifted.{point_of}
 use Rattle.dms_store.specs.Spelled.{database_in}
 use Rattle.dms_runner.specs.Answers.{answers_quiets, answers_text, left_by, script_events, script_run}
@@ -52,10 +53,27 @@ pub record FilesEndWith (t : Telling) (desc : Described) (n : ℕ) (db : Db) (ne
   pub next_is : next_in t s.files ≡ next
   pub only : Only s.files s.clock
 
--- Nothing was carried out and nothing printed, as at the opening; or the text of the whole script was, as before the close.
-abbrev pub IsAtEnds : Described → Db → ℕ → List (List ℕ) → List RunEvent → Option (List ℕ) → Option (List ℕ) → Type 0
-IsAtEnds desc db first lines events before after =
-    ((events ≡ []) × Prints before after []) ⊎ ((events ≡ script_events desc db first lines) × Prints before after (answers_text desc db first lines))
+-- what the trail lacks, where the audit had no room for an opening, or for a close behind these events
+pub record EndsLack : Type 1 where
+  pub opening : Type 0
+  pub closing : List RunEvent → Type 0
+
+-- an opening before it, where there was one, lacks an entry
+abbrev pub opening_lacks : ℕ → Files → Files → Type 0
+opening_lacks zero old new = ⊥
+opening_lacks (suc n) old new = OpensShort old new
+
+-- The trail lacks an entry of the opening; or, so that none is of the close, there are no more Controls than an opening before, the m-th syncpoints and
+-- the ways back make.
+abbrev pub ends_lack : ℕ → Telling → Described → Files → Files → EndsLack
+ends_lack n t desc old new = record { opening = opening_lacks n old new; closing = λ events. AddsFewBy 0 n t desc events old new }
+
+-- Nothing was carried out and nothing printed, as at the opening, and the trail lacks what that says; or the text of the whole script was, as before the
+-- close, and it lacks what that says.
+abbrev pub IsAtEnds : EndsLack → Described → Db → ℕ → List (List ℕ) → List RunEvent → Option (List ℕ) → Option (List ℕ) → Type 0
+IsAtEnds lack desc db first lines events before after =
+    ((events ≡ []) × Prints before after [] × lack.opening)
+    ⊎ ((events ≡ script_events desc db first lines) × Prints before after (answers_text desc db first lines) × lack.closing events)
 
 -- a sync behind these events of a run would be one at which a control point is due
 abbrev pub IsControlDue : Described → List RunEvent → Type 0
@@ -66,12 +84,12 @@ IsControlDue desc events = is_due desc.controlpoint (syncs_after 0 events) ≡ t
 -- to file FILES of the description for what a script changes: exactly the text before the call of a verb was printed that is done, and stores a record
 -- or makes a quiet point; and a stop leaves no quiet point of it, but where a control point was due at its syncpoint. It goes on up to file 9,999 for
 -- openings, ways back and closings: exactly the text before an ABORT that is done was printed, or before the way back at the script's end; or nothing
--- was carried out, or all that the script answers was printed.
-abbrev pub PassesScript : LimitKind → (List RunEvent → Type 0) → Described → Db → ℕ → List (List ℕ) → ℕ → List RunEvent → Option (List ℕ) → Option (List ℕ) → Type 0
-PassesScript (AuditFile f) Leaves desc db first lines n events before after = IsDue desc.files f Leaves (IsControlDue desc) before after events ⊎ ((f ≡ 9999) × IsAtEnds desc db first lines events before after)
-PassesScript Lines Leaves desc db first lines n events before after = PassesLines desc db first lines before after × AreExactly desc db first lines n events 1000000
-PassesScript Bytes Leaves desc db first lines n events before after = (p : PassesBytes desc db first lines before after) × AreExactly desc db first lines n events p.n
-PassesScript Held Leaves desc db first lines n events before after = (p : PassesWaiting desc db first lines before after) × AreExactly desc db first lines n events (p.n + 1)
+-- was carried out, and an entry of the opening is missing; or all that the script answers was printed, and no Control is there for the close.
+abbrev pub PassesScript : LimitKind → (List RunEvent → Type 0) → EndsLack → Described → Db → ℕ → List (List ℕ) → ℕ → List RunEvent → Option (List ℕ) → Option (List ℕ) → Type 0
+PassesScript (AuditFile f) Leaves lack desc db first lines n events before after = IsDue desc.files f Leaves (IsControlDue desc) before after events ⊎ ((f ≡ 9999) × IsAtEnds lack desc db first lines events before after)
+PassesScript Lines Leaves lack desc db first lines n events before after = PassesLines desc db first lines before after × AreExactly desc db first lines n events 1000000
+PassesScript Bytes Leaves lack desc db first lines n events before after = (p : PassesBytes desc db first lines before after) × AreExactly desc db first lines n events p.n
+PassesScript Held Leaves lack desc db first lines n events before after = (p : PassesWaiting desc db first lines before after) × AreExactly desc db first lines n events (p.n + 1)
 
 -- Taking from the input failed: what the whole lines that were taken answer was printed, and these are their events, so nothing else was done.
 abbrev pub CutsScript : Described → Db → ℕ → List ℕ → Option (List ℕ) → ℕ → List RunEvent → Option (List ℕ) → Option (List ℕ) → Type 0
@@ -109,7 +127,7 @@ pub record ScriptRuns (opening : ℕ) (t : Telling) (desc : Described) (ps : Lis
   pub within : status ≡ Ok → KeepsLimits desc db next (raw_lines all)
   -- at status 8 by the script it passes that limit, and none before
   pub limit : (k : LimitKind) → status ≡ Limit k
-      → PassesScript k (λ es. Runs a.clock b.clock (RunLeavesFiles t desc a.said ps n db next es)) desc db next (raw_lines all) lines events a.said b.said
+      → PassesScript k (λ es. Runs a.clock b.clock (RunLeavesFiles t desc a.said ps n db next es)) (ends_lack opening t desc a.files b.files) desc db next (raw_lines all) lines events a.said b.said
   -- at each status it took no more of the audit than an opening, what is answered, one call whose answer wasn't printed, and a close may take
   pub bound : BoundsAudit opening t desc events a.files b.files a.said b.said status
   -- at status 6 what the whole lines that were taken answer was printed, and nothing else was done

@@ -7,7 +7,7 @@ ghost use Rattle.dms_desc_bytes.specs.Spelling.{spelling};
 ghost use Rattle.dms_desc_bytes.specs.WellFormed.{IsWellFormed};
 ghost use Rattle.dms_limit.specs.Behind.{AddsNoneBehind};
 ghost use Rattle.dms_moments.specs.Moments.{Steps};
-ghost use Rattle.dms_opening.specs.Openings.{CanOpen, HasFullTrail, IsFullFault, IsNoRefusal, IsOpenable, MayHaveWritten, NamesStructures, OpeningGrows, OpensAt, RefusesFiles, ReopensSince, RunsWhere, StaysUnopened};
+ghost use Rattle.dms_opening.specs.Openings.{CanOpen, HasFullTrail, IsFullFault, IsNoRefusal, IsOpenable, MayHaveWritten, NamesStructures, OpeningGrows, OpensAt, OpensShort, RefusesFiles, ReopensSince, RunsWhere, StaysUnopened};
 ghost use Rattle.dms_runtop.specs.Adding.{AddsNoneAt, AddsNoneOpened, AddsNoneTold};
 ghost use Rattle.dms_runtop.specs.Command.{DatabaseState, HoldsTold, NeverRefuses, NeverRefusesState, EndsInState, GrowsOpened, StandsOpened, StandsThroughout, RunKeepsTrail, RunsCommand, RunsOpened, RefusesRun, OpensOrStays};
 ghost use Rattle.dms_runtop.specs.Describing.{IsUnderSchema};
@@ -324,6 +324,7 @@ fn open_limited<S: Site>(alloc: Global, site: S) -> Result<Opened<S>, (OpenFault
     ensures stopped { IfErr result (λ e. IsTrue S.tells → ReopensSince S.Site site e.1.site) }
     ensures refused { IfErr result (λ e. IsTrue S.tells → RefusesFiles (S.files site) e.0) }
     ensures full { IfErr result (λ e. IsTrue S.tells → IsFullFault e.0 → HasFullTrail (S.files site) (S.files e.1.site)) }
+    ensures short { IfErr result (λ e. IsTrue S.tells → IsFullFault e.0 → OpensShort (S.files site) (S.files e.1.site)) }
     ensures grows { IfOk result (λ o. IsTrue S.tells → OpeningGrows S.Site site o.log.site) }
     ensures grows_then { IfErr result (λ e. IsTrue S.tells → OpeningGrows S.Site site e.1.site) }
     ensures begun { IfErr result (λ e. IsTrue S.tells → CanOpen (S.files site) ⊎ StaysUnopened S.Site site e.1.site e.0) }

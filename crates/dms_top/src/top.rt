@@ -281,8 +281,9 @@ pub fn dms<S: Site, I: Source>(
     // of the state that is told: at each status but 5 and 7, where the count of failed calls of the disk wasn't at its end at entry, each block behind audit
     // file FILES of its description whose gate is 1 had that gate and that content at entry, or it holds no Image and no quiet point
     ensures run_behind { OnRun words.now (AddsNoneTold S.Site state result site.old site.new) }
-    // at each status but 5, 7 and 8 of 9,999, under the same premise: each Control that was appended has the number of a quiet point or a Control that is live before it,
-    // and of what was appended behind the opening, behind audit file FILES stand entries of restores alone, and at status 0, last, one control point
+    // at each status but 5 and 7, under the same premise: each Control that was appended has the number of a quiet point or a Control that is live before
+    // it, and of what was appended behind the opening, behind audit file FILES stand entries of restores alone, and last, at status 0 one control point, at
+    // 8 of 9,999 a front of one or nothing
     ensures run_points { OnRun words.now (AppendsTold S.Site state result site.old site.new) }
     // whatever the files stand for, at status 0 the input has no more lines and bytes than a script may have, status 8 of either comes only where it has
     // more of them, before it has too many of the other, and at status 6 taking failed behind so many whole lines, each with its line feed, and a part of the next one
@@ -293,8 +294,9 @@ pub fn dms<S: Site, I: Source>(
     // prefix of them were printed. No more was carried out than the first so many lines, which keep the limits of lines and bytes, or than the whole script
     // to its end; at 6, and 8 of lines or bytes, than the lines before, and at 8 of held lines than these and the first try of one more. At 8 of an audit
     // file the audit was to grow, and no stop leaves a quiet point of that verb but where a control point was due at its syncpoint; or nothing was carried
-    // out, or all that the script answers was printed. The trail has no more new entries than these may make, at each
-    // status: an opening, what was answered, one call whose answer wasn't printed, and a close
+    // out and the opening lacks an entry, or all that the script answers was printed and there are no more Controls than the opening, the m-th syncpoints
+    // and the ways back make. The trail has no more new entries than these may make, at each status: an opening, what was answered, one call whose answer
+    // wasn't printed, and a close
     ensures run { OnRun words.now (RunsCommand S.Site state site.old site.new (I.left input.old) (I.left input.new) result) }
     // and of its files, whatever the input is: at every moment a stop leaves their trail, with the same tag, and blocks behind it that hold an entry; the
     // audit files before it stay

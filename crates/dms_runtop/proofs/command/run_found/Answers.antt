@@ -68,7 +68,7 @@ returns-else-refused-gt0-clause-trail g c = keeps_refused g.S.Site c.args.site g
 
 pub returns-else-refused-gt0-clause-ran : goal.returns-else-refused-gt0-clause-ran
 returns-else-refused-gt0-clause-ran g c =
-    runs_refused g.S.Site c.args.site g.state c.states_law.ensures c.held_law.ensures.next c.requires.1.1 c.in-Err.fault c.in-Err.limited.site c.in-Err.ensures.complete c.in-Err.ensures.grows_then c.in-Err.ensures.stopped c.in-Err.ensures.said_then _ _ c.status_of_open.result c.status_of_open.ensures
+    runs_refused g.S.Site c.args.site g.state c.states_law.ensures c.held_law.ensures.next c.requires.1.1 c.in-Err.fault c.in-Err.limited.site c.in-Err.ensures.complete c.in-Err.ensures.short c.in-Err.ensures.grows_then c.in-Err.ensures.stopped c.in-Err.ensures.said_then _ _ c.status_of_open.result c.status_of_open.ensures
 
 pub returns-in-Ok-clause-full : goal.returns-in-Ok-clause-full
 returns-in-Ok-clause-full g c = full_entered g.S.Site c.args.site c.run_confirmed.result.site c.run_confirmed.result.status c.in-Ok.opened.log.end.total c.in-Ok.opened.log.first (λ tells. (c.in-Ok.ensures.opens tells).trail) c.run_confirmed.ensures.passes
@@ -99,7 +99,7 @@ pub returns-then-refused-gt0-clause-ran : goal.returns-then-refused-gt0-clause-r
 returns-then-refused-gt0-clause-ran g c =
     let counted = refused_counts (open_status c.in-Err.fault) (g.S.Site.disk_faults c.args.site) (g.S.Site.disk_faults c.in-Err.limited.site) c.in-Err.limited.refused c.in-Err.ensures.counted c.if-refused-gt0.true (counts_open c.in-Err.fault _ _ c.in-Err.ensures.disk) in
     command_instead g.S.Site g.state c.args.site c.in-Err.limited.site _ _ (open_status c.in-Err.fault) (refused_place (open_status c.in-Err.fault) counted.0)
-    (runs_refused g.S.Site c.args.site g.state c.states_law.ensures c.held_law.ensures.next c.requires.1.1 c.in-Err.fault c.in-Err.limited.site c.in-Err.ensures.complete c.in-Err.ensures.grows_then c.in-Err.ensures.stopped c.in-Err.ensures.said_then _ _ (open_status c.in-Err.fault) refl)
+    (runs_refused g.S.Site c.args.site g.state c.states_law.ensures c.held_law.ensures.next c.requires.1.1 c.in-Err.fault c.in-Err.limited.site c.in-Err.ensures.complete c.in-Err.ensures.short c.in-Err.ensures.grows_then c.in-Err.ensures.stopped c.in-Err.ensures.said_then _ _ (open_status c.in-Err.fault) refl)
 
 pub returns-then-refused-gt0-clause-trail : goal.returns-then-refused-gt0-clause-trail
 returns-then-refused-gt0-clause-trail g c = keeps_refused g.S.Site c.args.site g.state c.in-Err.limited.site c.in-Err.ensures.grows_then
@@ -115,7 +115,7 @@ returns-in-Ok-clause-appends g c =
     (told_description g.S.Site c.args.site g.state c.states_law.ensures c.requires.1.1 c.in-Ok.opened c.in-Ok.ensures.opens c.in-Ok.ensures.runs) c.run_confirmed.result.status c.run_confirmed.result.site c.run_confirmed.ensures.appends
 
 pub returns-else-refused-gt0-clause-appends : goal.returns-else-refused-gt0-clause-appends
-returns-else-refused-gt0-clause-appends g c = refused_names g.S.Site c.args.site g.state c.in-Err.fault c.status_of_open.result c.in-Err.limited.site c.status_of_open.ensures c.in-Err.ensures.files_then
+returns-else-refused-gt0-clause-appends g c = refused_names g.S.Site c.args.site g.state c.in-Err.fault c.status_of_open.result c.in-Err.limited.site c.status_of_open.ensures c.in-Err.ensures.files_then c.in-Err.ensures.short
 
 pub returns-then-refused-gt0-clause-appends : goal.returns-then-refused-gt0-clause-appends
 returns-then-refused-gt0-clause-appends g c = memory_told g.S.Site c.args.site g.state Memory c.in-Err.limited.site refl

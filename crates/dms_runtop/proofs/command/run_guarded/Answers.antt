@@ -55,8 +55,8 @@ returns-clause-adds g c = λ s is tells room disk memory.
 pub returns-clause-appends : goal.returns-clause-appends
 returns-clause-appends g c = λ tells s is ends total first found.
     let old = trail_entries total first (g.S.Site.files c.args.site) in
-    subst (λ x. Appends s.desc.files total first (AreOpened old) old (g.S.Site.files x.site) c.run_found-ended.result.status) (sym c.into_site-site.ensures)
-    (c.run_found-ended.ensures.appends tells s is (record { room = omega (arith, ends.room); not_disk = ends.not_disk; not_memory = ends.not_memory; not_full = ends.not_full }) total first found)
+    subst (λ x. Appends s.desc.files total first (AreOpened c.run_found-ended.result.status old) old (g.S.Site.files x.site) c.run_found-ended.result.status) (sym c.into_site-site.ensures)
+    (c.run_found-ended.ensures.appends tells s is (record { room = omega (arith, ends.room); not_disk = ends.not_disk; not_memory = ends.not_memory }) total first found)
 
 pub returns-then-refused-gt0-clause-appends : goal.returns-then-refused-gt0-clause-appends
 returns-then-refused-gt0-clause-appends g c = memory_told g.S.Site c.args.site g.state Memory c.into_site-site.result.site refl

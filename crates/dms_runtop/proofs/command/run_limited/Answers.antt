@@ -28,4 +28,4 @@ returns-then-refused-gt0-clause-appends g c = memory_names g.S.Site (as_describe
 pub returns-clause-appends : goal.returns-clause-appends
 returns-clause-appends g c =
     subst (λ x. AppendsOpened g.S.Site (as_described c.args.desc.now).files c.args.opened g.K.Knows.known c.run_described-ended.result.status x.site) (sym c.into_site-site.ensures)
-    (λ tells knows none ends. c.run_described-ended.ensures.appends tells knows none (record { room = omega (arith, ends.room); not_disk = ends.not_disk; not_memory = ends.not_memory; not_full = ends.not_full }))
+    (λ tells knows none ends. c.run_described-ended.ensures.appends tells knows none (record { room = omega (arith, ends.room); not_disk = ends.not_disk; not_memory = ends.not_memory }))

@@ -8,7 +8,7 @@ use Rattle.dms_runtop.proofs.Opened.{same_description}
 use Rattle.dms_runtop.proofs.Adding.{adds_looked, adds_undone}
 use Rattle.dms_runtop.proofs.Grows.{grows_looked, grows_none}
 use Rattle.dms_runtop.proofs.Inputs.{blames_undone}
-use Rattle.dms_runtop.proofs.Looked.{runs_looked, runs_undone, stands_looked, undone_description}
+use Rattle.dms_runtop.proofs.Looked.{description_room, runs_looked, runs_undone, stands_looked, undone_description}
 use Rattle.dms_runtop.proofs.Naming.{looked_names, undone_names}
 use Rattle.dms_runtop.proofs.command.run_opened.Goals as goal
 
@@ -27,6 +27,7 @@ pub returns-in-Err-clause-ran : goal.returns-in-Err-clause-ran
 returns-in-Err-clause-ran g c =
     runs_undone g.S.Site c.args.opened c.describe.new.site g.K.Knows.known (g.I.Source.left c.args.source.now) (g.I.Source.left c.args.source.now) c.status_of_description.result
     (undone_description c.in-Err.fault c.status_of_description.result c.status_of_description.ensures.disk.1 c.status_of_description.ensures.memory)
+    (description_room c.in-Err.fault c.status_of_description.result c.status_of_description.ensures.disk.1 c.status_of_description.ensures.memory)
     c.describe.ensures.files
     (λ P. runs_looking (g.met.S.Site.counts_now c.args.opened.log.site) c.describe.ensures.moments) c.describe.ensures.said
 

@@ -22,13 +22,12 @@ use Rattle.dms_storeverbs.specs.View.{engine_view}
 use Rattle.dms_wal.specs.Database.{running_held}
 use Rattle.dms_runner.proofs.Counting.{counted_law}
 use Rattle.dms_runner.specs.EventLaws.{AreCounted}
-use Rattle.dms_runtop.proofs.Bounds.{closed_bound, closes, failed_bound}
+use Rattle.dms_runtop.proofs.Bounds.{closed_bound, closes, closing_lacks, failed_bound}
 use Rattle.dms_runtop.proofs.Grows.{grows_left, grows_over}
 use Rattle.dms_restore.specs.Logging.{entries}
 use Rattle.dms_audfile.specs.TrailEntries.{trail_entries}
-use Rattle.dms_runtop.specs.Filling.{ClosesBehind}
+use Rattle.dms_runtop.specs.Filling.{ClosesBehind, ClosesOrStops}
 use Rattle.dms_wal.specs.Following.{AppendsOldPoints}
-use Rattle.dms_status.specs.declared.status.Status.TheVariants as status
 use Rattle.dms_runtop.proofs.Naming.{closed_names, left_names}
 use Rattle.dms_runtop.proofs.Inputs.{blames_closing, blames_script}
 use Rattle.dms_runtop.proofs.over.run_engine.Goals as goal
@@ -67,8 +66,13 @@ returns-in-Ok-clause-ran g c = λ total first ps n db all b left.
     c.in-Ok.ensures.lasts.sound.sound.unbroken
     (subst (λ (x : Running g.row.S.Denot). FilesGrew 18 (view_of g.S.Site x.log) (g.S.Site.files c.close_over.result.site)) c.running_under-running.ensures (c.close_over.ensures.closes.grown b.tells).few)
     (c.in-Ok.ensures.synced db r.next all stands b.room fed)
-    (λ ok. subst (λ (x : Running g.row.S.Denot). ClosesBehind (view_of g.S.Site x.log) (g.S.Site.files c.close_over.result.site)) c.running_under-running.ensures (c.close_over.ensures.closing b.tells ok))
+    (λ over. subst (λ (x : Running g.row.S.Denot). ClosesBehind c.close_over.result.status (view_of g.S.Site x.log) (g.S.Site.files c.close_over.result.site)) c.running_under-running.ensures (c.close_over.ensures.closing b.tells over))
     (c.in-Ok.ensures.prints db r.next all stands b.room fed))
+    (λ full. closing_lacks g.S.Site (as_described e.desc) r r' (telling_of total first) (λ i. telling_of (b.total_is i) (b.first_is i)) (λ i. telling_of ((pace.total ∙ b.total_is) i) ((pace.first ∙ b.first_is) i)) b.nothing b.every b.unused.0 b.unused.1 b.unused.2 b.tells c.in-Ok.ensures.lasts.same.2
+    (script_events (as_described e.desc) db r.next (raw_lines all)) (engine_view e) (engine_view e') refl refl refl refl e.under
+    (subst (λ (es : List RunEvent). (i : ℕ) → AreCounted (as_described e.desc) (take i es)) k.carried.whole (counted_law (as_described e.desc) e.formed db r.next (raw_lines all) k.carried.n k.carried.events k.carried.front k.carried.are)) (c.in-Ok.ensures.effort db r.next all stands b.room fed) (c.in-Ok.ensures.numbers db r.next all stands b.room fed) c.close_over.result.status (g.S.Site.files c.close_over.result.site)
+    c.in-Ok.ensures.lasts.sound.sound.unbroken (c.in-Ok.ensures.synced db r.next all stands b.room fed) full
+    (subst (λ (x : Running g.row.S.Denot). ClosesBehind c.close_over.result.status (view_of g.S.Site x.log) (g.S.Site.files c.close_over.result.site)) c.running_under-running.ensures (c.close_over.ensures.closing b.tells (inr full))))
 
 pub returns-in-Err-clause-ran : goal.returns-in-Err-clause-ran
 returns-in-Err-clause-ran g c = λ total first ps n db all b left.
@@ -168,8 +172,8 @@ returns-in-Ok-clause-appends g c =
     closed_names g.S.Site c.args.engine.store.over.below r' site c.close_over.result.status same.1 same.2
     (subst (λ (r : Running g.row.S.Denot). g.S.Site.disk_faults r.log.site ≤ g.S.Site.disk_faults site) c.running_under-running.ensures c.close_over.ensures.disk.later)
     (on_from _ _ _ _ (ap (λ (r : Running g.row.S.Denot). g.S.Site.disk_faults r.log.site) c.running_under-running.ensures ∙ ap (λ (f : Faults). f.disk) c.in-Ok.ensures.lasts.cause) c.close_over.ensures.disk) c.close_over.ensures.statuses
-    (subst (λ (r : Running g.row.S.Denot). IsTrue g.S.Site.tells → c.close_over.result.status ≡ status.Ok → AppendsOldPoints (entries (view_of g.S.Site r.log)) (trail_entries r.log.end.total r.log.first (g.S.Site.files site))) c.running_under-running.ensures c.close_over.ensures.appends)
-    (subst (λ (r : Running g.row.S.Denot). IsTrue g.S.Site.tells → c.close_over.result.status ≡ status.Ok → ClosesBehind (view_of g.S.Site r.log) (g.S.Site.files site)) c.running_under-running.ensures c.close_over.ensures.closing)
+    (subst (λ (r : Running g.row.S.Denot). IsTrue g.S.Site.tells → ClosesOrStops c.close_over.result.status → AppendsOldPoints (entries (view_of g.S.Site r.log)) (trail_entries r.log.end.total r.log.first (g.S.Site.files site))) c.running_under-running.ensures c.close_over.ensures.appends)
+    (subst (λ (r : Running g.row.S.Denot). IsTrue g.S.Site.tells → ClosesOrStops c.close_over.result.status → ClosesBehind c.close_over.result.status (view_of g.S.Site r.log) (g.S.Site.files site)) c.running_under-running.ensures c.close_over.ensures.closing)
 
 pub returns-in-Err-clause-appends : goal.returns-in-Err-clause-appends
 returns-in-Err-clause-appends g c =
