@@ -179,12 +179,7 @@ pub record LogsWrite (a b : LogView) : Type 0 where
   pub content_same : content b ≡ content a
   pub durable_same : durable b ≡ durable a
 
--- The first so many of these entries were logged, and nothing else.
-pub record LogsPart (a b : LogView) (es : List Entry) : Type 0 where
-  pub some : ℕ
-  pub entries_are : entries b ≡ entries a ++ take some es
-
--- So it is, and not all of them were.
+-- The first so many of these entries were logged, and nothing else, and not all of them.
 pub record LogsShort (a b : LogView) (es : List Entry) : Type 0 where
   pub some : ℕ
   pub lacks : some < length es

@@ -28,10 +28,10 @@ use Rattle.dms_wal.specs.Controlled.{AddsControls, AddsFew, begins_in, controls_
 use Rattle.dms_wal.specs.Growing.{GrowsBy, IsCounted, controls_among}
 use Rattle.dms_audrec.specs.Bodies.{bodies}
 use Rattle.dms_restore.specs.Counts.{file_counts}
-use Rattle.dms_wal.proofs.Counted.{adds_control, begins_append, control_begins, control_controls, controls_append}
+use Rattle.dms_wal.proofs.Counted.{begins_append, control_begins, control_controls, controls_append}
 use Rattle.dms_wal.proofs.Grown.{controls_low}
-use Rattle.dms_runtop.specs.Bound.{AddsFewBy, BoundsAudit, GrewWithin, PrintsEvents, StopsAtLine, audit_begun, audit_of, begins_made, closing_of, restores_ended}
-use Rattle.dms_runtop.specs.Filling.{ClosesBehind, ClosesOrStops, IsControlPart, IsControlPoint, IsFullAtLast}
+use Rattle.dms_runtop.specs.Bound.{BoundsAudit, CountsControls, GrewWithin, PrintsEvents, StopsAtLine, audit_begun, audit_of, begins_allowed, closing_of, restores_ended}
+use Rattle.dms_runtop.specs.Filling.{ClosesBehind, ClosesOrFallsShort, IsControlPart, IsControlPoint, EndsFullAtLast}
 use Rattle.dms_runtop.specs.Faults.{IsWithin, run_status}
 use Rattle.dms_runtop.specs.Statuses.{IsOfClosing}
 use Rattle.dms_runtop.proofs.Partly.{part_begins, part_controls}
@@ -116,16 +116,19 @@ grew_since : (n m : ℕ) (t : Telling) (desc : Described) (whole k : ℕ) (event
 grew_since n m t desc whole k events a0 a b grew (inl all) = inl (omega (arith, grew, all))
 grew_since n m t desc whole k events a0 a b grew (inr more) = inr (more.0, omega (arith, grew, more.1))
 
-pub few_since : (more n m : ℕ) (t : Telling) (desc : Described) (events : List RunEvent) (a0 a b : Files) → AddsFew (restores_ended n (t.entries a)) (restores_ended m (t.entries a0)) (begins_made n (t.entries a)) (begins_made m (t.entries a0)) (t.entries a0) (t.entries a)
-    → AddsFewBy more n t desc events a b → AddsFewBy more m t desc events a0 b
-few_since more n m t desc events a0 a b before since = record { controls = omega (arith, before.controls, since.controls); begins = omega (arith, before.begins, since.begins) }
+pub counts_since : (more n m : ℕ) (t : Telling) (desc : Described) (events : List RunEvent) (a0 a b : Files) → AddsControls (restores_ended n (t.entries a)) (restores_ended m (t.entries a0)) (t.entries a0) (t.entries a)
+    → AddsFew (restores_ended n (t.entries a)) (restores_ended m (t.entries a0)) (begins_allowed n (t.entries a)) (begins_allowed m (t.entries a0)) (t.entries a0) (t.entries a)
+    → CountsControls more n t desc events a b → CountsControls more m t desc events a0 b
+counts_since more n m t desc events a0 a b ended few since = record {
+  least = omega (arith, ended, since.least);
+  most = record { controls = omega (arith, few.controls, since.most.controls); begins = omega (arith, few.begins, since.most.begins) };
+}
 
 pub bounds_since : {n m : ℕ} {t : Telling} {desc : Described} {events : List RunEvent} {a0 a b : Files} {x y : Option (List ℕ)} {s : Status} → length (t.entries a) + n ≤ length (t.entries a0) + m → AddsControls (restores_ended n (t.entries a)) (restores_ended m (t.entries a0)) (t.entries a0) (t.entries a)
-    → AddsFew (restores_ended n (t.entries a)) (restores_ended m (t.entries a0)) (begins_made n (t.entries a)) (begins_made m (t.entries a0)) (t.entries a0) (t.entries a) → BoundsAudit n t desc events a b x y s → BoundsAudit m t desc events a0 b x y s
+    → AddsFew (restores_ended n (t.entries a)) (restores_ended m (t.entries a0)) (begins_allowed n (t.entries a)) (begins_allowed m (t.entries a0)) (t.entries a0) (t.entries a) → BoundsAudit n t desc events a b x y s → BoundsAudit m t desc events a0 b x y s
 bounds_since {n} {m} {t} {desc} {events} {a0} {a} {b} {s = s} grew ended few bound = record {
   at_ok = λ is. omega (arith, grew, bound.at_ok is);
-  controls = λ is. omega (arith, ended, bound.controls is);
-  few = λ is. few_since 1 n m t desc events a0 a b few (bound.few is);
+  controls = λ is. counts_since 1 n m t desc events a0 a b ended few (bound.controls is);
   at_line = λ at. omega (arith, grew, bound.at_line at);
   at_end =
       let p = bound.at_end in
@@ -140,7 +143,6 @@ unfolding says_same says_uncut
 bounds_instead {n} {t} {desc} {events} {a} {b} {x = x} s0 s unsaid not_ok closing not_line files said bound = record {
   at_ok = λ is. absurd (not_ok is);
   controls = λ is. absurd (not_ok is);
-  few = λ is. absurd (not_ok is);
   at_line = λ at. absurd (not_line at);
   at_end =
       let q = bound.at_end in
@@ -159,7 +161,6 @@ pub bounds_opening : {n : ℕ} {t : Telling} {desc : Described} {events : List R
 bounds_opening {events = events} {x = x} {y = y} s not_ok few same = record {
   at_ok = λ is. absurd (not_ok is);
   controls = λ is. absurd (not_ok is);
-  few = λ is. absurd (not_ok is);
   at_line = λ at. omega (arith, few);
   at_end = record { k = 0; within = omega arith; printed = says_none (s ≡ SayFault) events x y same; grew = inl (omega (arith, few)) };
 }
@@ -200,22 +201,30 @@ syncs_all n (e ∷ es) low = by (is_some e.sync) (λ m less. syncs_all m es less
     by true more less = let up : one_more n ≡ n + 1 = omega (arith, less) in ap (λ k. syncs_after k es) up ∙ more (n + 1) (omega (arith, less)) ∙ omega arith
     by false more less = more n (omega (arith, less)) ∙ omega arith
 
--- one control point more, and no more than one
-control_point_few : (es closing : List Entry) → IsControlPoint closing → AddsFew 0 1 0 0 es (es ++ closing)
-control_point_few es closing is =
+-- so many Controls exactly
+record AddsExactly (more : ℕ) (old new : List Entry) : Type 0 where
+  least : AddsControls 0 more old new
+  most : AddsFew 0 more 0 0 old new
+
+-- one control point more
+control_point_adds : (es closing : List Entry) → IsControlPoint closing → AddsExactly 1 es (es ++ closing)
+control_point_adds es closing is =
     let one : controls_in closing ≡ 1 = ap controls_in is.is ∙ control_controls (bodies is.schema) is.point is.next (file_counts 30001 is.counts) in
     let none : begins_in closing ≡ 0 = ap begins_in is.is ∙ control_begins (bodies is.schema) is.point is.next (file_counts 30001 is.counts) in
-    record { controls = omega (arith, controls_append es closing, begins_append es closing, one, none); begins = omega (arith, begins_append es closing, none) }
+    record {
+      least = omega (arith, controls_append es closing, begins_append es closing, one, none);
+      most = record { controls = omega (arith, controls_append es closing, begins_append es closing, one, none); begins = omega (arith, begins_append es closing, none) };
+    }
 
 -- and of a front of one none
-control_part_few : (es closing : List Entry) → IsControlPart closing → AddsFew 0 0 0 0 es (es ++ closing)
-control_part_few es closing is = record {
-  controls = omega (arith, controls_append es closing, begins_append es closing, part_controls closing is, part_begins closing is);
-  begins = omega (arith, begins_append es closing, part_begins closing is);
-}
-
-control_point_adds : (es closing : List Entry) → IsControlPoint closing → AddsControls 0 1 es (es ++ closing)
-control_point_adds es closing is = adds_control 0 1 es (es ++ closing) (bodies is.schema) is.point is.next (file_counts 30001 is.counts) refl (ap (λ (l : List Entry). es ++ l) is.is)
+control_part_adds : (es closing : List Entry) → IsControlPart closing → AddsExactly 0 es (es ++ closing)
+control_part_adds es closing is =
+    let none : controls_in closing ≡ 0 = part_controls closing is in
+    let nor : begins_in closing ≡ 0 = part_begins closing is in
+    record {
+      least = omega (arith, controls_append es closing, begins_append es closing, none, nor);
+      most = record { controls = omega (arith, controls_append es closing, begins_append es closing, none, nor); begins = omega (arith, begins_append es closing, nor) };
+    }
 
 -- ---- a run over a running database
 
@@ -302,7 +311,6 @@ module _ {S : Type 0} (g : Ghosts S) (d : Described) (r r' : Running S) (t : Tel
     failed_bound last fault then within part took = record {
       at_ok = λ is. absurd (run_not_ok then is);
       controls = λ is. absurd (run_not_ok then is);
-      few = λ is. absurd (run_not_ok then is);
       at_line = λ at. omega (arith, files_all events (took at) all_counted);
       at_end = record {
         k = part.k;
@@ -332,42 +340,36 @@ module _ {S : Type 0} (g : Ghosts S) (d : Described) (r r' : Running S) (t : Tel
       now_entries : (status : Status) (files : Files) (closed : ClosesBehind status (view_of g r'.log) files) → t.entries files ≡ entries (view_of g r'.log) ++ closed.closing
       now_entries status files closed = ap (λ (k : Telling). k.entries files) (sym told') ∙ closed.are
 
-      -- the control points that were made, and the one that closes
-      all_controls : (status : Status) (files : Files) → status ≡ Ok → r'.broken ≡ false → new.effort.syncs ≡ syncs_after old.effort.syncs events → ClosesBehind status (view_of g r'.log) files → AddsControls 0 (controls_among d.controlpoint (syncs_of events) + 1) (t.entries (g.files r.log.site)) (t.entries files)
-      all_controls status files ok unbroken synced closed =
+      -- the control points that were made, and so many by the close
+      counts_controls : (more : ℕ) (status : Status) (files : Files) → r'.broken ≡ false → new.effort.syncs ≡ syncs_after old.effort.syncs events → (closed : ClosesBehind status (view_of g r'.log) files) → AddsExactly more (entries (view_of g r'.log)) (entries (view_of g r'.log) ++ closed.closing)
+          → CountsControls more 0 t d events (g.files r.log.site) files
+      counts_controls more status files unbroken synced closed adds =
           let due = all_due synced in
           let none = none_due in
           let made = grows.controls tells unbroken all_used in
-          let one = control_point_adds (entries (view_of g r'.log)) closed.closing (closed.closes.whole ok) in
-          subst (λ (es : List Entry). AddsControls 0 (controls_among d.controlpoint (syncs_of events) + 1) es (t.entries files)) then_entries
-          (subst (λ (es : List Entry). AddsControls 0 (controls_among d.controlpoint (syncs_of events) + 1) (entries (view_of g r.log)) es) (sym (now_entries status files closed)) (omega (arith, due, none, made, one)))
-
-      -- and no more, where the close added so many at most
-      few_controls : (more : ℕ) (status : Status) (files : Files) → r'.broken ≡ false → new.effort.syncs ≡ syncs_after old.effort.syncs events → (closed : ClosesBehind status (view_of g r'.log) files) → AddsFew 0 more 0 0 (entries (view_of g r'.log)) (entries (view_of g r'.log) ++ closed.closing)
-          → AddsFewBy more 0 t d events (g.files r.log.site) files
-      few_controls more status files unbroken synced closed adds =
-          let due = all_due synced in
-          let none = none_due in
-          let made = grows.few tells (inl unbroken) all_used in
+          let few = grows.few tells (inl unbroken) all_used in
           let backs : r'.outs ≤ backs_of events = omega (arith, takes.outs, outs_now, outs_then) in
-          subst (λ (es : List Entry). AddsFew 0 (0 + controls_among d.controlpoint (syncs_of events) + more) 0 (0 + backs_of events) es (t.entries files)) then_entries
-          (subst (λ (es : List Entry). AddsFew 0 (0 + controls_among d.controlpoint (syncs_of events) + more) 0 (0 + backs_of events) (entries (view_of g r.log)) es) (sym (now_entries status files closed))
-          (record { controls = omega (arith, due, none, made.controls, adds.controls); begins = omega (arith, made.begins, adds.begins, outs, backs) }))
+          let all = 0 + controls_among d.controlpoint (syncs_of events) + more in
+          record {
+            least = subst (λ (es : List Entry). AddsControls 0 all es (t.entries files)) then_entries
+                (subst (λ (es : List Entry). AddsControls 0 all (entries (view_of g r.log)) es) (sym (now_entries status files closed)) (omega (arith, due, none, made, adds.least)));
+            most = subst (λ (es : List Entry). AddsFew 0 all 0 (0 + backs_of events) es (t.entries files)) then_entries
+                (subst (λ (es : List Entry). AddsFew 0 all 0 (0 + backs_of events) (entries (view_of g r.log)) es) (sym (now_entries status files closed))
+                (record { controls = omega (arith, due, none, few.controls, adds.most.controls); begins = omega (arith, few.begins, adds.most.begins, outs, backs) }));
+          }
 
-      -- the close had no room: its Control is missing
-      pub closing_lacks : (status : Status) (files : Files) → r'.broken ≡ false → new.effort.syncs ≡ syncs_after old.effort.syncs events → IsFullAtLast status → ClosesBehind status (view_of g r'.log) files → AddsFewBy 0 0 t d events (g.files r.log.site) files
-      closing_lacks status files unbroken synced full closed = few_controls 0 status files unbroken synced closed (control_part_few (entries (view_of g r'.log)) closed.closing (closed.closes.part full))
+      -- the close had no room: one Control is missing
+      pub closing_lacks : (status : Status) (files : Files) → r'.broken ≡ false → new.effort.syncs ≡ syncs_after old.effort.syncs events → EndsFullAtLast status → ClosesBehind status (view_of g r'.log) files → CountsControls 0 0 t d events (g.files r.log.site) files
+      closing_lacks status files unbroken synced full closed = counts_controls 0 status files unbroken synced closed (control_part_adds (entries (view_of g r'.log)) closed.closing (closed.closes.part full))
 
       -- all events happened, and so many entries the files have then
       all_bound : (status : Status) (files : Files) (said : Option (List ℕ)) → closing_of status ≡ 18 → Prints old.said said (text_of events) → length (t.entries files) ≤ length (t.entries (g.files r.log.site)) + audit_of d events + 18
-          → (status ≡ Ok → AddsControls 0 (controls_among d.controlpoint (syncs_of events) + 1) (t.entries (g.files r.log.site)) (t.entries files)) → (status ≡ Ok → AddsFewBy 1 0 t d events (g.files r.log.site) files)
-          → BoundsAudit 0 t d events (g.files r.log.site) files old.said said status
-      all_bound status files said closing text few controls not_more =
+          → (status ≡ Ok → CountsControls 1 0 t d events (g.files r.log.site) files) → BoundsAudit 0 t d events (g.files r.log.site) files old.said said status
+      all_bound status files said closing text few controls =
           let all : take (length events) events ≡ events = take_all (length events) events (omega arith) in
           record {
             at_ok = λ is. omega (arith, few);
-            controls = λ ok. omega (arith, controls ok);
-            few = not_more;
+            controls = controls;
             at_line = λ at. absurd (closes_not status closing at);
             at_end = record {
               k = length events;
@@ -378,9 +380,8 @@ module _ {S : Type 0} (g : Ghosts S) (d : Described) (r r' : Running S) (t : Tel
           }
 
       -- the script was carried out, and then the database closed, or not closed
-      pub closed_bound : (status : Status) (files : Files) (said : Option (List ℕ)) → closing_of status ≡ 18 → r'.broken ≡ false → FilesGrew 18 (view_of g r'.log) files → new.effort.syncs ≡ syncs_after old.effort.syncs events → (ClosesOrStops status → ClosesBehind status (view_of g r'.log) files) → Prints old.said said (text_of events) → BoundsAudit 0 t d events (g.files r.log.site) files old.said said status
+      pub closed_bound : (status : Status) (files : Files) (said : Option (List ℕ)) → closing_of status ≡ 18 → r'.broken ≡ false → FilesGrew 18 (view_of g r'.log) files → new.effort.syncs ≡ syncs_after old.effort.syncs events → (ClosesOrFallsShort status → ClosesBehind status (view_of g r'.log) files) → Prints old.said said (text_of events) → BoundsAudit 0 t d events (g.files r.log.site) files old.said said status
       closed_bound status files said is_closing unbroken few synced closes text =
           let closing : length (t.entries files) ≤ length (entries (view_of g r'.log)) + 18 = subst (λ (k : Telling). length (k.entries files) ≤ length (entries (view_of g r'.log)) + 18) told' few in
           all_bound status files said is_closing text (omega (arith, closing, log_all events unbroken takes (omega (arith, numbers)) all_counted))
-          (λ ok. all_controls status files ok unbroken synced (closes (inl ok)))
-          (λ ok. let closed = closes (inl ok) in few_controls 1 status files unbroken synced closed (control_point_few (entries (view_of g r'.log)) closed.closing (closed.closes.whole ok)))
+          (λ ok. let closed = closes (inl ok) in counts_controls 1 status files unbroken synced closed (control_point_adds (entries (view_of g r'.log)) closed.closing (closed.closes.whole ok)))

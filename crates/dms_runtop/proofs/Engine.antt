@@ -41,7 +41,7 @@ use Rattle.dms_run.specs.Stops.{RunLeaves, last_quiet_number}
 use Rattle.dms_status.specs.declared.status.Status.{Status}
 use Rattle.dms_status.specs.declared.status.LimitKind.TheVariants.{AuditFile}
 use Rattle.dms_status.specs.declared.status.Status.TheVariants.{Limit, Ok, Memory}
-use Rattle.dms_runtop.specs.Bound.{AddsFewBy, BoundsAudit}
+use Rattle.dms_runtop.specs.Bound.{CountsControls, BoundsAudit}
 use Rattle.dms_runtop.specs.Faults.{IsWithin, run_status}
 use Rattle.dms_runtop.proofs.Bounds.{bounds_none, full_not_say}
 use Rattle.dms_runtop.proofs.Endings.{memory_not_full}
@@ -226,7 +226,7 @@ module _ {S : Type 0} (g : Ghosts S) (d e e' : Described) (r r' : Running S) (sa
       → EndsWith (map (point_of e') (running_held g r').points) (last_quiet_number n (quiets_of script)) (last_quiet db (quiets_of script))
       → Prints entry (said_of g r'.log) (answers_text d db r.next (raw_lines all))
       → KeepsLimits d db r.next (raw_lines all) → r'.next ≡ (end_session (script_run d db r.next (raw_lines all)).going.session).next
-      → BoundsAudit 0 t d script (g.files r.log.site) (g.files site) entry (said_of g r'.log) status → (status ≡ Limit (AuditFile 9999) → AddsFewBy 0 0 t d script (g.files r.log.site) (g.files site))
+      → BoundsAudit 0 t d script (g.files r.log.site) (g.files site) entry (said_of g r'.log) status → (status ≡ Limit (AuditFile 9999) → CountsControls 0 0 t d script (g.files r.log.site) (g.files site))
       → ScriptRuns 0 t d ps n db r.next all (seen_site g r.log.site) (seen_site g site) left' status
   closed_over left' status site of closes said carried leaves behind ends prints limits next_is bound lacks =
       let text : (seen_site g site).said ≡ said_of g r'.log = told_text g.tells_said (g.said site) (g.said r'.log.site) said in

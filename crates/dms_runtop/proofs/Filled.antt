@@ -19,7 +19,7 @@ use Rattle.dms_site.specs.Files.{Files, Left}
 use Rattle.dms_status.specs.declared.status.Status.{Status}
 use Rattle.dms_status.specs.declared.status.Status.TheVariants.{Ok}
 use Rattle.dms_wal.specs.Filling.{FillsWithin, GoesBehind, WritesTrail}
-use Rattle.dms_runtop.specs.Filling.{AreOpened, ClosesBehind, ClosesOrStops, FillsTo, IsFullAtLast}
+use Rattle.dms_runtop.specs.Filling.{MayHaveOpening, ClosesBehind, ClosesOrFallsShort, FillsTo, EndsFullAtLast}
 use Rattle.dms_runtop.proofs.Partly.{part_none}
 
 -- a trail's end that is not within stands behind the file
@@ -58,7 +58,7 @@ fills_all k v Found status fault w waits is = record {
   are = sym (append-nil (trail_entries v.end.total v.first v.files));
   restores = tt;
   closes = λ ok. absurd (fault ok);
-  stops = λ full. part_none;
+  falls_short = λ full. part_none;
   unclosed = λ none on. refl;
   within = inl (all_within k v w waits is);
 }
@@ -72,7 +72,7 @@ fills_found k total first Found new status fault found = record {
   are = sym (append-nil (trail_entries total first new));
   restores = tt;
   closes = λ ok. absurd (fault ok);
-  stops = λ full. part_none;
+  falls_short = λ full. part_none;
   unclosed = λ none on. refl;
   within = inr found;
 }
@@ -86,7 +86,7 @@ fills_behind k a b status fault total first none behind = record {
   are = sym (λ i. trail_entries (total i) (first i) b.files) ∙ sym (append-nil (trail_entries b.end.total b.first b.files)) ∙ sym (λ i. trail_entries b.end.total b.first b.files ++ none i) ∙ behind.are ∙ ap (λ (l : List Entry). behind.upto ++ l) (sym (append-nil behind.more));
   restores = behind.restores;
   closes = λ ok. absurd (fault ok);
-  stops = λ full. part_none;
+  falls_short = λ full. part_none;
   unclosed = λ no on. refl;
   within = elim behind.within [
     | inl stand ↦ inl stand
@@ -107,10 +107,10 @@ fills_left k a b status fault total first empty writes fills =
     ]
 
 -- one that is closed
-pub fills_closed : (k : ℕ) (a b : LogView) (new : Files) (status : Status) → ClosesOrStops status → b.end.total ≡ a.end.total → b.first ≡ a.first → a.end.used ≡ 0 → FillsWithin k a b → ClosesBehind status b new → FillsTo k a.end.total a.first (λ es. es ≡ entries a) new status
+pub fills_closed : (k : ℕ) (a b : LogView) (new : Files) (status : Status) → ClosesOrFallsShort status → b.end.total ≡ a.end.total → b.first ≡ a.first → a.end.used ≡ 0 → FillsWithin k a b → ClosesBehind status b new → FillsTo k a.end.total a.first (λ es. es ≡ entries a) new status
 fills_closed k a b new status over total first empty fills closes =
     let f = fills (λ some. absurd (omega (arith, empty, some))) in
-    let neither : (status ≡ Ok → ⊥) → (IsFullAtLast status → ⊥) → closes.closing ≡ [] = (λ no on. absurd (elim over [ inl ok ↦ no ok | inr full ↦ on full ])) in
+    let neither : (status ≡ Ok → ⊥) → (EndsFullAtLast status → ⊥) → closes.closing ≡ [] = (λ no on. absurd (elim over [ inl ok ↦ no ok | inr full ↦ on full ])) in
     let trail : trail_entries a.end.total a.first new ≡ trail_entries b.end.total b.first new = sym (λ i. trail_entries (total i) (first i) new) in
     elim (cases_Bool (ends_within k b.end)) [
       | inl within ↦ record {
@@ -120,7 +120,7 @@ fills_closed k a b new status over total first empty fills closes =
         are = trail ∙ closes.are;
         restores = tt;
         closes = closes.closes.whole;
-        stops = closes.closes.part;
+        falls_short = closes.closes.part;
         unclosed = neither;
         within = inl (subst (λ n. StandWithin k n a.first (length (entries b)) new) total (subst (λ n. StandWithin k b.end.total n (length (entries b)) new) first (first_within k b.end b.first (entries b) new closes.first f.0 within)));
       }
@@ -133,7 +133,7 @@ fills_closed k a b new status over total first empty fills closes =
           are = trail ∙ closes.are ∙ ap (λ (l : List Entry). l ++ closes.closing) behind.are ∙ append_assoc behind.upto behind.more closes.closing;
           restores = behind.restores;
           closes = closes.closes.whole;
-          stops = closes.closes.part;
+          falls_short = closes.closes.part;
           unclosed = neither;
           within = elim behind.within [
             | inl stand ↦ inl (within_on k a.end.total a.first (length behind.upto) b.files new (subst (λ n. Grown n a.first b.files new) total (subst (λ n. Grown b.end.total n b.files new) first closes.grown)) stand)
@@ -144,7 +144,7 @@ fills_closed k a b new status over total first empty fills closes =
     ]
 
 -- from the opening on
-pub fills_opened : (k total first : ℕ) (old found : List Entry) (new : Files) (status : Status) → AreOpened status old found → FillsTo k total first (λ es. es ≡ found) new status → FillsTo k total first (AreOpened status old) new status
+pub fills_opened : (k total first : ℕ) (old found : List Entry) (new : Files) (status : Status) → MayHaveOpening status old found → FillsTo k total first (λ es. es ≡ found) new status → FillsTo k total first (MayHaveOpening status old) new status
 fills_opened k total first old found new status are fills = record {
   upto = fills.upto;
   more = fills.more;
@@ -152,10 +152,10 @@ fills_opened k total first old found new status are fills = record {
   are = fills.are;
   restores = fills.restores;
   closes = fills.closes;
-  stops = fills.stops;
+  falls_short = fills.falls_short;
   unclosed = fills.unclosed;
-  within = elim fills.within as (λ _. StandWithin k total first (length fills.upto) new ⊎ AreOpened status old fills.upto) [
+  within = elim fills.within as (λ _. StandWithin k total first (length fills.upto) new ⊎ MayHaveOpening status old fills.upto) [
     | inl stand ↦ inl stand
-    | inr same ↦ inr (subst (λ (l : List Entry). AreOpened status old l) (sym same) are)
+    | inr same ↦ inr (subst (λ (l : List Entry). MayHaveOpening status old l) (sym same) are)
   ];
 }

@@ -18,7 +18,7 @@ use Rattle.dms_status.specs.declared.status.LimitKind.{LimitKind}
 use Rattle.dms_status.specs.declared.status.LimitKind.TheVariants.{AuditFile}
 use Rattle.dms_status.specs.declared.status.Status.{Status}
 use Rattle.dms_status.specs.declared.status.Status.TheVariants.{Ok, Limit, DiskFault, InputFault, Damaged, Memory, SayFault}
-use Rattle.dms_runtop.specs.Bound.{AddsFewBy, closing_of}
+use Rattle.dms_runtop.specs.Bound.{CountsControls, closing_of}
 use Rattle.dms_runtop.specs.Command.{DatabaseState, RunsCommand, RunsOpened}
 use Rattle.dms_runtop.specs.Full.{IsOfFull}
 use Rattle.dms_runtop.specs.Over.{PassesScript, ScriptRuns, SiteSeen, ends_lack, opening_lacks, seen_site}
@@ -87,7 +87,7 @@ ran_instead opening t d ps n db next all a b c left' s then place moments same f
   limit = λ k is.
       let Stops : Clock Left → List RunEvent → Type 0 = λ later es. Runs a.clock later (RunLeavesFiles t d a.said ps n db next es) in
       passes_moved (Stops b.clock) (Stops c.clock) (ends_lack opening t d a.files b.files) (ends_lack opening t d a.files c.files) k d db next (raw_lines all) r.lines r.events a.said c.said (λ es l. runs_on l (moments es) (λ x y. y))
-      (subst (λ (f : Files). opening_lacks opening a.files f) (sym files)) (λ es. subst (λ (f : Files). AddsFewBy 0 opening t d es a.files f) (sym files))
+      (subst (λ (f : Files). opening_lacks opening a.files f) (sym files)) (λ es. subst (λ (f : Files). CountsControls 0 opening t d es a.files f) (sym files))
       (subst (λ (x : Option (List ℕ)). PassesScript k (Stops b.clock) (ends_lack opening t d a.files b.files) d db next (raw_lines all) r.lines r.events a.said x) (sym same) (r.limit k (place.limits k is)));
   input_cut = λ is. absurd (place.not_input is);
   undamaged = λ f k is high. place.undamaged f k is;

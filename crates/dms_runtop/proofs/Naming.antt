@@ -45,7 +45,7 @@ use Rattle.dms_runtop.proofs.Refused.{full_or_not, open_ok}
 use Rattle.dms_runtop.specs.Command.{DatabaseState, HoldsState, HoldsTold, StatesHold}
 use Rattle.dms_runtop.specs.Faults.{open_status}
 use Rattle.dms_runtop.specs.Full.{IsOfFull}
-use Rattle.dms_runtop.specs.Filling.{AreOpened, ClosesBehind, ClosesOrStops, IsFullAtLast}
+use Rattle.dms_runtop.specs.Filling.{MayHaveOpening, ClosesBehind, ClosesOrFallsShort, EndsFullAtLast}
 use Rattle.dms_runtop.specs.Naming.{Appends, AppendsDescribed, AppendsOpened, AppendsOver, AppendsTo, AppendsTold, EndsPlain, IsSealed}
 use Rattle.dms_runtop.specs.Statuses.{IsOfClosing}
 
@@ -69,7 +69,7 @@ front_names xs es ws more is names =
 -- ---- statuses
 
 -- a close that doesn't end at 0 found no room
-closed_plain : (failed : ℕ) (status : Status) → IsOfClosing status → EndsPlain failed status → IsFullAtLast status
+closed_plain : (failed : ℕ) (status : Status) → IsOfClosing status → EndsPlain failed status → EndsFullAtLast status
 closed_plain failed Ok of ends = absurd of
 closed_plain failed BadWords of ends = absurd of
 closed_plain failed (SchemaRefused f) of ends = absurd of
@@ -86,7 +86,7 @@ closed_plain failed SayFault of ends = absurd of
 closed_plain failed DiskFault of ends = absurd (ends.not_disk refl)
 closed_plain failed Exists of ends = absurd of
 
-closed_over : (failed : ℕ) (status : Status) → (status ≡ Ok) ⊎ IsOfClosing status → EndsPlain failed status → ClosesOrStops status
+closed_over : (failed : ℕ) (status : Status) → (status ≡ Ok) ⊎ IsOfClosing status → EndsPlain failed status → ClosesOrFallsShort status
 closed_over failed status (inl ok) ends = inl ok
 closed_over failed status (inr of) ends = inr (closed_plain failed status of ends)
 
@@ -124,7 +124,7 @@ module _ {S : Type 0} (g : Ghosts S) where
 
   -- one that is closed
   pub closed_names : (r r' : Running S) (site : S) (status : Status) → KeepsPace r r' → GrowsBy g r r' → g.disk_faults r'.log.site ≤ g.disk_faults site → CountedAt (status ≡ DiskFault) (g.disk_faults r.log.site) (g.disk_faults site) → (status ≡ Ok) ⊎ IsOfClosing status
-      → (IsTrue g.tells → ClosesOrStops status → AppendsOldPoints (entries (view_of g r'.log)) (trail_entries r'.log.end.total r'.log.first (g.files site))) → (IsTrue g.tells → ClosesOrStops status → ClosesBehind status (view_of g r'.log) (g.files site)) → AppendsOver g r status site
+      → (IsTrue g.tells → ClosesOrFallsShort status → AppendsOldPoints (entries (view_of g r'.log)) (trail_entries r'.log.end.total r'.log.first (g.files site))) → (IsTrue g.tells → ClosesOrFallsShort status → ClosesBehind status (view_of g r'.log) (g.files site)) → AppendsOver g r status site
   closed_names r r' site status pace grows later counted of names closes tells sealed ends =
       let over = closed_over (g.disk_faults r.log.site) status of ends in
       let still = counted.clean ends.not_disk in
@@ -214,34 +214,34 @@ module _ {S : Type 0} (g : Ghosts S) (old : S) (state : Option DatabaseState) wh
       let sealed : IsSealed o.log.end = record { nothing = from.nothing; empty = nothing_used o.log.end o.log.first (g.files o.log.site) (g.clock o.log.site) (subst (λ (l : List Entry). EndsAt o.log.end o.log.first l (g.files o.log.site) (g.clock o.log.site)) from.nothing from.runs.ends) } in
       let next = later s.desc d.0 d.1 tells (some_told state s is) sealed (record { room = omega (arith, still, ends.room); not_disk = ends.not_disk; not_memory = ends.not_memory }) in
       let before = trail_entries o.log.end.total o.log.first (g.files old) in
-      let all : Appends s.desc.files o.log.end.total o.log.first (AreOpened status before) before (g.files new) status = record {
+      let all : Appends s.desc.files o.log.end.total o.log.first (MayHaveOpening status before) before (g.files new) status = record {
         names = appends_on before (entries (view_of g o.log)) (trail_entries o.log.end.total o.log.first (g.files new)) (opened_names o from) next.names;
         fills = fills_opened s.desc.files o.log.end.total o.log.first before (entries (view_of g o.log)) (g.files new) status (inr (inl (record { point = _; next = _; schema = _; counts = _; are = from.entries_are }))) next.fills;
       } in
-      subst (λ k. Appends s.desc.files total k (AreOpened status (trail_entries total k (g.files old))) (trail_entries total k (g.files old)) (g.files new) status) one.1
-      (subst (λ k. Appends s.desc.files k o.log.first (AreOpened status (trail_entries k o.log.first (g.files old))) (trail_entries k o.log.first (g.files old)) (g.files new) status) one.0 all)
+      subst (λ k. Appends s.desc.files total k (MayHaveOpening status (trail_entries total k (g.files old))) (trail_entries total k (g.files old)) (g.files new) status) one.1
+      (subst (λ k. Appends s.desc.files k o.log.first (MayHaveOpening status (trail_entries k o.log.first (g.files old))) (trail_entries k o.log.first (g.files old)) (g.files new) status) one.0 all)
 
   -- it wasn't opened, and nothing was written
-  unwritten_names : (s : DatabaseState) (status : Status) (new : S) (total first : ℕ) → (status ≡ Ok → ⊥) → g.files new ≡ g.files old → Appends s.desc.files total first (AreOpened status (trail_entries total first (g.files old))) (trail_entries total first (g.files old)) (g.files new) status
+  unwritten_names : (s : DatabaseState) (status : Status) (new : S) (total first : ℕ) → (status ≡ Ok → ⊥) → g.files new ≡ g.files old → Appends s.desc.files total first (MayHaveOpening status (trail_entries total first (g.files old))) (trail_entries total first (g.files old)) (g.files new) status
   unwritten_names s status new total first not_ok files =
       let same : trail_entries total first (g.files new) ≡ trail_entries total first (g.files old) = ap (trail_entries total first) files in
       record {
         names = appends_same (trail_entries total first (g.files old)) (trail_entries total first (g.files new)) same;
-        fills = fills_found s.desc.files total first (AreOpened status (trail_entries total first (g.files old))) (g.files new) status not_ok (inl same);
+        fills = fills_found s.desc.files total first (MayHaveOpening status (trail_entries total first (g.files old))) (g.files new) status not_ok (inl same);
       }
 
   -- or the audit had no room for it
-  short_names : (s : DatabaseState) (status : Status) (new : S) (total first : ℕ) → (status ≡ Ok → ⊥) → IsFullAtLast status → OpensShort (g.files old) (g.files new) → IsTrailFound total first (g.files old) → Appends s.desc.files total first (AreOpened status (trail_entries total first (g.files old))) (trail_entries total first (g.files old)) (g.files new) status
+  short_names : (s : DatabaseState) (status : Status) (new : S) (total first : ℕ) → (status ≡ Ok → ⊥) → EndsFullAtLast status → OpensShort (g.files old) (g.files new) → IsTrailFound total first (g.files old) → Appends s.desc.files total first (MayHaveOpening status (trail_entries total first (g.files old))) (trail_entries total first (g.files old)) (g.files new) status
   short_names s status new total first not_ok full short found =
       let one = trail_is_one short.total short.first total first (g.files old) short.opens.trail found in
       let before = trail_entries short.total short.first (g.files old) in
       let part = short.short in
-      let all : Appends s.desc.files short.total short.first (AreOpened status before) before (g.files new) status = record {
+      let all : Appends s.desc.files short.total short.first (MayHaveOpening status before) before (g.files new) status = record {
         names = record { more = _; are = part.sealed; names = opening_unnamed before (history_of before).pending short.point short.next short.schema short.counts part.some part.lacks };
-        fills = fills_found s.desc.files short.total short.first (AreOpened status before) (g.files new) status not_ok (inr (inr (full, record { point = short.point; next = short.next; schema = short.schema; counts = short.counts; some = part.some; lacks = part.lacks; are = part.sealed })));
+        fills = fills_found s.desc.files short.total short.first (MayHaveOpening status before) (g.files new) status not_ok (inr (inr (full, record { point = short.point; next = short.next; schema = short.schema; counts = short.counts; some = part.some; lacks = part.lacks; are = part.sealed })));
       } in
-      subst (λ k. Appends s.desc.files total k (AreOpened status (trail_entries total k (g.files old))) (trail_entries total k (g.files old)) (g.files new) status) one.1
-      (subst (λ k. Appends s.desc.files k short.first (AreOpened status (trail_entries k short.first (g.files old))) (trail_entries k short.first (g.files old)) (g.files new) status) one.0 all)
+      subst (λ k. Appends s.desc.files total k (MayHaveOpening status (trail_entries total k (g.files old))) (trail_entries total k (g.files old)) (g.files new) status) one.1
+      (subst (λ k. Appends s.desc.files k short.first (MayHaveOpening status (trail_entries k short.first (g.files old))) (trail_entries k short.first (g.files old)) (g.files new) status) one.0 all)
 
   pub refused_names : (fault : OpenFault) (status : Status) (new : S) → status ≡ open_status fault → (IsTrue g.tells → (MayHaveWritten fault → ⊥) → g.files new ≡ g.files old) → (IsTrue g.tells → IsFullFault fault → OpensShort (g.files old) (g.files new)) → AppendsTold g state status old new
   refused_names fault status new is files short tells s state_is ends total first found = by (full_or_not fault)
@@ -249,7 +249,7 @@ module _ {S : Type 0} (g : Ghosts S) (old : S) (state : Option DatabaseState) wh
       not_ok : status ≡ Ok → ⊥
       not_ok ok = open_ok fault (sym is ∙ ok)
 
-      by : IsFullFault fault ⊎ (IsFullFault fault → ⊥) → Appends s.desc.files total first (AreOpened status (trail_entries total first (g.files old))) (trail_entries total first (g.files old)) (g.files new) status
+      by : IsFullFault fault ⊎ (IsFullFault fault → ⊥) → Appends s.desc.files total first (MayHaveOpening status (trail_entries total first (g.files old))) (trail_entries total first (g.files old)) (g.files new) status
       by (inl full) = short_names s status new total first not_ok (is ∙ ap open_status full) (short tells full) found
       by (inr room) = unwritten_names s status new total first not_ok (files tells (λ may. elim may [ inl disk ↦ ends.not_disk (is ∙ ap open_status disk) | inr full ↦ room full ]))
 

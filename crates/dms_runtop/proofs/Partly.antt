@@ -6,7 +6,7 @@ use Rattle.dms_history.specs.History.{Pending}
 use Rattle.dms_history.specs.Schemas.{schema_entries}
 use Rattle.dms_opening.specs.Openings.{opening_entries}
 use Rattle.dms_restore.specs.Counts.{file_counts}
-use Rattle.dms_wal.specs.Closing.{FilesShort, entries_closing, entries_control}
+use Rattle.dms_wal.specs.Closing.{ClosesShort, entries_closing, entries_control}
 use Rattle.dms_wal.specs.Controlled.{begins_in, controls_in}
 use Rattle.dms_wal.specs.Following.{NameOldPoints}
 use Rattle.dms_wal.proofs.Counted.{parts_begins, parts_controls}
@@ -18,7 +18,7 @@ use Rattle.dms_site.specs.Files.{Files}
 use Rattle.dms_status.specs.declared.status.Status.{Status}
 use Rattle.dms_status.specs.declared.status.Status.TheVariants.{Memory, Ok}
 use Rattle.dms_runtop.specs.Faults.{block_status}
-use Rattle.dms_runtop.specs.Filling.{ClosesOrStops, IsControlPart}
+use Rattle.dms_runtop.specs.Filling.{ClosesOrFallsShort, IsControlPart}
 use Rattle.dms_runtop.proofs.Endings.{memory_not_full, run_full_is, run_not_ok}
 
 -- the first ones of a list, without its last
@@ -84,7 +84,7 @@ memory_not_ok : Memory ≡ Ok → ⊥
 memory_not_ok is = absurd cc
 
 -- want of memory is no such end
-pub memory_goes_on : ClosesOrStops Memory → ⊥
+pub memory_goes_on : ClosesOrFallsShort Memory → ⊥
 memory_goes_on (inl ok) = memory_not_ok ok
 memory_goes_on (inr full) = memory_not_full full
 
@@ -92,7 +92,7 @@ same_fault : (a b : BlockFault) → Block a ≡ Block b → a ≡ b
 same_fault a b is = cc
 
 -- behind its status stands its fault
-pub stops_full : (fault : BlockFault) (status : Status) → status ≡ block_status fault → ClosesOrStops status → fault ≡ block.Full 9999
+pub stops_full : (fault : BlockFault) (status : Status) → status ≡ block_status fault → ClosesOrFallsShort status → fault ≡ block.Full 9999
 stops_full fault status is (inl ok) = absurd (run_not_ok (Block fault) (sym is ∙ ok))
 stops_full fault status is (inr full) = same_fault fault (block.Full 9999) (run_full_is (Block fault) 9999 (sym is ∙ full))
 
@@ -102,7 +102,7 @@ pub record ClosedPart (v : LogView) (files : Files) : Type 0 where
   pub part : IsControlPart closing
   pub are : (telling v).entries files ≡ entries v ++ closing
 
-pub close_part : (point next : ℕ) (schema marks : List ℕ) (v : LogView) (files : Files) (changed : Bool) → changed ≡ false → FilesShort v (entries_closing changed point schema next marks) files → ClosedPart v files
+pub close_part : (point next : ℕ) (schema marks : List ℕ) (v : LogView) (files : Files) (changed : Bool) → changed ≡ false → ClosesShort v (entries_closing changed point schema next marks) files → ClosedPart v files
 close_part point next schema marks v files changed off short =
-    let s = subst (λ (b : Bool). FilesShort v (entries_closing b point schema next marks) files) off short in
+    let s = subst (λ (b : Bool). ClosesShort v (entries_closing b point schema next marks) files) off short in
     record { closing = take s.some (entries_control point schema next marks); part = record { point = point; next = next; schema = schema; counts = marks; some = s.some; lacks = s.lacks; is = refl }; are = s.entries_are }

@@ -17,8 +17,8 @@ use Rattle.dms_run.specs.Files.{RunLeavesFiles}
 use Rattle.dms_run.specs.States.{LivesEndWith}
 use Rattle.dms_status.specs.declared.status.Status.{Status}
 use Rattle.dms_runtop.specs.Over.{ScriptRuns, SiteSeen, ends_lack, opening_lacks}
-use Rattle.dms_runtop.proofs.Bounds.{bounds_since, few_since}
-use Rattle.dms_runtop.specs.Bound.{begins_made, restores_ended}
+use Rattle.dms_runtop.proofs.Bounds.{bounds_since, counts_since}
+use Rattle.dms_runtop.specs.Bound.{begins_allowed, restores_ended}
 use Rattle.dms_wal.specs.Controlled.{AddsControls, AddsFew}
 use Rattle.dms_runtop.proofs.Ran.{passes_moved}
 
@@ -62,7 +62,7 @@ module _ (opening opening0 : ℕ) (t : Telling) (d : Described) (ps : List Descr
 
   pub runs_since : a.said ≡ a0.said → ((events : List RunEvent) → Runs a0.clock a.clock (RunLeavesFiles t d a0.said ps n db next (events ++ pause ∷ [])))
       → length (t.entries a.files) + opening ≤ length (t.entries a0.files) + opening0 → AddsControls (restores_ended opening (t.entries a.files)) (restores_ended opening0 (t.entries a0.files)) (t.entries a0.files) (t.entries a.files)
-      → AddsFew (restores_ended opening (t.entries a.files)) (restores_ended opening0 (t.entries a0.files)) (begins_made opening (t.entries a.files)) (begins_made opening0 (t.entries a0.files)) (t.entries a0.files) (t.entries a.files)
+      → AddsFew (restores_ended opening (t.entries a.files)) (restores_ended opening0 (t.entries a0.files)) (begins_allowed opening (t.entries a.files)) (begins_allowed opening0 (t.entries a0.files)) (t.entries a0.files) (t.entries a.files)
       → (opening_lacks opening a.files b.files → opening_lacks opening0 a0.files b.files) → ScriptRuns opening t d ps n db next all a b left' status → ScriptRuns opening0 t d ps n db next all a0 b left' status
   runs_since same before grew ended few short ran =
       let r = same_said same ran in
@@ -81,7 +81,7 @@ module _ (opening opening0 : ℕ) (t : Telling) (d : Described) (ps : List Descr
         limit = λ k is.
             let Stops : Clock Left → List RunEvent → Type 0 = λ early es. Runs early b.clock (RunLeavesFiles t d a0.said ps n db next es) in
             passes_moved (Stops a.clock) (Stops a0.clock) (ends_lack opening t d a.files b.files) (ends_lack opening0 t d a0.files b.files) k d db next (raw_lines all) r.lines r.events a0.said b.said (λ es later. runs_on (before es) later (λ x l. l))
-            short (λ es lacks. few_since 0 opening opening0 t d es a0.files a.files b.files few lacks) (r.limit k is);
+            short (λ es lacks. counts_since 0 opening opening0 t d es a0.files a.files b.files ended few lacks) (r.limit k is);
         bound = bounds_since grew ended few r.bound;
         input_cut = r.input_cut;
         undamaged = r.undamaged;

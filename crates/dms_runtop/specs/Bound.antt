@@ -93,25 +93,23 @@ restores_ended zero entries = 0
 restores_ended (suc n) entries = one_if (is_some (history_of entries).pending)
 
 -- how many Begins an opening before it makes, where there was one: one where no restore is pending
-abbrev pub begins_made : ℕ → List Entry → ℕ
-begins_made zero entries = 0
-begins_made (suc n) entries = one_if (not (is_some (history_of entries).pending))
+abbrev pub begins_allowed : ℕ → List Entry → ℕ
+begins_allowed zero entries = 0
+begins_allowed (suc n) entries = one_if (not (is_some (history_of entries).pending))
 
--- At most so many Controls were appended besides these: those of a restore that an opening before ended, of the m-th syncpoints among these events, and
--- of Begins that were appended; and of these at most one by that opening, and one by each way back.
-abbrev pub AddsFewBy : ℕ → ℕ → Telling → Described → List RunEvent → Files → Files → Type 0
-AddsFewBy more n t desc events then now =
-    AddsFew 0 (restores_ended n (t.entries then) + controls_among desc.controlpoint (syncs_of events) + more) 0 (begins_made n (t.entries then) + backs_of events) (t.entries then) (t.entries now)
+-- Exactly so many Controls were appended as there are m-th syncpoints among these events, Begins that were appended, and restores that were pending and
+-- that an opening before ended, and so many more; and no more Begins than one of that opening, where no restore was pending, and one for each event that
+-- goes back.
+pub record CountsControls (more n : ℕ) (t : Telling) (desc : Described) (events : List RunEvent) (then now : Files) : Type 0 where
+  pub least : AddsControls 0 (restores_ended n (t.entries then) + controls_among desc.controlpoint (syncs_of events) + more) (t.entries then) (t.entries now)
+  pub most : AddsFew 0 (restores_ended n (t.entries then) + controls_among desc.controlpoint (syncs_of events) + more) 0 (begins_allowed n (t.entries then) + backs_of events) (t.entries then) (t.entries now)
 
 -- So much audit a run takes, whatever failed, where an opening before it took at most n entries.
 pub record BoundsAudit (n : ℕ) (t : Telling) (desc : Described) (events : List RunEvent) (then now : Files) (said said' : Option (List ℕ)) (status : Status) : Type 0 where
   -- at status 0 no more than all events make
   pub at_ok : status ≡ Ok → AuditGrew t (n + audit_of desc events + 18) then now
-  -- at status 0 at least as many Controls were appended as there are m-th syncpoints, Begins that were appended, and restores that were pending and that
-  -- an opening before ended, and one for the close
-  pub controls : status ≡ Ok → AddsControls 0 (restores_ended n (t.entries then) + controls_among desc.controlpoint (syncs_of events) + 1) (t.entries then) (t.entries now)
-  -- and no more, with at most as many Begins as an opening before and the ways back make
-  pub few : status ≡ Ok → AddsFewBy 1 n t desc events then now
+  -- at status 0 exactly so many Controls were appended, one more for the close
+  pub controls : status ≡ Ok → CountsControls 1 n t desc events then now
   -- where it stopped at a line, no more than the opening and the events of the lines before make, of a line too many to hold its first try, too
   pub at_line : StopsAtLine status → AuditGrew t (n + audit_of desc events) then now
   -- at each status no more than those make whose text was printed, and one call whose answer wasn't; at 10 the last answer may be cut off

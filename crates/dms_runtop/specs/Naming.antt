@@ -18,7 +18,7 @@ use Rattle.dms_status.specs.declared.status.Status.TheVariants.{DiskFault, Memor
 use Rattle.dms_wal.specs.declared.running.Running.{Running}
 use Rattle.dms_wal.specs.Following.{AppendsOldPoints}
 use Rattle.dms_runtop.specs.Command.{DatabaseState}
-use Rattle.dms_runtop.specs.Filling.{AreOpened, FillsTo}
+use Rattle.dms_runtop.specs.Filling.{MayHaveOpening, FillsTo}
 
 -- The count of failed calls wasn't at its end, and the status is none of 5 and 7.
 pub record EndsPlain (failed : ℕ) (status : Status) : Type 0 where
@@ -32,7 +32,8 @@ pub record IsSealed (end : AuditEnd) : Type 0 where
   pub empty : end.used ≡ 0
 
 -- The trail has the entries of before and some behind them, of which each Control has the number of a quiet point or a Control that is live before it;
--- and of those behind the ones that were found, what stands behind audit file k is of restores, or of the control point that closes.
+-- and of those behind the ones that were found, what stands behind audit file k is of restores, or at status 0 one control point, at 8 of 9,999 a front of
+-- one.
 pub record Appends (k total first : ℕ) (Found : List Entry → Type 0) (old : List Entry) (new : Files) (status : Status) : Type 0 where
   pub names : AppendsOldPoints old (trail_entries total first new)
   pub fills : FillsTo k total first Found new status
@@ -56,8 +57,9 @@ module _ {S : Type 0} (g : Ghosts S) where
   abbrev pub AppendsDescribed : Opened S → Bool → Status → S → Type 0
   AppendsDescribed o known status site = (d : Described) → IsWellFormed d → spelling d ≡ o.schema.items → AppendsOpened d.files o known status site
 
-  -- and of the trail of files that stand for the state that is told: what was found are its entries, with or without those of an opening
+  -- and of the trail of files that stand for the state that is told: what was found are its entries, with or without those of an opening, at
+  -- 8 of 9,999 also with the first of those alone
   abbrev pub AppendsTold : Option DatabaseState → Status → S → S → Type 0
   AppendsTold state status old new =
       IsTrue g.tells → (s : DatabaseState) → state ≡ Some s → EndsPlain (g.disk_faults old) status → (total first : ℕ) → IsTrailFound total first (g.files old)
-      → Appends s.desc.files total first (AreOpened status (trail_entries total first (g.files old))) (trail_entries total first (g.files old)) (g.files new) status
+      → Appends s.desc.files total first (MayHaveOpening status (trail_entries total first (g.files old))) (trail_entries total first (g.files old)) (g.files new) status

@@ -21,7 +21,7 @@ use Rattle.dms_wal.specs.Closing.{LeavesUntil}
 use Rattle.dms_wal.specs.Database.{running_held}
 use Rattle.dms_wal.specs.Growing.{over_site}
 use Rattle.dms_wal.specs.Lifting.{lift_clock}
-use Rattle.dms_runtop.specs.Bound.{AddsFewBy, BoundsAudit}
+use Rattle.dms_runtop.specs.Bound.{BoundsAudit, CountsControls}
 use Rattle.dms_store.specs.Lifted.{point_of}
 use Rattle.dms_store.specs.Spelled.{database_in}
 use Rattle.dms_runner.specs.Answers.{answers_quiets, answers_text, left_by, script_events, script_run}
@@ -63,10 +63,9 @@ abbrev pub opening_lacks : ℕ → Files → Files → Type 0
 opening_lacks zero old new = ⊥
 opening_lacks (suc n) old new = OpensShort old new
 
--- The trail lacks an entry of the opening; or, so that none is of the close, there are no more Controls than an opening before, the m-th syncpoints and
--- the ways back make.
+-- The trail lacks an entry of the opening; or it has one Control fewer than with a close.
 abbrev pub ends_lack : ℕ → Telling → Described → Files → Files → EndsLack
-ends_lack n t desc old new = record { opening = opening_lacks n old new; closing = λ events. AddsFewBy 0 n t desc events old new }
+ends_lack n t desc old new = record { opening = opening_lacks n old new; closing = λ events. CountsControls 0 n t desc events old new }
 
 -- Nothing was carried out and nothing printed, as at the opening, and the trail lacks what that says; or the text of the whole script was, as before the
 -- close, and it lacks what that says.
@@ -84,7 +83,7 @@ IsControlDue desc events = is_due desc.controlpoint (syncs_after 0 events) ≡ t
 -- to file FILES of the description for what a script changes: exactly the text before the call of a verb was printed that is done, and stores a record
 -- or makes a quiet point; and a stop leaves no quiet point of it, but where a control point was due at its syncpoint. It goes on up to file 9,999 for
 -- openings, ways back and closings: exactly the text before an ABORT that is done was printed, or before the way back at the script's end; or nothing
--- was carried out, and an entry of the opening is missing; or all that the script answers was printed, and no Control is there for the close.
+-- was carried out, and an entry of the opening is missing; or all that the script answers was printed, and a Control is missing.
 abbrev pub PassesScript : LimitKind → (List RunEvent → Type 0) → EndsLack → Described → Db → ℕ → List (List ℕ) → ℕ → List RunEvent → Option (List ℕ) → Option (List ℕ) → Type 0
 PassesScript (AuditFile f) Leaves lack desc db first lines n events before after = IsDue desc.files f Leaves (IsControlDue desc) before after events ⊎ ((f ≡ 9999) × IsAtEnds lack desc db first lines events before after)
 PassesScript Lines Leaves lack desc db first lines n events before after = PassesLines desc db first lines before after × AreExactly desc db first lines n events 1000000

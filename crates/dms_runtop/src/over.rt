@@ -10,7 +10,7 @@ ghost use Rattle.dms_model.specs.Session.{fresh_session};
 ghost use Rattle.dms_restore.specs.Logging.{entries};
 ghost use Rattle.dms_restore.specs.Views.{view_of};
 ghost use Rattle.dms_runtop.specs.Inputs.{BlamesInput};
-ghost use Rattle.dms_runtop.specs.Filling.{ClosesBehind, ClosesOrStops};
+ghost use Rattle.dms_runtop.specs.Filling.{ClosesBehind, ClosesOrFallsShort};
 ghost use Rattle.dms_runtop.specs.Naming.{AppendsOver};
 ghost use Rattle.dms_runtop.specs.Over.{RunsOver, ClosesOver, GrowsOver};
 ghost use Rattle.dms_runtop.specs.Statuses.{IsOfClosing, IsOfScript};
@@ -42,8 +42,8 @@ fn running_under<S: Site>(engine: Engine<BlockStore<Running<S>>>) -> Running<S>
 fn close_over<S: Site>(alloc: Global, running: Running<S>) -> Ended<S>
     requires { (running_held S.Site running).sound }
     ensures closes { ClosesOver S.Site running result.status result.site }
-    ensures appends { IsTrue S.tells → ClosesOrStops result.status → AppendsOldPoints (entries (view_of S.Site running.log)) (trail_entries running.log.end.total running.log.first (S.files result.site)) }
-    ensures closing { IsTrue S.tells → ClosesOrStops result.status → ClosesBehind result.status (view_of S.Site running.log) (S.files result.site) }
+    ensures appends { IsTrue S.tells → ClosesOrFallsShort result.status → AppendsOldPoints (entries (view_of S.Site running.log)) (trail_entries running.log.end.total running.log.first (S.files result.site)) }
+    ensures closing { IsTrue S.tells → ClosesOrFallsShort result.status → ClosesBehind result.status (view_of S.Site running.log) (S.files result.site) }
     ensures said { IsTrue S.tells_said → S.said result.site ≡ S.said running.log.site }
     ensures statuses { (result.status ≡ Status.Ok) ⊎ IsOfClosing result.status }
     ensures disk { CountedAt (result.status ≡ Status.DiskFault) (S.disk_faults running.log.site) (S.disk_faults result.site) }

@@ -294,9 +294,9 @@ pub fn dms<S: Site, I: Source>(
     // prefix of them were printed. No more was carried out than the first so many lines, which keep the limits of lines and bytes, or than the whole script
     // to its end; at 6, and 8 of lines or bytes, than the lines before, and at 8 of held lines than these and the first try of one more. At 8 of an audit
     // file the audit was to grow, and no stop leaves a quiet point of that verb but where a control point was due at its syncpoint; or nothing was carried
-    // out and the opening lacks an entry, or all that the script answers was printed and there are no more Controls than the opening, the m-th syncpoints
-    // and the ways back make. The trail has no more new entries than these may make, at each status: an opening, what was answered, one call whose answer
-    // wasn't printed, and a close
+    // out and the opening lacks an entry, or all that the script answers was printed and one Control fewer was appended than at status 0. The trail has
+    // no more new entries than these may make, at each status: an opening, what was answered, one call whose answer wasn't printed, and a close; at status
+    // 0 its Controls are counted
     ensures run { OnRun words.now (RunsCommand S.Site state site.old site.new (I.left input.old) (I.left input.new) result) }
     // and of its files, whatever the input is: at every moment a stop leaves their trail, with the same tag, and blocks behind it that hold an entry; the
     // audit files before it stay

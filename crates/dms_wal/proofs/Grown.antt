@@ -18,7 +18,7 @@ use Rattle.dms_history.specs.Entries.{Entry, image, quiet_point, control_point}
 use Rattle.dms_history.specs.Schemas.{schema_entries}
 use Rattle.dms_audrec.specs.Bodies.{bodies}
 use Rattle.dms_restore.specs.GrowLaws.{log_grows_on}
-use Rattle.dms_restore.specs.Logging.{LogGrows, LogView, LeavesTrail, LogsImage, LogsPart, LogsQuiet, LogsShort, TrailKept, entries, telling, telling_of, view}
+use Rattle.dms_restore.specs.Logging.{LogGrows, LogView, LeavesTrail, LogsImage, LogsQuiet, LogsShort, TrailKept, entries, telling, telling_of, view}
 use Rattle.dms_audrec.specs.Reading.{counts_at}
 use Rattle.dms_restore.specs.BackOuts.{back_entries, IsBackFault, SealedAlone, WentBackTo}
 use Rattle.dms_restore.proofs.Laid.{bodies_many, parts_length}
@@ -56,8 +56,8 @@ pub some_none : (n : ℕ) (a b : LogView) → entries b ≡ entries a → LogsAt
 some_none n a b same = record { more = []; few = omega arith; names = tt; entries_are = same ∙ sym (append-nil (entries a)) }
 
 -- the first so many of so many
-pub some_part : (n : ℕ) (a b : LogView) (es : List Entry) → length es ≤ n → NameOldPoints (entries a) es → LogsPart a b es → LogsAtMost n a b
-some_part n a b es few names p = record { more = take p.some es; few = omega (arith, few, length-take p.some es); names = names_first p.some (entries a) es names; entries_are = p.entries_are }
+pub some_short : (n : ℕ) (a b : LogView) (es : List Entry) → length es ≤ n → NameOldPoints (entries a) es → LogsShort a b es → LogsAtMost n a b
+some_short n a b es few names p = record { more = take p.some es; few = omega (arith, few, length-take p.some es); names = names_first p.some (entries a) es names; entries_are = p.entries_are }
 
 pub some_from : (n : ℕ) (a b c : LogView) → entries b ≡ entries a → LogsAtMost n b c → LogsAtMost n a c
 some_from n a b c same l = record { more = l.more; few = l.few; names = subst (λ (es : List Entry). NameOldPoints es l.more) same l.names; entries_are = l.entries_are ∙ ap (λ (es : List Entry). es ++ l.more) same }
@@ -82,10 +82,10 @@ pub back_entries_few : (m : ℕ) (description : List ℕ) (number : ℕ) (counts
 back_entries_few m description number counts low = omega (arith, control_few description (control_point m number (counts_at (length counts / 8) counts)) low)
 
 -- what a back-out logs, whatever it answers but a fault of the disk
-pub back_few : (r : Result (Unit {0}) AudFault) (m limit : ℕ) (a b : LogView) (es : List Entry) → length es ≤ 19 → NameOldPoints (entries a) es → IfErr r (IsBackFault limit) → OnOk r (WentBackTo m a b es) → (IsErrOf r (audit.Full limit) → LogsPart a b es) → (IsErrOf r audit.Memory → SealedAlone a b)
-    → (IsErrOf r audit.Disk → ⊥) → LogsAtMost 19 a b
+pub back_few : (r : Result (Unit {0}) AudFault) (m limit : ℕ) (a b : LogView) (es : List Entry) → length es ≤ 19 → NameOldPoints (entries a) es → IfErr r (IsBackFault limit)
+    → OnOk r (WentBackTo m a b es) → (IsErrOf r (audit.Full limit) → LogsShort a b es) → (IsErrOf r audit.Memory → SealedAlone a b) → (IsErrOf r audit.Disk → ⊥) → LogsAtMost 19 a b
 back_few (Ok x) m limit a b es few names only back full memory off = record { more = es; few = few; names = names; entries_are = back.entries_are }
-back_few (Err e) m limit a b es few names (inl is) back full memory off = some_part 19 a b es few names (full (λ i. Err (is i)))
+back_few (Err e) m limit a b es few names (inl is) back full memory off = some_short 19 a b es few names (full (λ i. Err (is i)))
 back_few (Err e) m limit a b es few names (inr (inl is)) back full memory off = absurd (off (λ i. Err (is i)))
 back_few (Err e) m limit a b es few names (inr (inr is)) back full memory off = some_none 19 a b (memory (λ i. Err (is i))).same.entries_same
 

@@ -5,7 +5,7 @@ use Rattle.dms_runtop.specs.Command.{IsUnopened, RunKeepsTrail, RunsCommand}
 use Rattle.dms_runtop.proofs.Opening.{opens_below}
 use Rattle.dms_runtop.proofs.Entered.{refuses_no_state, stands_at_end, stands_throughout}
 use Rattle.dms_audfile.specs.TrailEntries.{trail_entries}
-use Rattle.dms_runtop.specs.Filling.{AreOpened}
+use Rattle.dms_runtop.specs.Filling.{MayHaveOpening}
 use Rattle.dms_runtop.specs.Naming.{Appends}
 use Rattle.dms_runtop.proofs.command.run_command.Goals as goal
 
@@ -43,5 +43,5 @@ returns-clause-adds g c = λ s is tells room disk memory.
 pub returns-clause-appends : goal.returns-clause-appends
 returns-clause-appends g c = λ tells s is ends total first found.
     let old = trail_entries total first (g.S.Site.files c.args.site.now) in
-    subst (λ (x : g.row.S.Denot). Appends s.desc.files total first (AreOpened c.run_guarded-ended.result.status old) old (g.S.Site.files x) c.run_guarded-ended.result.status) (search rules)
-    (subst (λ (x : MutBor g.row.S.Denot). Appends s.desc.files total first (AreOpened c.run_guarded-ended.result.status old) old (g.S.Site.files x.now) c.run_guarded-ended.result.status) (sym c.into_site-site.ensures) (c.run_guarded-ended.ensures.appends tells s is ends total first found))
+    subst (λ (x : g.row.S.Denot). Appends s.desc.files total first (MayHaveOpening c.run_guarded-ended.result.status old) old (g.S.Site.files x) c.run_guarded-ended.result.status) (search rules)
+    (subst (λ (x : MutBor g.row.S.Denot). Appends s.desc.files total first (MayHaveOpening c.run_guarded-ended.result.status old) old (g.S.Site.files x.now) c.run_guarded-ended.result.status) (sym c.into_site-site.ensures) (c.run_guarded-ended.ensures.appends tells s is ends total first found))

@@ -8,7 +8,7 @@ use Rattle.dms_runtop.proofs.Opening.{opens_below, unopened_memory}
 use Rattle.dms_runtop.proofs.Guarding.{refused_counts}
 use Rattle.dms_runtop.proofs.Instead.{command_instead, refused_place}
 use Rattle.dms_audfile.specs.TrailEntries.{trail_entries}
-use Rattle.dms_runtop.specs.Filling.{AreOpened}
+use Rattle.dms_runtop.specs.Filling.{MayHaveOpening}
 use Rattle.dms_runtop.specs.Naming.{Appends}
 use Rattle.dms_runtop.proofs.Naming.{memory_told}
 use Rattle.dms_runtop.proofs.command.run_guarded.Goals as goal
@@ -55,7 +55,7 @@ returns-clause-adds g c = λ s is tells room disk memory.
 pub returns-clause-appends : goal.returns-clause-appends
 returns-clause-appends g c = λ tells s is ends total first found.
     let old = trail_entries total first (g.S.Site.files c.args.site) in
-    subst (λ x. Appends s.desc.files total first (AreOpened c.run_found-ended.result.status old) old (g.S.Site.files x.site) c.run_found-ended.result.status) (sym c.into_site-site.ensures)
+    subst (λ x. Appends s.desc.files total first (MayHaveOpening c.run_found-ended.result.status old) old (g.S.Site.files x.site) c.run_found-ended.result.status) (sym c.into_site-site.ensures)
     (c.run_found-ended.ensures.appends tells s is (record { room = omega (arith, ends.room); not_disk = ends.not_disk; not_memory = ends.not_memory }) total first found)
 
 pub returns-then-refused-gt0-clause-appends : goal.returns-then-refused-gt0-clause-appends

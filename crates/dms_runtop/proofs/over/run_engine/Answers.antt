@@ -26,7 +26,7 @@ use Rattle.dms_runtop.proofs.Bounds.{closed_bound, closes, closing_lacks, failed
 use Rattle.dms_runtop.proofs.Grows.{grows_left, grows_over}
 use Rattle.dms_restore.specs.Logging.{entries}
 use Rattle.dms_audfile.specs.TrailEntries.{trail_entries}
-use Rattle.dms_runtop.specs.Filling.{ClosesBehind, ClosesOrStops}
+use Rattle.dms_runtop.specs.Filling.{ClosesBehind, ClosesOrFallsShort}
 use Rattle.dms_wal.specs.Following.{AppendsOldPoints}
 use Rattle.dms_runtop.proofs.Naming.{closed_names, left_names}
 use Rattle.dms_runtop.proofs.Inputs.{blames_closing, blames_script}
@@ -172,8 +172,8 @@ returns-in-Ok-clause-appends g c =
     closed_names g.S.Site c.args.engine.store.over.below r' site c.close_over.result.status same.1 same.2
     (subst (λ (r : Running g.row.S.Denot). g.S.Site.disk_faults r.log.site ≤ g.S.Site.disk_faults site) c.running_under-running.ensures c.close_over.ensures.disk.later)
     (on_from _ _ _ _ (ap (λ (r : Running g.row.S.Denot). g.S.Site.disk_faults r.log.site) c.running_under-running.ensures ∙ ap (λ (f : Faults). f.disk) c.in-Ok.ensures.lasts.cause) c.close_over.ensures.disk) c.close_over.ensures.statuses
-    (subst (λ (r : Running g.row.S.Denot). IsTrue g.S.Site.tells → ClosesOrStops c.close_over.result.status → AppendsOldPoints (entries (view_of g.S.Site r.log)) (trail_entries r.log.end.total r.log.first (g.S.Site.files site))) c.running_under-running.ensures c.close_over.ensures.appends)
-    (subst (λ (r : Running g.row.S.Denot). IsTrue g.S.Site.tells → ClosesOrStops c.close_over.result.status → ClosesBehind c.close_over.result.status (view_of g.S.Site r.log) (g.S.Site.files site)) c.running_under-running.ensures c.close_over.ensures.closing)
+    (subst (λ (r : Running g.row.S.Denot). IsTrue g.S.Site.tells → ClosesOrFallsShort c.close_over.result.status → AppendsOldPoints (entries (view_of g.S.Site r.log)) (trail_entries r.log.end.total r.log.first (g.S.Site.files site))) c.running_under-running.ensures c.close_over.ensures.appends)
+    (subst (λ (r : Running g.row.S.Denot). IsTrue g.S.Site.tells → ClosesOrFallsShort c.close_over.result.status → ClosesBehind c.close_over.result.status (view_of g.S.Site r.log) (g.S.Site.files site)) c.running_under-running.ensures c.close_over.ensures.closing)
 
 pub returns-in-Err-clause-appends : goal.returns-in-Err-clause-appends
 returns-in-Err-clause-appends g c =
