@@ -1,5 +1,5 @@
 -- One call on blocks after another.
-use Rattle.std.proofs.Common.{ℕ, ◌+◌, ◌≤◌, ◌≡◌, ◌∙◌, List, length, refl, sym, ap, subst, arith, Bool, IsTrue, inl, inr}
+use Rattle.std.proofs.Common.{ℕ, ◌+◌, ◌≤◌, ◌≡◌, ◌∙◌, List, length, refl, sym, ap, subst, arith, Bool, false, IsTrue, inl, inr}
 use Rattle.std.specs.Prelude.{IsErrOf}
 use Rattle.std.specs.declared.result.Result.{Result}
 use Rattle.std.specs.declared.result.Result.TheVariants.{Ok, Err}
@@ -8,7 +8,8 @@ use Rattle.dms_block.specs.declared.block_fault.BlockFault.{BlockFault}
 use Rattle.dms_block.specs.declared.block_fault.BlockFault.TheVariants.{Disk, Memory, Full, Damaged, Say}
 use Rattle.dms_block.specs.Content.{Content, block_in}
 use Rattle.dms_block.specs.Counts.{Faults, Raised}
-use Rattle.dms_block.specs.Faults.{IfFull, NotFull, Unbroken}
+use Rattle.dms_block.specs.Faults.{NotFull, Unbroken}
+use Rattle.dms_block.specs.LandmarkLaws.{lands_as, lands_err, lands_none, lands_then, lands_yes}
 use Rattle.dms_block.specs.Held.{Held, BlockStop, BlockPoint, Prefix, TextIs, Lasts, MakesNoPoint, Stays, SameBlocks, HasNextNumber, Leaves, Looks, Alters, Uses, Used, Caused, CausedOr, HasCauses, HasCausesOr, IsShort}
 
 pub unbroken_map : {T : Type 0} {P Q : Type 0} (r : Result T BlockFault) → (P → Q) → Unbroken r P → Unbroken r Q
@@ -88,7 +89,7 @@ used_more n' m' le le' p = record { not_fewer = p.not_fewer; reads = omega (arit
 
 -- nothing was read yet
 pub looks_none : {T : Type 0} (n : ℕ) (r : Result T BlockFault) (a : Held) → NotFull r → a.sound → Looks n r a a
-looks_none n r a room sound = record { not_full = room; passes = passes_none a; stays = unbroken_is r (stays_none a sound); same = unbroken_is r (same_none a); counts = refl; uses = used_none n 0 a.uses }
+looks_none n r a room sound = record { not_full = room; passes = passes_none a; stays = unbroken_is r (stays_none a sound); same = unbroken_is r (same_none a); counts = refl; uses = used_none n 0 a.uses; landmarks = lands_none false r a.landmarks }
 
 -- more reads after reads that went well
 pub looks_on : {T U : Type 0} {m n : ℕ} {x : T} (r : Result U BlockFault) {a b c : Held} → Looks m (Ok x) a b → Looks n r b c → Looks (m + n) r a c
@@ -99,11 +100,12 @@ looks_on {m = m} {n = n} r p q = record {
   same = unbroken_map r (λ s. same_on p.passes.lasts p.same s) q.same;
   counts = q.counts ∙ p.counts;
   uses = used_more (m + n) 0 (omega arith) (omega arith) (used_on p.uses q.uses);
+  landmarks = lands_then r p.landmarks q.landmarks;
 }
 
 -- another answer, after which at most as much is promised
 pub looks_as : {T U : Type 0} {n : ℕ} {x : T} (r : Result U BlockFault) {a b : Held} → NotFull r → Looks n (Ok x) a b → Looks n r a b
-looks_as r room p = record { not_full = room; passes = p.passes; stays = unbroken_is r p.stays; same = unbroken_is r p.same; counts = p.counts; uses = p.uses }
+looks_as r room p = record { not_full = room; passes = p.passes; stays = unbroken_is r p.stays; same = unbroken_is r p.same; counts = p.counts; uses = p.uses; landmarks = lands_as r room p.landmarks }
 
 unbroken_err : (T U P : Type 0) (e : BlockFault) → Unbroken {T = T} (Err e) P → Unbroken {T = U} (Err e) P
 unbroken_err T U P Disk p = tt
@@ -119,40 +121,13 @@ not_full_err T U (Full f) p = p
 not_full_err T U (Damaged f d) p = tt
 not_full_err T U Say p = tt
 
--- ---- where the audit had no room
-
--- a call that had room
-pub full_none : {T : Type 0} (r : Result T BlockFault) (P : ℕ → Type 0) → NotFull r → IfFull r P
-full_none (Ok x) P room = tt
-full_none (Err Disk) P room = tt
-full_none (Err Memory) P room = tt
-full_none (Err (Full f)) P room = absurd room
-full_none (Err (Damaged f b)) P room = tt
-full_none (Err Say) P room = tt
-
--- the same fault, handed on
-pub full_err : (T U : Type 0) (e : BlockFault) (P : ℕ → Type 0) → IfFull {T = T} (Err e) P → IfFull {T = U} (Err e) P
-full_err T U Disk P is = tt
-full_err T U Memory P is = tt
-full_err T U (Full f) P is = is
-full_err T U (Damaged f b) P is = tt
-full_err T U Say P is = tt
-
-pub full_weaker : {T : Type 0} (r : Result T BlockFault) (P Q : ℕ → Type 0) → ((f : ℕ) → P f → Q f) → IfFull r P → IfFull r Q
-full_weaker (Ok x) P Q on is = tt
-full_weaker (Err Disk) P Q on is = tt
-full_weaker (Err Memory) P Q on is = tt
-full_weaker (Err (Full f)) P Q on is = on f is
-full_weaker (Err (Damaged f b)) P Q on is = tt
-full_weaker (Err Say) P Q on is = tt
-
 -- the same fault, handed on
 pub looks_err : {T U : Type 0} {n : ℕ} (e : BlockFault) {a b : Held} → Looks {T = T} n (Err e) a b → Looks {T = U} n (Err e) a b
-looks_err {T = T} {U = U} e {a} {b} p = record { not_full = not_full_err T U e p.not_full; passes = p.passes; stays = unbroken_err T U (Stays a b) e p.stays; same = unbroken_err T U (SameBlocks a b) e p.same; counts = p.counts; uses = p.uses }
+looks_err {T = T} {U = U} e {a} {b} p = record { not_full = not_full_err T U e p.not_full; passes = p.passes; stays = unbroken_err T U (Stays a b) e p.stays; same = unbroken_err T U (SameBlocks a b) e p.same; counts = p.counts; uses = p.uses; landmarks = lands_err e p.landmarks }
 
 -- more reads were allowed
 pub looks_more : {T : Type 0} {m : ℕ} (n : ℕ) {r : Result T BlockFault} {a b : Held} → m ≤ n → Looks m r a b → Looks n r a b
-looks_more n le p = record { not_full = p.not_full; passes = p.passes; stays = p.stays; same = p.same; counts = p.counts; uses = used_more n 0 le (omega arith) p.uses }
+looks_more n le p = record { not_full = p.not_full; passes = p.passes; stays = p.stays; same = p.same; counts = p.counts; uses = used_more n 0 le (omega arith) p.uses; landmarks = p.landmarks }
 
 memory_is : {T : Type 0} {P : Type 0} (r : Result T BlockFault) → IsErrOf r Memory → Unbroken r P → P
 memory_is (Ok x) e p = p
@@ -164,7 +139,7 @@ memory_is (Err Say) e p = absurd (cc e)
 
 -- reads alone change no block
 pub looks_alters : {T : Type 0} {n : ℕ} (m : ℕ) (r : Result T BlockFault) {a b : Held} → Looks n r a b → Alters n m r a b
-looks_alters {n = n} m r p = record { passes = p.passes; stays = p.stays; memory = λ e. memory_is r e p.same; uses = used_more n m (omega arith) (omega arith) p.uses }
+looks_alters {n = n} m r p = record { passes = p.passes; stays = p.stays; memory = λ e. memory_is r e p.same; uses = used_more n m (omega arith) (omega arith) p.uses; landmarks = p.landmarks }
 
 -- a change after reads that went well
 pub alters_on : {T U : Type 0} {k n m : ℕ} {x : T} (r : Result U BlockFault) {a b c : Held} → Looks k (Ok x) a b → Alters n m r b c → Alters (k + n) m r a c
@@ -173,14 +148,15 @@ alters_on {k = k} {n = n} {m = m} r p q = record {
   stays = unbroken_map r (λ s. stays_on p.passes p.stays s) q.stays;
   memory = λ e. same_on p.passes.lasts p.same (q.memory e);
   uses = used_more (k + n) m (omega arith) (omega arith) (used_on p.uses q.uses);
+  landmarks = lands_then r p.landmarks q.landmarks;
 }
 
 -- reads after a change that went well, without more memory
 pub alters_more : {T : Type 0} {n m : ℕ} (n' m' : ℕ) {r : Result T BlockFault} {a b : Held} → n ≤ n' → m ≤ m' → Alters n m r a b → Alters n' m' r a b
-alters_more n' m' le le' p = record { passes = p.passes; stays = p.stays; memory = p.memory; uses = used_more n' m' le le' p.uses }
+alters_more n' m' le le' p = record { passes = p.passes; stays = p.stays; memory = p.memory; uses = used_more n' m' le le' p.uses; landmarks = p.landmarks }
 
 pub alters_as : {T U : Type 0} {n m : ℕ} {x : T} (y : U) {a b : Held} → Alters n m (Ok x) a b → Alters n m (Ok y) a b
-alters_as y p = record { passes = p.passes; stays = p.stays; memory = λ e. absurd (cc e); uses = p.uses }
+alters_as y p = record { passes = p.passes; stays = p.stays; memory = λ e. absurd (cc e); uses = p.uses; landmarks = lands_yes y p.landmarks }
 
 -- causes
 

@@ -2,9 +2,12 @@ pub mod Changing
 pub mod Content
 pub mod ContentLaws
 pub mod Counts
+pub mod FaultLaws
 pub mod Faults
 pub mod Held
 pub mod HeldLaws
+pub mod LandmarkLaws
+pub mod Landmarks
 pub mod Texts
 pub mod View
 pub mod ViewLaws

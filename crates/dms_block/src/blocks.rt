@@ -1,7 +1,8 @@
-ghost use Rattle.std.specs.Prelude.{◌≡◌, ◌≤◌, ◌<◌, ◌+◌, ◌^◌, ◌++◌, [], ◌∷◌, IfOk, OnOk, IsErrOf, IsOkUnless, IsTrue, length, min, ◌-◌, true};
+ghost use Rattle.std.specs.Prelude.{◌≡◌, ◌≤◌, ◌<◌, ◌+◌, ◌^◌, ◌++◌, [], ◌∷◌, IfOk, OnOk, IsErrOf, IsOkUnless, IsTrue, length, min, ◌-◌, false, true};
 ghost use Rattle.dms_block.specs.Content.{block_in, apply_changes, counts_after, FitsIn};
-ghost use Rattle.dms_block.specs.Held.{AuditPace, BlocksAgree, Alters, HasCauses, Held, IfTold, is_due, Lasts, Leaves, LeavesText, Looks, MadeQuiet, MadeDurable, MakesNoPoint, HasNextNumber, SameBlocks, Stays, Synced, WentBack, one_more};
+ghost use Rattle.dms_block.specs.Held.{AuditPace, BlocksAgree, Alters, HasCauses, Held, IfTold, is_due, Lasts, Leaves, LeavesText, Looks, MadeQuiet, MadeDurable, MakesNoPoint, HasNextNumber, SameBlocks, Stays, sync_landmarks, Synced, WentBack, one_more};
 ghost use Rattle.dms_block.specs.Faults.{IfFull};
+ghost use Rattle.dms_block.specs.Landmarks.{back_landmarks, AddsItsLandmarks};
 ghost use Rattle.dms_block.specs.Texts.{Prints, PrintsPrefix};
 
 use crate::{Block, BlockFault, BlockId, Changes};
@@ -67,6 +68,7 @@ pub trait Blocks {
         ensures silent { IsErrOf result BlockFault.Say → ⊥ }
         ensures full { IfFull result (λ f. f ≡ (pace self.old).last) }
         ensures no_point { let a = held self.old in IfFull result (λ f. IfTold a (Leaves a (held self.new) a.points a.next)) }
+        ensures landmarks { AddsItsLandmarks false result (held self.old).landmarks (held self.new).landmarks [] }
         ensures same { same_blocks self.old self.new };
 
     /// Makes all quiet points so far durable. Takes no memory. The audit may have no room only where a control point is due.
@@ -80,6 +82,7 @@ pub trait Blocks {
         ensures silent { IsErrOf result BlockFault.Say → ⊥ }
         ensures full { IfFull result (λ f. f ≡ (pace self.old).last) }
         ensures due { IfFull result (λ f. is_due (pace self.old).every (held self.old).uses.syncs ≡ true) }
+        ensures landmarks { let a = held self.old in AddsItsLandmarks false result a.landmarks (held self.new).landmarks (sync_landmarks (pace self.old).every a.uses.syncs a.next) }
         ensures same { same_blocks self.old self.new };
 
     /// Goes back to the last quiet point, or to the content that it began with. Full names file 9,999.
@@ -92,6 +95,7 @@ pub trait Blocks {
         ensures causes { HasCauses result (held self.old) (held self.new) }
         ensures silent { IsErrOf result BlockFault.Say → ⊥ }
         ensures full { IfFull result (λ f. f ≡ 9999) }
+        ensures landmarks { AddsItsLandmarks true result (held self.old).landmarks (held self.new).landmarks (back_landmarks (held self.old).next) }
         ensures same { same_blocks self.old self.new };
 
     /// Prints. Takes no memory of its own. A failed call prints the first bytes or none.
@@ -107,6 +111,7 @@ pub trait Blocks {
         ensures uses { (held self.new).uses ≡ (held self.old).uses }
         ensures fault { IsOkUnless result BlockFault.Say }
         ensures causes { HasCauses result (held self.old) (held self.new) }
+        ensures landmarks { AddsItsLandmarks false result (held self.old).landmarks (held self.new).landmarks [] }
         ensures same { same_blocks self.old self.new };
 
     /// What sound blocks tell hangs together.

@@ -7,6 +7,7 @@ use Rattle.dms_moments.specs.Moments.{Clock, Now}
 use Rattle.dms_block.specs.declared.block_fault.BlockFault.{BlockFault}
 use Rattle.dms_block.specs.Counts.{Faults, CausedBy}
 use Rattle.dms_block.specs.Held.{AuditPace, IsUpToOne, one_more}
+use Rattle.dms_block.specs.Landmarks.{Landmark}
 use Rattle.dms_desc.specs.Shape.{Described}
 use Rattle.dms_model.specs.Db.{Db}
 use Rattle.dms_model.specs.Points.{StopFiles, Point, Stop, LeavesPrefix, StopTextIs, StoreLeaves, StoreLeavesText, PointsStayDurable, IsUnder}
@@ -60,6 +61,8 @@ pub record Seen : Type 1 where
   pub points : List Point
   pub durable : ℕ
   pub here : Point
+  -- the Controls and Begins of its audit, where they are told
+  pub landmarks : Option (List Landmark)
   -- what stops may leave, and what holds of the files in each of them
   pub clock : Clock Stop
   pub whole : StopFiles → Type 0

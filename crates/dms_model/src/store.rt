@@ -1,9 +1,10 @@
-ghost use Rattle.std.specs.Prelude.{◌≡◌, ◌<◌, ◌+◌, ◌*◌, ◌^◌, length, ◌++◌, [], ◌∷◌, true, Some, IfOk, IfSome, OnOk, IsErrOf, IsOkUnless};
+ghost use Rattle.std.specs.Prelude.{◌≡◌, ◌<◌, ◌+◌, ◌*◌, ◌^◌, length, ◌++◌, [], ◌∷◌, false, true, Some, IfOk, IfSome, OnOk, IsErrOf, IsOkUnless};
 ghost use Rattle.std.specs.FinMap.{get};
 ghost use Rattle.dms_model.specs.Db.{Db};
 ghost use Rattle.dms_model.specs.Members.{first_member, last_member};
 ghost use Rattle.dms_model.specs.Points.{StoreLeaves};
-ghost use Rattle.dms_block.specs.Held.{is_due};
+ghost use Rattle.dms_block.specs.Held.{is_due, sync_landmarks};
+ghost use Rattle.dms_block.specs.Landmarks.{back_landmarks, AddsItsLandmarks};
 ghost use Rattle.dms_block.specs.Texts.{Prints};
 ghost use Rattle.dms_model.specs.Seen.{Seen, StoreAgrees, GoesBack, HasStoreCauses, IfPointsTold, IsMute, IsSilent, Keeps, KeepsPoints, QuietMade, PointsDurable, SaysPart, Spends, Syncs};
 ghost use Rattle.dms_model.specs.Stores.{Tells};
@@ -35,6 +36,7 @@ pub trait Store {
         ensures fits { IfOk result (λ o. IfSome o (RecordFits (seen self.old).desc set)) }
         ensures keeps { Unbroken result (Keeps (seen self.old) (seen self.new)) }
         ensures silent { IsSilent (seen self.old) (seen self.new) }
+        ensures landmarks { AddsItsLandmarks false result (seen self.old).landmarks (seen self.new).landmarks [] }
         ensures same { same_store self.old self.new }
         ensures effort { (seen self.new).effort ≡ (seen self.old).effort }
         ensures undamaged { (d : Db) → (seen self.old).db ≡ Some d → Undamaged result }
@@ -58,6 +60,7 @@ pub trait Store {
         ensures fits { IfOk result (λ o. IfSome o (SpotFits (seen self.old).desc path)) }
         ensures keeps { Unbroken result (Keeps (seen self.old) (seen self.new)) }
         ensures silent { IsSilent (seen self.old) (seen self.new) }
+        ensures landmarks { AddsItsLandmarks false result (seen self.old).landmarks (seen self.new).landmarks [] }
         ensures same { same_store self.old self.new }
         ensures effort { (seen self.new).effort ≡ (seen self.old).effort }
         ensures undamaged { (d : Db) → (seen self.old).db ≡ Some d → Undamaged result }
@@ -81,6 +84,7 @@ pub trait Store {
         ensures fits { IfOk result (λ o. IfSome o (SpotFits (seen self.old).desc path)) }
         ensures keeps { Unbroken result (Keeps (seen self.old) (seen self.new)) }
         ensures silent { IsSilent (seen self.old) (seen self.new) }
+        ensures landmarks { AddsItsLandmarks false result (seen self.old).landmarks (seen self.new).landmarks [] }
         ensures same { same_store self.old self.new }
         ensures effort { (seen self.new).effort ≡ (seen self.old).effort }
         ensures undamaged { (d : Db) → (seen self.old).db ≡ Some d → Undamaged result }
@@ -107,6 +111,7 @@ pub trait Store {
         ensures memory { IsErrOf result BlockFault.Memory → (seen self.new).db ≡ (seen self.old).db }
         ensures keeps { Unbroken result (KeepsPoints (seen self.old) (seen self.new)) }
         ensures silent { IsSilent (seen self.old) (seen self.new) }
+        ensures landmarks { AddsItsLandmarks false result (seen self.old).landmarks (seen self.new).landmarks [] }
         ensures same { same_store self.old self.new }
         ensures effort { Spends (64 * length (seen self.old).desc.structures) (seen self.old).effort (seen self.new).effort }
         ensures undamaged { (d : Db) → (seen self.old).db ≡ Some d → Undamaged result }
@@ -124,6 +129,7 @@ pub trait Store {
         ensures mute { IsMute (seen self.old) (seen self.new) }
         ensures leaves { let s = seen self.old in IfPointsTold s (StoreLeaves s.whole s.clock (seen self.new).clock s.durable (s.points ++ s.here ∷ []) (s.next + 1) s.said) }
         ensures memory { IsErrOf result BlockFault.Memory → ⊥ }
+        ensures landmarks { AddsItsLandmarks false result (seen self.old).landmarks (seen self.new).landmarks [] }
         ensures same { same_store self.old self.new }
         ensures effort { (seen self.new).effort ≡ (seen self.old).effort }
         ensures undamaged { (d : Db) → (seen self.old).db ≡ Some d → Undamaged result }
@@ -138,6 +144,7 @@ pub trait Store {
         ensures made { OnOk result (PointsDurable (seen self.old) (seen self.new)) }
         ensures memory { IsErrOf result BlockFault.Memory → ⊥ }
         ensures silent { IsSilent (seen self.old) (seen self.new) }
+        ensures landmarks { let s = seen self.old in AddsItsLandmarks false result s.landmarks (seen self.new).landmarks (sync_landmarks s.pace.every s.effort.syncs s.next) }
         ensures same { same_store self.old self.new }
         ensures effort { Syncs result (seen self.old).effort (seen self.new).effort }
         ensures undamaged { (d : Db) → (seen self.old).db ≡ Some d → Undamaged result }
@@ -152,6 +159,7 @@ pub trait Store {
         ensures db { OnOk result ((seen self.new).db ≡ (seen self.old).mark) }
         ensures keeps { OnOk result (KeepsPoints (seen self.old) (seen self.new)) }
         ensures silent { IsSilent (seen self.old) (seen self.new) }
+        ensures landmarks { AddsItsLandmarks true result (seen self.old).landmarks (seen self.new).landmarks (back_landmarks (seen self.old).next) }
         ensures same { same_store self.old self.new }
         ensures effort { GoesBack result (seen self.old).effort (seen self.new).effort }
         ensures undamaged { (d : Db) → (seen self.old).db ≡ Some d → Undamaged result }
@@ -166,6 +174,7 @@ pub trait Store {
         ensures part { SaysPart (seen self.old) (seen self.new) bytes.now }
         ensures keeps { OnOk result (Keeps (seen self.old) (seen self.new)) }
         ensures fault { IsOkUnless result BlockFault.Say }
+        ensures landmarks { AddsItsLandmarks false result (seen self.old).landmarks (seen self.new).landmarks [] }
         ensures same { same_store self.old self.new }
         ensures effort { (seen self.new).effort ≡ (seen self.old).effort }
         ensures causes { HasStoreCauses result (seen self.old) (seen self.new) };

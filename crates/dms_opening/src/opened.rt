@@ -89,7 +89,7 @@ impl<S: Site> Opened<S> {
             → TellsOpened (telling_of self.log.end.total self.log.first) files self.next (running_held S.Site r)) }
         ensures log { IfOk result (λ r. (r.log.site ≡ self.log.site) × (r.log.first ≡ self.log.first) × (r.log.end.total ≡ self.log.end.total) × (r.log.end.limit ≡ limit)) }
         ensures kept { IfOk result (λ r. (r.schema ≡ self.schema) × (r.counts ≡ self.counts) × (r.next ≡ self.next) × (r.point ≡ self.point)
-            × (r.every ≡ every) × (r.changed ≡ false) × (r.syncs ≡ 0) × (r.spent ≡ 0) × (r.outs ≡ 0)) }
+            × (r.every ≡ every) × (r.changed ≡ false) × (r.syncs ≡ 0) × (r.spent ≡ 0) × (r.outs ≡ 0) × (r.full ≡ 0)) }
         ensures nothing { IfOk result (λ r. waits self.log.end ≡ [] → waits r.log.end ≡ []) }
         ensures used { IfOk result (λ r. r.log.end.used ≡ self.log.end.used) }
         ensures site { IfErr result (λ e. e.1 ≡ self.log.site) }

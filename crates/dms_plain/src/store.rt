@@ -1,4 +1,4 @@
-ghost use Rattle.std.specs.Prelude.{◌≡◌, ⊤, IfErr, IfOk, IsTrue, Some, [], refl};
+ghost use Rattle.std.specs.Prelude.{◌≡◌, ⊤, IfErr, IfOk, IsTrue, None, Some, [], refl};
 ghost use Rattle.std.proofs.Common.{◌∙◌};
 ghost use Rattle.dms_desc.specs.Shape.{as_described};
 ghost use Rattle.dms_model.specs.Db.{empty_db};
@@ -87,6 +87,7 @@ impl<S: Site> Store for PlainStore<S> {
       said = text_if S.tells_said (S.said s.site);
       points = [];
       durable = 0;
+      landmarks = None;
       here = point_of s.next (as_described s.desc) (db_of (records_in s.rows.items));
       clock = no_clock;
       whole = λ files. ⊤;

@@ -15,7 +15,7 @@ use Rattle.dms_storeverbs.specs.declared.engine.Engine.{Engine}
 use Rattle.dms_storeverbs.specs.View.{engine_view}
 use Rattle.dms_runner.specs.Running.{AnswersWhole}
 use Rattle.dms_runner.specs.Starting.{AtStart, EffortWithin, UsesNumbers, events_at}
-use Rattle.dms_run.specs.Starting.{OfScript, ReachesEnd, SaysAll, CountsSyncs}
+use Rattle.dms_run.specs.Starting.{AddsScript, OfScript, ReachesEnd, SaysAll, CountsSyncs}
 use Rattle.dms_runner.specs.Answers.{last_quiet, script_events}
 use Rattle.dms_runner.specs.Events.{Fate, RunEvent, quiets_of, CrashesWithin, Performs, PerformsPrefix}
 use Rattle.dms_run.specs.States.{EndsWith}
@@ -49,6 +49,10 @@ module _ {St : Type 0} {g : Ghosts St} {T E : Type 0} (old new : Engine St g) (f
   pub counts_syncs : (r : Result T E) → OnOk r (AtStart old feed left (λ db first all. Performs (engine_view old) (engine_view new) (events_at old db first all))) → OnOk r (AtStart old feed left (CountsSyncs old new))
   counts_syncs (Ok x) ran = λ db first all stands room remains. (ran db first all stands room remains).synced
   counts_syncs (Err e) ran = tt
+
+  pub adds_script : (r : Result T E) → OnOk r (AtStart old feed left (λ db first all. Performs (engine_view old) (engine_view new) (events_at old db first all))) → OnOk r (AtStart old feed left (AddsScript old new))
+  adds_script (Ok x) ran = λ db first all stands room remains. (ran db first all stands room remains).landmarks
+  adds_script (Err e) ran = tt
 
   pub uses_numbers : (r : Result T E) → OnOk r (AtStart old feed left (λ db first all. Performs (engine_view old) (engine_view new) (events_at old db first all))) → OnOk r (AtStart old feed left (UsesNumbers old new))
   uses_numbers (Ok x) ran = λ db first all stands room remains. let did = ran db first all stands room remains in omega (arith, did.next, did.next_high)

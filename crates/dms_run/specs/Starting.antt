@@ -2,6 +2,7 @@
 use Rattle.std.specs.Prelude.{ℕ, ◌≡◌, ◌<◌, ◌+◌, ◌^◌, List, length}
 use Rattle.std.specs.declared.option.Option.{Option}
 use Rattle.std.specs.declared.result.Result.{Result}
+use Rattle.dms_block.specs.Landmarks.{AddsLandmarks}
 use Rattle.dms_block.specs.Texts.{Prints}
 use Rattle.dms_desc.specs.Shape.{as_described}
 use Rattle.dms_feed.specs.Feeds.{Remains}
@@ -11,7 +12,7 @@ use Rattle.dms_model.specs.Db.{Db}
 use Rattle.dms_model.specs.Session.{fresh_session}
 use Rattle.dms_moments.specs.Moments.{Runs}
 use Rattle.dms_runner.specs.Answers.{answers_text, last_quiet, script_events}
-use Rattle.dms_runner.specs.Events.{RunEvent, quiets_of, syncs_after}
+use Rattle.dms_runner.specs.Events.{RunEvent, landmarks_from, quiets_of, syncs_after}
 use Rattle.dms_runner.specs.Starting.{CarriesOut, events_at}
 use Rattle.dms_runner.specs.declared.run.RunFault.{RunFault}
 use Rattle.dms_storeverbs.specs.declared.engine.Engine.{Engine}
@@ -36,6 +37,10 @@ module _ {St : Type 0} {g : Ghosts St} where
   -- its syncs are counted, as many as the events of the script take
   abbrev pub CountsSyncs : Engine St g → Engine St g → Db → ℕ → List ℕ → Type 0
   CountsSyncs old new db first all = (engine_view new).effort.syncs ≡ syncs_after (engine_view old).effort.syncs (events_at old db first all)
+
+  -- exactly the landmarks of the script's events were added to the audit
+  abbrev pub AddsScript : Engine St g → Engine St g → Db → ℕ → List ℕ → Type 0
+  AddsScript old new db first all = AddsLandmarks (engine_view old).landmarks (engine_view new).landmarks (landmarks_from (engine_view old) (events_at old db first all))
 
   -- It holds of the point and the database that a run begins with, and of the events of its script.
   abbrev pub OfScript : Engine St g → List ℕ → Option (List ℕ) → (ℕ → Db → ℕ → List RunEvent → Type 0) → Type 0

@@ -8,7 +8,7 @@ ghost use Rattle.dms_runner.specs.Starting.{AtStart, CarriesOut, EffortWithin, O
 ghost use Rattle.dms_runner.specs.Running.{FitsScript, HasTooManyBytes, HasTooManyLines, InputBreaks};
 ghost use Rattle.dms_storeverbs.specs.View.{engine_view};
 ghost use Rattle.dms_run.specs.Ending.{EndsLeave, KeepsLimits};
-ghost use Rattle.dms_run.specs.Starting.{AtBegin, CountsSyncs, OfScript, ReachesEnd, RunsCarried, SaysAll};
+ghost use Rattle.dms_run.specs.Starting.{AddsScript, AtBegin, CountsSyncs, OfScript, ReachesEnd, RunsCarried, SaysAll};
 
 use dms_feed::Feed;
 use dms_model::Store;
@@ -32,6 +32,7 @@ pub fn run_script<St: Store, I: Source>(
     ensures closes { OnOk result (OfScript engine.old feed.old (I.left source.old) (EndsLeave engine.old engine.new)) }
     ensures effort { OnOk result (AtStart engine.old feed.old (I.left source.old) (EffortWithin engine.old engine.new)) }
     ensures synced { OnOk result (AtStart engine.old feed.old (I.left source.old) (CountsSyncs engine.old engine.new)) }
+    ensures landmarks { OnOk result (AtStart engine.old feed.old (I.left source.old) (AddsScript engine.old engine.new)) }
     ensures numbers { OnOk result (AtStart engine.old feed.old (I.left source.old) (UsesNumbers engine.old engine.new)) }
     ensures within { OnOk result (AtStart engine.old feed.old (I.left source.old) (λ db first all. KeepsLimits (as_described engine.old.desc) db first (raw_lines all))) }
     ensures prints { OnOk result (AtStart engine.old feed.old (I.left source.old) (SaysAll engine.old engine.new)) }

@@ -1,5 +1,5 @@
 -- Events, one behind another.
-use Rattle.std.specs.Prelude.{IsErrAnd, IsOkUnless, OnOk, ◌<◌, ◌^◌, nat_le, not, ◌&&◌, is_some, slice_get}
+use Rattle.std.specs.Prelude.{IsErrAnd, IsOkUnless, OnOk, ◌<◌, ◌^◌, nat_le, not, ◌&&◌, ◌||◌, if◌then◌else◌, is_some, slice_get}
 use Rattle.std.specs.declared.result.Result.{Result}
 use Rattle.std.specs.declared.result.Result.TheVariants.{Ok, Err}
 use Rattle.dms_block.specs.declared.block_fault.BlockFault.{BlockFault}
@@ -7,16 +7,19 @@ use Rattle.dms_block.specs.declared.block_fault.BlockFault.TheVariants.{Disk, Me
 use Rattle.dms_block.specs.Counts.{Faults, CausedBy}
 use Rattle.dms_block.specs.Held.{AuditPace, is_due}
 use Rattle.dms_block.specs.Faults.{IfFull, NotFull, Undamaged}
+use Rattle.dms_block.specs.Landmarks.{AddsLandmarks, AddsNoFurther, Landmark, AddsItsLandmarks, back_landmarks}
+use Rattle.dms_block.specs.LandmarkLaws.{landmarks_none, landmarks_on, no_control_on}
 use Rattle.dms_model.specs.Programs.{Program, Wait}
 use Rattle.dms_model.specs.BackOut.{asks_back_out}
 use Rattle.dms_model.specs.declared.reply.Reply.{Reply}
 use Rattle.dms_model.specs.Seen.{Effort, GoesBack, Seen, IsMute, IsSilent, Keeps, SaysPart, StaysDurable}
-use Rattle.dms_storeverbs.specs.Costs.{Costs, IsFullFor, block_limit, limit_if, stores, up_if}
+use Rattle.dms_storeverbs.specs.Costs.{Costs, IsFullFor, VerbLandmarks, block_limit, landmarks_of, limit_if, makes_quiet, stores, up_if}
 use Rattle.std.proofs.Common.{ℕ, zero, suc, ◌≡◌, ◌≤◌, ◌+◌, ◌⊎◌, inl, inr, List, [], ◌∷◌, ◌++◌, length, take, map, Some, None, refl, sym, ◌∙◌, ap, subst, arith, append_assoc, length-append, Bool, true, false}
 use Rattle.std.specs.declared.option.Option.{Option}
 use Rattle.std.proofs.lemmas.List.{append-nil, map-append, length-map, take-append-le, take_all}
 use Rattle.std.proofs.lemmas.Option.{slice_get_within}
 use Rattle.std.proofs.Math.Seq.{take-append-add}
+use Rattle.std.proofs.lemmas.Bool.{and_from, and_parts}
 use Rattle.std.proofs.lemmas.Bool.Decides.{nat_tests}
 use Rattle.dms_moments.specs.Moments.{Runs}
 use Rattle.dms_moments.specs.MomentLaws.{runs_none, runs_on, runs_weaken}
@@ -32,7 +35,7 @@ use Rattle.dms_storeverbs.proofs.Quiet.{quiet_rule}
 use Rattle.dms_storeverbs.specs.Rooms.{LeavesNoPoint}
 use Rattle.dms_storeverbs.specs.View.{View, PerformsCall, PointsGrow, LeavesQuiets, StandsFor, view_of}
 use Rattle.dms_storeverbs.proofs.Calls.{lower, stays}
-use Rattle.dms_runner.specs.Events.{IsTold, RunEvent, calls, says, pause, goes_back, text_of, quiets_of, durable_by, durable_after, CrashesFrom, IsCutShort, Fate, fate_of, IsDueOver, IsFullIn, IsFullOf, SaidWhole, Performs, PerformsPrefix, SaidAtLeast, TakesEvents, TookAll, TookOneMore, TookPart, EndsAnswered, blocks_of, syncs_of, syncs_after, backs_of, may_store, one_if}
+use Rattle.dms_runner.specs.Events.{IsTold, RunEvent, calls, says, pause, goes_back, text_of, quiets_of, durable_by, durable_after, CrashesFrom, IsCutShort, Fate, fate_of, IsDueOver, IsFullIn, IsFullOf, SaidWhole, Performs, PerformsPrefix, SaidAtLeast, TakesEvents, TookAll, TookOneMore, TookPart, EndsAnswered, blocks_of, syncs_of, syncs_after, landmarks_after, landmarks_from, backs_of, may_store, one_if}
 use Rattle.dms_runner.specs.Blaming.{IsFullRun, run_fate}
 use Rattle.dms_runner.specs.declared.run.RunFault.TheVariants.{Block}
 use Rattle.dms_runner.proofs.Texts.{prints_none, prints_on, front_none, front_all, front_of_first, front_on}
@@ -65,6 +68,17 @@ backs_on (e ∷ x) y = omega (arith, backs_on x y)
 syncs_behind : (n : ℕ) (x y : List RunEvent) → syncs_after n (x ++ y) ≡ syncs_after (syncs_after n x) y
 syncs_behind n [] y = refl
 syncs_behind n (e ∷ x) y = syncs_behind (up_if (is_some e.sync) n) x y
+
+-- the landmarks of events that come behind others
+landmarks_behind : (every syncs next : ℕ) (x y : List RunEvent) → landmarks_after every syncs next (x ++ y) ≡ landmarks_after every syncs next x ++ landmarks_after every (syncs_after syncs x) (next + length (quiets_of x)) y
+landmarks_behind every syncs next [] y = let e : next ≡ next + 0 = omega arith in ap (λ (n : ℕ). landmarks_after every syncs n y) e
+landmarks_behind every syncs next (e ∷ x) y =
+    let n = next + length e.quiets in
+    let s = up_if (is_some e.sync) syncs in
+    let first = landmarks_of every syncs n (is_some e.sync) e.backs in
+    let same : n + length (quiets_of x) ≡ next + length (e.quiets ++ quiets_of x) = omega (arith, length-append e.quiets (quiets_of x)) in
+    ap (λ (l : List Landmark). first ++ l) (landmarks_behind every s n x y ∙ ap (λ (k : ℕ). landmarks_after every s n x ++ landmarks_after every (syncs_after s x) k y) same)
+    ∙ sym (append_assoc first (landmarks_after every s n x) (landmarks_after every (syncs_after s x) (next + length (e.quiets ++ quiets_of x)) y))
 
 -- nothing was done
 pub takes_still : (desc : Described) (x : List RunEvent) {a b : Effort} → b ≡ a → TakesEvents desc x a b
@@ -133,7 +147,7 @@ pub undamaged_by : {T : Type 0} (a b : Seen) (r : Result T BlockFault) → ((d :
 undamaged_by a b r u p t = damaged_same r a.faults b.faults (u t.db t.db_is) p
 
 pub ran_none : (a : Seen) → Performs a a []
-ran_none a = record { text = prints_none a.said a.said refl; tells = λ t. t; whole = λ files w. w; told = λ t. t; undamaged = λ t. refl; next = omega arith; next_high = omega arith; grew = λ t. grew_none a.points; durable = λ t. omega arith; moments = λ t. runs_none a.clock (CrashesFrom a []); desc = refl; pace = refl; effort = takes_still a.desc [] refl; synced = refl }
+ran_none a = record { text = prints_none a.said a.said refl; tells = λ t. t; whole = λ files w. w; told = λ t. t; undamaged = λ t. refl; next = omega arith; next_high = omega arith; grew = λ t. grew_none a.points; durable = λ t. omega arith; moments = λ t. runs_none a.clock (CrashesFrom a []); desc = refl; pace = refl; effort = takes_still a.desc [] refl; synced = refl; landmarks = landmarks_none a.landmarks }
 
 -- a stop within the first events
 pub stopped_first : (a : Seen) (x y : List RunEvent) (stop : Stop) → CrashesFrom a x stop → CrashesFrom a (x ++ y) stop
@@ -156,6 +170,17 @@ stopped_on a b x y stop t ran s =
           (n.0, n.1 ∙ ap (λ (l : List ℕ). l ++ take n.0 s.at.text) (append_assoc said (text_of x) (text_of s.before) ∙ ap (λ (l : List ℕ). said ++ l) (sym (text_on x s.before))));
     }
 
+-- the landmarks of events behind those that happened
+landmarks_from_on : (a b : Seen) (x y : List RunEvent) → Performs a b x → landmarks_from a (x ++ y) ≡ landmarks_from a x ++ landmarks_from b y
+landmarks_from_on a b x y ran =
+    let number : a.next + length (quiets_of x) ≡ b.next = omega (arith, ran.next, ran.next_high) in
+    let count : syncs_after a.effort.syncs x ≡ b.effort.syncs = sym ran.synced in
+    landmarks_behind a.pace.every a.effort.syncs a.next x y
+    ∙ ap (λ (l : List Landmark). landmarks_from a x ++ l)
+    (ap (λ (n : ℕ). landmarks_after a.pace.every n (a.next + length (quiets_of x)) y) count
+    ∙ ap (λ (n : ℕ). landmarks_after a.pace.every b.effort.syncs n y) number
+    ∙ ap (λ (p : AuditPace). landmarks_after p.every b.effort.syncs b.next y) (sym ran.pace))
+
 -- events behind events
 pub ran_on : (a b c : Seen) (x y : List RunEvent) → Performs a b x → Performs b c y → Performs a c (x ++ y)
 ran_on a b c x y first next = record {
@@ -173,6 +198,7 @@ ran_on a b c x y first next = record {
   pace = next.pace ∙ first.pace;
   effort = takes_on a.desc x y first.effort (subst (λ (d : Described). TakesEvents d y b.effort c.effort) first.desc next.effort);
   synced = next.synced ∙ ap (λ (n : ℕ). syncs_after n y) first.synced ∙ sym (syncs_behind a.effort.syncs x y);
+  landmarks = subst (λ (l : List Landmark). AddsLandmarks a.landmarks c.landmarks l) (sym (landmarks_from_on a b x y first)) (landmarks_on first.landmarks next.landmarks);
 }
 
 -- whole events
@@ -363,6 +389,7 @@ due_front f a b x y d =
       full = d.full;
       text = subst (λ (e : List RunEvent). Prints a.said b.said (text_of e)) (sym front) d.text;
       made = subst (λ (e : List RunEvent). LeavesOrDue a b d.at e) (sym front) d.made;
+      landmarks = subst (λ (e : List RunEvent). AddsNoFurther d.at.backs a.landmarks b.landmarks (landmarks_from a e)) (sym front) d.landmarks;
     }
 
 -- what holds behind later events holds behind all
@@ -385,11 +412,13 @@ due_on f a b c x y first d =
       full = subst (λ (p : AuditPace). IsFullIn p.last d.at f) first.pace d.full;
       text = subst (λ (t : List ℕ). Prints a.said c.said t) (sym (ap text_of front ∙ text_on x (take d.k y))) (prints_on a.said b.said c.said (text_of x) (text_of (take d.k y)) first.text d.text);
       made = subst (λ (e : List RunEvent). LeavesOrDue a c d.at e) (sym front) (leaves_on a b c d.at x (take d.k y) first d.made);
+      landmarks = subst (λ (l : List Landmark). AddsNoFurther d.at.backs a.landmarks c.landmarks l) (sym (ap (landmarks_from a) front ∙ landmarks_from_on a b x (take d.k y) first))
+          (no_control_on first.landmarks d.landmarks);
     }
 
 -- nothing was said, and the only event had no room
-due_first : (f : ℕ) (a b : Seen) (e : RunEvent) → b.said ≡ a.said → IsFullIn a.pace.last e f → LeavesOrDue a b e [] → IsDueOver f a b (e ∷ [])
-due_first f a b e same full made = record { k = 0; at = e; is = refl; full = full; text = prints_none a.said b.said same; made = made }
+due_first : (f : ℕ) (a b : Seen) (e : RunEvent) → b.said ≡ a.said → IsFullIn a.pace.last e f → LeavesOrDue a b e [] → AddsNoFurther e.backs a.landmarks b.landmarks [] → IsDueOver f a b (e ∷ [])
+due_first f a b e same full made lands = record { k = 0; at = e; is = refl; full = full; text = prints_none a.said b.said same; made = made; landmarks = lands }
 
 -- no event of them happened
 pub part_none : {fate : Fate} → ((f : ℕ) → fate.full f → ⊥) → (a : Seen) (x : List RunEvent) → PerformsPrefix fate a a x
@@ -508,6 +537,10 @@ full_if {T} false r n room is = absurd (not_full_is {T = T} n r (room refl) is)
 pub full_back : (e : BlockFault) (b : Bool) → (b ≡ false → NotFull {T = Unit {0}} (Err e)) → IfFull {T = Unit {0}} (Err e) (λ f. f ≡ 9999) → (n : ℕ) → IsFullRun {T = Unit {0}} (Err (Block e)) n → (b ≡ true) × (n ≡ 9999)
 full_back e b room file n is = (full_if {T = Unit {0}} b (Err e) n room is, full_at {T = Unit {0}} (Err e) (λ f. f ≡ 9999) n file is)
 
+-- and it added no Control
+pub full_lands : (e : BlockFault) (a b : Seen) {more : List Landmark} → AddsItsLandmarks {T = Unit {0}} true (Err e) a.landmarks b.landmarks more → (n : ℕ) → IsFullRun {T = Unit {0}} (Err (Block e)) n → AddsNoFurther true a.landmarks b.landmarks []
+full_lands e a b lands n is = full_at {T = Unit {0}} (Err e) (λ f. AddsNoFurther true a.landmarks b.landmarks []) n lands.full is
+
 -- a fault of printing is the only one of a call that prints
 pub unless_cut : {T : Type 0} (r : Result T BlockFault) (P : Type 0) → IsOkUnless r Say → OnOk r P → (IsCutShort r → ⊥) → P
 unless_cut (Ok x) P only p uncut = p
@@ -525,8 +558,9 @@ stopped_says a x stop p = record {
   text = λ t is. let n = p.1 t is in (n.0, n.1 ∙ ap (λ (l : List ℕ). l ++ take n.0 x) (sym (append-nil t)));
 }
 
-pub ran_says : (a b : Seen) (x y : List ℕ) → x ≡ y → (a.tells → b.tells) → ((files : StopFiles) → b.whole files → a.whole files) → b.desc ≡ a.desc → b.pace ≡ a.pace → b.effort ≡ a.effort → FindsNoDamage a b → Prints a.said b.said x → SaysPart a b x → Keeps a b → a.next + 1 < 2 ^ 64 → Performs a b (says y ∷ [])
-ran_says a b x y is tells whole desc pace same undamaged text part keeps room = record {
+pub ran_says : (a b : Seen) (x y : List ℕ) → x ≡ y → (a.tells → b.tells) → ((files : StopFiles) → b.whole files → a.whole files) → b.desc ≡ a.desc → b.pace ≡ a.pace → b.effort ≡ a.effort → FindsNoDamage a b → Prints a.said b.said x → SaysPart a b x → Keeps a b
+    → AddsLandmarks a.landmarks b.landmarks [] → a.next + 1 < 2 ^ 64 → Performs a b (says y ∷ [])
+ran_says a b x y is tells whole desc pace same undamaged text part keeps lands room = record {
   text = subst (λ (t : List ℕ). Prints a.said b.said t) (is ∙ sym (append-nil y)) text;
   tells = tells;
   whole = whole;
@@ -541,6 +575,7 @@ ran_says a b x y is tells whole desc pace same undamaged text part keeps room = 
   pace = pace;
   effort = takes_still a.desc (says y ∷ []) same;
   synced = ap (λ (e : Effort). e.syncs) same;
+  landmarks = lands;
 }
 
 -- a text that may have been cut off
@@ -569,7 +604,7 @@ part_says fits a b x y is same undamaged part whole room = record {
 
 -- nothing to say
 pub ran_silent : (a : Seen) (x : List ℕ) → x ≡ [] → Performs a a (says x ∷ [])
-ran_silent a x is = subst (λ (t : List ℕ). Performs a a (says t ∷ [])) (sym is) (record { text = prints_none a.said a.said refl; tells = λ t. t; whole = λ files w. w; told = λ t. t; undamaged = λ t. refl; next = omega arith; next_high = omega arith; grew = λ t. grew_none a.points; durable = λ t. omega arith; moments = λ t. runs_none a.clock (CrashesFrom a (says [] ∷ [])); desc = refl; pace = refl; effort = takes_still a.desc (says [] ∷ []) refl; synced = refl })
+ran_silent a x is = subst (λ (t : List ℕ). Performs a a (says t ∷ [])) (sym is) (record { text = prints_none a.said a.said refl; tells = λ t. t; whole = λ files w. w; told = λ t. t; undamaged = λ t. refl; next = omega arith; next_high = omega arith; grew = λ t. grew_none a.points; durable = λ t. omega arith; moments = λ t. runs_none a.clock (CrashesFrom a (says [] ∷ [])); desc = refl; pace = refl; effort = takes_still a.desc (says [] ∷ []) refl; synced = refl; landmarks = landmarks_none a.landmarks })
 
 -- nothing of an event was done yet
 stopped_before : (a : Seen) (e : RunEvent) (stop : Stop) → LeavesPrefix a.whole a.durable a.points a.next stop × StopTextIs a.said stop → CrashesFrom a (e ∷ []) stop
@@ -625,6 +660,18 @@ call_takes desc verb o answer {a} {b} reply sync costs idle = record {
   outs = up_by (asks_back_out verb && is_done o.reply) a.outs b.outs (costs.outs ∙ ap (λ (r : Reply). up_if (asks_back_out verb && is_done r) a.outs) reply);
 }
 
+-- the landmarks of its event are those of its answer
+call_lands : (a b : Seen) (verb : Verb) (o : Outcome) (answer : Answer) → answer.reply ≡ o.reply → answer.sync ≡ o.sync → b.next ≡ a.next + length o.quiets → VerbLandmarks (asks_back_out verb) (Ok answer) a b
+    → AddsLandmarks a.landmarks b.landmarks (landmarks_from a (calls verb o ∷ []))
+call_lands a b verb o answer reply sync next lands =
+    let every = a.pace.every in
+    let syncs = a.effort.syncs in
+    subst (λ (l : List Landmark). AddsLandmarks a.landmarks b.landmarks l)
+    (ap (λ (n : ℕ). landmarks_of every syncs n (is_some answer.sync) (asks_back_out verb && is_done answer.reply)) next
+    ∙ ap (λ (s : Option ℕ). landmarks_of every syncs (a.next + length o.quiets) (is_some s) (asks_back_out verb && is_done answer.reply)) sync
+    ∙ ap (λ (r : Reply). landmarks_of every syncs (a.next + length o.quiets) (is_some o.sync) (asks_back_out verb && is_done r)) reply
+    ∙ sym (append-nil (landmarks_of every syncs (a.next + length o.quiets) (is_some o.sync) (asks_back_out verb && is_done o.reply)))) lands.done
+
 limit_low : (b : Bool) (desc : Described) → limit_if b desc ≤ limit_if true desc
 limit_low true desc = omega arith
 limit_low false desc = omega arith
@@ -650,9 +697,9 @@ took_call a b verb call result mute costs = record {
   });
 }
 
-pub ran_calls : (a b : Seen) {programs : List Program} {pending : Bool} {since : ℕ} {waits : List Wait} (verb : Verb) (o : Outcome) (answer : Answer) → (a.tells → b.tells) → ((files : StopFiles) → b.whole files → a.whole files) → b.desc ≡ a.desc → b.pace ≡ a.pace → Costs (block_limit a.desc verb) (asks_back_out verb) (Ok answer) a.effort b.effort → (is_waits answer.reply ≡ true → b.effort.spent ≤ a.effort.spent)
-    → b.faults ≡ a.faults → IsMute a b → b.next ≡ a.next + length o.quiets → PerformsCall o a b (view_of b.db b.mark b.next programs pending since waits) (Ok answer) → Performs a b (calls verb o ∷ [])
-ran_calls a b verb o answer tells whole desc pace costs idle same mute next did = record {
+pub ran_calls : (a b : Seen) {programs : List Program} {pending : Bool} {since : ℕ} {waits : List Wait} (verb : Verb) (o : Outcome) (answer : Answer) → (a.tells → b.tells) → ((files : StopFiles) → b.whole files → a.whole files) → b.desc ≡ a.desc → b.pace ≡ a.pace → Costs (block_limit a.desc verb) (asks_back_out verb) (Ok answer) a.effort b.effort
+    → VerbLandmarks (asks_back_out verb) (Ok answer) a b → (is_waits answer.reply ≡ true → b.effort.spent ≤ a.effort.spent) → b.faults ≡ a.faults → IsMute a b → b.next ≡ a.next + length o.quiets → PerformsCall o a b (view_of b.db b.mark b.next programs pending since waits) (Ok answer) → Performs a b (calls verb o ∷ [])
+ran_calls a b verb o answer tells whole desc pace costs lands idle same mute next did = record {
   text = prints_none a.said b.said mute.said;
   tells = tells;
   whole = whole;
@@ -667,6 +714,7 @@ ran_calls a b verb o answer tells whole desc pace costs idle same mute next did 
   pace = pace;
   effort = call_takes a.desc verb o answer did.answers.reply did.answers.sync costs idle;
   synced = costs.syncs ∙ ap (λ (s : Option ℕ). up_if (is_some s) a.effort.syncs) did.answers.sync;
+  landmarks = call_lands a b verb o answer did.answers.reply did.answers.sync next lands;
 }
 
 -- a call whose quiet point no stop leaves, or at whose sync a control point was due
@@ -674,9 +722,20 @@ leaves_call : (a b : Seen) (verb : Verb) (o : Outcome) → LeavesNoPoint a b o �
 leaves_call a b verb o (inl left) = inl (λ t. runs_weaken (left t) (stopped_before a pause))
 leaves_call a b verb o (inr due) = inr due
 
-pub part_calls : {fate : Fate} (a b : Seen) (v : View) (verb : Verb) (o : Outcome) {result : Result Answer BlockFault} → ((f : ℕ) → fate.full f → IsFullFor a.pace.last verb o f) → ((f : ℕ) → fate.full f → LeavesNoPoint a b o) → Costs (block_limit a.desc verb) (asks_back_out verb) result a.effort b.effort → CausedBy result a.faults b.faults → IsMute a b → PerformsCall o a b v result → PerformsPrefix fate a b (calls verb o ∷ [])
-part_calls a b v verb o {result} changed leaves costs cause mute did = record {
-  due = λ f full. due_first f a b (calls verb o) mute.said (changed f full) (leaves_call a b verb o (leaves f full));
+-- where the audit had no room for a verb it would have been done
+full_done : (last : ℕ) (verb : Verb) (o : Outcome) (f : ℕ) → IsFullFor last verb o f → is_done o.reply ≡ true
+full_done last verb o f (inl full) = (and_parts (is_done o.reply) (stores verb || makes_quiet o.quiets) full.0).0
+full_done last verb o f (inr full) = (and_parts (asks_back_out verb) (is_done o.reply) full.0).1
+
+-- so its event goes back where the verb asks for it
+lands_call : (a b : Seen) (verb : Verb) (o : Outcome) (more : List Landmark) → is_done o.reply ≡ true → AddsNoFurther (asks_back_out verb) a.landmarks b.landmarks more → AddsNoFurther (asks_back_out verb && is_done o.reply) a.landmarks b.landmarks more
+lands_call a b verb o more done (inl added) = inl added
+lands_call a b verb o more done (inr back) = inr (and_from (asks_back_out verb) (is_done o.reply) back.0 done, back.1)
+
+pub part_calls : {fate : Fate} (a b : Seen) (v : View) (verb : Verb) (o : Outcome) {result : Result Answer BlockFault} → ((f : ℕ) → fate.full f → IsFullFor a.pace.last verb o f) → ((f : ℕ) → fate.full f → LeavesNoPoint a b o)
+    → ((f : ℕ) → fate.full f → AddsNoFurther (asks_back_out verb) a.landmarks b.landmarks []) → Costs (block_limit a.desc verb) (asks_back_out verb) result a.effort b.effort → CausedBy result a.faults b.faults → IsMute a b → PerformsCall o a b v result → PerformsPrefix fate a b (calls verb o ∷ [])
+part_calls a b v verb o {result} changed leaves lands costs cause mute did = record {
+  due = λ f full. due_first f a b (calls verb o) mute.said (changed f full) (leaves_call a b verb o (leaves f full)) (lands_call a b verb o [] (full_done a.pace.last verb o f (changed f full)) (lands f full));
   said_whole = λ uncut. whole_none a.said b.said (calls verb o ∷ []) mute.said;
   took = took_call a b verb (calls verb o) result mute costs;
   undamaged = λ t. damaged_same result a.faults b.faults did.undamaged cause;
@@ -696,8 +755,21 @@ pub back_syncs : {T : Type 0} (r : Result T BlockFault) (works : Bool) {a b : Ef
 back_syncs r true back stays = (back refl).syncs
 back_syncs r false back stays = ap (λ (e : Effort). e.syncs) (stays refl)
 
-pub ran_back : (works : Bool) (a b : Seen) → (a.tells → b.tells) → ((files : StopFiles) → b.whole files → a.whole files) → b.desc ≡ a.desc → b.pace ≡ a.pace → TakesEvents a.desc (goes_back works ∷ []) a.effort b.effort → b.effort.syncs ≡ a.effort.syncs → (IsTold a → IsTold b) → FindsNoDamage a b → IsSilent a b → StaysDurable a b → a.next + 1 < 2 ^ 64 → Performs a b (goes_back works ∷ [])
-ran_back works a b tells whole desc pace takes synced told_point undamaged silent points room = record {
+-- the landmarks of a way back
+back_lands : (works : Bool) (a b : Seen) → AddsLandmarks a.landmarks b.landmarks (if works then back_landmarks a.next else []) → AddsLandmarks a.landmarks b.landmarks (landmarks_from a (goes_back works ∷ []))
+back_lands true a b lands = let e : a.next ≡ a.next + 0 = omega arith in subst (λ (n : ℕ). AddsLandmarks a.landmarks b.landmarks (back_landmarks n)) e lands
+back_lands false a b lands = lands
+
+pub back_as : (a b : Seen) {works works' : Bool} → works ≡ works' → AddsLandmarks a.landmarks b.landmarks (if works then back_landmarks a.next else []) → AddsLandmarks a.landmarks b.landmarks (if works' then back_landmarks a.next else [])
+back_as a b same lands = subst (λ (w : Bool). AddsLandmarks a.landmarks b.landmarks (if w then back_landmarks a.next else [])) same lands
+
+-- where the audit had no room for it somebody worked
+back_full : (works : Bool) (a b : Seen) → works ≡ true → AddsNoFurther true a.landmarks b.landmarks [] → AddsNoFurther works a.landmarks b.landmarks []
+back_full works a b some lands = subst (λ (w : Bool). AddsNoFurther w a.landmarks b.landmarks []) (sym some) lands
+
+pub ran_back : (works : Bool) (a b : Seen) → (a.tells → b.tells) → ((files : StopFiles) → b.whole files → a.whole files) → b.desc ≡ a.desc → b.pace ≡ a.pace → TakesEvents a.desc (goes_back works ∷ []) a.effort b.effort → b.effort.syncs ≡ a.effort.syncs → (IsTold a → IsTold b) → FindsNoDamage a b → IsSilent a b → StaysDurable a b
+    → AddsLandmarks a.landmarks b.landmarks (if works then back_landmarks a.next else []) → a.next + 1 < 2 ^ 64 → Performs a b (goes_back works ∷ [])
+ran_back works a b tells whole desc pace takes synced told_point undamaged silent points lands room = record {
   text = prints_none a.said b.said silent.said;
   tells = tells;
   whole = whole;
@@ -712,15 +784,16 @@ ran_back works a b tells whole desc pace takes synced told_point undamaged silen
   pace = pace;
   effort = takes;
   synced = synced;
+  landmarks = back_lands works a b lands;
 }
 
 -- it may be done in part
 took_back : {cut : Type 0} (works : Bool) (a b : Seen) → TakesEvents a.desc (goes_back works ∷ []) a.effort b.effort → IsSilent a b → TookPart cut a b (goes_back works ∷ [])
 took_back works a b takes silent = took_by a b (goes_back works ∷ []) 1 (omega arith) (prints_none a.said b.said silent.said) takes (omega (arith, silent.next))
 
-pub part_back : {fate : Fate} (works : Bool) (a b : Seen) → ((f : ℕ) → fate.full f → (works ≡ true) × (f ≡ 9999)) → TakesEvents a.desc (goes_back works ∷ []) a.effort b.effort → FindsNoDamage a b → IsSilent a b → a.next + 1 < 2 ^ 64 → PerformsPrefix fate a b (goes_back works ∷ [])
-part_back works a b backs takes undamaged silent room = record {
-  due = λ f full. due_first f a b (goes_back works) silent.said (inr (backs f full)) (inl (λ t. runs_weaken (silent.leaves t room) (stopped_before a pause)));
+pub part_back : {fate : Fate} (works : Bool) (a b : Seen) → ((f : ℕ) → fate.full f → (works ≡ true) × (f ≡ 9999)) → ((f : ℕ) → fate.full f → AddsNoFurther true a.landmarks b.landmarks []) → TakesEvents a.desc (goes_back works ∷ []) a.effort b.effort → FindsNoDamage a b → IsSilent a b → a.next + 1 < 2 ^ 64 → PerformsPrefix fate a b (goes_back works ∷ [])
+part_back works a b backs lands takes undamaged silent room = record {
+  due = λ f full. due_first f a b (goes_back works) silent.said (inr (backs f full)) (inl (λ t. runs_weaken (silent.leaves t room) (stopped_before a pause))) (back_full works a b (backs f full).0 (lands f full));
   took = took_back works a b takes silent;
   said_whole = λ uncut. whole_none a.said b.said (goes_back works ∷ []) silent.said;
   undamaged = undamaged;

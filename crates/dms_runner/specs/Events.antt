@@ -8,6 +8,7 @@ use Rattle.dms_block.specs.declared.block_fault.BlockFault.TheVariants.{Disk, Me
 use Rattle.dms_moments.specs.Moments.{Runs}
 use Rattle.dms_model.specs.Points.{StopFiles, Point, Quiet, Stop}
 use Rattle.dms_block.specs.Held.{is_due}
+use Rattle.dms_block.specs.Landmarks.{AddsLandmarks, AddsNoFurther, Landmark}
 use Rattle.dms_block.specs.Texts.{Prints, PrintsPrefix}
 use Rattle.dms_model.specs.Db.{Db}
 use Rattle.dms_desc.specs.Shape.{Described}
@@ -16,7 +17,7 @@ use Rattle.dms_model.specs.declared.reply.Reply.{Reply}
 use Rattle.dms_model.specs.declared.verb.Verb.{Verb}
 use Rattle.dms_model.specs.Seen.{Effort, Seen}
 use Rattle.dms_model.specs.Session.{Outcome, is_waits}
-use Rattle.dms_storeverbs.specs.Costs.{appends, limit_if, stores, up_if}
+use Rattle.dms_storeverbs.specs.Costs.{appends, landmarks_of, limit_if, stores, up_if}
 use Rattle.dms_storeverbs.specs.View.{PointsGrow, LeavesQuiets}
 use Rattle.dms_laws.specs.Exclusive.{is_done}
 
@@ -86,6 +87,16 @@ abbrev pub syncs_after : ℕ → List RunEvent → ℕ
 syncs_after n [] = n
 syncs_after n (e ∷ es) = syncs_after (up_if (is_some e.sync) n) es
 
+-- the landmarks that these events add to the audit, where there were so many syncs before them and this was the next number
+abbrev pub landmarks_after : ℕ → ℕ → ℕ → List RunEvent → List Landmark
+landmarks_after every syncs next [] = []
+landmarks_after every syncs next (e ∷ es) =
+    landmarks_of every syncs (next + length e.quiets) (is_some e.sync) e.backs ++ landmarks_after every (up_if (is_some e.sync) syncs) (next + length e.quiets) es
+
+-- those of events that a run begins with
+abbrev pub landmarks_from : Seen → List RunEvent → List Landmark
+landmarks_from b events = landmarks_after b.pace.every b.effort.syncs b.next events
+
 -- No more was done than these events may take.
 pub record TakesEvents (desc : Described) (events : List RunEvent) (old new : Effort) : Type 0 where
   pub spent : new.spent ≤ old.spent + blocks_of desc events
@@ -126,7 +137,8 @@ pub record IsTold (s : Seen) : Type 0 where
 
 -- these events happened: their text was said, their quiet points were made and have used up their numbers, at least those are
 -- durable that a syncpoint among them covers, and a stop on the way lies within them. Where the database is told it still is, and no
--- block was found damaged. No more was done than they may take, and no number but those of the quiet points was used
+-- block was found damaged. No more was done than they may take, and no number but those of the quiet points was used; exactly their landmarks
+-- were added to the audit
 pub record Performs (b a : Seen) (events : List RunEvent) : Type 0 where
   pub text : Prints b.said a.said (text_of events)
   pub tells : b.tells → a.tells
@@ -142,6 +154,7 @@ pub record Performs (b a : Seen) (events : List RunEvent) : Type 0 where
   pub pace : a.pace ≡ b.pace
   pub effort : TakesEvents b.desc events b.effort a.effort
   pub synced : a.effort.syncs ≡ syncs_after b.effort.syncs events
+  pub landmarks : AddsLandmarks b.landmarks a.landmarks (landmarks_from b events)
 
 -- the answer is a fault of printing: the last text may have been cut off
 abbrev pub IsCutShort : {T : Type 0} → Result T BlockFault → Type 0
@@ -220,19 +233,22 @@ abbrev pub IsFullIn : ℕ → RunEvent → ℕ → Type 0
 IsFullIn last e f = ((e.appends ≡ true) × (f ≡ last)) ⊎ ((e.backs ≡ true) × (f ≡ 9999))
 
 -- Exactly the text of the first k of these events was said, and the next of them is such a one. Stops on the way left what those first events leave,
--- so no quiet point of the next one; or a control point was due at the sync of the syncpoint that the next one takes.
-pub record IsDue (last f : ℕ) (Leaves Due : List RunEvent → Type 0) (before after : Option (List ℕ)) (events : List RunEvent) : Type 0 where
+-- so no quiet point of the next one; or a control point was due at the sync of the syncpoint that the next one takes. The landmarks of those first events
+-- were added, and no others but maybe a Begin, where the next one goes back.
+pub record IsDue (last f : ℕ) (Leaves Due : List RunEvent → Type 0) (Behind : Bool → List RunEvent → Type 0) (before after : Option (List ℕ)) (events : List RunEvent) : Type 0 where
   pub k : ℕ
   pub at : RunEvent
   pub is : slice_get events k ≡ Some at
   pub full : IsFullIn last at f
   pub text : Prints before after (text_of (take k events))
   pub made : Leaves (take k events ++ pause ∷ []) ⊎ ((is_some at.sync ≡ true) × Due (take k events))
+  pub landmarks : Behind at.backs (take k events)
 
--- so it is over a store that tells its stops, and counts its syncs
+-- so it is over a store that tells its stops and its landmarks, and counts its syncs
 abbrev pub IsDueOver : ℕ → Seen → Seen → List RunEvent → Type 0
 IsDueOver f b a events =
-    IsDue b.pace.last f (λ es. b.tells → Runs b.clock a.clock (CrashesFrom b es)) (λ es. is_due b.pace.every (syncs_after b.effort.syncs es) ≡ true) b.said a.said events
+    IsDue b.pace.last f (λ es. b.tells → Runs b.clock a.clock (CrashesFrom b es)) (λ es. is_due b.pace.every (syncs_after b.effort.syncs es) ≡ true)
+    (λ backs es. AddsNoFurther backs b.landmarks a.landmarks (landmarks_from b es)) b.said a.said events
 
 -- a prefix of the text of these events was said, that of whole events where no text was cut off, and a stop on the way lies
 -- within them. No more was done than that prefix may take. Where the audit had no room, entries may have been due. Of what stands afterwards it says nothing else

@@ -1,15 +1,14 @@
 -- How much audit a run takes, step by step.
-use Rattle.std.proofs.Common.{ℕ, ◌+◌, ◌-◌, ◌*◌, ◌^◌, ◌<◌, ◌≤◌, ◌≡◌, ◌⊎◌, ◌∙◌, inl, inr, Bool, false, true, IsTrue, List, [], ◌∷◌, ◌++◌, length, take, Option, Some, is_some, refl, sym, ap, subst, arith}
+use Rattle.std.proofs.Common.{ℕ, ◌+◌, ◌-◌, ◌*◌, ◌^◌, ◌<◌, ◌≤◌, ◌≡◌, ◌⊎◌, ◌∙◌, inl, inr, false, true, IsTrue, List, [], ◌++◌, length, take, Option, Some, refl, sym, ap, subst, arith}
 use Rattle.std.proofs.lemmas.List.{append-nil, take_all}
 use Rattle.dms_block.specs.declared.block_fault.BlockFault.TheVariants as block
-use Rattle.dms_block.specs.Held.{one_more}
 use Rattle.dms_block.specs.Texts.{Prints, PrintsPrefix}
 use Rattle.dms_desc.specs.Shape.{Described}
 use Rattle.dms_history.specs.Entries.{Entry}
 use Rattle.dms_history.proofs.Order.{append_none}
 use Rattle.dms_model.specs.Seen.{Effort, Seen}
 use Rattle.dms_runner.specs.EventLaws.{AreCounted}
-use Rattle.dms_runner.specs.Events.{RunEvent, SaidAtLeast, TakesEvents, TookAll, TookOneMore, TookPart, backs_of, blocks_of, one_if, quiets_of, syncs_after, syncs_of, text_of}
+use Rattle.dms_runner.specs.Events.{RunEvent, SaidAtLeast, TakesEvents, TookAll, TookOneMore, TookPart, backs_of, blocks_of, quiets_of, syncs_of, text_of}
 use Rattle.dms_runner.specs.declared.run.RunFault.{RunFault}
 use Rattle.dms_runner.specs.declared.run.RunFault.TheVariants as run
 use Rattle.dms_runner.specs.declared.run.RunFault.TheVariants.{Block}
@@ -22,19 +21,13 @@ use Rattle.dms_site.specs.Files.{Files}
 use Rattle.dms_status.specs.declared.status.Status.{Status}
 use Rattle.dms_status.specs.declared.status.LimitKind.TheVariants.{AuditFile, Lines, Bytes, Held}
 use Rattle.dms_status.specs.declared.status.Status.TheVariants.{Ok, BadWords, SchemaRefused, NoDatabase, Needed, InputFault, Memory, Limit, Damaged, SayFault, DiskFault, Exists}
-use Rattle.dms_storeverbs.specs.Costs.{limit_if, up_if}
+use Rattle.dms_storeverbs.specs.Costs.{limit_if}
 use Rattle.dms_wal.specs.declared.running.Running.{Running}
-use Rattle.dms_wal.specs.Controlled.{AddsControls, AddsFew, begins_in, controls_in}
 use Rattle.dms_wal.specs.Growing.{GrowsBy, IsCounted, controls_among}
-use Rattle.dms_audrec.specs.Bodies.{bodies}
-use Rattle.dms_restore.specs.Counts.{file_counts}
-use Rattle.dms_wal.proofs.Counted.{begins_append, control_begins, control_controls, controls_append}
 use Rattle.dms_wal.proofs.Grown.{controls_low}
-use Rattle.dms_runtop.specs.Bound.{BoundsAudit, CountsControls, GrewWithin, PrintsEvents, StopsAtLine, audit_begun, audit_of, begins_allowed, closing_of, restores_ended}
-use Rattle.dms_runtop.specs.Filling.{ClosesBehind, ClosesOrFallsShort, IsControlPart, IsControlPoint, EndsFullAtLast}
+use Rattle.dms_runtop.specs.Bound.{BoundsAudit, GrewWithin, PrintsEvents, StopsAtLine, audit_begun, audit_of, closing_of}
 use Rattle.dms_runtop.specs.Faults.{IsWithin, run_status}
 use Rattle.dms_runtop.specs.Statuses.{IsOfClosing}
-use Rattle.dms_runtop.proofs.Partly.{part_begins, part_controls}
 use Rattle.dms_runtop.proofs.Endings.{run_not_ok, run_input, run_lines_is, run_bytes_is, run_held_is}
 
 -- ---- the text
@@ -116,19 +109,9 @@ grew_since : (n m : ℕ) (t : Telling) (desc : Described) (whole k : ℕ) (event
 grew_since n m t desc whole k events a0 a b grew (inl all) = inl (omega (arith, grew, all))
 grew_since n m t desc whole k events a0 a b grew (inr more) = inr (more.0, omega (arith, grew, more.1))
 
-pub counts_since : (more n m : ℕ) (t : Telling) (desc : Described) (events : List RunEvent) (a0 a b : Files) → AddsControls (restores_ended n (t.entries a)) (restores_ended m (t.entries a0)) (t.entries a0) (t.entries a)
-    → AddsFew (restores_ended n (t.entries a)) (restores_ended m (t.entries a0)) (begins_allowed n (t.entries a)) (begins_allowed m (t.entries a0)) (t.entries a0) (t.entries a)
-    → CountsControls more n t desc events a b → CountsControls more m t desc events a0 b
-counts_since more n m t desc events a0 a b ended few since = record {
-  least = omega (arith, ended, since.least);
-  most = record { controls = omega (arith, few.controls, since.most.controls); begins = omega (arith, few.begins, since.most.begins) };
-}
-
-pub bounds_since : {n m : ℕ} {t : Telling} {desc : Described} {events : List RunEvent} {a0 a b : Files} {x y : Option (List ℕ)} {s : Status} → length (t.entries a) + n ≤ length (t.entries a0) + m → AddsControls (restores_ended n (t.entries a)) (restores_ended m (t.entries a0)) (t.entries a0) (t.entries a)
-    → AddsFew (restores_ended n (t.entries a)) (restores_ended m (t.entries a0)) (begins_allowed n (t.entries a)) (begins_allowed m (t.entries a0)) (t.entries a0) (t.entries a) → BoundsAudit n t desc events a b x y s → BoundsAudit m t desc events a0 b x y s
-bounds_since {n} {m} {t} {desc} {events} {a0} {a} {b} {s = s} grew ended few bound = record {
+pub bounds_since : {n m : ℕ} {t : Telling} {desc : Described} {events : List RunEvent} {a0 a b : Files} {x y : Option (List ℕ)} {s : Status} → length (t.entries a) + n ≤ length (t.entries a0) + m → BoundsAudit n t desc events a b x y s → BoundsAudit m t desc events a0 b x y s
+bounds_since {n} {m} {t} {desc} {events} {a0} {a} {b} {s = s} grew bound = record {
   at_ok = λ is. omega (arith, grew, bound.at_ok is);
-  controls = λ is. counts_since 1 n m t desc events a0 a b ended few (bound.controls is);
   at_line = λ at. omega (arith, grew, bound.at_line at);
   at_end =
       let p = bound.at_end in
@@ -142,7 +125,6 @@ pub bounds_instead : {n : ℕ} {t : Telling} {desc : Described} {events : List R
 unfolding says_same says_uncut
 bounds_instead {n} {t} {desc} {events} {a} {b} {x = x} s0 s unsaid not_ok closing not_line files said bound = record {
   at_ok = λ is. absurd (not_ok is);
-  controls = λ is. absurd (not_ok is);
   at_line = λ at. absurd (not_line at);
   at_end =
       let q = bound.at_end in
@@ -160,7 +142,6 @@ bounds_instead {n} {t} {desc} {events} {a} {b} {x = x} s0 s unsaid not_ok closin
 pub bounds_opening : {n : ℕ} {t : Telling} {desc : Described} {events : List RunEvent} {a b : Files} {x y : Option (List ℕ)} (s : Status) → (s ≡ Ok → ⊥) → length (t.entries b) ≤ length (t.entries a) + n → y ≡ x → BoundsAudit n t desc events a b x y s
 bounds_opening {events = events} {x = x} {y = y} s not_ok few same = record {
   at_ok = λ is. absurd (not_ok is);
-  controls = λ is. absurd (not_ok is);
   at_line = λ at. omega (arith, few);
   at_end = record { k = 0; within = omega arith; printed = says_none (s ≡ SayFault) events x y same; grew = inl (omega (arith, few)) };
 }
@@ -189,42 +170,6 @@ at_line_of {X} last fault then (inl within) input lines bytes full at = by_fault
     by_fault (inr (inr (inl is))) = bytes (run_bytes_is fault is)
     by_fault (inr (inr (inr is))) = full (run_held_is fault is)
 at_line_of last fault then (inr memory) input lines bytes full at = absurd (closes_not Memory refl (subst (λ (f : RunFault). StopsAtLine (run_status f)) memory.0 at))
-
--- ---- control points
-
--- syncs are counted one by one, below the end of the count
-syncs_all : (n : ℕ) (es : List RunEvent) → n + syncs_of es < 2 ^ 64 - 1 → syncs_after n es ≡ n + syncs_of es
-syncs_all n [] low = omega arith
-syncs_all n (e ∷ es) low = by (is_some e.sync) (λ m less. syncs_all m es less) low
-  where
-    by : (b : Bool) → ((m : ℕ) → m + syncs_of es < 2 ^ 64 - 1 → syncs_after m es ≡ m + syncs_of es) → n + (one_if b + syncs_of es) < 2 ^ 64 - 1 → syncs_after (up_if b n) es ≡ n + (one_if b + syncs_of es)
-    by true more less = let up : one_more n ≡ n + 1 = omega (arith, less) in ap (λ k. syncs_after k es) up ∙ more (n + 1) (omega (arith, less)) ∙ omega arith
-    by false more less = more n (omega (arith, less)) ∙ omega arith
-
--- so many Controls exactly
-record AddsExactly (more : ℕ) (old new : List Entry) : Type 0 where
-  least : AddsControls 0 more old new
-  most : AddsFew 0 more 0 0 old new
-
--- one control point more
-control_point_adds : (es closing : List Entry) → IsControlPoint closing → AddsExactly 1 es (es ++ closing)
-control_point_adds es closing is =
-    let one : controls_in closing ≡ 1 = ap controls_in is.is ∙ control_controls (bodies is.schema) is.point is.next (file_counts 30001 is.counts) in
-    let none : begins_in closing ≡ 0 = ap begins_in is.is ∙ control_begins (bodies is.schema) is.point is.next (file_counts 30001 is.counts) in
-    record {
-      least = omega (arith, controls_append es closing, begins_append es closing, one, none);
-      most = record { controls = omega (arith, controls_append es closing, begins_append es closing, one, none); begins = omega (arith, begins_append es closing, none) };
-    }
-
--- and of a front of one none
-control_part_adds : (es closing : List Entry) → IsControlPart closing → AddsExactly 0 es (es ++ closing)
-control_part_adds es closing is =
-    let none : controls_in closing ≡ 0 = part_controls closing is in
-    let nor : begins_in closing ≡ 0 = part_begins closing is in
-    record {
-      least = omega (arith, controls_append es closing, begins_append es closing, none, nor);
-      most = record { controls = omega (arith, controls_append es closing, begins_append es closing, none, nor); begins = omega (arith, begins_append es closing, nor) };
-    }
 
 -- ---- a run over a running database
 
@@ -310,7 +255,6 @@ module _ {S : Type 0} (g : Ghosts S) (d : Described) (r r' : Running S) (t : Tel
         → BoundsAudit 0 t d events (g.files r.log.site) (g.files r'.log.site) old.said new.said (run_status then)
     failed_bound last fault then within part took = record {
       at_ok = λ is. absurd (run_not_ok then is);
-      controls = λ is. absurd (run_not_ok then is);
       at_line = λ at. omega (arith, files_all events (took at) all_counted);
       at_end = record {
         k = part.k;
@@ -321,55 +265,13 @@ module _ {S : Type 0} (g : Ghosts S) (d : Described) (r r' : Running S) (t : Tel
     }
 
     module _ (takes : TakesEvents old.desc events old.effort new.effort) (numbers : new.next ≡ old.next + length (quiets_of events)) where
-      all_used : IsCounted r'
-      all_used = counted (blocks_of d events) (length (quiets_of events)) (syncs_of events) (backs_of events) (omega (arith, takes.spent, spent_now, spent_then, blocks_same events)) (omega (arith, numbers, next_is, next_is')) (omega (arith, takes.syncs, syncs_now, syncs_then))
-          (omega (arith, takes.outs, outs_now, outs_then)) (omega (arith, all_counted.blocks)) (omega (arith, all_counted.syncs)) (omega (arith, all_counted.backs))
-
-      -- the control points that are due at all syncs, and none before
-      all_due : new.effort.syncs ≡ syncs_after old.effort.syncs events → controls_among r'.every r'.syncs ≡ controls_among d.controlpoint (syncs_of events)
-      all_due synced =
-          let all : r'.syncs ≡ syncs_of events = sym syncs_now ∙ synced ∙ ap (λ n. syncs_after n events) syncs_then ∙ syncs_all 0 events (omega (arith, all_counted.syncs)) ∙ omega arith in
-          λ i. controls_among ((grows.every ∙ every) i) (all i)
-
-      none_due : controls_among r.every r.syncs ≡ 0
-      none_due = ap (controls_among r.every) syncs
-
-      then_entries : entries (view_of g r.log) ≡ t.entries (g.files r.log.site)
-      then_entries = ap (λ (l : List Entry). (telling (view_of g r.log)).entries (g.files r.log.site) ++ l) nothing ∙ append_none ((telling (view_of g r.log)).entries (g.files r.log.site)) ∙ ap (λ (k : Telling). k.entries (g.files r.log.site)) told
-
-      now_entries : (status : Status) (files : Files) (closed : ClosesBehind status (view_of g r'.log) files) → t.entries files ≡ entries (view_of g r'.log) ++ closed.closing
-      now_entries status files closed = ap (λ (k : Telling). k.entries files) (sym told') ∙ closed.are
-
-      -- the control points that were made, and so many by the close
-      counts_controls : (more : ℕ) (status : Status) (files : Files) → r'.broken ≡ false → new.effort.syncs ≡ syncs_after old.effort.syncs events → (closed : ClosesBehind status (view_of g r'.log) files) → AddsExactly more (entries (view_of g r'.log)) (entries (view_of g r'.log) ++ closed.closing)
-          → CountsControls more 0 t d events (g.files r.log.site) files
-      counts_controls more status files unbroken synced closed adds =
-          let due = all_due synced in
-          let none = none_due in
-          let made = grows.controls tells unbroken all_used in
-          let few = grows.few tells (inl unbroken) all_used in
-          let backs : r'.outs ≤ backs_of events = omega (arith, takes.outs, outs_now, outs_then) in
-          let all = 0 + controls_among d.controlpoint (syncs_of events) + more in
-          record {
-            least = subst (λ (es : List Entry). AddsControls 0 all es (t.entries files)) then_entries
-                (subst (λ (es : List Entry). AddsControls 0 all (entries (view_of g r.log)) es) (sym (now_entries status files closed)) (omega (arith, due, none, made, adds.least)));
-            most = subst (λ (es : List Entry). AddsFew 0 all 0 (0 + backs_of events) es (t.entries files)) then_entries
-                (subst (λ (es : List Entry). AddsFew 0 all 0 (0 + backs_of events) (entries (view_of g r.log)) es) (sym (now_entries status files closed))
-                (record { controls = omega (arith, due, none, few.controls, adds.most.controls); begins = omega (arith, few.begins, adds.most.begins, outs, backs) }));
-          }
-
-      -- the close had no room: one Control is missing
-      pub closing_lacks : (status : Status) (files : Files) → r'.broken ≡ false → new.effort.syncs ≡ syncs_after old.effort.syncs events → EndsFullAtLast status → ClosesBehind status (view_of g r'.log) files → CountsControls 0 0 t d events (g.files r.log.site) files
-      closing_lacks status files unbroken synced full closed = counts_controls 0 status files unbroken synced closed (control_part_adds (entries (view_of g r'.log)) closed.closing (closed.closes.part full))
-
       -- all events happened, and so many entries the files have then
       all_bound : (status : Status) (files : Files) (said : Option (List ℕ)) → closing_of status ≡ 18 → Prints old.said said (text_of events) → length (t.entries files) ≤ length (t.entries (g.files r.log.site)) + audit_of d events + 18
-          → (status ≡ Ok → CountsControls 1 0 t d events (g.files r.log.site) files) → BoundsAudit 0 t d events (g.files r.log.site) files old.said said status
-      all_bound status files said closing text few controls =
+          → BoundsAudit 0 t d events (g.files r.log.site) files old.said said status
+      all_bound status files said closing text few =
           let all : take (length events) events ≡ events = take_all (length events) events (omega arith) in
           record {
             at_ok = λ is. omega (arith, few);
-            controls = controls;
             at_line = λ at. absurd (closes_not status closing at);
             at_end = record {
               k = length events;
@@ -380,8 +282,7 @@ module _ {S : Type 0} (g : Ghosts S) (d : Described) (r r' : Running S) (t : Tel
           }
 
       -- the script was carried out, and then the database closed, or not closed
-      pub closed_bound : (status : Status) (files : Files) (said : Option (List ℕ)) → closing_of status ≡ 18 → r'.broken ≡ false → FilesGrew 18 (view_of g r'.log) files → new.effort.syncs ≡ syncs_after old.effort.syncs events → (ClosesOrFallsShort status → ClosesBehind status (view_of g r'.log) files) → Prints old.said said (text_of events) → BoundsAudit 0 t d events (g.files r.log.site) files old.said said status
-      closed_bound status files said is_closing unbroken few synced closes text =
+      pub closed_bound : (status : Status) (files : Files) (said : Option (List ℕ)) → closing_of status ≡ 18 → r'.broken ≡ false → FilesGrew 18 (view_of g r'.log) files → Prints old.said said (text_of events) → BoundsAudit 0 t d events (g.files r.log.site) files old.said said status
+      closed_bound status files said is_closing unbroken few text =
           let closing : length (t.entries files) ≤ length (entries (view_of g r'.log)) + 18 = subst (λ (k : Telling). length (k.entries files) ≤ length (entries (view_of g r'.log)) + 18) told' few in
           all_bound status files said is_closing text (omega (arith, closing, log_all events unbroken takes (omega (arith, numbers)) all_counted))
-          (λ ok. let closed = closes (inl ok) in counts_controls 1 status files unbroken synced closed (control_point_adds (entries (view_of g r'.log)) closed.closing (closed.closes.whole ok)))

@@ -16,7 +16,7 @@ use Rattle.dms_moments.specs.Moments.{Runs}
 use Rattle.dms_moments.specs.MomentLaws.{runs_none, runs_on, runs_weaken}
 use Rattle.dms_runner.specs.Answers.{answers_text, last_quiet, script_events, script_run}
 use Rattle.dms_runner.specs.Blaming.{HasBlame}
-use Rattle.dms_runner.specs.Events.{CrashesWithin, RunEvent, pause, quiets_of, syncs_after}
+use Rattle.dms_runner.specs.Events.{CrashesWithin, RunEvent, landmarks_after, pause, quiets_of, syncs_after}
 use Rattle.dms_runner.specs.declared.run.RunFault.{RunFault}
 use Rattle.dms_runner.specs.declared.run.RunFault.TheVariants as run
 use Rattle.dms_runner.specs.declared.run.RunFault.TheVariants.{Block}
@@ -25,7 +25,7 @@ use Rattle.dms_running.specs.Telling.{Telling}
 use Rattle.dms_running.specs.Standing.{IsWhole}
 use Rattle.dms_running.specs.Points.{DescribedPoint, points_of, next_in}
 use Rattle.dms_site.specs.declared.site.Site.{Ghosts}
-use Rattle.dms_restore.specs.Logging.{Trail, trail_of, telling_of, telling, points}
+use Rattle.dms_restore.specs.Logging.{Trail, trail_of, telling_of, telling, points, waits}
 use Rattle.dms_restore.specs.Views.{view_of}
 use Rattle.dms_store.specs.Lifted.{point_of, lift_stops}
 use Rattle.dms_storeverbs.specs.View.{StandsFor, View}
@@ -41,7 +41,10 @@ use Rattle.dms_run.specs.Stops.{RunLeaves, last_quiet_number}
 use Rattle.dms_status.specs.declared.status.Status.{Status}
 use Rattle.dms_status.specs.declared.status.LimitKind.TheVariants.{AuditFile}
 use Rattle.dms_status.specs.declared.status.Status.TheVariants.{Limit, Ok, Memory}
-use Rattle.dms_runtop.specs.Bound.{CountsControls, BoundsAudit}
+use Rattle.dms_runtop.specs.Bound.{BoundsAudit}
+use Rattle.dms_runtop.specs.Landing.{LandmarksBefore, LandmarksAre, LandmarksClosed, script_landmarks}
+use Rattle.dms_runtop.proofs.Landing.{lands_full}
+use Rattle.dms_block.specs.Landmarks.{AddsNoFurther}
 use Rattle.dms_runtop.specs.Faults.{IsWithin, run_status}
 use Rattle.dms_runtop.proofs.Bounds.{bounds_none, full_not_say}
 use Rattle.dms_runtop.proofs.Endings.{memory_not_full}
@@ -157,16 +160,28 @@ module _ {S : Type 0} (g : Ghosts S) (d e e' : Described) (r r' : Running S) (sa
   due_behind : (es : List RunEvent) → DueBehind es → IsControlDue d es
   due_behind es is = (λ i. is_due (sym b.every i) (syncs_after (sym b.unused.1 i) es)) ∙ is
 
+  -- their landmarks were added, and no Control behind them
+  abbrev LandsBehind : Bool → List RunEvent → Type 0
+  LandsBehind backs es = AddsNoFurther backs (running_held g r).landmarks (running_held g r').landmarks (landmarks_after r.every r.syncs r.next es)
+
+  -- the same told of files
+  abbrev LacksInFiles : Bool → List RunEvent → Type 0
+  LacksInFiles backs es = LandmarksBefore 0 t d r.next (g.files r.log.site) (g.files r'.log.site) backs es
+
+  lacks_in_files : waits r'.log.end ≡ [] → (backs : Bool) (es : List RunEvent) → LandsBehind backs es → LacksInFiles backs es
+  lacks_in_files emptied = lands_full g d r r' t (told_same begins_trail) (told_same (keeps_trail ∙ begins_trail)) b.nothing b.every b.unused.1 b.tells emptied
+
   -- what is changed goes on up to file FILES of the description
-  abbrev at_files : (left' : Option (List ℕ)) (fault : RunFault) → Carried r.log.end.limit StopsIn DueBehind d db r.next all left' entry (said_of g r'.log) fault → Carried d.files StopsInFiles (IsControlDue d) d db r.next all left' entry (said_of g r'.log) fault
-  at_files left' fault c = record {
+  abbrev at_files : (left' : Option (List ℕ)) (fault : RunFault) → ((f : ℕ) → fault ≡ Block (block.Full f) → waits r'.log.end ≡ []) → Carried r.log.end.limit StopsIn DueBehind LandsBehind d db r.next all left' entry (said_of g r'.log) fault
+      → Carried d.files StopsInFiles (IsControlDue d) LacksInFiles d db r.next all left' entry (said_of g r'.log) fault
+  at_files left' fault emptied c = record {
     lines = c.lines;
     events = c.events;
     front = c.front;
     are = c.are;
     part = c.part;
     answers = c.answers;
-    due = λ f is. due_moved r.log.end.limit d.files f entry (said_of g r'.log) c.events b.limit_is (λ es. files_left (es ++ pause ∷ [])) due_behind (c.due f is);
+    due = λ f is. due_moved r.log.end.limit d.files f entry (said_of g r'.log) c.events b.limit_is (λ es. files_left (es ++ pause ∷ [])) due_behind (lacks_in_files (emptied f is)) (c.due f is);
     many_lines = c.many_lines;
     many_bytes = c.many_bytes;
     many_held = c.many_held;
@@ -174,14 +189,14 @@ module _ {S : Type 0} (g : Ghosts S) (d e e' : Described) (r r' : Running S) (sa
   }
 
   -- the script stopped before its end, and the site was given back
-  pub failed_over : (left' : Option (List ℕ)) (fault : RunFault) (status : Status) (site : S) → status ≡ run_status fault → site ≡ r'.log.site → (c : Carried r.log.end.limit StopsIn DueBehind d db r.next all left' entry (said_of g r'.log) fault)
+  pub failed_over : (left' : Option (List ℕ)) (fault : RunFault) (status : Status) (site : S) → status ≡ run_status fault → site ≡ r'.log.site → ((f : ℕ) → fault ≡ Block (block.Full f) → waits r'.log.end ≡ []) → (c : Carried r.log.end.limit StopsIn DueBehind LandsBehind d db r.next all left' entry (said_of g r'.log) fault)
       → Runs (lift_stops e (running_held g r).clock) (lift_stops e' (running_held g r').clock) (RunLeaves (running_held g r).whole entry (map (point_of e) (running_held g r).points) n db r.next c.events)
       → ((f k : ℕ) → fault ≡ Block (block.Damaged f k) → ⊥) → BoundsAudit 0 t d c.events (g.files r.log.site) (g.files r'.log.site) entry (said_of g r'.log) (run_status fault)
       → ScriptRuns 0 t d ps n db r.next all (seen_site g r.log.site) (seen_site g site) left' status
-  failed_over left' fault status site status_is site_is c leaves damaged bound =
+  failed_over left' fault status site status_is site_is emptied c leaves damaged bound =
       subst (λ (x : Status). ScriptRuns 0 t d ps n db r.next all (seen_site g r.log.site) (seen_site g site) left' x) (sym status_is)
       (subst (λ (x : S). ScriptRuns 0 t d ps n db r.next all (seen_site g r.log.site) (seen_site g x) left' (run_status fault)) (sym site_is)
-      (ran_failed 0 t d ps n db r.next all (seen_site g r.log.site) (seen_site g r'.log.site) left' fault (at_files left' fault c) (moments_of c.events leaves) damaged bound))
+      (ran_failed 0 t d ps n db r.next all (seen_site g r.log.site) (seen_site g r'.log.site) left' fault (at_files left' fault emptied c) (moments_of c.events leaves) damaged bound))
 
   -- the bound of one fault is that of the same one
   bound_at : (events : List RunEvent) (then fault : RunFault) → then ≡ fault → BoundsAudit 0 t d events (g.files r.log.site) (g.files r'.log.site) entry (said_of g r'.log) (run_status then)
@@ -190,7 +205,7 @@ module _ {S : Type 0} (g : Ghosts S) (d e e' : Described) (r r' : Running S) (sa
       subst (λ (x : RunFault). BoundsAudit 0 t d events (g.files r.log.site) (g.files r'.log.site) entry (said_of g r'.log) (run_status x)) same bound
 
   -- what was carried out at one fault, told of want of memory
-  abbrev carried_short : (left' : Option (List ℕ)) (fault : RunFault) → (fault ≡ Block block.Say → ⊥) → Carried r.log.end.limit StopsIn DueBehind d db r.next all left' entry (said_of g r'.log) fault → Carried r.log.end.limit StopsIn DueBehind d db r.next all left' entry (said_of g r'.log) run.Memory
+  abbrev carried_short : (left' : Option (List ℕ)) (fault : RunFault) → (fault ≡ Block block.Say → ⊥) → Carried r.log.end.limit StopsIn DueBehind LandsBehind d db r.next all left' entry (said_of g r'.log) fault → Carried r.log.end.limit StopsIn DueBehind LandsBehind d db r.next all left' entry (said_of g r'.log) run.Memory
   carried_short left' fault unsaid c = record {
     lines = c.lines;
     events = c.events;
@@ -206,15 +221,15 @@ module _ {S : Type 0} (g : Ghosts S) (d e e' : Described) (r r' : Running S) (sa
   }
 
   -- the same, where a full audit at another file counted as want of memory
-  pub within_over : (left' : Option (List ℕ)) (last : ℕ) (fault then : RunFault) (status : Status) (site : S) → IsWithin last fault then → last ≡ r'.log.end.limit → status ≡ run_status then → site ≡ r'.log.site
-      → (c : Carried r.log.end.limit StopsIn DueBehind d db r.next all left' entry (said_of g r'.log) fault)
+  pub within_over : (left' : Option (List ℕ)) (last : ℕ) (fault then : RunFault) (status : Status) (site : S) → IsWithin last fault then → last ≡ r'.log.end.limit → status ≡ run_status then → site ≡ r'.log.site → ((f : ℕ) → fault ≡ Block (block.Full f) → waits r'.log.end ≡ [])
+      → (c : Carried r.log.end.limit StopsIn DueBehind LandsBehind d db r.next all left' entry (said_of g r'.log) fault)
       → Runs (lift_stops e (running_held g r).clock) (lift_stops e' (running_held g r').clock) (RunLeaves (running_held g r).whole entry (map (point_of e) (running_held g r).points) n db r.next c.events)
       → ((f k : ℕ) → fault ≡ Block (block.Damaged f k) → ⊥) → BoundsAudit 0 t d c.events (g.files r.log.site) (g.files r'.log.site) entry (said_of g r'.log) (run_status then)
       → ScriptRuns 0 t d ps n db r.next all (seen_site g r.log.site) (seen_site g site) left' status
-  within_over left' last fault then status site (inl within) last_is status_is site_is c leaves damaged bound =
-      failed_over left' fault status site (status_is ∙ ap run_status within.0) site_is c leaves damaged (bound_at c.events then fault within.0 bound)
-  within_over left' last fault then status site (inr memory) last_is status_is site_is c leaves damaged bound =
-      failed_over left' run.Memory status site (status_is ∙ ap run_status memory.0) site_is (carried_short left' fault (λ is. full_not_say memory.1.0 (sym memory.1.1 ∙ is)) c) leaves
+  within_over left' last fault then status site (inl within) last_is status_is site_is emptied c leaves damaged bound =
+      failed_over left' fault status site (status_is ∙ ap run_status within.0) site_is emptied c leaves damaged (bound_at c.events then fault within.0 bound)
+  within_over left' last fault then status site (inr memory) last_is status_is site_is emptied c leaves damaged bound =
+      failed_over left' run.Memory status site (status_is ∙ ap run_status memory.0) site_is (λ f is. absurd (memory_not_block (block.Full f) is)) (carried_short left' fault (λ is. full_not_say memory.1.0 (sym memory.1.1 ∙ is)) c) leaves
       (λ f k is. memory_not_block (block.Damaged f k) is) (bound_at c.events then run.Memory memory.0 bound)
 
   -- the script was carried out, and then the database closed
@@ -226,9 +241,10 @@ module _ {S : Type 0} (g : Ghosts S) (d e e' : Described) (r r' : Running S) (sa
       → EndsWith (map (point_of e') (running_held g r').points) (last_quiet_number n (quiets_of script)) (last_quiet db (quiets_of script))
       → Prints entry (said_of g r'.log) (answers_text d db r.next (raw_lines all))
       → KeepsLimits d db r.next (raw_lines all) → r'.next ≡ (end_session (script_run d db r.next (raw_lines all)).going.session).next
-      → BoundsAudit 0 t d script (g.files r.log.site) (g.files site) entry (said_of g r'.log) status → (status ≡ Limit (AuditFile 9999) → CountsControls 0 0 t d script (g.files r.log.site) (g.files site))
+      → BoundsAudit 0 t d script (g.files r.log.site) (g.files site) entry (said_of g r'.log) status → (status ≡ Ok → LandmarksClosed 0 t d r.next (g.files r.log.site) (g.files site) script)
+      → (status ≡ Limit (AuditFile 9999) → LandmarksAre 0 t r.next (g.files r.log.site) (g.files site) (script_landmarks d r.next script))
       → ScriptRuns 0 t d ps n db r.next all (seen_site g r.log.site) (seen_site g site) left' status
-  closed_over left' status site of closes said carried leaves behind ends prints limits next_is bound lacks =
+  closed_over left' status site of closes said carried leaves behind ends prints limits next_is bound lands lacks =
       let text : (seen_site g site).said ≡ said_of g r'.log = told_text g.tells_said (g.said site) (g.said r'.log.site) said in
       let room : r'.next + 1 < 2 ^ 64 = room_after d db r.next r'.next (raw_lines all) b.room limits next_is in
       ran_closed 0 t d ps n db r.next all (seen_site g r.log.site) (seen_site g site) left' status of
@@ -238,7 +254,7 @@ module _ {S : Type 0} (g : Ghosts S) (d e e' : Described) (r r' : Running S) (sa
       (subst (λ (s : Option (List ℕ)). Prints entry s (answers_text d db r.next (raw_lines all))) (sym text) prints)
       limits
       (subst (λ (s : Option (List ℕ)). BoundsAudit 0 t d script (g.files r.log.site) (g.files site) entry s status) (sym text) bound)
-      lacks
+      lands lacks
 
 -- ---- before the script
 

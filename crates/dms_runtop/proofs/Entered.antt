@@ -1,18 +1,13 @@
 -- A run of the files that stand for a state, from the opening on.
 use Rattle.std.proofs.Common.{ℕ, ◌+◌, ◌≤◌, ◌≡◌, ◌∙◌, inl, inr, Bool, IsTrue, List, [], ◌∷◌, ◌++◌, map, Option, Some, None, cond, length, append-nil, refl, sym, ap, subst, arith}
-use Rattle.std.specs.Prelude.{is_some, not}
-use Rattle.dms_audrec.specs.Bodies.{bodies}
-use Rattle.dms_history.specs.Entries.{Entry, by_halt_load}
-use Rattle.dms_history.specs.History.{Pending}
-use Rattle.dms_restore.specs.Counts.{file_counts}
-use Rattle.dms_wal.specs.Controlled.{AddsControls, AddsFew, begins_in, controls_in}
-use Rattle.dms_wal.proofs.Counted.{adds_back, adds_control, begins_append, control_begins, control_controls, controls_append}
+use Rattle.std.specs.Prelude.{is_some}
+use Rattle.dms_history.specs.Entries.{Entry}
 use Rattle.dms_desc.specs.Shape.{Described}
 use Rattle.dms_desc_bytes.specs.Spelling.{spelling}
 use Rattle.dms_desc_bytes.specs.WellFormed.{IsWellFormed}
 use Rattle.dms_feed.specs.Lines.{raw_lines}
 use Rattle.dms_runner.specs.Answers.{script_events}
-use Rattle.dms_runner.specs.Events.{RunEvent, one_if}
+use Rattle.dms_runner.specs.Events.{RunEvent}
 use Rattle.dms_model.specs.Db.{Db}
 use Rattle.dms_moments.specs.Moments.{Runs}
 use Rattle.dms_moments.specs.MomentLaws.{runs_weaken}
@@ -48,30 +43,11 @@ use Rattle.dms_runtop.specs.Faults.{open_status}
 use Rattle.dms_runtop.specs.Over.{ReachesFiles, ScriptRuns, seen_site}
 use Rattle.dms_runtop.proofs.Endings.{IsUndone, disk_not_full, memory_not_full}
 use Rattle.dms_runtop.proofs.Fronts.{leaves_wide, script_widens}
+use Rattle.dms_runtop.proofs.Landing.{opened_adds}
 use Rattle.dms_runtop.proofs.Grows.{keeps_entered, keeps_opening}
 use Rattle.dms_runtop.proofs.Holding.{trail_of}
 use Rattle.dms_runtop.proofs.Ran.{ran_nothing}
 use Rattle.dms_runtop.proofs.Since.{last_is, reopens_leaves, runs_since}
-
--- ---- the control point of an opening
-
--- it ends a restore
-opening_adds : (pending : Option Pending) (old new : List Entry) (point next : ℕ) (schema counts : List ℕ) → new ≡ old ++ opening_entries pending point next schema counts → AddsControls 0 (one_if (is_some pending)) old new
-opening_adds None old new point next schema counts is = adds_back 0 0 old new by_halt_load (bodies schema) point point next (file_counts 30001 counts) refl is
-opening_adds (Some p) old new point next schema counts is = adds_control 0 1 old new (bodies schema) point next (file_counts 30001 counts) refl is
-
--- with at most one Begin, where no restore was pending
-opening_few : (pending : Option Pending) (old new : List Entry) (point next : ℕ) (schema counts : List ℕ) → new ≡ old ++ opening_entries pending point next schema counts → AddsFew 0 (one_if (is_some pending)) 0 (one_if (not (is_some pending))) old new
-opening_few None old new point next schema counts is =
-    let made = control_controls (bodies schema) point next (file_counts 30001 counts) in
-    let none = control_begins (bodies schema) point next (file_counts 30001 counts) in
-    let front = opening_entries None point next schema counts in
-    record { controls = omega (arith, ap controls_in is, ap begins_in is, controls_append old front, begins_append old front, made, none); begins = omega (arith, ap begins_in is, begins_append old front, none) }
-opening_few (Some p) old new point next schema counts is =
-    let made = control_controls (bodies schema) point next (file_counts 30001 counts) in
-    let none = control_begins (bodies schema) point next (file_counts 30001 counts) in
-    let front = opening_entries (Some p) point next schema counts in
-    record { controls = omega (arith, ap controls_in is, ap begins_in is, controls_append old front, begins_append old front, made, none); begins = omega (arith, ap begins_in is, begins_append old front, none) }
 
 -- ---- the description of the last point
 
@@ -153,16 +129,16 @@ module _ {S : Type 0} (g : Ghosts S) (old : S) (s : DatabaseState) where
       (ran told knows st s.point s.db all state (subst HasNumbersLeft (sym next_is ∙ opens.next_is) room) is) in
       let few : length (t.entries (g.files o.log.site)) ≤ length (t.entries files) + 19 = grows.few o.log.end.total o.log.first opens.trail whole in
       let from = runs whole in
-      let here : t.entries (g.files o.log.site) ≡ t.entries files ++ opening_entries (history_of (t.entries files)).pending o.point o.next o.schema.items o.counts.items =
-      sym (append-nil (t.entries (g.files o.log.site))) ∙ ap (λ (l : List Entry). t.entries (g.files o.log.site) ++ l) (sym from.nothing) ∙ from.entries_are in
+      let here : t.entries (g.files o.log.site) ≡ t.entries files ++ opening_entries (history_of (t.entries files)).pending o.point next o.schema.items o.counts.items =
+      subst (λ (m : ℕ). t.entries (g.files o.log.site) ≡ t.entries files ++ opening_entries (history_of (t.entries files)).pending o.point m o.schema.items o.counts.items) (sym opens.next_is ∙ next_is) (sym (append-nil (t.entries (g.files o.log.site))) ∙ ap (λ (l : List Entry). t.entries (g.files o.log.site) ++ l) (sym from.nothing) ∙ from.entries_are) in
       let before = λ (events : List RunEvent). runs_weaken (since o.log.end.total o.log.first opens.trail whole) (reopens_leaves t files (seen_site g old).said s.desc s.point s.db state next next_is events) in
       record {
         total = o.log.end.total;
         first = o.log.first;
         trail = opens.trail;
         runs = runs_since 0 19 t s.desc ps s.point s.db next all (seen_site g old) (seen_site g o.log.site) (seen_site g new) left' status
-            (ap (λ (l : List ℕ). cond g.tells_said (Some l) None) said) before (omega (arith, few)) (opening_adds (history_of (t.entries files)).pending (t.entries files) (t.entries (g.files o.log.site)) o.point o.next o.schema.items o.counts.items here)
-            (opening_few (history_of (t.entries files)).pending (t.entries files) (t.entries (g.files o.log.site)) o.point o.next o.schema.items o.counts.items here) (λ none. absurd none) script;
+            (ap (λ (l : List ℕ). cond g.tells_said (Some l) None) said) before (omega (arith, few))
+            (opened_adds 18 next (t.entries files) (t.entries (g.files o.log.site)) o.point o.schema.items o.counts.items here) (λ none. absurd none) script;
       }
 
   -- ---- it wasn't opened

@@ -22,5 +22,6 @@ pub mod Inputs
 pub mod Grows
 pub mod Adding
 pub mod Partly
+pub mod Landing
 pub mod Filled
 pub mod Naming

@@ -22,8 +22,7 @@ use Rattle.dms_runtop.specs.Over.{seen_site}
 use Rattle.dms_runtop.proofs.Endings.{IsUndone, disk_not_full, memory_not_full, undone_ok}
 use Rattle.dms_runtop.proofs.Ran.{ran_nothing}
 use Rattle.dms_runtop.proofs.Since.{runs_since}
-use Rattle.dms_wal.proofs.Counted.{adds_same}
-use Rattle.dms_wal.proofs.Fewer.{few_same}
+use Rattle.dms_runtop.proofs.Landing.{opened_same}
 
 -- it runs on
 pub looked_from : (files : Files) (point next : ℕ) (schema counts : List ℕ) (v : LogView) (now : Files) (later : Clock Left) → now ≡ v.files → Steps Same v.clock later → RunsFrom files point next schema counts v → RunsFrom files point next schema counts (view v.end v.first now later)
@@ -60,8 +59,8 @@ module _ {S : Type 0} (g : Ghosts S) where
       → RunsOpened g (record o { log = record o.log { site = site } }) known left left' status new → RunsOpened g o known left left' status new
   runs_looked counts o site new known left left' status same said steps ran t k st n db all state room is =
       runs_since 0 0 (telling (view_of g o.log)) st.desc (points_of (telling (view_of g o.log)) st.files) n db o.next all (seen_site g o.log.site) (seen_site g site) (seen_site g new) left' status
-      (said_seen o.log.site site said) (λ events. runs_looking (counts o.log.site) steps) (omega (arith, ap (λ (f : Files). length ((telling (view_of g o.log)).entries f)) (same t))) (adds_same 0 0 _ _ refl (ap (telling (view_of g o.log)).entries (same t)))
-      (few_same 0 0 0 0 _ _ refl (omega arith) (ap (telling (view_of g o.log)).entries (same t))) (λ none. none)
+      (said_seen o.log.site site said) (λ events. runs_looking (counts o.log.site) steps) (omega (arith, ap (λ (f : Files). length ((telling (view_of g o.log)).entries f)) (same t))) (opened_same 0 o.next _ _ (ap (telling (view_of g o.log)).entries (same t)))
+      (λ none. none)
       (ran t k (stands_looked o site (same t) steps st) n db all state room is)
 
   -- no line was run

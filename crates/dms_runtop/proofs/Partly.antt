@@ -1,15 +1,14 @@
 -- What a front of an opening's or of a close's entries is: it has no Control.
-use Rattle.std.proofs.Common.{ℕ, zero, suc, ◌+◌, ◌<◌, ◌≤◌, ◌≡◌, ◌∙◌, inl, inr, Bool, false, Option, Some, None, List, [], ◌∷◌, ◌++◌, length, length-append, take, refl, sym, ap, subst, arith}
+use Rattle.std.proofs.Common.{ℕ, zero, suc, ◌+◌, ◌<◌, ◌≡◌, ◌∙◌, inl, inr, Bool, false, Option, Some, None, List, [], ◌∷◌, ◌++◌, length, length-append, take, refl, sym, subst, arith}
+use Rattle.std.proofs.lemmas.List.{take-append-le}
 use Rattle.dms_audrec.specs.Bodies.{bodies}
-use Rattle.dms_history.specs.Entries.{Entry, schema_part, image, byte_range, quiet_point, control_point, begin_restore}
+use Rattle.dms_history.specs.Entries.{Entry, begin_restore, by_halt_load, control_point, schema_part}
 use Rattle.dms_history.specs.History.{Pending}
-use Rattle.dms_history.specs.Schemas.{schema_entries}
+use Rattle.dms_history.specs.Schemas.{parts_of_schema, schema_entries}
 use Rattle.dms_opening.specs.Openings.{opening_entries}
 use Rattle.dms_restore.specs.Counts.{file_counts}
 use Rattle.dms_wal.specs.Closing.{ClosesShort, entries_closing, entries_control}
-use Rattle.dms_wal.specs.Controlled.{begins_in, controls_in}
 use Rattle.dms_wal.specs.Following.{NameOldPoints}
-use Rattle.dms_wal.proofs.Counted.{parts_begins, parts_controls}
 use Rattle.dms_block.specs.declared.block_fault.BlockFault.{BlockFault}
 use Rattle.dms_block.specs.declared.block_fault.BlockFault.TheVariants as block
 use Rattle.dms_restore.specs.Logging.{LogView, entries, telling}
@@ -21,36 +20,24 @@ use Rattle.dms_runtop.specs.Faults.{block_status}
 use Rattle.dms_runtop.specs.Filling.{ClosesOrFallsShort, IsControlPart}
 use Rattle.dms_runtop.proofs.Endings.{memory_not_full, run_full_is, run_not_ok}
 
--- the first ones of a list, without its last
-take_short : {A : Type 0} (k : ℕ) (xs : List A) (y : A) → k < length (xs ++ y ∷ []) → take k (xs ++ y ∷ []) ≡ take k xs
-take_short zero xs y low = refl
-take_short (suc k) [] y low = absurd (omega (arith, low))
-take_short (suc k) (x ∷ xs) y low = ap (λ (l : List _). x ∷ l) (take_short k xs y (omega (arith, low)))
-
-controls_first : (k : ℕ) (es : List Entry) → controls_in (take k es) ≤ controls_in es
-controls_first zero es = omega arith
-controls_first (suc k) [] = omega arith
-controls_first (suc k) (e ∷ es) = omega (arith, controls_first k es)
-
-begins_first : (k : ℕ) (es : List Entry) → begins_in (take k es) ≤ begins_in es
-begins_first zero es = omega arith
-begins_first (suc k) [] = omega arith
-begins_first (suc k) (e ∷ es) = omega (arith, begins_first k es)
-
 -- ---- a control point, without its Control
 
 control_front : (point next : ℕ) (schema counts : List ℕ) (k : ℕ) → k < length (entries_control point schema next counts) → take k (entries_control point schema next counts) ≡ take k (schema_entries (bodies schema))
-control_front point next schema counts k low = take_short k (schema_entries (bodies schema)) (control_point point next (file_counts 30001 counts)) low
+control_front point next schema counts k low =
+    take-append-le k (schema_entries (bodies schema)) (control_point point next (file_counts 30001 counts) ∷ []) (omega (arith, low, length-append (schema_entries (bodies schema)) (control_point point next (file_counts 30001 counts) ∷ [])))
 
-pub part_controls : (es : List Entry) → IsControlPart es → controls_in es ≡ 0
-part_controls es part =
-    let front = part.is ∙ control_front part.point part.next part.schema part.counts part.some part.lacks in
-    omega (arith, ap controls_in front, controls_first part.some (schema_entries (bodies part.schema)), parts_controls 1 (length (bodies part.schema)) (bodies part.schema))
+-- it has no Control, so none with a new number
+parts_names : (before : List Entry) (n k all : ℕ) (bs : List (List ℕ)) → NameOldPoints before (take n (parts_of_schema k all bs))
+parts_names before zero k all bs = tt
+parts_names before (suc n) k all [] = tt
+parts_names before (suc n) k all (b ∷ bs) = (tt, parts_names (before ++ schema_part k all b ∷ []) n (k + 1) all bs)
 
-pub part_begins : (es : List Entry) → IsControlPart es → begins_in es ≡ 0
-part_begins es part =
-    let front = part.is ∙ control_front part.point part.next part.schema part.counts part.some part.lacks in
-    omega (arith, ap begins_in front, begins_first part.some (schema_entries (bodies part.schema)), parts_begins 1 (length (bodies part.schema)) (bodies part.schema))
+front_names : (before : List Entry) (point next : ℕ) (schema counts : List ℕ) (k : ℕ) → k < length (entries_control point schema next counts) → NameOldPoints before (take k (entries_control point schema next counts))
+front_names before point next schema counts k low =
+    subst (NameOldPoints before) (sym (control_front point next schema counts k low)) (parts_names before k 1 (length (bodies schema)) (bodies schema))
+
+pub part_names : (before es : List Entry) → IsControlPart es → NameOldPoints before es
+part_names before es part = subst (NameOldPoints before) (sym part.is) (front_names before part.point part.next part.schema part.counts part.some part.lacks)
 
 -- nothing is a front of one
 pub part_none : IsControlPart []
@@ -58,25 +45,10 @@ part_none = record { point = 0; next = 0; schema = []; counts = []; some = 0; la
 
 -- ---- an opening, without its Control
 
-opening_controls : (pending : Option Pending) (point next : ℕ) (schema counts : List ℕ) (k : ℕ) → k < length (opening_entries pending point next schema counts) → controls_in (take k (opening_entries pending point next schema counts)) ≡ 0
-opening_controls (Some p) point next schema counts k low = part_controls _ (record { point = point; next = next; schema = schema; counts = counts; some = k; lacks = low; is = refl })
-opening_controls None point next schema counts zero low = refl
-opening_controls None point next schema counts (suc k) low = let none = part_controls (take k (entries_control point schema next counts)) (record { point = point; next = next; schema = schema; counts = counts; some = k; lacks = omega (arith, low); is = refl }) in omega (arith, none)
-
--- ---- their numbers
-
--- where there is no Control there is no new number
-pub no_names : (before es : List Entry) → controls_in es ≡ 0 → NameOldPoints before es
-no_names before [] none = tt
-no_names before (schema_part part parts bytes ∷ es) none = (tt, no_names (before ++ schema_part part parts bytes ∷ []) es (omega (arith, none)))
-no_names before (image f b old new ∷ es) none = (tt, no_names (before ++ image f b old new ∷ []) es (omega (arith, none)))
-no_names before (byte_range f b place bytes ∷ es) none = (tt, no_names (before ++ byte_range f b place bytes ∷ []) es (omega (arith, none)))
-no_names before (quiet_point n ∷ es) none = (tt, no_names (before ++ quiet_point n ∷ []) es (omega (arith, none)))
-no_names before (control_point n next counts ∷ es) none = absurd (omega (arith, none))
-no_names before (begin_restore n kind ∷ es) none = (tt, no_names (before ++ begin_restore n kind ∷ []) es (omega (arith, none)))
-
 pub opening_unnamed : (before : List Entry) (pending : Option Pending) (point next : ℕ) (schema counts : List ℕ) (k : ℕ) → k < length (opening_entries pending point next schema counts) → NameOldPoints before (take k (opening_entries pending point next schema counts))
-opening_unnamed before pending point next schema counts k low = no_names before _ (opening_controls pending point next schema counts k low)
+opening_unnamed before (Some p) point next schema counts k low = front_names before point next schema counts k low
+opening_unnamed before None point next schema counts zero low = tt
+opening_unnamed before None point next schema counts (suc k) low = (tt, front_names (before ++ begin_restore point by_halt_load ∷ []) point next schema counts k (omega (arith, low)))
 
 -- ---- a close that found no room
 

@@ -4,6 +4,7 @@ use Rattle.std.proofs.lemmas.List.{length-map, append-nil}
 use Rattle.std.specs.declared.result.Result.{Result}
 use Rattle.std.specs.declared.result.Result.TheVariants as result
 use Rattle.dms_block.specs.Held.{Held, is_due}
+use Rattle.dms_block.specs.Landmarks.{AddsNoFurther}
 use Rattle.dms_block.specs.Texts.{Prints, PrintsPrefix}
 use Rattle.dms_desc.specs.Shape.{Described, as_described}
 use Rattle.dms_model.specs.Db.{Db}
@@ -15,7 +16,7 @@ use Rattle.dms_block.specs.declared.block_fault.BlockFault.TheVariants.{Say}
 use Rattle.dms_feed.specs.Lines.{raw_lines}
 use Rattle.dms_runner.specs.Answers.{LineEffect, answers_text, first_state, script_events}
 use Rattle.dms_runner.specs.Blaming.{IsFullRun}
-use Rattle.dms_runner.specs.Events.{CrashesFrom, IsDue, IsFullIn, Performs, RunEvent, SaidWhole, TookAll, pause, syncs_after, text_of}
+use Rattle.dms_runner.specs.Events.{CrashesFrom, IsDue, IsFullIn, Performs, RunEvent, SaidWhole, TookAll, landmarks_from, pause, syncs_after, text_of}
 use Rattle.dms_runner.specs.Running.{AreOfFront, KeepsFront}
 use Rattle.dms_runner.specs.Starting.{CarriesOut}
 use Rattle.dms_runner.proofs.Running.{run_none}
@@ -50,7 +51,8 @@ use Rattle.dms_status.specs.declared.status.Status.{Status}
 use Rattle.dms_status.specs.declared.status.Status.TheVariants.{Ok, Limit}
 use Rattle.dms_runtop.specs.Bound.{BoundsAudit, StopsAtLine}
 use Rattle.dms_runtop.specs.Faults.{IsWithin, run_status}
-use Rattle.dms_runtop.specs.Over.{CutsScript, EndsLack, IsAtEnds, IsControlDue, ReachesFiles, PassesScript, ScriptRuns, SiteSeen, ends_lack, opening_lacks}
+use Rattle.dms_runtop.specs.Landing.{LandmarksClosed}
+use Rattle.dms_runtop.specs.Over.{CutsScript, LacksAt, IsAtEnds, IsControlDue, ReachesFiles, PassesScript, ScriptRuns, SiteSeen, lacks_at, opening_lacks}
 use Rattle.dms_runtop.proofs.Bounds.{at_line_of}
 use Rattle.dms_runtop.proofs.Counted.{an_error}
 use Rattle.dms_runtop.proofs.Fronts.{leaves_wide, wider}
@@ -148,19 +150,19 @@ said_nothing said events = (0, λ t is. is ∙ ap (λ (s : List ℕ). Some s) (s
 -- ---- what was carried out
 
 -- nothing is lacked
-abbrev no_lack : EndsLack
-no_lack = record { opening = ⊥; closing = λ es. ⊥ }
+abbrev no_lack : LacksAt
+no_lack = record { opening = ⊥; closing = λ es. ⊥; within = λ backs es. ⊥ }
 
 -- So much of a script was carried out where the run stopped with this fault, told by the text before it and behind it. What is changed may go on up to
 -- this audit file.
-pub record Carried (last : ℕ) (Stops Due : List RunEvent → Type 0) (d : Described) (db : Db) (next : ℕ) (all : List ℕ) (left' : Option (List ℕ)) (said said' : Option (List ℕ)) (fault : RunFault) : Type 0 where
+pub record Carried (last : ℕ) (Stops Due : List RunEvent → Type 0) (Behind : Bool → List RunEvent → Type 0) (d : Described) (db : Db) (next : ℕ) (all : List ℕ) (left' : Option (List ℕ)) (said said' : Option (List ℕ)) (fault : RunFault) : Type 0 where
   pub lines : ℕ
   pub events : List RunEvent
   pub front : KeepsFront (raw_lines all) lines
   pub are : AreOfFront d db next (raw_lines all) lines events
   pub part : PrintsPrefix said said' (text_of events)
   pub answers : (fault ≡ Block Say → ⊥) → SaidWhole said said' events
-  pub due : (f : ℕ) → fault ≡ Block (block.Full f) → IsDue last f Stops Due said said' events
+  pub due : (f : ℕ) → fault ≡ Block (block.Full f) → IsDue last f Stops Due Behind said said' events
   pub many_lines : fault ≡ run.Lines → PassesScript Lines Stops no_lack d db next (raw_lines all) lines events said said'
   pub many_bytes : fault ≡ run.Bytes → PassesScript Bytes Stops no_lack d db next (raw_lines all) lines events said said'
   pub many_held : fault ≡ run.Held → PassesScript limits.Held Stops no_lack d db next (raw_lines all) lines events said said'
@@ -192,7 +194,11 @@ module _ {St : Type 0} {g : store.Ghosts St} (left' : Option (List ℕ)) (old ne
   abbrev pub DueBehind : List RunEvent → Type 0
   DueBehind es = is_due (engine_view old).pace.every (syncs_after (engine_view old).effort.syncs es) ≡ true
 
-  abbrev pub carried_of : (fault : RunFault) → CarriesOut (fault_of fault) left' old new db first all → Carried (engine_view old).pace.last StopsIn DueBehind (as_described old.desc) db first all left' (engine_view old).said (engine_view new).said fault
+  -- their landmarks were added, and no Control behind them
+  abbrev pub LandsBehind : Bool → List RunEvent → Type 0
+  LandsBehind backs es = AddsNoFurther backs (engine_view old).landmarks (engine_view new).landmarks (landmarks_from (engine_view old) es)
+
+  abbrev pub carried_of : (fault : RunFault) → CarriesOut (fault_of fault) left' old new db first all → Carried (engine_view old).pace.last StopsIn DueBehind LandsBehind (as_described old.desc) db first all left' (engine_view old).said (engine_view new).said fault
   carried_of fault k = record {
     lines = k.n;
     events = k.events;
@@ -231,30 +237,33 @@ made_moved : {X Y A B C : Type 0} → (X → Y) → (B → C) → X ⊎ (A × B)
 made_moved stops due (inl x) = inl (stops x)
 made_moved stops due (inr x) = inr (x.0, due x.1)
 
-pub due_moved : {Stops Stops' Due Due' : List RunEvent → Type 0} (last last' f : ℕ) (before after : Option (List ℕ)) (events : List RunEvent) → last ≡ last'
-    → ((es : List RunEvent) → Stops (es ++ pause ∷ []) → Stops' (es ++ pause ∷ [])) → ((es : List RunEvent) → Due es → Due' es) → IsDue last f Stops Due before after events → IsDue last' f Stops' Due' before after events
-due_moved last last' f before after events same stops due d = record {
+pub due_moved : {Stops Stops' Due Due' : List RunEvent → Type 0} {Behind Behind' : Bool → List RunEvent → Type 0} (last last' f : ℕ) (before after : Option (List ℕ)) (events : List RunEvent) → last ≡ last'
+    → ((es : List RunEvent) → Stops (es ++ pause ∷ []) → Stops' (es ++ pause ∷ [])) → ((es : List RunEvent) → Due es → Due' es) → ((backs : Bool) (es : List RunEvent) → Behind backs es → Behind' backs es)
+    → IsDue last f Stops Due Behind before after events → IsDue last' f Stops' Due' Behind' before after events
+due_moved last last' f before after events same stops due lands d = record {
   k = d.k;
   at = d.at;
   is = d.is;
   full = subst (λ (l : ℕ). IsFullIn l d.at f) same d.full;
   text = d.text;
   made = made_moved (stops (take d.k events)) (due (take d.k events)) d.made;
+  landmarks = lands d.at.backs (take d.k events) d.landmarks;
 }
 
-ends_moved : (lack lack' : EndsLack) (d : Described) (db : Db) (next : ℕ) (lines : List (List ℕ)) (events : List RunEvent) (before after : Option (List ℕ)) → (lack.opening → lack'.opening) → ((es : List RunEvent) → lack.closing es → lack'.closing es)
+ends_moved : (lack lack' : LacksAt) (d : Described) (db : Db) (next : ℕ) (lines : List (List ℕ)) (events : List RunEvent) (before after : Option (List ℕ)) → (lack.opening → lack'.opening) → ((es : List RunEvent) → lack.closing es → lack'.closing es)
     → IsAtEnds lack d db next lines events before after → IsAtEnds lack' d db next lines events before after
 ends_moved lack lack' d db next lines events before after opening closing (inl at) = inl (at.0, at.1, opening at.2)
 ends_moved lack lack' d db next lines events before after opening closing (inr at) = inr (at.0, at.1, closing events at.2)
 
-pub passes_moved : (Stops Stops' : List RunEvent → Type 0) (lack lack' : EndsLack) (k : LimitKind) (d : Described) (db : Db) (next : ℕ) (lines : List (List ℕ)) (n : ℕ) (events : List RunEvent) (before after : Option (List ℕ))
+pub passes_moved : (Stops Stops' : List RunEvent → Type 0) (lack lack' : LacksAt) (k : LimitKind) (d : Described) (db : Db) (next : ℕ) (lines : List (List ℕ)) (n : ℕ) (events : List RunEvent) (before after : Option (List ℕ))
     → ((es : List RunEvent) → Stops (es ++ pause ∷ []) → Stops' (es ++ pause ∷ [])) → (lack.opening → lack'.opening) → ((es : List RunEvent) → lack.closing es → lack'.closing es)
+    → ((backs : Bool) (es : List RunEvent) → lack.within backs es → lack'.within backs es)
     → PassesScript k Stops lack d db next lines n events before after → PassesScript k Stops' lack' d db next lines n events before after
-passes_moved Stops Stops' lack lack' (AuditFile f) d db next lines n events before after stops opening closing (inl due) = inl (due_moved d.files d.files f before after events refl stops (λ es is. is) due)
-passes_moved Stops Stops' lack lack' (AuditFile f) d db next lines n events before after stops opening closing (inr ends) = inr (ends.0, ends_moved lack lack' d db next lines events before after opening closing ends.1)
-passes_moved Stops Stops' lack lack' Lines d db next lines n events before after stops opening closing passes = passes
-passes_moved Stops Stops' lack lack' Bytes d db next lines n events before after stops opening closing passes = passes
-passes_moved Stops Stops' lack lack' limits.Held d db next lines n events before after stops opening closing passes = passes
+passes_moved Stops Stops' lack lack' (AuditFile f) d db next lines n events before after stops opening closing going (inl due) = inl (due_moved d.files d.files f before after events refl stops (λ es is. is) going due)
+passes_moved Stops Stops' lack lack' (AuditFile f) d db next lines n events before after stops opening closing going (inr ends) = inr (ends.0, ends_moved lack lack' d db next lines events before after opening closing ends.1)
+passes_moved Stops Stops' lack lack' Lines d db next lines n events before after stops opening closing going passes = passes
+passes_moved Stops Stops' lack lack' Bytes d db next lines n events before after stops opening closing going passes = passes
+passes_moved Stops Stops' lack lack' limits.Held d db next lines n events before after stops opening closing going passes = passes
 
 -- the last audit file is 9,999
 of_last : (k : LimitKind) → IsOfAuditLimit k → Limit k ≡ Limit (AuditFile 9999)
@@ -279,8 +288,8 @@ module _ (opening : ℕ) (t : Telling) (d : Described) (ps : List DescribedPoint
   paused : (events : List RunEvent) → Leaves events → Leaves (events ++ pause ∷ [])
   paused events moments = runs_weaken moments (leaves_wide (wider events (pause ∷ [])))
 
-  abbrev lack : EndsLack
-  lack = ends_lack opening t d a.files b.files
+  abbrev lack : LacksAt
+  lack = lacks_at opening t d next a.files b.files
 
   of_audit : (lines : ℕ) (events : List RunEvent) (k : LimitKind) → IsOfAuditLimit k → (IsOfAuditLimit k → IsAtEnds lack d db next (raw_lines all) events a.said b.said) → PassesScript k Leaves lack d db next (raw_lines all) lines events a.said b.said
   of_audit lines events (AuditFile f) is ends = inr (is, ends is)
@@ -306,13 +315,14 @@ module _ (opening : ℕ) (t : Telling) (d : Described) (ps : List DescribedPoint
     whole_answers = λ unsaid. subst (λ (s : Option (List ℕ)). SaidWhole a.said s []) (sym same) (said_nothing a.said []);
     whole = λ is. absurd (undone_ok status undone is);
     within = λ is. absurd (undone_ok status undone is);
+    landmarks = λ is. absurd (undone_ok status undone is);
     limit = λ k is. of_audit 0 [] k (undone_limit status undone k is) (λ last. inl (refl, subst (λ (s : Option (List ℕ)). Prints a.said s []) (sym same) (still_prints a.said), short (is ∙ of_last k last)));
     input_cut = λ is. absurd (undone_input status undone is);
     undamaged = λ f k is high. undone_damaged status undone f k is high;
   }
 
   -- the script stopped before its end
-  pub ran_failed : (fault : RunFault) (c : Carried d.files Leaves (IsControlDue d) d db next all left' a.said b.said fault) → Leaves c.events
+  pub ran_failed : (fault : RunFault) (c : Carried d.files Leaves (IsControlDue d) lack.within d db next all left' a.said b.said fault) → Leaves c.events
       → ((f k : ℕ) → fault ≡ Block (block.Damaged f k) → ⊥) → Bound c.events (run_status fault) → ScriptRuns opening t d ps n db next all a b left' (run_status fault)
   ran_failed fault c moments damaged bound = record {
     lines = c.lines;
@@ -327,6 +337,7 @@ module _ (opening : ℕ) (t : Telling) (d : Described) (ps : List DescribedPoint
     whole_answers = λ unsaid. c.answers (λ is. unsaid (ap run_status is));
     whole = λ is. absurd (run_not_ok fault is);
     within = λ is. absurd (run_not_ok fault is);
+    landmarks = λ is. absurd (run_not_ok fault is);
     limit = λ k is. passes k is;
     input_cut = λ is. c.cut (run_input fault is);
     undamaged = λ f k is high. damaged f k (run_damaged fault f k is);
@@ -341,8 +352,8 @@ module _ (opening : ℕ) (t : Telling) (d : Described) (ps : List DescribedPoint
   -- the script was carried out, and the database closed, or not closed
   pub ran_closed : (status : Status) → (status ≡ Ok) ⊎ IsOfClosing status → (c : CarriedAll d db next all a.said b.said) → Leaves script
       → (status ≡ Ok → ReachesFiles t d n db next (raw_lines all) b)
-      → Prints a.said b.said (answers_text d db next (raw_lines all)) → KeepsLimits d db next (raw_lines all) → Bound script status → (status ≡ Limit (AuditFile 9999) → lack.closing script) → ScriptRuns opening t d ps n db next all a b left' status
-  ran_closed status of c moments ends prints limits bound lacks = record {
+      → Prints a.said b.said (answers_text d db next (raw_lines all)) → KeepsLimits d db next (raw_lines all) → Bound script status → (status ≡ Ok → LandmarksClosed opening t d next a.files b.files script) → (status ≡ Limit (AuditFile 9999) → lack.closing script) → ScriptRuns opening t d ps n db next all a b left' status
+  ran_closed status of c moments ends prints limits bound lands lacks = record {
     lines = c.lines;
     front = c.front;
     events = script;
@@ -355,6 +366,7 @@ module _ (opening : ℕ) (t : Telling) (d : Described) (ps : List DescribedPoint
     whole_answers = λ unsaid. c.answers;
     whole = λ is. refl;
     within = λ is. limits;
+    landmarks = lands;
     limit = λ k is. closing_limit status of lacks k is;
     input_cut = λ is. absurd (closing_input status of is);
     undamaged = λ f k is high. closing_damaged status of f k is;

@@ -16,10 +16,10 @@ use Rattle.dms_wal.specs.Marks.{last_number, number_from}
 use Rattle.dms_run.specs.Files.{RunLeavesFiles}
 use Rattle.dms_run.specs.States.{LivesEndWith}
 use Rattle.dms_status.specs.declared.status.Status.{Status}
-use Rattle.dms_runtop.specs.Over.{ScriptRuns, SiteSeen, ends_lack, opening_lacks}
-use Rattle.dms_runtop.proofs.Bounds.{bounds_since, counts_since}
-use Rattle.dms_runtop.specs.Bound.{begins_allowed, restores_ended}
-use Rattle.dms_wal.specs.Controlled.{AddsControls, AddsFew}
+use Rattle.dms_runtop.specs.Over.{ScriptRuns, SiteSeen, lacks_at, opening_lacks}
+use Rattle.dms_runtop.proofs.Bounds.{bounds_since}
+use Rattle.dms_runtop.specs.Landing.{script_landmarks}
+use Rattle.dms_runtop.proofs.Landing.{OpenedSince, closed_since, lacks_since, lands_since}
 use Rattle.dms_runtop.proofs.Ran.{passes_moved}
 
 -- ---- there is a first event
@@ -61,10 +61,9 @@ module _ (opening opening0 : ℕ) (t : Telling) (d : Described) (ps : List Descr
   same_said same ran = subst (λ (s : Option (List ℕ)). ScriptRuns opening t d ps n db next all (record { files = a.files; clock = a.clock; said = s }) b left' status) same ran
 
   pub runs_since : a.said ≡ a0.said → ((events : List RunEvent) → Runs a0.clock a.clock (RunLeavesFiles t d a0.said ps n db next (events ++ pause ∷ [])))
-      → length (t.entries a.files) + opening ≤ length (t.entries a0.files) + opening0 → AddsControls (restores_ended opening (t.entries a.files)) (restores_ended opening0 (t.entries a0.files)) (t.entries a0.files) (t.entries a.files)
-      → AddsFew (restores_ended opening (t.entries a.files)) (restores_ended opening0 (t.entries a0.files)) (begins_allowed opening (t.entries a.files)) (begins_allowed opening0 (t.entries a0.files)) (t.entries a0.files) (t.entries a.files)
+      → length (t.entries a.files) + opening ≤ length (t.entries a0.files) + opening0 → OpenedSince opening opening0 next (t.entries a0.files) (t.entries a.files)
       → (opening_lacks opening a.files b.files → opening_lacks opening0 a0.files b.files) → ScriptRuns opening t d ps n db next all a b left' status → ScriptRuns opening0 t d ps n db next all a0 b left' status
-  runs_since same before grew ended few short ran =
+  runs_since same before grew since short ran =
       let r = same_said same ran in
       record {
         lines = r.lines;
@@ -80,9 +79,10 @@ module _ (opening opening0 : ℕ) (t : Telling) (d : Described) (ps : List Descr
         within = r.within;
         limit = λ k is.
             let Stops : Clock Left → List RunEvent → Type 0 = λ early es. Runs early b.clock (RunLeavesFiles t d a0.said ps n db next es) in
-            passes_moved (Stops a.clock) (Stops a0.clock) (ends_lack opening t d a.files b.files) (ends_lack opening0 t d a0.files b.files) k d db next (raw_lines all) r.lines r.events a0.said b.said (λ es later. runs_on (before es) later (λ x l. l))
-            short (λ es lacks. counts_since 0 opening opening0 t d es a0.files a.files b.files ended few lacks) (r.limit k is);
-        bound = bounds_since grew ended few r.bound;
+            passes_moved (Stops a.clock) (Stops a0.clock) (lacks_at opening t d next a.files b.files) (lacks_at opening0 t d next a0.files b.files) k d db next (raw_lines all) r.lines r.events a0.said b.said (λ es later. runs_on (before es) later (λ x l. l))
+            short (λ es. lands_since opening opening0 t next a0.files a.files b.files (script_landmarks d next es) since) (λ backs es. lacks_since opening opening0 t d next a0.files a.files b.files backs es since) (r.limit k is);
+        bound = bounds_since grew r.bound;
+        landmarks = λ is. closed_since opening opening0 t d next a0.files a.files b.files r.events since (r.landmarks is);
         input_cut = r.input_cut;
         undamaged = r.undamaged;
       }

@@ -34,7 +34,7 @@ module _ {S V : Type 0} (g : Ghosts S) (gv : Ghosts V) (of : V → S) (known : B
     (bytes : List ℕ) (bytes_are : bytes ≡ spelling desc)
     (r : Running V) (site_is : of r.log.site ≡ o.log.site) (total_is : r.log.end.total ≡ o.log.end.total) (first_is : r.log.first ≡ o.log.first) (next_is : r.next ≡ o.next) (limit_is : r.log.end.limit ≡ desc.files)
     (opened : (files : Files) → RunsFrom files o.point o.next bytes o.counts.items (view_of g o.log) → TellsOpened (telling_of o.log.end.total o.log.first) files o.next (running_held gv r))
-    (every_is : r.every ≡ desc.controlpoint) (unused : (r.spent ≡ 0) × (r.syncs ≡ 0) × (r.outs ≡ 0)) (waiting : waits o.log.end ≡ [] → waits r.log.end ≡ []) where
+    (every_is : r.every ≡ desc.controlpoint) (unused : (r.spent ≡ 0) × (r.syncs ≡ 0) × (r.outs ≡ 0) × (r.full ≡ 0)) (waiting : waits o.log.end ≡ [] → waits r.log.end ≡ []) where
   abbrev t : Telling
   t = telling_of o.log.end.total o.log.first
 

@@ -1,9 +1,9 @@
 -- How much audit a run takes.
-use Rattle.std.specs.Prelude.{ℕ, zero, suc, is_some, not, ◌≡◌, ◌⊎◌, ◌+◌, ◌*◌, ◌<◌, ◌≤◌, true, List, length, take}
+use Rattle.std.specs.Prelude.{ℕ, ◌≡◌, ◌⊎◌, ◌+◌, ◌*◌, ◌<◌, ◌≤◌, true, List, length, take}
 use Rattle.std.specs.declared.option.Option.{Option}
 use Rattle.dms_block.specs.Texts.{Prints, PrintsPrefix}
 use Rattle.dms_desc.specs.Shape.{Described}
-use Rattle.dms_runner.specs.Events.{RunEvent, EndsAnswered, SaidAtLeast, backs_of, one_if, blocks_of, quiets_of, syncs_of, text_of}
+use Rattle.dms_runner.specs.Events.{RunEvent, EndsAnswered, SaidAtLeast, backs_of, blocks_of, quiets_of, syncs_of, text_of}
 use Rattle.dms_running.specs.Telling.{Telling}
 use Rattle.dms_site.specs.Files.{Files}
 use Rattle.dms_status.specs.declared.status.Status.{Status}
@@ -11,9 +11,6 @@ use Rattle.dms_status.specs.declared.status.LimitKind.{LimitKind}
 use Rattle.dms_status.specs.declared.status.LimitKind.TheVariants.{AuditFile, Lines, Bytes, Held}
 use Rattle.dms_status.specs.declared.status.Status.TheVariants.{Ok, BadWords, SchemaRefused, NoDatabase, Needed, InputFault, Memory, Limit, Damaged, SayFault, DiskFault, Exists}
 use Rattle.dms_storeverbs.specs.Costs.{limit_if}
-use Rattle.dms_history.specs.Entries.{Entry}
-use Rattle.dms_history.specs.EntryEvents.{history_of}
-use Rattle.dms_wal.specs.Controlled.{AddsControls, AddsFew}
 use Rattle.dms_wal.specs.Growing.{controls_among}
 
 -- How many entries these events may make: one for each block that is changed, 64 of each structure for each record that may be stored; one for each
@@ -87,29 +84,10 @@ closing_of Exists = 0
 abbrev pub StopsAtLine : Status → Type 0
 StopsAtLine status = (status ≡ InputFault) ⊎ ((status ≡ Limit Lines) ⊎ ((status ≡ Limit Bytes) ⊎ (status ≡ Limit Held)))
 
--- whether a restore is pending, which an opening before ends by a control point, where there was one
-abbrev pub restores_ended : ℕ → List Entry → ℕ
-restores_ended zero entries = 0
-restores_ended (suc n) entries = one_if (is_some (history_of entries).pending)
-
--- how many Begins an opening before it makes, where there was one: one where no restore is pending
-abbrev pub begins_allowed : ℕ → List Entry → ℕ
-begins_allowed zero entries = 0
-begins_allowed (suc n) entries = one_if (not (is_some (history_of entries).pending))
-
--- Exactly so many Controls were appended as there are m-th syncpoints among these events, Begins that were appended, and restores that were pending and
--- that an opening before ended, and so many more; and no more Begins than one of that opening, where no restore was pending, and one for each event that
--- goes back.
-pub record CountsControls (more n : ℕ) (t : Telling) (desc : Described) (events : List RunEvent) (then now : Files) : Type 0 where
-  pub least : AddsControls 0 (restores_ended n (t.entries then) + controls_among desc.controlpoint (syncs_of events) + more) (t.entries then) (t.entries now)
-  pub most : AddsFew 0 (restores_ended n (t.entries then) + controls_among desc.controlpoint (syncs_of events) + more) 0 (begins_allowed n (t.entries then) + backs_of events) (t.entries then) (t.entries now)
-
 -- So much audit a run takes, whatever failed, where an opening before it took at most n entries.
 pub record BoundsAudit (n : ℕ) (t : Telling) (desc : Described) (events : List RunEvent) (then now : Files) (said said' : Option (List ℕ)) (status : Status) : Type 0 where
   -- at status 0 no more than all events make
   pub at_ok : status ≡ Ok → AuditGrew t (n + audit_of desc events + 18) then now
-  -- at status 0 exactly so many Controls were appended, one more for the close
-  pub controls : status ≡ Ok → CountsControls 1 n t desc events then now
   -- where it stopped at a line, no more than the opening and the events of the lines before make, of a line too many to hold its first try, too
   pub at_line : StopsAtLine status → AuditGrew t (n + audit_of desc events) then now
   -- at each status no more than those make whose text was printed, and one call whose answer wasn't; at 10 the last answer may be cut off

@@ -1,5 +1,5 @@
 -- A run of a script over a database that was opened.
-use Rattle.std.specs.Prelude.{ℕ, zero, suc, ◌≡◌, ◌⊎◌, ◌+◌, ◌<◌, ◌^◌, List, [], ◌∷◌, ◌++◌, length, map, true, Some, None, IsTrue, if◌then◌else◌}
+use Rattle.std.specs.Prelude.{ℕ, zero, suc, ◌≡◌, ◌⊎◌, ◌+◌, ◌<◌, ◌^◌, List, [], ◌∷◌, ◌++◌, length, map, Bool, true, Some, None, IsTrue, if◌then◌else◌}
 use Rattle.std.specs.declared.option.Option.{Option}
 use Rattle.dms_moments.specs.Moments.{Clock, Runs}
 use Rattle.dms_block.specs.Held.{is_due}
@@ -21,7 +21,8 @@ use Rattle.dms_wal.specs.Closing.{LeavesUntil}
 use Rattle.dms_wal.specs.Database.{running_held}
 use Rattle.dms_wal.specs.Growing.{over_site}
 use Rattle.dms_wal.specs.Lifting.{lift_clock}
-use Rattle.dms_runtop.specs.Bound.{BoundsAudit, CountsControls}
+use Rattle.dms_runtop.specs.Bound.{BoundsAudit}
+use Rattle.dms_runtop.specs.Landing.{LandmarksBefore, LandmarksAre, LandmarksClosed, script_landmarks}
 use Rattle.dms_store.specs.Lifted.{point_of}
 use Rattle.dms_store.specs.Spelled.{database_in}
 use Rattle.dms_runner.specs.Answers.{answers_quiets, answers_text, left_by, script_events, script_run}
@@ -53,23 +54,29 @@ pub record FilesEndWith (t : Telling) (desc : Described) (n : ℕ) (db : Db) (ne
   pub next_is : next_in t s.files ≡ next
   pub only : Only s.files s.clock
 
--- what the trail lacks, where the audit had no room for an opening, or for a close behind these events
-pub record EndsLack : Type 1 where
+-- what the trail lacks, where the audit had no room: for an opening; for a close behind these events; or for an event behind these, which goes back or not
+pub record LacksAt : Type 1 where
   pub opening : Type 0
   pub closing : List RunEvent → Type 0
+  pub within : Bool → List RunEvent → Type 0
 
 -- an opening before it, where there was one, lacks an entry
 abbrev pub opening_lacks : ℕ → Files → Files → Type 0
 opening_lacks zero old new = ⊥
 opening_lacks (suc n) old new = OpensShort old new
 
--- The trail lacks an entry of the opening; or it has one Control fewer than with a close.
-abbrev pub ends_lack : ℕ → Telling → Described → Files → Files → EndsLack
-ends_lack n t desc old new = record { opening = opening_lacks n old new; closing = λ events. CountsControls 0 n t desc events old new }
+-- An entry of the opening; or its landmarks are those of these events, without that of a close; or those of the events before that event, and maybe its
+-- Begin, where it goes back.
+abbrev pub lacks_at : ℕ → Telling → Described → ℕ → Files → Files → LacksAt
+lacks_at n t desc next old new = record {
+  opening = opening_lacks n old new;
+  closing = λ events. LandmarksAre n t next old new (script_landmarks desc next events);
+  within = LandmarksBefore n t desc next old new;
+}
 
 -- Nothing was carried out and nothing printed, as at the opening, and the trail lacks what that says; or the text of the whole script was, as before the
 -- close, and it lacks what that says.
-abbrev pub IsAtEnds : EndsLack → Described → Db → ℕ → List (List ℕ) → List RunEvent → Option (List ℕ) → Option (List ℕ) → Type 0
+abbrev pub IsAtEnds : LacksAt → Described → Db → ℕ → List (List ℕ) → List RunEvent → Option (List ℕ) → Option (List ℕ) → Type 0
 IsAtEnds lack desc db first lines events before after =
     ((events ≡ []) × Prints before after [] × lack.opening)
     ⊎ ((events ≡ script_events desc db first lines) × Prints before after (answers_text desc db first lines) × lack.closing events)
@@ -79,18 +86,20 @@ abbrev pub IsControlDue : Described → List RunEvent → Type 0
 IsControlDue desc events = is_due desc.controlpoint (syncs_after 0 events) ≡ true
 
 -- The script passes this limit. Of lines, bytes and held lines: what the whole lines before that place answer was printed, and these are their events,
--- so nothing else was done; of a line that is one too many to hold its first try, if there is one, which waits, is among them. The audit may go on up
--- to file FILES of the description for what a script changes: exactly the text before the call of a verb was printed that is done, and stores a record
--- or makes a quiet point; and a stop leaves no quiet point of it, but where a control point was due at its syncpoint. It goes on up to file 9,999 for
--- openings, ways back and closings: exactly the text before an ABORT that is done was printed, or before the way back at the script's end; or nothing
--- was carried out, and an entry of the opening is missing; or all that the script answers was printed, and a Control is missing.
-abbrev pub PassesScript : LimitKind → (List RunEvent → Type 0) → EndsLack → Described → Db → ℕ → List (List ℕ) → ℕ → List RunEvent → Option (List ℕ) → Option (List ℕ) → Type 0
-PassesScript (AuditFile f) Leaves lack desc db first lines n events before after = IsDue desc.files f Leaves (IsControlDue desc) before after events ⊎ ((f ≡ 9999) × IsAtEnds lack desc db first lines events before after)
+-- so no further line was carried out; of a line that is one too many to hold its first try, if there is one, which waits, is among them. The audit may
+-- go on up to file FILES of the description for what a script changes: exactly the text before the call of a verb was printed that is done, and stores a
+-- record or makes a quiet point; and a stop leaves no quiet point of it, but where a control point was due at its syncpoint. It goes on up to file 9,999
+-- for openings, ways back and closings: exactly the text before an ABORT that is done was printed, or before the way back at the script's end. The
+-- trail's landmarks are those of the opening and of the events before, and maybe the Begin of that way back. Or nothing was carried out, and an entry of
+-- the opening is missing; or all that the script answers was printed, and the landmarks are those of the opening and of all events, without that of the
+-- close.
+abbrev pub PassesScript : LimitKind → (List RunEvent → Type 0) → LacksAt → Described → Db → ℕ → List (List ℕ) → ℕ → List RunEvent → Option (List ℕ) → Option (List ℕ) → Type 0
+PassesScript (AuditFile f) Leaves lack desc db first lines n events before after = IsDue desc.files f Leaves (IsControlDue desc) lack.within before after events ⊎ ((f ≡ 9999) × IsAtEnds lack desc db first lines events before after)
 PassesScript Lines Leaves lack desc db first lines n events before after = PassesLines desc db first lines before after × AreExactly desc db first lines n events 1000000
 PassesScript Bytes Leaves lack desc db first lines n events before after = (p : PassesBytes desc db first lines before after) × AreExactly desc db first lines n events p.n
 PassesScript Held Leaves lack desc db first lines n events before after = (p : PassesWaiting desc db first lines before after) × AreExactly desc db first lines n events (p.n + 1)
 
--- Taking from the input failed: what the whole lines that were taken answer was printed, and these are their events, so nothing else was done.
+-- Taking from the input failed: what the whole lines that were taken answer was printed, and these are their events, so no further line was carried out.
 abbrev pub CutsScript : Described → Db → ℕ → List ℕ → Option (List ℕ) → ℕ → List RunEvent → Option (List ℕ) → Option (List ℕ) → Type 0
 CutsScript desc db first all left n events before after = (p : CutInput desc db first all left before after) × AreExactly desc db first (raw_lines all) n events p.n
 
@@ -126,10 +135,12 @@ pub record ScriptRuns (opening : ℕ) (t : Telling) (desc : Described) (ps : Lis
   pub within : status ≡ Ok → KeepsLimits desc db next (raw_lines all)
   -- at status 8 by the script it passes that limit, and none before
   pub limit : (k : LimitKind) → status ≡ Limit k
-      → PassesScript k (λ es. Runs a.clock b.clock (RunLeavesFiles t desc a.said ps n db next es)) (ends_lack opening t desc a.files b.files) desc db next (raw_lines all) lines events a.said b.said
+      → PassesScript k (λ es. Runs a.clock b.clock (RunLeavesFiles t desc a.said ps n db next es)) (lacks_at opening t desc next a.files b.files) desc db next (raw_lines all) lines events a.said b.said
   -- at each status it took no more of the audit than an opening, what is answered, one call whose answer wasn't printed, and a close may take
   pub bound : BoundsAudit opening t desc events a.files b.files a.said b.said status
-  -- at status 6 what the whole lines that were taken answer was printed, and nothing else was done
+  -- at status 0 the landmarks that were added are exactly those of the opening, of these events and of the close, in this order
+  pub landmarks : status ≡ Ok → LandmarksClosed opening t desc next a.files b.files events
+  -- at status 6 what the whole lines that were taken answer was printed, and no further line was carried out
   pub input_cut : status ≡ InputFault → CutsScript desc db next all left' lines events a.said b.said
   -- no block of a structure file is found damaged
   pub undamaged : (f k : ℕ) → status ≡ Damaged f k → 30000 < f → ⊥
@@ -150,7 +161,7 @@ module _ {S : Type 0} (g : Ghosts S) where
     pub room : r.next + 1000003 < 2 ^ 64
     pub nothing : waits r.log.end ≡ []
     pub every : r.every ≡ desc.controlpoint
-    pub unused : (r.spent ≡ 0) × (r.syncs ≡ 0) × (r.outs ≡ 0)
+    pub unused : (r.spent ≡ 0) × (r.syncs ≡ 0) × (r.outs ≡ 0) × (r.full ≡ 0)
 
   -- a run of the script over this database, which ended with this status and this site
   abbrev pub RunsOver : Running S → Described → Option (List ℕ) → Option (List ℕ) → Status → S → Type 0

@@ -59,6 +59,7 @@ module _ (desc : Described) where
     said = h.said;
     points = map point_of h.points;
     durable = h.durable;
+    landmarks = h.landmarks;
     here = point_of (here_of h);
     clock = lift_stops h.clock;
     whole = h.whole;

@@ -19,7 +19,7 @@ use Rattle.dms_block.specs.Content.{Content}
 use Rattle.dms_block.specs.Counts.{CausedBy}
 use Rattle.dms_block.specs.Held.{AuditPace, Held, BlockPoint, BlockStop, Lasts, MakesNoPoint, Prefix, SameBlocks}
 use Rattle.dms_block.specs.Held as held
-use Rattle.dms_block.specs.HeldLaws.{full_weaker}
+use Rattle.dms_block.specs.FaultLaws.{full_weaker}
 use Rattle.dms_desc.specs.Shape.{Described}
 use Rattle.dms_desc_bytes.specs.Spelling.{spelling}
 use Rattle.dms_model.specs.Db.{Db}

@@ -10,6 +10,7 @@ use Rattle.dms_block.specs.declared.overlay.Overlay.{Overlay}
 use Rattle.dms_block.specs.Faults.{NotFull, Unbroken}
 use Rattle.dms_block.specs.Held.{Alters, HasCauses, HasCausesOr, Stays}
 use Rattle.dms_block.specs.HeldLaws.{alters_as, alters_more, alters_on, causes_or, causes_or_on, lasts_none, looks_alters, looks_as, looks_err, looks_none, looks_on, same_none}
+use Rattle.dms_block.specs.LandmarkLaws.{lands_err}
 use Rattle.dms_block.specs.View.{ReadsOverlay, WritesOverlay, under, overlay_changes}
 use Rattle.dms_ordlist.specs.SeenLaws.{causes_err}
 use Rattle.dms_sets.specs.Keeping.{Calm}
@@ -141,7 +142,13 @@ module _ {B : Type 0} {g : Ghosts B} where
   pub hands_err : {T U : Type 0} (m : ℕ) (e : BlockFault) (a b : Overlay B g) → HandsDown {T = T} m (Err e) a b → HandsDown {T = U} m (Err e) a b
   hands_err {T = T} {U = U} m e a b h = record {
     reads = h.reads;
-    alters = record { passes = h.alters.passes; stays = unbroken_err T U (Stays (under a) (under b)) e h.alters.stays; memory = λ is. h.alters.memory (memory_err T U e is); uses = h.alters.uses };
+    alters = record {
+      passes = h.alters.passes;
+      stays = unbroken_err T U (Stays (under a) (under b)) e h.alters.stays;
+      memory = λ is. h.alters.memory (memory_err T U e is);
+      uses = h.alters.uses;
+      landmarks = lands_err e h.alters.landmarks;
+    };
     causes = causes_err T U (λ f k. ⊤) (λ f k. ⊤) e (under a) (under b) (λ f k x. x) h.causes;
     same = h.same;
   }

@@ -1,6 +1,7 @@
-ghost use Rattle.std.specs.Prelude.{◌≡◌, ◌<◌, ◌+◌, ◌^◌, ◌++◌, [], ◌∷◌, Some, IfOk, IfSome, IfErr, OnOk, IsErrOf, IsOkUnless, ◌*◌, length, true};
+ghost use Rattle.std.specs.Prelude.{◌≡◌, ◌<◌, ◌+◌, ◌^◌, ◌++◌, [], ◌∷◌, Some, IfOk, IfSome, IfErr, OnOk, IsErrOf, IsOkUnless, ◌*◌, length, false, true};
 ghost use Rattle.dms_block.specs.Faults.{IfFull, Undamaged};
-ghost use Rattle.dms_block.specs.Held.{is_due};
+ghost use Rattle.dms_block.specs.Held.{is_due, sync_landmarks};
+ghost use Rattle.dms_block.specs.Landmarks.{back_landmarks, AddsItsLandmarks};
 ghost use Rattle.dms_block.specs.Texts.{Prints};
 ghost use Rattle.dms_desc.specs.Shape.{as_described};
 ghost use Rattle.dms_model.specs.Db.{Db};
@@ -71,6 +72,7 @@ impl<B: Blocks> BlockStore<B> {
         ensures found { Tells (seen_by self.old).db result (λ d. get d.records (set, number)) }
         ensures fits { IfOk result (λ o. IfSome o (RecordFits (as_described self.old.desc) set)) }
         ensures looked { Looked result (seen_by self.old) (seen_by self.new) }
+        ensures landmarks { AddsItsLandmarks false result (seen_by self.old).landmarks (seen_by self.new).landmarks [] }
         ensures same { B.same_blocks self.old.over.below self.new.over.below }
     {
         let found = getting::get(&mut self.over, alloc, &self.desc, set, number);
@@ -94,6 +96,7 @@ impl<B: Blocks> BlockStore<B> {
         ensures found { MayStart (as_described self.old.desc) path owner from.now → Tells (seen_by self.old).db result (λ d. first_member (as_described self.old.desc) d path owner from.now) }
         ensures fits { IfOk result (λ o. IfSome o (SpotFits (as_described self.old.desc) path)) }
         ensures looked { Looked result (seen_by self.old) (seen_by self.new) }
+        ensures landmarks { AddsItsLandmarks false result (seen_by self.old).landmarks (seen_by self.new).landmarks [] }
         ensures same { B.same_blocks self.old.over.below self.new.over.below }
     {
         let found = paths::first_from(&mut self.over, alloc, &self.desc, path, owner, from);
@@ -117,6 +120,7 @@ impl<B: Blocks> BlockStore<B> {
         ensures found { MayStart (as_described self.old.desc) path owner to.now → Tells (seen_by self.old).db result (λ d. last_member (as_described self.old.desc) d path owner to.now) }
         ensures fits { IfOk result (λ o. IfSome o (SpotFits (as_described self.old.desc) path)) }
         ensures looked { Looked result (seen_by self.old) (seen_by self.new) }
+        ensures landmarks { AddsItsLandmarks false result (seen_by self.old).landmarks (seen_by self.new).landmarks [] }
         ensures same { B.same_blocks self.old.over.below self.new.over.below }
     {
         let found = paths::last_to(&mut self.over, alloc, &self.desc, path, owner, to);
@@ -133,6 +137,7 @@ impl<B: Blocks> BlockStore<B> {
         ensures mute { IsMute (seen_by self.old) (seen_by self.new) }
         ensures leaves { let s = seen_by self.old in IfPointsTold s (StoreLeaves s.whole s.clock (seen_by self.new).clock s.durable (s.points ++ s.here ∷ []) (s.next + 1) s.said) }
         ensures memory { IsErrOf result BlockFault.Memory → ⊥ }
+        ensures landmarks { AddsItsLandmarks false result (seen_by self.old).landmarks (seen_by self.new).landmarks [] }
         ensures same { B.same_blocks self.old.over.below self.new.over.below }
         ensures effort { (seen_by self.new).effort ≡ (seen_by self.old).effort }
         ensures undamaged { (d : Db) → (seen_by self.old).db ≡ Some d → Undamaged result }
@@ -151,6 +156,7 @@ impl<B: Blocks> BlockStore<B> {
         ensures made { OnOk result (PointsDurable (seen_by self.old) (seen_by self.new)) }
         ensures memory { IsErrOf result BlockFault.Memory → ⊥ }
         ensures silent { IsSilent (seen_by self.old) (seen_by self.new) }
+        ensures landmarks { let s = seen_by self.old in AddsItsLandmarks false result s.landmarks (seen_by self.new).landmarks (sync_landmarks s.pace.every s.effort.syncs s.next) }
         ensures same { B.same_blocks self.old.over.below self.new.over.below }
         ensures effort { Syncs result (seen_by self.old).effort (seen_by self.new).effort }
         ensures undamaged { (d : Db) → (seen_by self.old).db ≡ Some d → Undamaged result }
@@ -170,6 +176,7 @@ impl<B: Blocks> BlockStore<B> {
         ensures db { OnOk result ((seen_by self.new).db ≡ (seen_by self.old).mark) }
         ensures keeps { OnOk result (KeepsPoints (seen_by self.old) (seen_by self.new)) }
         ensures silent { IsSilent (seen_by self.old) (seen_by self.new) }
+        ensures landmarks { AddsItsLandmarks true result (seen_by self.old).landmarks (seen_by self.new).landmarks (back_landmarks (seen_by self.old).next) }
         ensures same { B.same_blocks self.old.over.below self.new.over.below }
         ensures effort { GoesBack result (seen_by self.old).effort (seen_by self.new).effort }
         ensures undamaged { (d : Db) → (seen_by self.old).db ≡ Some d → Undamaged result }
@@ -188,6 +195,7 @@ impl<B: Blocks> BlockStore<B> {
         ensures part { SaysPart (seen_by self.old) (seen_by self.new) bytes.now }
         ensures keeps { OnOk result (Keeps (seen_by self.old) (seen_by self.new)) }
         ensures fault { IsOkUnless result BlockFault.Say }
+        ensures landmarks { AddsItsLandmarks false result (seen_by self.old).landmarks (seen_by self.new).landmarks [] }
         ensures same { B.same_blocks self.old.over.below self.new.over.below }
         ensures effort { (seen_by self.new).effort ≡ (seen_by self.old).effort }
         ensures causes { HasStoreCauses result (seen_by self.old) (seen_by self.new) }
@@ -215,6 +223,7 @@ impl<B: Blocks> BlockStore<B> {
         ensures full { IfFull result (λ f. f ≡ (seen_by self.old).pace.last) }
         ensures stored { FullWhere (as_described self.old.desc) (seen_by self.old).db set number rec.now result }
         ensures changed { ChangesAtMost (64 * length (as_described self.old.desc).structures) result (seen_by self.old) (seen_by self.new) }
+        ensures landmarks { AddsItsLandmarks false result (seen_by self.old).landmarks (seen_by self.new).landmarks [] }
         ensures same { B.same_blocks self.old.over.below self.new.over.below }
     {
         let stored = putting::put(&mut self.over, alloc, &self.desc, set, number, rec);

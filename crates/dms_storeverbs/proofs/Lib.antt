@@ -7,6 +7,7 @@ pub mod Fits
 mod FoundAt
 pub mod Keepings
 pub mod KeyValues
+pub mod Landing
 pub mod Lasting
 pub mod Places
 pub mod Quiet

@@ -1,10 +1,11 @@
-ghost use Rattle.std.specs.Prelude.{◌≡◌, true, false, Some, IfOk, OnOk, IsErrOf, IsOkUnless, IfErr};
+ghost use Rattle.std.specs.Prelude.{◌≡◌, true, false, Some, IfOk, OnOk, IsErrOf, IsOkUnless, IfErr, [], if◌then◌else◌};
 ghost use Rattle.dms_desc.specs.Shape.{as_described};
 ghost use Rattle.dms_desc_bytes.specs.WellFormed.{IsWellFormed};
 ghost use Rattle.dms_model.specs.Areas.{ProgramsFit};
 ghost use Rattle.dms_model.specs.Db.{Db};
 ghost use Rattle.dms_model.specs.DescribedCode.{described_set};
 ghost use Rattle.dms_model.specs.Props.{IsWellFormed-prop, ProgramsFit-prop};
+ghost use Rattle.dms_block.specs.Landmarks.{back_landmarks, AddsItsLandmarks};
 ghost use Rattle.dms_block.specs.Faults.{IfFull, NotFull, Undamaged};
 ghost use Rattle.dms_block.specs.Texts.{Prints};
 ghost use Rattle.dms_model.specs.Seen.{GoesBack, IsSilent, Keeps, SaysPart, StaysDurable};
@@ -77,6 +78,7 @@ impl<St: Store> Engine<St> {
         ensures file { IfFull result (λ f. f ≡ 9999) }
         ensures silent { IsSilent (engine_view self.old) (engine_view self.new) }
         ensures mute_fault { IsErrOf result BlockFault.Say → ⊥ }
+        ensures landmarks { let e = engine_view self.old in AddsItsLandmarks true result e.landmarks (engine_view self.new).landmarks (if someone_works self.old.programs.items then back_landmarks e.next else []) }
         ensures lasts { EngineLasts result self.old self.new }
     {
         if !programs::someone_works(self.programs.as_slice()) {
@@ -100,6 +102,7 @@ impl<St: Store> Engine<St> {
         ensures since { self.new.since ≡ self.old.since }
         ensures waits { self.new.waits ≡ self.old.waits }
         ensures fault { IsOkUnless result BlockFault.Say }
+        ensures landmarks { AddsItsLandmarks false result (engine_view self.old).landmarks (engine_view self.new).landmarks [] }
         ensures lasts { EngineLasts result self.old self.new }
     {
         self.store.say(bytes)

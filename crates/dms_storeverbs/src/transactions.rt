@@ -1,4 +1,4 @@
-ghost use Rattle.std.specs.Prelude.{◌≡◌, ◌≤◌, ◌<◌, true, false, Some, None, IfOk, OnOk, IsErrOf, slice_get, length};
+ghost use Rattle.std.specs.Prelude.{◌≡◌, ◌≤◌, ◌<◌, true, false, Some, None, IfOk, OnOk, IsErrOf, slice_get, length, []};
 ghost use Rattle.dms_desc.specs.Lookups.{structure_of};
 ghost use Rattle.dms_desc.specs.Shape.{as_described};
 ghost use Rattle.dms_model.specs.Programs.{Program};
@@ -6,9 +6,10 @@ ghost use Rattle.dms_model.specs.Seen.{IsMute, IsSilent, Spends, StaysDurable};
 ghost use Rattle.dms_model.specs.Session.{Session, keep, restart_of, settle, store_step, begin_step, end_step, abort_step, is_waits};
 ghost use Rattle.dms_model.specs.Spoken.{IsOuter};
 ghost use Rattle.dms_model.specs.declared.verb.Verb.{Verb};
+ghost use Rattle.dms_block.specs.Landmarks.{AddsItsLandmarks};
 ghost use Rattle.dms_block.specs.Faults.{IfFull, NotFull, Undamaged};
 ghost use Rattle.dms_model.specs.Db.{Db};
-ghost use Rattle.dms_storeverbs.specs.Costs.{Costs, limit_if};
+ghost use Rattle.dms_storeverbs.specs.Costs.{Costs, limit_if, VerbLandmarks};
 ghost use Rattle.dms_storeverbs.specs.Keeping.{FullWhereKept, WasKept, kept_if};
 ghost use Rattle.dms_storeverbs.specs.Rooms.{FullFor, FullForQuiet, NoPointWhere};
 ghost use Rattle.dms_storeverbs.specs.View.{Does, DoesWhere, EngineLasts, MayStep, Room, engine_view, view};
@@ -38,6 +39,7 @@ impl<St: Store> Engine<St> {
         ensures mute_fault { IsErrOf result BlockFault.Say → ⊥ }
         ensures file { IfFull result (λ f. f ≡ (engine_view self.old).pace.last) }
         ensures full { FullWhereKept i (λ p db. keep (as_described self.old.desc) p db set) self.old.programs.items (view self.old) result }
+        ensures landmarks { AddsItsLandmarks false result (engine_view self.old).landmarks (engine_view self.new).landmarks [] }
         ensures lasts { EngineLasts result self.old self.new }
     {
         let (number, rec) = match judge_record(alloc, &self.desc, &self.programs[i], set)? {
@@ -82,6 +84,7 @@ impl<St: Store> Engine<St> {
         ensures file { IfFull result (λ f. f ≡ (engine_view self.old).pace.last) }
         ensures full { FullWhereKept i (kept_if audit (as_described self.old.desc)) self.old.programs.items (view self.old) result }
         ensures none { audit ≡ false → NotFull result }
+        ensures landmarks { AddsItsLandmarks false result (engine_view self.old).landmarks (engine_view self.new).landmarks [] }
         ensures lasts { EngineLasts result self.old self.new }
     {
         if !audit {
@@ -105,6 +108,7 @@ impl<St: Store> Engine<St> {
         ensures file { IfFull result (λ f. f ≡ (engine_view self.old).pace.last) }
         ensures full { FullForQuiet self.old result }
         ensures no_point { NoPointWhere (λ s. Room s.next) self.old self.new result (λ s. settle s) }
+        ensures landmarks { VerbLandmarks false result (engine_view self.old) (engine_view self.new) }
         ensures lasts { EngineLasts result self.old self.new }
     {
         if programs::someone_works(self.programs.as_slice()) {
@@ -138,6 +142,7 @@ impl<St: Store> Engine<St> {
         ensures file { IfFull result (λ f. f ≡ (engine_view self.old).pace.last) }
         ensures full { (p : Program) → slice_get self.old.programs.items i ≡ Some p → FullFor self.old result (Verb.Store set) (λ s. store_step (as_described self.old.desc) i p s set) }
         ensures no_point { (p : Program) → slice_get self.old.programs.items i ≡ Some p → NoPointWhere MayStep self.old self.new result (λ s. store_step (as_described self.old.desc) i p s set) }
+        ensures landmarks { VerbLandmarks false result (engine_view self.old) (engine_view self.new) }
         ensures lasts { EngineLasts result self.old self.new }
     {
         if !programs::works(&self.programs[i]) {
@@ -172,6 +177,7 @@ impl<St: Store> Engine<St> {
         ensures file { IfFull result (λ f. f ≡ (engine_view self.old).pace.last) }
         ensures full { (p : Program) → slice_get self.old.programs.items i ≡ Some p → FullFor self.old result (Verb.Begin audit) (λ s. begin_step (as_described self.old.desc) i p s audit) }
         ensures no_point { (p : Program) → slice_get self.old.programs.items i ≡ Some p → NoPointWhere MayStep self.old self.new result (λ s. begin_step (as_described self.old.desc) i p s audit) }
+        ensures landmarks { VerbLandmarks false result (engine_view self.old) (engine_view self.new) }
         ensures lasts { EngineLasts result self.old self.new }
     {
         if programs::works(&self.programs[i]) {
@@ -219,6 +225,7 @@ impl<St: Store> Engine<St> {
         ensures file { IfFull result (λ f. f ≡ (engine_view self.old).pace.last) }
         ensures full { (p : Program) → slice_get self.old.programs.items i ≡ Some p → FullFor self.old result (Verb.End audit sync) (λ s. end_step (as_described self.old.desc) i p s audit sync) }
         ensures no_point { (p : Program) → slice_get self.old.programs.items i ≡ Some p → NoPointWhere MayStep self.old self.new result (λ s. end_step (as_described self.old.desc) i p s audit sync) }
+        ensures landmarks { VerbLandmarks false result (engine_view self.old) (engine_view self.new) }
         ensures lasts { EngineLasts result self.old self.new }
     {
         if !programs::works(&self.programs[i]) {
@@ -248,6 +255,7 @@ impl<St: Store> Engine<St> {
         ensures file { IfFull result (λ f. f ≡ 9999) }
         ensures full { (p : Program) → slice_get self.old.programs.items i ≡ Some p → FullFor self.old result Verb.Abort (λ s. abort_step i p s) }
         ensures no_point { (p : Program) → slice_get self.old.programs.items i ≡ Some p → NoPointWhere MayStep self.old self.new result (λ s. abort_step i p s) }
+        ensures landmarks { VerbLandmarks true result (engine_view self.old) (engine_view self.new) }
         ensures lasts { EngineLasts result self.old self.new }
     {
         let name = programs::program_name(&self.programs[i]);

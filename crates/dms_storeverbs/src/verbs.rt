@@ -1,4 +1,4 @@
-ghost use Rattle.std.specs.Prelude.{◌≡◌, ◌≤◌, ◌<◌, ◌+◌, ◌^◌, true, false, Some, None, IfOk, IfSome, OnOk, IsErrOf, slice_get, length};
+ghost use Rattle.std.specs.Prelude.{◌≡◌, ◌≤◌, ◌<◌, ◌+◌, ◌^◌, true, false, Some, None, IfOk, IfSome, OnOk, IsErrOf, slice_get, length, []};
 ghost use Rattle.dms_desc.specs.Shape.{as_described};
 ghost use Rattle.dms_model.specs.Programs.{Program};
 ghost use Rattle.dms_model.specs.Db.{Db};
@@ -9,8 +9,9 @@ ghost use Rattle.dms_desc.specs.Lookups.{parts_of, set_of, items_of};
 ghost use Rattle.dms_model.specs.declared.verb.Path.TheVariants.{At};
 ghost use Rattle.dms_model.specs.Session.{Session, find_step, found_by, path_of, verb_step, carried_out, step, is_waits};
 ghost use Rattle.dms_model.specs.Verbs.{IsPathOf, IsVerbOf};
+ghost use Rattle.dms_block.specs.Landmarks.{AddsItsLandmarks};
 ghost use Rattle.dms_block.specs.Faults.{IfFull, NotFull, Undamaged};
-ghost use Rattle.dms_storeverbs.specs.Costs.{Costs, block_limit, changes, full_file, takes_none};
+ghost use Rattle.dms_storeverbs.specs.Costs.{Costs, block_limit, changes, full_file, takes_none, VerbLandmarks};
 ghost use Rattle.dms_storeverbs.specs.Rooms.{FullFor, NoPointWhere};
 ghost use Rattle.dms_storeverbs.specs.View.{Does, EngineLasts, MayStep, SameSession, engine_view};
 
@@ -46,6 +47,7 @@ impl<St: Store> Engine<St> {
         ensures effort { (engine_view self.new).effort ≡ (engine_view self.old).effort }
         ensures mute_fault { IsErrOf result BlockFault.Say → ⊥ }
         ensures room { NotFull result }
+        ensures landmarks { AddsItsLandmarks false result (engine_view self.old).landmarks (engine_view self.new).landmarks [] }
         ensures lasts { EngineLasts result self.old self.new }
     {
         let items = self.desc.items_of(self.desc.set_of(x));
@@ -81,6 +83,7 @@ impl<St: Store> Engine<St> {
         ensures effort { (engine_view self.new).effort ≡ (engine_view self.old).effort }
         ensures mute_fault { IsErrOf result BlockFault.Say → ⊥ }
         ensures room { NotFull result }
+        ensures landmarks { AddsItsLandmarks false result (engine_view self.old).landmarks (engine_view self.new).landmarks [] }
         ensures lasts { EngineLasts result self.old self.new }
     {
         match path {
@@ -101,6 +104,7 @@ impl<St: Store> Engine<St> {
         ensures costs { Costs 0 false result (engine_view self.old).effort (engine_view self.new).effort }
         ensures mute_fault { IsErrOf result BlockFault.Say → ⊥ }
         ensures room { NotFull result }
+        ensures landmarks { VerbLandmarks false result (engine_view self.old) (engine_view self.new) }
         ensures lasts { EngineLasts result self.old self.new }
     {
         let x = apart::path_of(path);
@@ -134,6 +138,7 @@ impl<St: Store> Engine<St> {
         ensures file { IfFull result (λ f. f ≡ full_file verb.now (engine_view self.old).pace.last) }
         ensures full { (p : Program) → slice_get self.old.programs.items i ≡ Some p → FullFor self.old result verb.now (λ s. verb_step (as_described self.old.desc) i p s verb.now) }
         ensures no_point { (p : Program) → slice_get self.old.programs.items i ≡ Some p → NoPointWhere MayStep self.old self.new result (λ s. verb_step (as_described self.old.desc) i p s verb.now) }
+        ensures landmarks { VerbLandmarks (asks_back_out verb.now) result (engine_view self.old) (engine_view self.new) }
         ensures lasts { EngineLasts result self.old self.new }
     {
         match verb {
@@ -190,6 +195,7 @@ impl<St: Store> Engine<St> {
         ensures file { IfFull result (λ f. f ≡ full_file verb.now (engine_view self.old).pace.last) }
         ensures full { FullFor self.old result verb.now (λ s. carried_out (as_described self.old.desc) s program.now verb.now) }
         ensures no_point { NoPointWhere MayStep self.old self.new result (λ s. carried_out (as_described self.old.desc) s program.now verb.now) }
+        ensures landmarks { VerbLandmarks (asks_back_out verb.now) result (engine_view self.old) (engine_view self.new) }
         ensures lasts { EngineLasts result self.old self.new }
     {
         let i = programs::place_of(self.programs.as_slice(), program);
@@ -220,6 +226,7 @@ impl<St: Store> Engine<St> {
         ensures file { IfFull result (λ f. f ≡ full_file verb.now (engine_view self.old).pace.last) }
         ensures full { FullFor self.old result verb.now (λ s. step (as_described self.old.desc) s program.now verb.now) }
         ensures no_point { NoPointWhere MayStep self.old self.new result (λ s. step (as_described self.old.desc) s program.now verb.now) }
+        ensures landmarks { VerbLandmarks (asks_back_out verb.now) result (engine_view self.old) (engine_view self.new) }
         ensures lasts { EngineLasts result self.old self.new }
     {
         let answer = self.carry_out(alloc, program, verb)?;

@@ -1,5 +1,5 @@
 -- Changes were made, as far as a loop over all of them has come.
-use Rattle.std.proofs.Common.{ℕ, ◌+◌, ◌<◌, ◌≤◌, ◌≡◌, ◌∙◌, Bool, IsTrue, List, [], ◌∷◌, ◌++◌, length, length-append, length-take, take, get_or, refl, sym, ap, subst, arith}
+use Rattle.std.proofs.Common.{ℕ, ◌+◌, ◌<◌, ◌≤◌, ◌≡◌, ◌∙◌, Bool, false, IsTrue, List, [], ◌∷◌, ◌++◌, length, length-append, length-take, take, get_or, refl, sym, ap, subst, arith}
 use Rattle.std.proofs.lemmas.List.{take_all, take_more}
 use Rattle.std.specs.Prelude.{IsErrOf}
 use Rattle.std.specs.declared.result.Result.TheVariants.{Ok, Err}
@@ -12,10 +12,12 @@ use Rattle.dms_block.specs.Changing.{apart_at, changed_push, fits_at, fits_conte
 use Rattle.dms_block.specs.Counts.{Faults, Raised}
 use Rattle.dms_block.specs.Held.{Alters, Caused, Held, IsShort, MakesNoPoint, Stays, Used, Uses}
 use Rattle.dms_block.specs.HeldLaws.{passes_none, passes_on, stays_none, stays_on, told_after, unbroken_map, used_more, used_none, used_on}
+use Rattle.dms_block.specs.LandmarkLaws.{landmarks_none, landmarks_then, lands_still, lands_then}
+use Rattle.dms_block.specs.Landmarks.{AddsLandmarks}
 use Rattle.dms_wal.specs.Changing.{DamagedOnly}
 use Rattle.dms_wal.proofs.Stepped.{passes_sound, stays_sound}
 
--- these changes were made, each of which counts, and nothing else
+-- these changes were made, each of which counts and adds no landmark, and nothing else
 pub record MadeChanges (xs : List Change) (a b : Held) : Type 0 where
   pub counts : b.counts ≡ counts_after xs a.counts
   pub content : IsTrue a.told → b.content ≡ apply_changes xs a.content
@@ -23,9 +25,10 @@ pub record MadeChanges (xs : List Change) (a b : Held) : Type 0 where
   pub stays : Stays a b
   pub uses : Used 0 (length xs) a.uses b.uses
   pub faults : b.faults ≡ a.faults
+  pub landmarks : AddsLandmarks a.landmarks b.landmarks []
 
 pub made_none : (a : Held) → a.sound → MadeChanges [] a a
-made_none a sound = record { counts = refl; content = λ t. refl; passes = passes_none a; stays = stays_none a sound; uses = used_none 0 0 a.uses; faults = refl }
+made_none a sound = record { counts = refl; content = λ t. refl; passes = passes_none a; stays = stays_none a sound; uses = used_none 0 0 a.uses; faults = refl; landmarks = landmarks_none a.landmarks }
 
 -- one change further, which was counted before
 made_push : (xs : List Change) (x : Change) (a b c : Held) (sound : Type 0) (uses : Uses) → MadeChanges xs a b → sound → Used 0 1 b.uses uses → c.counts ≡ raise_count b.counts x.id.file x.id.block → (IsTrue b.told → c.content ≡ with_block b.content x.id.file x.id.block x.block.0)
@@ -37,6 +40,7 @@ made_push xs x a b c sound uses s usable used counts content one faults = record
   stays = stays_on (passes_on s.passes s.stays (passes_sound b sound uses)) (stays_on s.passes s.stays (stays_sound b sound uses usable)) one.stays;
   uses = used_more 0 (length (xs ++ x ∷ [])) (omega arith) (omega (arith, length-append xs (x ∷ []))) (used_on s.uses (used_on used one.uses));
   faults = faults ∙ s.faults;
+  landmarks = landmarks_then s.landmarks one.landmarks.done;
 }
 
 pub made_more : (all items : List Change) (i : ℕ) (d : Change) → items ≡ all → i < length items → (a b c : Held) (sound : Type 0) (uses : Uses) → MadeChanges (take i all) a b → sound → Used 0 1 b.uses uses → c.counts ≡ raise_count b.counts (get_or items i d).id.file (get_or items i d).id.block
@@ -58,11 +62,12 @@ made_failed i all items is low e a b c sound uses s usable used one off =
       stays = unbroken_map {T = Unit {0}} (Err e) (λ p. stays_on counted stays p) one.stays;
       memory = λ is. absurd (off is);
       uses = used_more 0 (length all) (omega arith) (omega (arith, length-take i all, there)) (used_on s.uses (used_on used one.uses));
+      landmarks = lands_then {v = tt {0}} (Err e) (lands_still false (Ok (tt {0})) s.landmarks) one.landmarks;
     }
 
 -- all were made
 pub made_all : (xs : List Change) (a b : Held) → MadeChanges xs a b → Alters 0 (length xs) (Ok (tt {0})) a b
-made_all xs a b s = record { passes = s.passes; stays = s.stays; memory = λ e. absurd (cc e); uses = s.uses }
+made_all xs a b s = record { passes = s.passes; stays = s.stays; memory = λ e. absurd (cc e); uses = s.uses; landmarks = lands_still false (Ok (tt {0})) s.landmarks }
 
 -- a block of which no change was made was short before
 short_before : (xs : List Change) (a b : Held) (f n : ℕ) → MadeChanges xs a b → FitsIn xs a.owns a.counts → (IsTrue a.told → (g : ℕ) → a.counts g ≡ length (a.content g)) → NoneOf f n xs → IsShort b f n → IsShort a f n

@@ -1,5 +1,5 @@
 -- A database whose audit may go on up to another file, and how it is closed.
-use Rattle.std.proofs.Common.{ℕ, ◌≤◌, ◌<◌, ◌≡◌, ◌⊎◌, inl, inr, IsTrue, map, List, [], ◌∷◌, ◌++◌, length, sym, ◌∙◌, ap, subst, drop, take}
+use Rattle.std.proofs.Common.{ℕ, ◌≤◌, ◌<◌, ◌≡◌, ◌⊎◌, inl, inr, IsTrue, map, List, [], ◌∷◌, ◌++◌, length, Some, None, sym, ◌∙◌, ap, subst, drop, take}
 use Rattle.dms_moments.specs.Moments.{Clock, Now}
 use Rattle.dms_site.specs.declared.site.Site.{Ghosts}
 use Rattle.dms_site.specs.Files.{Files, Left}
@@ -34,7 +34,9 @@ use Rattle.dms_restore.proofs.Logs as lemmas
 use Rattle.dms_restore.proofs.Logs.{ReadsNow}
 use Rattle.dms_restore.proofs.Endings.{all_points, all_next}
 use Rattle.dms_pool.specs.declared.pool.Pool.{Pool}
+use Rattle.std.specs.Prelude.{if◌then◌else◌}
 use Rattle.dms_wal.specs.declared.running.Running.{Running}
+use Rattle.dms_wal.specs.Landmarks.{landmarks_in}
 use Rattle.dms_wal.specs.Closing.{entries_control, FilesStand, LeavesUntil}
 use Rattle.dms_wal.specs.Controls.{MakesControl}
 use Rattle.dms_wal.specs.Database.{running_held, GoesWith, IsRunningUsable, frames_of}
@@ -143,6 +145,7 @@ held_alike g r e alike =
       mark = last_blocks (λ f. []) (points_now (sym t i) (sym s i));
       points = map block_point (points_now (sym t i) (sym s i));
       durable = durable_now (sym t i) (sym s i);
+      landmarks = if g.tells then Some (landmarks_in (entries_now (sym t i) (sym s i))) else None;
       here = point_under schema (here_now (sym t i) (sym s i));
       clock = lift_clock (sym t i) clock;
     }

@@ -1,5 +1,5 @@
 use Rattle.dms_run.proofs.Ending.{closes_run, keeps_limits}
-use Rattle.dms_run.proofs.Running.{counts_syncs, moments_of, reaches, says_all, takes_all, uses_numbers}
+use Rattle.dms_run.proofs.Running.{adds_script, counts_syncs, moments_of, reaches, says_all, takes_all, uses_numbers}
 use Rattle.dms_run.proofs.run.run_script.Goals as goal
 
 pub returns-clause-every_moment : goal.returns-clause-every_moment
@@ -27,3 +27,6 @@ returns-clause-numbers g c = uses_numbers c.args.engine.now c.run_lines.new.engi
 
 pub returns-clause-synced : goal.returns-clause-synced
 returns-clause-synced g c = counts_syncs c.args.engine.now c.run_lines.new.engine c.args.feed.now (g.I.Source.left c.args.source.now) c.run_lines.result c.run_lines.ensures.ran
+
+pub returns-clause-landmarks : goal.returns-clause-landmarks
+returns-clause-landmarks g c = adds_script c.args.engine.now c.run_lines.new.engine c.args.feed.now (g.I.Source.left c.args.source.now) c.run_lines.result c.run_lines.ensures.ran

@@ -53,7 +53,7 @@ pub returns-in-Ok-clause-ran : goal.returns-in-Ok-clause-ran
 returns-in-Ok-clause-ran g c =
     same_end g.S.Site c.args.opened g.K.Knows.known _ _ _ _ _ _ c.unveil.ensures.0 c.unveil.ensures.1
     (runs_unveiled g.S.Site _ (λ v. v.site) g.K.Knows.known (both_of g.S.Site.tells g.K.Knows.known) (λ v. refl) c.spelling_law.ensures c.args.opened (as_described c.args.desc.now) c.requires.formed c.requires.under
-    _ c.in-Some.ensures c.in-Ok.running (ap (λ v. v.site) c.in-Ok.ensures.log.0) c.in-Ok.ensures.log.2 c.in-Ok.ensures.log.1 c.in-Ok.ensures.kept.2 (c.in-Ok.ensures.log.3 ∙ c.from-3.ensures) c.in-Ok.ensures.tells (c.in-Ok.ensures.kept.4 ∙ c.from-2.ensures) (c.in-Ok.ensures.kept.7, c.in-Ok.ensures.kept.6, c.in-Ok.ensures.kept.8) c.in-Ok.ensures.nothing c.run_over.result.site _ _ c.run_over.result.status c.run_over.ensures.ran)
+    _ c.in-Some.ensures c.in-Ok.running (ap (λ v. v.site) c.in-Ok.ensures.log.0) c.in-Ok.ensures.log.2 c.in-Ok.ensures.log.1 c.in-Ok.ensures.kept.2 (c.in-Ok.ensures.log.3 ∙ c.from-3.ensures) c.in-Ok.ensures.tells (c.in-Ok.ensures.kept.4 ∙ c.from-2.ensures) (c.in-Ok.ensures.kept.7, c.in-Ok.ensures.kept.6, c.in-Ok.ensures.kept.8, c.in-Ok.ensures.kept.9) c.in-Ok.ensures.nothing c.run_over.result.site _ _ c.run_over.result.status c.run_over.ensures.ran)
 
 pub returns-clause-ran : goal.returns-clause-ran
 returns-clause-ran g c =

@@ -5,7 +5,7 @@ use Rattle.dms_runtop.proofs.Grows.{closed_few, left_unclosed}
 use Rattle.dms_restore.specs.Logging.{entries}
 use Rattle.dms_restore.specs.Views.{view_of}
 use Rattle.dms_wal.specs.Closing.{entries_closing}
-use Rattle.dms_runtop.proofs.Partly.{close_part, memory_goes_on, no_names, part_controls, stops_full}
+use Rattle.dms_runtop.proofs.Partly.{close_part, memory_goes_on, part_names, stops_full}
 use Rattle.dms_runtop.proofs.Naming.{closing_names}
 use Rattle.dms_runtop.proofs.over.close_over.Goals as goal
 
@@ -46,7 +46,7 @@ returns-in-Err-clause-appends g c = λ tells over.
     let r = c.args.running in
     let full = stops_full c.in-Err.fault c.status_of_block.result c.status_of_block.ensures over in
     let part = close_part r.point r.next r.schema.items r.marks.items (view_of g.S.Site r.log) _ r.changed c.if-running.false (c.in-Err.ensures.short full tells) in
-    record { more = part.closing; are = part.are; names = no_names (entries (view_of g.S.Site r.log)) part.closing (part_controls part.closing part.part) }
+    record { more = part.closing; are = part.are; names = part_names (entries (view_of g.S.Site r.log)) part.closing part.part }
 
 pub returns-then-running-clause-closing : goal.returns-then-running-clause-closing
 returns-then-running-clause-closing g c = λ tells over. absurd (memory_goes_on over)

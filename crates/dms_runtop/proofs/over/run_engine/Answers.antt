@@ -1,4 +1,4 @@
-use Rattle.std.proofs.Common.{◌≡◌, ◌≤◌, ◌∙◌, ℕ, IsTrue, List, take, inr, refl, sym, ap, subst}
+use Rattle.std.proofs.Common.{◌≡◌, ◌≤◌, ◌∙◌, ℕ, IsTrue, List, take, inl, inr, refl, sym, ap, subst}
 use Rattle.dms_audfile.specs.Counting.{not_counted}
 use Rattle.dms_block.specs.Counts.{Faults}
 use Rattle.dms_status.specs.declared.status.Status.TheVariants.{DiskFault, SayFault}
@@ -22,7 +22,8 @@ use Rattle.dms_storeverbs.specs.View.{engine_view}
 use Rattle.dms_wal.specs.Database.{running_held}
 use Rattle.dms_runner.proofs.Counting.{counted_law}
 use Rattle.dms_runner.specs.EventLaws.{AreCounted}
-use Rattle.dms_runtop.proofs.Bounds.{closed_bound, closes, closing_lacks, failed_bound}
+use Rattle.dms_runtop.proofs.Bounds.{closed_bound, closes, failed_bound}
+use Rattle.dms_runtop.proofs.Landing.{full_emptied, lands_closed, lands_short}
 use Rattle.dms_runtop.proofs.Grows.{grows_left, grows_over}
 use Rattle.dms_restore.specs.Logging.{entries}
 use Rattle.dms_audfile.specs.TrailEntries.{trail_entries}
@@ -49,6 +50,8 @@ returns-in-Ok-clause-ran g c = λ total first ps n db all b left.
       durable = all_durable (as_described e.store.desc) (running_held g.S.Site r) b.durable;
     } in
     let k = c.in-Ok.ensures.every_moment n db r.next all starts fed in
+    let lands = c.in-Ok.ensures.landmarks db r.next all stands b.room fed in
+    let closing : ClosesOrFallsShort c.close_over.result.status → ClosesBehind c.close_over.result.status (view_of g.S.Site r'.log) (g.S.Site.files c.close_over.result.site) = λ over. subst (λ (x : Running g.row.S.Denot). ClosesBehind c.close_over.result.status (view_of g.S.Site x.log) (g.S.Site.files c.close_over.result.site)) c.running_under-running.ensures (c.close_over.ensures.closing b.tells over) in
     closed_over g.S.Site (as_described e.desc) (as_described e.store.desc) (as_described e'.store.desc) r r' e.under (c.in-Ok.ensures.lasts.desc ∙ e.under) c.in-Ok.ensures.lasts.same.1 total first ps n db all b
     (g.I.Source.left c.run_script.new.source) c.close_over.result.status c.close_over.result.site c.close_over.ensures.statuses
     (subst (λ (x : Running g.row.S.Denot). ClosesOver g.S.Site x c.close_over.result.status c.close_over.result.site) c.running_under-running.ensures c.close_over.ensures.closes)
@@ -65,14 +68,11 @@ returns-in-Ok-clause-ran g c = λ total first ps n db all b left.
     (subst (λ (es : List RunEvent). (i : ℕ) → AreCounted (as_described e.desc) (take i es)) k.carried.whole (counted_law (as_described e.desc) e.formed db r.next (raw_lines all) k.carried.n k.carried.events k.carried.front k.carried.are)) (c.in-Ok.ensures.effort db r.next all stands b.room fed) (c.in-Ok.ensures.numbers db r.next all stands b.room fed) c.close_over.result.status (g.S.Site.files c.close_over.result.site) _ (closes c.close_over.result.status c.close_over.ensures.statuses)
     c.in-Ok.ensures.lasts.sound.sound.unbroken
     (subst (λ (x : Running g.row.S.Denot). FilesGrew 18 (view_of g.S.Site x.log) (g.S.Site.files c.close_over.result.site)) c.running_under-running.ensures (c.close_over.ensures.closes.grown b.tells).few)
-    (c.in-Ok.ensures.synced db r.next all stands b.room fed)
-    (λ over. subst (λ (x : Running g.row.S.Denot). ClosesBehind c.close_over.result.status (view_of g.S.Site x.log) (g.S.Site.files c.close_over.result.site)) c.running_under-running.ensures (c.close_over.ensures.closing b.tells over))
     (c.in-Ok.ensures.prints db r.next all stands b.room fed))
-    (λ full. closing_lacks g.S.Site (as_described e.desc) r r' (telling_of total first) (λ i. telling_of (b.total_is i) (b.first_is i)) (λ i. telling_of ((pace.total ∙ b.total_is) i) ((pace.first ∙ b.first_is) i)) b.nothing b.every b.unused.0 b.unused.1 b.unused.2 b.tells c.in-Ok.ensures.lasts.same.2
-    (script_events (as_described e.desc) db r.next (raw_lines all)) (engine_view e) (engine_view e') refl refl refl refl e.under
-    (subst (λ (es : List RunEvent). (i : ℕ) → AreCounted (as_described e.desc) (take i es)) k.carried.whole (counted_law (as_described e.desc) e.formed db r.next (raw_lines all) k.carried.n k.carried.events k.carried.front k.carried.are)) (c.in-Ok.ensures.effort db r.next all stands b.room fed) (c.in-Ok.ensures.numbers db r.next all stands b.room fed) c.close_over.result.status (g.S.Site.files c.close_over.result.site)
-    c.in-Ok.ensures.lasts.sound.sound.unbroken (c.in-Ok.ensures.synced db r.next all stands b.room fed) full
-    (subst (λ (x : Running g.row.S.Denot). ClosesBehind c.close_over.result.status (view_of g.S.Site x.log) (g.S.Site.files c.close_over.result.site)) c.running_under-running.ensures (c.close_over.ensures.closing b.tells (inr full))))
+    (λ ok. let closed = closing (inl ok) in lands_closed g.S.Site (as_described e.desc) r r' (telling_of total first) (λ i. telling_of (b.total_is i) (b.first_is i)) (λ i. telling_of ((pace.total ∙ b.total_is) i) ((pace.first ∙ b.first_is) i)) b.nothing b.every b.unused.1 b.tells
+    c.close_over.result.status (g.S.Site.files c.close_over.result.site) (script_events (as_described e.desc) db r.next (raw_lines all)) lands closed (closed.closes.whole ok))
+    (λ full. let closed = closing (inr full) in lands_short g.S.Site (as_described e.desc) r r' (telling_of total first) (λ i. telling_of (b.total_is i) (b.first_is i)) (λ i. telling_of ((pace.total ∙ b.total_is) i) ((pace.first ∙ b.first_is) i)) b.nothing b.every b.unused.1 b.tells
+    c.close_over.result.status (g.S.Site.files c.close_over.result.site) (script_events (as_described e.desc) db r.next (raw_lines all)) lands closed (closed.closes.part full))
 
 pub returns-in-Err-clause-ran : goal.returns-in-Err-clause-ran
 returns-in-Err-clause-ran g c = λ total first ps n db all b left.
@@ -95,6 +95,7 @@ returns-in-Err-clause-ran g c = λ total first ps n db all b left.
     (g.I.Source.left c.run_script.new.source) c.running_under-running-in-Err.result.log.end.limit c.in-Err.fault c.fault_within-fault.result c.status_of_run.result c.into_site.result c.fault_within-fault.ensures
     (ap (λ (x : Running g.row.S.Denot). x.log.end.limit) c.running_under-running-in-Err.ensures) c.status_of_run.ensures
     (c.into_site.ensures ∙ ap (λ (x : Running g.row.S.Denot). x.log.site) c.running_under-running-in-Err.ensures)
+    (full_emptied g.S.Site r r' c.in-Err.fault (engine_view e).faults (engine_view e').faults b.unused.3 refl refl c.in-Err.ensures.lasts.cause c.in-Err.ensures.lasts.same.2)
     (carried_of (g.I.Source.left c.run_script.new.source) e e' db r.next all c.in-Err.fault k.carried)
     k.leaves
     (no_damage c.in-Err.fault _ _ c.requires.found (k.carried.part.undamaged (record { db = db; mark = db; db_is = stands.db; mark_is = stands.mark })) c.in-Err.ensures.lasts.cause)

@@ -2,7 +2,7 @@ use Rattle.std.proofs.Common.{◌≡◌, ◌+◌, ◌*◌, ℕ, length, refl, sy
 use Rattle.std.specs.declared.result.Result.TheVariants.{Ok, Err}
 use Rattle.dms_block.specs.Faults.{IfFull}
 use Rattle.dms_block.specs.Held.{AuditPace}
-use Rattle.dms_block.specs.HeldLaws.{full_err, full_none, full_weaker}
+use Rattle.dms_block.specs.FaultLaws.{full_err, full_none, full_weaker}
 use Rattle.dms_block.specs.View.{overlay_changes}
 use Rattle.dms_model.specs.Fitting.{IsStored}
 use Rattle.dms_model.specs.declared.put.Put.{Put}

@@ -7,6 +7,7 @@ use Rattle.dms_desc.specs.Shape.{as_described}
 use Rattle.dms_model.specs.Fitting.{PutFits}
 use Rattle.dms_model.specs.declared.put.Put.{Put}
 use Rattle.dms_store.specs.Lifted.{store_seen}
+use Rattle.dms_store.specs.Noted.{lands_noted}
 use Rattle.dms_store.specs.PuttingStore.{ChangesAtMost, FullWhere, Stores, change_noted, few_structures, full_where, stores}
 use Rattle.dms_store.proofs.store.BlockStore.put.Goals as goal
 
@@ -38,3 +39,6 @@ returns-clause-stored g c =
     let o = c.args.self.now.over in
     subst (λ (r : Result Put BlockFault). FullWhere desc (store_seen desc c.args.self.now.found o).db c.args.set c.args.number c.args.rec.now r) (sym c.note.ensures.same)
     (full_where desc c.args.self.now.found c.note.new.found o c.put-stored.new.over c.args.set c.args.number c.args.rec.now c.put-stored.result c.put-stored.ensures.stored)
+
+pub returns-clause-landmarks : goal.returns-clause-landmarks
+returns-clause-landmarks g c = lands_noted c.note.ensures.same c.put-stored.ensures.hands_down.alters.landmarks

@@ -10,10 +10,12 @@ use Rattle.dms_storeverbs.proofs.Costing.{answered_costs, backed_costs, spends_n
 use Rattle.dms_desc.specs.Shape.{as_described}
 use Rattle.dms_storeverbs.proofs.AtHand.{backed_fit}
 use Rattle.dms_block.specs.Faults.{IfFull}
-use Rattle.dms_block.specs.HeldLaws.{full_weaker}
+use Rattle.dms_block.specs.FaultLaws.{full_weaker}
 use Rattle.dms_model.specs.declared.verb.Verb.TheVariants.{Abort}
 use Rattle.dms_storeverbs.specs.Costs.{IsFullFor}
 use Rattle.dms_storeverbs.proofs.Rooms.{abort_backs, silent_no_point}
+use Rattle.dms_block.specs.LandmarkLaws.{landmarks_none}
+use Rattle.dms_storeverbs.proofs.Landing.{answered_lands, backed_lands, same_lands}
 use Rattle.dms_storeverbs.proofs.engine.Engine.abort.Goals as goal
 use Rattle.dms_laws.specs.Exclusive.{is_done}
 
@@ -73,3 +75,17 @@ pub returns-in_err-back_out-clause-no_point : goal.returns-in_err-back_out-claus
 returns-in_err-back_out-clause-no_point g c = λ p at s stands may.
     let u = silent_no_point c.back_out.result (g.St.Store.seen c.args.self.now.store) (g.St.Store.seen c.back_out.new.self) (abort_step c.args.i p s) s c.back_out.ensures.silent stands.next may.room in
     search rules
+
+pub returns-then-not-works-clause-landmarks : goal.returns-then-not-works-clause-landmarks
+returns-then-not-works-clause-landmarks g c =
+    let a = g.St.Store.seen c.args.self.now.store in
+    answered_lands a a true c.refuse.ensures.sync (λ is. ap is_done c.refuse.ensures.reply) (landmarks_none _)
+
+pub returns-in_err-back_out-clause-landmarks : goal.returns-in_err-back_out-clause-landmarks
+returns-in_err-back_out-clause-landmarks g c = same_lands c.from_residual.result _ c.from_residual.ensures.1 c.in_err-back_out.ensures.landmarks
+
+pub returns-clause-landmarks : goal.returns-clause-landmarks
+returns-clause-landmarks g c =
+    let a = g.St.Store.seen c.args.self.now.store in
+    let b = g.St.Store.seen c.back_out.new.self in
+    backed_lands a b c.back_out.ensures.silent.next c.succeed.ensures.sync (ap is_done c.succeed.ensures.reply) c.in_ok-back_out.ensures.landmarks.done

@@ -19,12 +19,14 @@ use Rattle.dms_storeverbs.proofs.Costing.{failed_costs, plain_costs, spends_none
 use Rattle.dms_model.specs.Areas.{WorksFit}
 use Rattle.dms_storeverbs.proofs.AtHand.{one_changed}
 use Rattle.dms_block.specs.Faults.{IfFull}
-use Rattle.dms_block.specs.HeldLaws.{full_none}
+use Rattle.dms_block.specs.FaultLaws.{full_none}
 use Rattle.dms_model.specs.declared.verb.Verb.TheVariants.{Begin}
 use Rattle.dms_model.specs.Session.{after_begin}
 use Rattle.dms_storeverbs.specs.Costs.{IsFullFor}
 use Rattle.dms_storeverbs.proofs.Rooms.{begin_appends, full_from, full_two, silent_no_point}
 use Rattle.dms_storeverbs.specs.View.{engine_view}
+use Rattle.dms_block.specs.LandmarkLaws.{landmarks_none}
+use Rattle.dms_storeverbs.proofs.Landing.{failed_lands, plain_lands, same_lands}
 use Rattle.dms_storeverbs.proofs.engine.Engine.begin.Goals as goal
 
 pub invariant_of-self-clause-fit : goal.invariant_of-self-clause-fit
@@ -130,3 +132,24 @@ pub returns-in_err-refusal-clause-no_point : goal.returns-in_err-refusal-clause-
 returns-in_err-refusal-clause-no_point g c = λ p at s stands may.
     let u = silent_no_point c.keep_restart.result (engine_view c.args.self.now) (engine_view c.keep_restart.new.self) (begin_step (as_described c.args.self.now.desc) c.args.i p s c.args.audit) s c.keep_restart.ensures.silent stands.next may.room in
     search rules
+
+pub returns-then-works-clause-landmarks : goal.returns-then-works-clause-landmarks
+returns-then-works-clause-landmarks g c = plain_lands (engine_view c.args.self.now) (engine_view c.args.self.now) c.refuse.ensures.sync (landmarks_none _)
+
+pub returns-then-lacks-clause-landmarks : goal.returns-then-lacks-clause-landmarks
+returns-then-lacks-clause-landmarks g c = plain_lands (engine_view c.args.self.now) (engine_view c.args.self.now) c.refuse-then-lacks.ensures.sync (landmarks_none _)
+
+pub returns-in_err-awaited-clause-landmarks : goal.returns-in_err-awaited-clause-landmarks
+returns-in_err-awaited-clause-landmarks g c = failed_lands c.from_residual.result _ c.from_residual.ensures.1 tt
+
+pub returns-in-Some-clause-landmarks : goal.returns-in-Some-clause-landmarks
+returns-in-Some-clause-landmarks g c = plain_lands (engine_view c.args.self.now) (engine_view c.args.self.now) refl (landmarks_none _)
+
+pub returns-in_err-refusal-clause-landmarks : goal.returns-in_err-refusal-clause-landmarks
+returns-in_err-refusal-clause-landmarks g c = same_lands c.from_residual-in_err-refusal.result _ c.from_residual-in_err-refusal.ensures.1 c.in_err-refusal.ensures.landmarks
+
+pub returns-in-Some-2-clause-landmarks : goal.returns-in-Some-2-clause-landmarks
+returns-in-Some-2-clause-landmarks g c = plain_lands (engine_view c.args.self.now) (engine_view c.keep_restart.new.self) c.refuse-in-Some-2.ensures.sync c.in_ok-refusal.ensures.landmarks.done
+
+pub returns-clause-landmarks : goal.returns-clause-landmarks
+returns-clause-landmarks g c = plain_lands (engine_view c.args.self.now) (engine_view c.keep_restart.new.self) c.succeed.ensures.sync c.in_ok-refusal.ensures.landmarks.done

@@ -15,13 +15,15 @@ use Rattle.dms_storeverbs.proofs.Costing.{failed_costs, plain_costs, spends_none
 use Rattle.dms_model.specs.Areas.{WorksFit}
 use Rattle.dms_storeverbs.proofs.AtHand.{one_changed}
 use Rattle.dms_block.specs.Faults.{IfFull}
-use Rattle.dms_block.specs.HeldLaws.{full_none, full_weaker}
+use Rattle.dms_block.specs.FaultLaws.{full_none, full_weaker}
 use Rattle.dms_model.specs.declared.verb.Verb.TheVariants.{End}
 use Rattle.dms_block.specs.Held.{AuditPace}
 use Rattle.dms_model.specs.Session.{after_end, end_step, settle}
 use Rattle.dms_storeverbs.specs.Costs.{IsFullFor}
 use Rattle.dms_storeverbs.specs.Rooms.{LeavesNoPoint}
 use Rattle.dms_storeverbs.proofs.Rooms.{end_appends, full_from, full_two, no_point_from, quiet_appends, silent_no_point, then_no_point}
+use Rattle.dms_block.specs.LandmarkLaws.{landmarks_none}
+use Rattle.dms_storeverbs.proofs.Landing.{plain_lands, same_lands, then_lands}
 use Rattle.dms_storeverbs.proofs.engine.Engine.end_transaction.Goals as goal
 
 pub invariant_of-self-clause-fit : goal.invariant_of-self-clause-fit
@@ -121,3 +123,19 @@ returns-clause-no_point g c = λ p at s stands may.
     no_point_from c.settle.result a b _ _ (end_step_goes d c.args.i p s c.args.audit c.args.sync works)
     (end_goes (λ (o : Outcome). IfFull c.settle.result (λ n. LeavesNoPoint a b o)) (kept_if c.args.audit d p s.db) d c.args.i s c.args.sync c.index_mut.result.now c.leave.new.program _ _ _ _ c.one_more-self.result _ _ c.is_due-self.result _ low kept c.index_mut.ensures.value c.leave.ensures
     (λ t pend sinc nxt st. full_weaker c.settle.result (λ n. LeavesNoPoint m b (settle t)) _ (λ n. then_no_point a m b (settle t) s c.keep_restart.ensures.lasts.causes.whole c.keep_restart.ensures.silent c.in_ok-refusal.ensures.points stands.next may.room c.keep_restart.ensures.lasts.causes.tells c.keep_restart.ensures.lasts.causes.pace c.keep_restart.ensures.spends.syncs) (c.settle.ensures.no_point t (st (due ∙ sym pend) (c.one_more-self.ensures ∙ sym sinc)) (omega (arith, nxt, may.room)))))
+
+pub returns-then-not-works-clause-landmarks : goal.returns-then-not-works-clause-landmarks
+returns-then-not-works-clause-landmarks g c = plain_lands (engine_view c.args.self.now) (engine_view c.args.self.now) c.refuse.ensures.sync (landmarks_none _)
+
+pub returns-in_err-refusal-clause-landmarks : goal.returns-in_err-refusal-clause-landmarks
+returns-in_err-refusal-clause-landmarks g c = same_lands c.from_residual.result _ c.from_residual.ensures.1 c.in_err-refusal.ensures.landmarks
+
+pub returns-in-Some-clause-landmarks : goal.returns-in-Some-clause-landmarks
+returns-in-Some-clause-landmarks g c = plain_lands (engine_view c.args.self.now) (engine_view c.keep_restart.new.self) c.refuse-in-Some.ensures.sync c.in_ok-refusal.ensures.landmarks.done
+
+pub returns-clause-landmarks : goal.returns-clause-landmarks
+returns-clause-landmarks g c =
+    let a = engine_view c.args.self.now in
+    let m = engine_view c.keep_restart.new.self in
+    let b = engine_view c.settle.new.self in
+    then_lands a m b c.settle.result c.keep_restart.ensures.lasts.causes.pace c.keep_restart.ensures.spends.syncs c.in_ok-refusal.ensures.landmarks.done c.settle.ensures.landmarks

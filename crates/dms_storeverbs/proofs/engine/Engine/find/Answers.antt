@@ -17,6 +17,9 @@ use Rattle.std.proofs.Common.{◌<◌, length, subst}
 use Rattle.dms_desc.specs.Shape.{Described}
 use Rattle.dms_model.specs.Fitting.{SpotFits}
 use Rattle.dms_storeverbs.proofs.AtHand.{found_as, one_changed}
+use Rattle.dms_block.specs.LandmarkLaws.{landmarks_none}
+use Rattle.dms_storeverbs.proofs.Landing.{plain_lands, same_lands}
+use Rattle.dms_storeverbs.specs.View.{engine_view}
 use Rattle.dms_storeverbs.proofs.engine.Engine.find.Goals as goal
 use Rattle.dms_desc_bytes.specs.Finding.{owner_in as owner_of}
 
@@ -80,3 +83,15 @@ returns-in_default-2-clause-costs g c = plain_costs c.refuse-in_default-2.ensure
 
 pub returns-clause-costs : goal.returns-clause-costs
 returns-clause-costs g c = plain_costs c.succeed.ensures.sync (spends_same _ c.find_spot.ensures.effort)
+
+pub returns-in_err-spot-clause-landmarks : goal.returns-in_err-spot-clause-landmarks
+returns-in_err-spot-clause-landmarks g c = same_lands c.from_residual.result _ c.from_residual.ensures.1 c.in_err-spot.ensures.landmarks
+
+pub returns-in_default-clause-landmarks : goal.returns-in_default-clause-landmarks
+returns-in_default-clause-landmarks g c = plain_lands (engine_view c.args.self.now) (engine_view c.args.self.now) c.refuse.ensures.sync (landmarks_none _)
+
+pub returns-in_default-2-clause-landmarks : goal.returns-in_default-2-clause-landmarks
+returns-in_default-2-clause-landmarks g c = plain_lands (engine_view c.args.self.now) (engine_view c.find_spot.new.self) c.refuse-in_default-2.ensures.sync c.in_ok-spot.ensures.landmarks.done
+
+pub returns-clause-landmarks : goal.returns-clause-landmarks
+returns-clause-landmarks g c = plain_lands (engine_view c.args.self.now) (engine_view c.find_spot.new.self) c.succeed.ensures.sync c.in_ok-spot.ensures.landmarks.done

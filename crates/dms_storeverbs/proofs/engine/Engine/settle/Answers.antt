@@ -14,10 +14,12 @@ use Rattle.dms_model.specs.Session.{idle}
 use Rattle.dms_storeverbs.proofs.AtHand.{idle_fit}
 use Rattle.dms_block.specs.Faults.{IfFull}
 use Rattle.dms_block.specs.Held.{AuditPace}
-use Rattle.dms_block.specs.HeldLaws.{full_weaker}
+use Rattle.dms_block.specs.FaultLaws.{full_weaker}
 use Rattle.dms_storeverbs.specs.Costs.{makes_quiet}
 use Rattle.dms_storeverbs.specs.Rooms.{LeavesNoPoint}
 use Rattle.dms_storeverbs.proofs.Rooms.{due_before, settled_syncs}
+use Rattle.dms_block.specs.LandmarkLaws.{landmarks_none, lands_then}
+use Rattle.dms_storeverbs.proofs.Landing.{plain_lands, same_lands, synced_lands}
 use Rattle.dms_storeverbs.proofs.engine.Engine.settle.Goals as goal
 
 pub invariant_of-self-then-not-self-clause-fit : goal.invariant_of-self-then-not-self-clause-fit
@@ -137,3 +139,30 @@ returns-in_err-sync-clause-no_point g c = λ s stands room.
     let pending : s.pending ≡ true = grind (arith, common_steps, gets) in
     let u : IfFull c.sync.result (λ n. LeavesNoPoint (g.St.Store.seen c.args.self.now.store) (g.St.Store.seen c.sync.new.self) (settle s)) = full_weaker c.sync.result _ _ (λ f due. inr (settled_syncs s nobody pending, due_before (g.St.Store.seen c.args.self.now.store) (g.St.Store.seen c.quiet.new.self) c.quiet.ensures.causes.pace (ap (λ (e : Effort). e.syncs) c.quiet.ensures.effort) due)) c.sync.ensures.due in
     search rules
+
+pub returns-then-someone_works-clause-landmarks : goal.returns-then-someone_works-clause-landmarks
+returns-then-someone_works-clause-landmarks g c =
+    let a = g.St.Store.seen c.args.self.now.store in
+    plain_lands a a c.succeed.ensures.sync (landmarks_none _)
+
+pub returns-in_err-number-clause-landmarks : goal.returns-in_err-number-clause-landmarks
+returns-in_err-number-clause-landmarks g c = same_lands c.from_residual.result _ c.from_residual.ensures.1 c.in_err-number.ensures.landmarks
+
+pub returns-then-not-self-clause-landmarks : goal.returns-then-not-self-clause-landmarks
+returns-then-not-self-clause-landmarks g c =
+    let a = g.St.Store.seen c.args.self.now.store in
+    let m = g.St.Store.seen c.quiet.new.self in
+    plain_lands a m c.succeed-then-not-self.ensures.sync c.in_ok-number.ensures.landmarks.done
+
+pub returns-in_err-sync-clause-landmarks : goal.returns-in_err-sync-clause-landmarks
+returns-in_err-sync-clause-landmarks g c =
+    let r = c.from_residual-in_err-sync in
+    same_lands r.result _ r.ensures.1 (lands_then _ c.in_ok-number.ensures.landmarks c.in_err-sync.ensures.landmarks)
+
+pub returns-clause-landmarks : goal.returns-clause-landmarks
+returns-clause-landmarks g c =
+    let a = g.St.Store.seen c.args.self.now.store in
+    let m = g.St.Store.seen c.quiet.new.self in
+    let b = g.St.Store.seen c.sync.new.self in
+    let syncs = ap (λ (e : Effort). e.syncs) c.quiet.ensures.effort in
+    synced_lands a m b c.quiet.ensures.causes.pace syncs c.sync.ensures.silent.next refl c.in_ok-number.ensures.landmarks.done c.in_ok-sync.ensures.landmarks.done

@@ -7,7 +7,10 @@ use Rattle.dms_model.specs.Session.{verb_step, refuse}
 use Rattle.dms_storeverbs.proofs.Costing.{plain_costs, spends_none}
 use Rattle.dms_desc.specs.Shape.{as_described}
 use Rattle.dms_laws.proofs.Formed.{initials}
-use Rattle.dms_block.specs.HeldLaws.{full_none}
+use Rattle.dms_block.specs.FaultLaws.{full_none}
+use Rattle.dms_block.specs.LandmarkLaws.{landmarks_none}
+use Rattle.dms_storeverbs.proofs.Landing.{plain_lands}
+use Rattle.dms_storeverbs.specs.View.{engine_view}
 use Rattle.dms_storeverbs.proofs.engine.Engine.verb.Goals as goal
 
 pub invariant_of-self-clause-fit : goal.invariant_of-self-clause-fit
@@ -130,3 +133,44 @@ returns-in-Abort-clause-no_point g c = λ p at. rw c.in-Abort.is (c.abort.ensure
 
 pub returns-in-Find-clause-no_point : goal.returns-in-Find-clause-no_point
 returns-in-Find-clause-no_point g c = λ p at s stands may. full_none c.find.result _ c.find.ensures.room
+
+pub returns-in_ok-close-in-Close-clause-landmarks : goal.returns-in_ok-close-in-Close-clause-landmarks
+returns-in_ok-close-in-Close-clause-landmarks g c =
+    let a = engine_view c.args.self.now in
+    rw c.in-Close.is (plain_lands a a c.in_ok-close-in-Close.ensures.unsynced (landmarks_none _))
+
+pub returns-in_ok-create-in-Create-clause-landmarks : goal.returns-in_ok-create-in-Create-clause-landmarks
+returns-in_ok-create-in-Create-clause-landmarks g c =
+    let a = engine_view c.args.self.now in
+    rw c.in-Create.is (plain_lands a a c.in_ok-create-in-Create.ensures.unsynced (landmarks_none _))
+
+pub returns-in_ok-put-in-Put-clause-landmarks : goal.returns-in_ok-put-in-Put-clause-landmarks
+returns-in_ok-put-in-Put-clause-landmarks g c =
+    let a = engine_view c.args.self.now in
+    rw c.in-Put.is (plain_lands a a c.in_ok-put-in-Put.ensures.unsynced (landmarks_none _))
+
+pub returns-in_ok-get-in-Get-clause-landmarks : goal.returns-in_ok-get-in-Get-clause-landmarks
+returns-in_ok-get-in-Get-clause-landmarks g c =
+    let a = engine_view c.args.self.now in
+    rw c.in-Get.is (plain_lands a a c.in_ok-get-in-Get.ensures.unsynced (landmarks_none _))
+
+pub returns-in-Find-clause-landmarks : goal.returns-in-Find-clause-landmarks
+returns-in-Find-clause-landmarks g c = rw c.in-Find.is c.find.ensures.landmarks
+
+pub returns-in-Store-clause-landmarks : goal.returns-in-Store-clause-landmarks
+returns-in-Store-clause-landmarks g c = rw c.in-Store.is c.store.ensures.landmarks
+
+pub returns-in-Begin-clause-landmarks : goal.returns-in-Begin-clause-landmarks
+returns-in-Begin-clause-landmarks g c = rw c.in-Begin.is c.begin.ensures.landmarks
+
+pub returns-in-End-clause-landmarks : goal.returns-in-End-clause-landmarks
+returns-in-End-clause-landmarks g c = rw c.in-End.is c.end_transaction.ensures.landmarks
+
+pub returns-in-Abort-clause-landmarks : goal.returns-in-Abort-clause-landmarks
+returns-in-Abort-clause-landmarks g c = rw c.in-Abort.is c.abort.ensures.landmarks
+
+pub returns-in-OpenUpdate-clause-landmarks : goal.returns-in-OpenUpdate-clause-landmarks
+returns-in-OpenUpdate-clause-landmarks g c =
+    let a = engine_view c.args.self.now in
+    let lands = plain_lands a a c.refuse.ensures.sync (landmarks_none _) in
+    ⊎_elim (λ e. rw e lands) (λ e. rw e lands) c.in-OpenUpdate.is

@@ -11,9 +11,8 @@ use Rattle.dms_wal.proofs.Imaged.{one_spent, usable_spent}
 use Rattle.dms_wal.specs.PaceLaws.{grows_none, grows_on, pace_none, pace_on}
 use Rattle.dms_wal.specs.FollowLaws.{appends_same}
 use Rattle.dms_wal.proofs.Followed.{appends_images, later_disk, never_disk}
-use Rattle.dms_wal.proofs.Counted.{adds_images, syncs_same}
-use Rattle.dms_wal.proofs.Fewer.{few_images, few_same}
-use Rattle.dms_wal.proofs.Grown.{change_more, grows_logged, ok_never, still_never}
+use Rattle.dms_wal.proofs.Grown.{change_more, grows_logged, ok_never}
+use Rattle.dms_wal.proofs.Landmarked.{emptied_by}
 use Rattle.dms_wal.proofs.Stepped.{passes_sound}
 use Rattle.dms_wal.specs.Controls.{KeepsPace}
 use Rattle.dms_wal.proofs.Logged.{logs_first, logs_none, logs_more, logs_whole}
@@ -54,10 +53,9 @@ loop-change-preserved g c =
       logs = λ t. logs_more all c.as_slice-items.result.now c.loop-change.change-index no_change_of c.as_slice-items.ensures c.loop-change-test.true (view_of g.S.Site c.args.self.now.log) (view_of g.S.Site a.log) (view_of g.S.Site b.log)
           (was.logs t) (was.made.content t) (c.in-Ok.ensures.logs t);
       pace = pace_on was.pace pace;
-      grows = grows_on was.pace was.grows (grows_logged g.S.Site a b was.made.stays.sound.unbroken pace (omega (arith, alters.uses.not_less, rose, was.counted)) (omega (arith, alters.uses.syncs)) (omega (arith, alters.uses.outs)) (omega (arith, alters.passes.next))
-          (later_disk c.change.result _ (running_held g.S.Site b) c.change.ensures.causes) (λ tells never. appends_images _ _ _ (c.in-Ok.ensures.logs tells)) (λ tells never. c.in-Ok.ensures.within ok_never tells) (λ tells never w. c.in-Ok.ensures.writes ok_never tells)
-          (λ tells whole counted. adds_images _ _ _ _ _ (syncs_same a.every a.syncs b.every b.syncs p.every alters.uses.syncs) (c.in-Ok.ensures.logs tells))
-          (λ tells never counted. few_images _ _ _ _ _ _ _ (syncs_same a.every a.syncs b.every b.syncs p.every alters.uses.syncs) (omega (arith, alters.uses.outs)) (c.in-Ok.ensures.logs tells)) 1
+      grows = grows_on was.pace was.grows (grows_logged g.S.Site a b was.made.stays.sound.unbroken (emptied_by c.change.result _ (running_held g.S.Site b) _ b.log.end c.change.ensures.causes c.change.ensures.broken c.change.ensures.full) pace
+          (omega (arith, alters.uses.not_less, rose, was.counted)) (omega (arith, alters.uses.syncs)) (omega (arith, alters.uses.outs)) (omega (arith, alters.passes.next))
+          (later_disk c.change.result _ (running_held g.S.Site b) c.change.ensures.causes) (λ tells never. appends_images _ _ _ (c.in-Ok.ensures.logs tells)) (λ tells never. c.in-Ok.ensures.within ok_never tells) (λ tells never w. c.in-Ok.ensures.writes ok_never tells) 1
           (λ counted. omega (arith, rose, was.counted, alters.uses.not_less, alters.uses.spent, counted.spent, alters.passes.next)) c.change.ensures.grown (λ tells whole. change_more g.S.Site a b _ c.in-Ok.ensures.logs tells));
       counted = omega (arith, alters.uses.not_less, alters.uses.spent);
       spent = omega (arith, was.spent, rose, longer_take all c.as_slice-items.result.now c.loop-change.change-index no_change_of c.as_slice-items.ensures c.loop-change-test.true);
@@ -80,13 +78,11 @@ returns-in-Err-clause-grows g c =
     let uses = alters.uses in
     let p = c.change.ensures.pace in
     let pace : KeepsPace a b = record { every = p.every; limit = p.limit; total = p.total; first = p.first; schema = p.schema } in
-    grows_on was.pace was.grows (grows_logged g.S.Site a b was.made.stays.sound.unbroken pace (omega (arith, uses.not_less, rose, was.counted)) (omega (arith, uses.syncs)) (omega (arith, uses.outs)) (omega (arith, alters.passes.next))
+    grows_on was.pace was.grows (grows_logged g.S.Site a b was.made.stays.sound.unbroken (emptied_by c.change.result _ (running_held g.S.Site b) _ b.log.end c.change.ensures.causes c.change.ensures.broken c.change.ensures.full) pace
+    (omega (arith, uses.not_less, rose, was.counted)) (omega (arith, uses.syncs)) (omega (arith, uses.outs)) (omega (arith, alters.passes.next))
     (later_disk c.change.result _ (running_held g.S.Site b) c.change.ensures.causes) (λ tells never. appends_same _ _ (c.in-Err.ensures.kept (λ is. never_disk {T = Unit {0}} (Err c.in-Err.fault) _ (running_held g.S.Site b) c.in-Err.ensures.causes never.0 never.1 (λ i. Err (is i))) tells))
     (λ tells never. c.in-Err.ensures.within (never_disk {T = Unit {0}} (Err c.in-Err.fault) _ (running_held g.S.Site b) c.in-Err.ensures.causes never.0 never.1) tells)
-    (λ tells never w. c.in-Err.ensures.writes (never_disk {T = Unit {0}} (Err c.in-Err.fault) _ (running_held g.S.Site b) c.in-Err.ensures.causes never.0 never.1) tells)
-    (λ tells whole counted. absurd (true≢false (sym c.in-Err.ensures.broken ∙ whole)))
-    (λ tells either counted. let never = still_never b.broken c.in-Err.ensures.broken either in few_same _ _ _ _ _ _ (syncs_same a.every a.syncs b.every b.syncs p.every uses.syncs) (omega (arith, uses.outs))
-    (c.in-Err.ensures.kept (λ is. never_disk {T = Unit {0}} (Err c.in-Err.fault) _ (running_held g.S.Site b) c.in-Err.ensures.causes never.0 never.1 (λ i. Err (is i))) tells)) 1
+    (λ tells never w. c.in-Err.ensures.writes (never_disk {T = Unit {0}} (Err c.in-Err.fault) _ (running_held g.S.Site b) c.in-Err.ensures.causes never.0 never.1) tells) 1
     (λ counted. omega (arith, rose, was.counted, uses.not_less, uses.spent, counted.spent, alters.passes.next)) c.change.ensures.grown (λ tells whole. absurd (true≢false (sym c.in-Err.ensures.broken ∙ whole))))
 
 pub returns-in-Err-clause-part : goal.returns-in-Err-clause-part

@@ -1,12 +1,12 @@
 use Rattle.dms_wal.proofs.Lifts.{told_same}
-use Rattle.std.proofs.Common.{ℕ, IsTrue, List, Option, refl, sym, ◌∙◌, subst}
+use Rattle.std.proofs.Common.{ℕ, IsTrue, List, [], Option, refl, sym, ◌∙◌, subst}
 use Rattle.std.specs.Option.{option_copied}
 use Rattle.std.proofs.Common.{inl}
 use Rattle.dms_history.specs.Replay.{TellsBefore}
 use Rattle.dms_restore.specs.GrowLaws.{log_grows_on}
 use Rattle.dms_restore.specs.Logging.{content}
 use Rattle.dms_restore.specs.Views.{view_of}
-use Rattle.dms_wal.proofs.Causes.{disk_not_full, disk_or_full, full_left}
+use Rattle.dms_wal.proofs.Causes.{disk_not_full, disk_or_full, full_left, full_seen}
 use Rattle.dms_wal.proofs.Synced.{kind_is}
 use Rattle.dms_wal.proofs.Imaged.{alters_made, alters_failed, counted_more, imaged, usable_changed, with_same, then_left}
 use Rattle.dms_wal.proofs.Roomed.{then_silent}
@@ -15,6 +15,7 @@ use Rattle.dms_wal.proofs.Grown.{kept_append, logged_image, ok_never}
 use Rattle.dms_wal.proofs.Filled.{fills_append, fills_before, seen_disk}
 use Rattle.dms_wal.proofs.Logged.{logs_one}
 use Rattle.std.specs.declared.result.Result.TheVariants.{Err}
+use Rattle.dms_wal.proofs.Landmarked.{marks_more}
 use Rattle.dms_wal.proofs.Written.{runs_writes}
 use Rattle.dms_wal.proofs.running.Running.log_change.Goals as goal
 
@@ -23,6 +24,7 @@ returns-in-Err-clause-alters g c =
     let m = g.met.S.Site in
     alters_failed g.S.Site m.may_stay m.now_said m.counts_now c.args.self.now c.requires.sound c.image.new.self (kind_is c.image.ensures.kind.0 c.image.ensures.kind.3) c.image.ensures.said c.image.ensures.moments c.image.ensures.silent
     c.append_fault.result (disk_or_full _ _ _ _ c.append_fault.ensures) c.args.self.now.pool _ c.args.self.now.counts refl
+    (λ n is t. let seen = full_seen c.in-Err.fault c.append_fault.result _ _ _ n c.in-Err.ensures.only c.append_fault.ensures is in (c.in-Err.ensures.kept (λ i. Err (seen.1 i)) t).entries_same)
 
 pub keep-requires-clause-imaged : goal.keep-requires-clause-imaged
 keep-requires-clause-imaged g c t =
@@ -46,6 +48,7 @@ returns-in-Ok-keep-clause-alters g c =
     (usable_changed g.S.Site r u id c.args.change.now.block (option_copied c.bytes_of.result) c.requires.owned c.requires.low told c.image.new.self c.keep.new.log c.keep.new.pool _ c.in-Ok.ensures.logs c.in-Ok-keep.ensures.kept c.raise.ensures.raised c.raise.ensures.files
     (c.keep.ensures.counted _ (counted_more r.pool r.counts.items _ id.file id.block u.counted c.raise.ensures.raised) (raised_there r.counts.items _ id.file id.block c.raise.ensures.raised)))
     (λ t. (c.in-Ok-keep.ensures.kept t).points_same ∙ (c.in-Ok.ensures.logs t).points_same)
+    (λ t. marks_more [] _ _ _ ((c.in-Ok-keep.ensures.kept t).entries_same ∙ (c.in-Ok.ensures.logs t).entries_are) refl)
 
 pub returns-in-Err-keep-clause-alters : goal.returns-in-Err-keep-clause-alters
 returns-in-Err-keep-clause-alters g c =
@@ -57,6 +60,7 @@ returns-in-Err-keep-clause-alters g c =
     alters_failed g.S.Site m.may_stay m.now_said m.counts_now r u c.keep.new.log (told_same c.keep.ensures.passes.kind ∙ kind) (c.keep.ensures.passes.said ∙ c.image.ensures.said)
     (then_left g.S.Site m.may_stay m.counts_now r u c.image.new.self c.keep.new.log id.file id.block (option_copied c.bytes_of.result) c.args.change.now.block.0 kind c.in-Ok.ensures.logs c.image.ensures.moments c.keep.ensures.passes.moments)
     (λ t. then_silent (c.image.ensures.silent t) (c.keep.ensures.passes.silent t)) c.in-Err-keep.fault (inl c.in-Err-keep.ensures.only) c.keep.new.pool _ _ c.raise.ensures.files
+    (λ n is. absurd (disk_not_full c.in-Err-keep.fault n c.in-Err-keep.ensures.only is))
 
 pub returns-in-Err-clause-full : goal.returns-in-Err-clause-full
 returns-in-Err-clause-full g c n is = full_left c.in-Err.fault c.append_fault.result _ _ n c.args.self.now.log.end c.image.new.self.end c.in-Err.ensures.only c.append_fault.ensures c.image.ensures.kind.2 c.in-Err.ensures.full is
