@@ -65,8 +65,8 @@ abbrev pub opening_lacks : ℕ → Files → Files → Type 0
 opening_lacks zero old new = ⊥
 opening_lacks (suc n) old new = OpensShort old new
 
--- An entry of the opening; or its landmarks are those of these events, without that of a close; or those of the events before that event, and maybe its
--- Begin, where it goes back.
+-- The trail lacks an entry of the opening; or the landmarks that were added are those of the opening and of these events, without that of a close; or those
+-- of the opening and of the events before that event, and maybe its Begin, where it goes back.
 abbrev pub lacks_at : ℕ → Telling → Described → ℕ → Files → Files → LacksAt
 lacks_at n t desc next old new = record {
   opening = opening_lacks n old new;
@@ -89,10 +89,10 @@ IsControlDue desc events = is_due desc.controlpoint (syncs_after 0 events) ≡ t
 -- so no further line was carried out; of a line that is one too many to hold its first try, if there is one, which waits, is among them. The audit may
 -- go on up to file FILES of the description for what a script changes: exactly the text before the call of a verb was printed that is done, and stores a
 -- record or makes a quiet point; and a stop leaves no quiet point of it, but where a control point was due at its syncpoint. It goes on up to file 9,999
--- for openings, ways back and closings: exactly the text before an ABORT that is done was printed, or before the way back at the script's end. The
--- trail's landmarks are those of the opening and of the events before, and maybe the Begin of that way back. Or nothing was carried out, and an entry of
--- the opening is missing; or all that the script answers was printed, and the landmarks are those of the opening and of all events, without that of the
--- close.
+-- for openings, ways back and closings: exactly the text before an ABORT that is done was printed, or before the way back at the script's end. In
+-- each case the landmarks that were added are those of the opening and of the events before, and maybe the Begin of that ABORT or way back. Or it goes on
+-- up to file 9,999, and nothing was carried out, and an entry of the opening is missing; or all that the script answers was printed, and the landmarks
+-- that were added are those of the opening and of all events, without that of the close.
 abbrev pub PassesScript : LimitKind → (List RunEvent → Type 0) → LacksAt → Described → Db → ℕ → List (List ℕ) → ℕ → List RunEvent → Option (List ℕ) → Option (List ℕ) → Type 0
 PassesScript (AuditFile f) Leaves lack desc db first lines n events before after = IsDue desc.files f Leaves (IsControlDue desc) lack.within before after events ⊎ ((f ≡ 9999) × IsAtEnds lack desc db first lines events before after)
 PassesScript Lines Leaves lack desc db first lines n events before after = PassesLines desc db first lines before after × AreExactly desc db first lines n events 1000000
@@ -113,7 +113,7 @@ ReachesFiles t desc n db next lines s =
 -- of the audit.
 pub record ScriptRuns (opening : ℕ) (t : Telling) (desc : Described) (ps : List DescribedPoint) (n : ℕ) (db : Db) (next : ℕ) (all : List ℕ) (a b : SiteSeen) (left' : Option (List ℕ)) (status : Status) : Type 0 where
   -- So many lines were carried out at most, which keep the limits of lines and bytes, and no line behind them. These events are theirs, or, where they
-  -- are all, those of the script to its end: nothing else was done.
+  -- are all, those of the script to its end: no further line was carried out.
   pub lines : ℕ
   pub front : KeepsFront (raw_lines all) lines
   pub events : List RunEvent
