@@ -9,7 +9,7 @@ takes 2 and 3, and each syncpoint one more.
   > D DATA SET (X NUMBER(4););
   > END
   COMPILED 2 STRUCTURES
-  $ cd .. && cp -r db stores && cd db
+  $ cd .. && cp -r db stores && cp -r db again && cd db
   $ "$DMS" initialize
   INITIALIZED AT POINT 0
   $ { echo 'A: OPEN UPDATE'; for n in $(seq 14); do echo 'A: BEGIN-TRANSACTION NO-AUDIT RDS'; echo 'A: END-TRANSACTION NO-AUDIT RDS SYNC'; done; } > ../script
@@ -103,6 +103,35 @@ The next run writes it. All thirteen records are there.
   F30002.DMS 1024
   $ od -An -v -tx1 -w22 -N286 F30002.DMS | cut -c1-15 | uniq -c | tr -s ' '
    13 01 00 00 00 00
+
+A STORE that changes nothing needs no room. With one block left a record is stored, and then with another value, which leaves no room in it; as it
+stands it is stored once more, and with a third value it isn't.
+
+  $ cd ../again
+  $ "$DMS" initialize
+  INITIALIZED AT POINT 0
+  $ { echo 'A: OPEN UPDATE'; for n in $(seq 12); do echo 'A: BEGIN-TRANSACTION NO-AUDIT RDS'; echo 'A: END-TRANSACTION NO-AUDIT RDS SYNC'; done; } > ../script
+  $ cat >> ../script <<'END'
+  > A: BEGIN-TRANSACTION NO-AUDIT RDS
+  > A: CREATE D
+  > A: STORE D
+  > A: PUT D X = 1
+  > A: STORE D
+  > A: STORE D
+  > A: PUT D X = 2
+  > A: STORE D
+  > END
+  $ "$DMS" run < ../script > ../out
+  dms: audit file 2 full
+  [8]
+  $ tail -n 3 ../out
+  30 A DONE
+  31 A DONE
+  32 A DONE
+  $ "$DMS" print audit | tail -n 3
+  2 7 QUIET 12
+  2 8 IMAGE 30002 0 NEW
+  2 8 IMAGE 30002 0 CHANGED
 
 A control point that is due goes no further here. With one behind each syncpoint, each takes two blocks: the seventh quiet point is in the last block
 of file 2, and the control point behind it would be in file 3. That line isn't answered, and the next run finds its point.

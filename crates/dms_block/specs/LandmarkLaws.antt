@@ -19,10 +19,6 @@ landmarks_on {x = x} {y = y} p q all is = q (all ++ x) (p all is) ∙ ap Some (a
 pub landmarks_then : {a b c : Option (List Landmark)} {x : List Landmark} → AddsLandmarks a b [] → AddsLandmarks b c x → AddsLandmarks a c x
 landmarks_then p q = landmarks_on p q
 
--- and before one
-pub landmarks_still : {a b c : Option (List Landmark)} {x : List Landmark} → AddsLandmarks a b x → AddsLandmarks b c [] → AddsLandmarks a c x
-landmarks_still {a} {c = c} {x = x} p q = subst (λ (more : List Landmark). AddsLandmarks a c more) (append-nil x) (landmarks_on p q)
-
 -- the audit had no room for the second of two calls
 pub no_control_on : {backs : Bool} {a b c : Option (List Landmark)} {x y : List Landmark} → AddsLandmarks a b x → AddsNoFurther backs b c y → AddsNoFurther backs a c (x ++ y)
 no_control_on p (inl q) = inl (landmarks_on p q)

@@ -4,6 +4,7 @@ pub mod ContentLaws
 pub mod Counts
 pub mod FaultLaws
 pub mod Faults
+pub mod FileLast
 pub mod Held
 pub mod HeldLaws
 pub mod LandmarkLaws

@@ -1,5 +1,5 @@
 ghost use Rattle.std.specs.Prelude.{◌≡◌, ◌≤◌, ◌<◌, ◌+◌, ◌^◌, ◌++◌, [], ◌∷◌, IfOk, OnOk, IsErrOf, IsOkUnless, IsTrue, length, min, ◌-◌, false, true};
-ghost use Rattle.dms_block.specs.Content.{block_in, apply_changes, counts_after, FitsIn};
+ghost use Rattle.dms_block.specs.Content.{block_in, apply_changes, counts_after, AppliesPart, FitsIn};
 ghost use Rattle.dms_block.specs.Held.{AuditPace, BlocksAgree, Alters, HasCauses, Held, IfTold, is_due, Lasts, Leaves, LeavesText, Looks, MadeQuiet, MadeDurable, MakesNoPoint, HasNextNumber, SameBlocks, Stays, sync_landmarks, Synced, WentBack, one_more};
 ghost use Rattle.dms_block.specs.Faults.{IfFull};
 ghost use Rattle.dms_block.specs.Landmarks.{back_landmarks, AddsItsLandmarks};
@@ -38,12 +38,14 @@ pub trait Blocks {
         ensures same { same_blocks self.old self.new };
 
     /// Makes all changes. Each is of a file that the object owns and of a block below 2,097,152, and each new block
-    /// stands at its file's count, further new ones rising from there.
+    /// stands at its file's count, further new ones rising from there. Where the audit has no room the first so many
+    /// changes are made, maybe none, and at least one isn't.
     fn apply(&mut self, alloc: Global, changes: &Changes) -> Result<(), BlockFault>
         requires sound { (held self.old).sound }
         requires fits { FitsIn changes.now.items.items (held self.old).owns (held self.old).counts }
         ensures counts { OnOk result ((held self.new).counts ≡ counts_after changes.now.items.items (held self.old).counts) }
         ensures content { OnOk result (IsTrue (held self.old).told → (held self.new).content ≡ apply_changes changes.now.items.items (held self.old).content) }
+        ensures part { IfFull result (λ f. IsTrue (held self.old).told → AppliesPart changes.now.items.items (held self.old).content (held self.new).content) }
         ensures alters { Alters 0 (length changes.now.items.items) result (held self.old) (held self.new) }
         ensures spent { OnOk result ((held self.new).uses.spent ≡ min ((held self.old).uses.spent + length changes.now.items.items) (2 ^ 64 - 1)) }
         ensures causes { HasCauses result (held self.old) (held self.new) }

@@ -7,6 +7,7 @@ pub mod FitLaws
 pub mod Fitting
 pub mod Founds
 pub mod Fresh
+pub mod Lacking
 pub mod MemberLaws
 pub mod Members
 pub mod Places

@@ -25,6 +25,7 @@ use Rattle.dms_moments.specs.Moments.{Runs}
 use Rattle.dms_moments.specs.MomentLaws.{runs_none, runs_on, runs_weaken}
 use Rattle.dms_model.specs.declared.reply.Answer.{Answer}
 use Rattle.dms_model.specs.Db.{Db}
+use Rattle.dms_model.specs.Lacking.{LacksOne}
 use Rattle.dms_model.specs.Points.{StopFiles, Point, Quiet, Stop, LeavesPrefix, StopTextIs, StopTextGrows, told_point, known_point}
 use Rattle.dms_block.specs.Texts.{Prints, PrintsPrefix}
 use Rattle.dms_desc.specs.Shape.{Described}
@@ -32,10 +33,10 @@ use Rattle.dms_model.specs.declared.verb.Verb.{Verb}
 use Rattle.dms_model.specs.Session.{Session, Outcome, end_session, is_waits, step}
 use Rattle.dms_storeverbs.specs.Laws.{MakesWhereQuiet}
 use Rattle.dms_storeverbs.proofs.Quiet.{quiet_rule}
-use Rattle.dms_storeverbs.specs.Rooms.{LeavesNoPoint}
+use Rattle.dms_storeverbs.specs.Rooms.{LacksIts, LeavesNoPoint}
 use Rattle.dms_storeverbs.specs.View.{View, PerformsCall, PointsGrow, LeavesQuiets, StandsFor, view_of}
 use Rattle.dms_storeverbs.proofs.Calls.{lower, stays}
-use Rattle.dms_runner.specs.Events.{IsTold, RunEvent, calls, says, pause, goes_back, text_of, quiets_of, durable_by, durable_after, CrashesFrom, IsCutShort, Fate, fate_of, IsDueOver, IsFullIn, IsFullOf, SaidWhole, Performs, PerformsPrefix, SaidAtLeast, TakesEvents, TookAll, TookOneMore, TookPart, EndsAnswered, blocks_of, syncs_of, syncs_after, landmarks_after, landmarks_from, backs_of, may_store, one_if}
+use Rattle.dms_runner.specs.Events.{IsTold, RunEvent, calls, says, pause, goes_back, text_of, quiets_of, durable_by, durable_after, CrashesFrom, IsCutShort, Fate, fate_of, IsFullOver, IsFullIn, IsFullOf, SaidWhole, Performs, PerformsPrefix, SaidAtLeast, TakesEvents, TookAll, TookOneMore, TookPart, EndsAnswered, blocks_of, syncs_of, syncs_after, landmarks_after, landmarks_from, backs_of, may_store, one_if}
 use Rattle.dms_runner.specs.Blaming.{IsFullRun, run_fate}
 use Rattle.dms_runner.specs.declared.run.RunFault.TheVariants.{Block}
 use Rattle.dms_runner.proofs.Texts.{prints_none, prints_on, front_none, front_all, front_of_first, front_on}
@@ -379,7 +380,7 @@ LeavesOrDue a b at events =
     (a.tells → Runs a.clock b.clock (CrashesFrom a (events ++ pause ∷ []))) ⊎ ((is_some at.sync ≡ true) × (is_due a.pace.every (syncs_after a.effort.syncs events) ≡ true))
 
 -- what is due in the first events is due in all
-due_front : (f : ℕ) (a b : Seen) (x y : List RunEvent) → IsDueOver f a b x → IsDueOver f a b (x ++ y)
+due_front : (f : ℕ) (a b : Seen) (x y : List RunEvent) → IsFullOver f a b x → IsFullOver f a b (x ++ y)
 due_front f a b x y d =
     let front : take d.k (x ++ y) ≡ take d.k x = take-append-le d.k x y (omega (arith, slice_get_within x d.k d.at d.is)) in
     record {
@@ -390,6 +391,7 @@ due_front f a b x y d =
       text = subst (λ (e : List RunEvent). Prints a.said b.said (text_of e)) (sym front) d.text;
       made = subst (λ (e : List RunEvent). LeavesOrDue a b d.at e) (sym front) d.made;
       landmarks = subst (λ (e : List RunEvent). AddsNoFurther d.at.backs a.landmarks b.landmarks (landmarks_from a e)) (sym front) d.landmarks;
+      lacks = d.lacks;
     }
 
 -- what holds behind later events holds behind all
@@ -402,7 +404,7 @@ leaves_on a b c at x y first (inr due) = inr (
 )
 
 -- what is due behind events is due in all
-due_on : (f : ℕ) (a b c : Seen) (x y : List RunEvent) → Performs a b x → IsDueOver f b c y → IsDueOver f a c (x ++ y)
+due_on : (f : ℕ) (a b c : Seen) (x y : List RunEvent) → Performs a b x → IsFullOver f b c y → IsFullOver f a c (x ++ y)
 due_on f a b c x y first d =
     let front : take (length x + d.k) (x ++ y) ≡ x ++ take d.k y = take-append-add x y d.k in
     record {
@@ -414,11 +416,12 @@ due_on f a b c x y first d =
       made = subst (λ (e : List RunEvent). LeavesOrDue a c d.at e) (sym front) (leaves_on a b c d.at x (take d.k y) first d.made);
       landmarks = subst (λ (l : List Landmark). AddsNoFurther d.at.backs a.landmarks c.landmarks l) (sym (ap (landmarks_from a) front ∙ landmarks_from_on a b x (take d.k y) first))
           (no_control_on first.landmarks d.landmarks);
+      lacks = d.lacks;
     }
 
 -- nothing was said, and the only event had no room
-due_first : (f : ℕ) (a b : Seen) (e : RunEvent) → b.said ≡ a.said → IsFullIn a.pace.last e f → LeavesOrDue a b e [] → AddsNoFurther e.backs a.landmarks b.landmarks [] → IsDueOver f a b (e ∷ [])
-due_first f a b e same full made lands = record { k = 0; at = e; is = refl; full = full; text = prints_none a.said b.said same; made = made; landmarks = lands }
+due_first : (f : ℕ) (a b : Seen) (e : RunEvent) → b.said ≡ a.said → IsFullIn a.pace.last e f → LeavesOrDue a b e [] → AddsNoFurther e.backs a.landmarks b.landmarks [] → ((db : Db) → e.stored ≡ Some db → LacksOne b.records db) → IsFullOver f a b (e ∷ [])
+due_first f a b e same full made lands lacks = record { k = 0; at = e; is = refl; full = full; text = prints_none a.said b.said same; made = made; landmarks = lands; lacks = lacks }
 
 -- no event of them happened
 pub part_none : {fate : Fate} → ((f : ℕ) → fate.full f → ⊥) → (a : Seen) (x : List RunEvent) → PerformsPrefix fate a a x
@@ -733,9 +736,9 @@ lands_call a b verb o more done (inl added) = inl added
 lands_call a b verb o more done (inr back) = inr (and_from (asks_back_out verb) (is_done o.reply) back.0 done, back.1)
 
 pub part_calls : {fate : Fate} (a b : Seen) (v : View) (verb : Verb) (o : Outcome) {result : Result Answer BlockFault} → ((f : ℕ) → fate.full f → IsFullFor a.pace.last verb o f) → ((f : ℕ) → fate.full f → LeavesNoPoint a b o)
-    → ((f : ℕ) → fate.full f → AddsNoFurther (asks_back_out verb) a.landmarks b.landmarks []) → Costs (block_limit a.desc verb) (asks_back_out verb) result a.effort b.effort → CausedBy result a.faults b.faults → IsMute a b → PerformsCall o a b v result → PerformsPrefix fate a b (calls verb o ∷ [])
-part_calls a b v verb o {result} changed leaves lands costs cause mute did = record {
-  due = λ f full. due_first f a b (calls verb o) mute.said (changed f full) (leaves_call a b verb o (leaves f full)) (lands_call a b verb o [] (full_done a.pace.last verb o f (changed f full)) (lands f full));
+    → ((f : ℕ) → fate.full f → AddsNoFurther (asks_back_out verb) a.landmarks b.landmarks []) → ((f : ℕ) → fate.full f → LacksIts b.records verb o) → Costs (block_limit a.desc verb) (asks_back_out verb) result a.effort b.effort → CausedBy result a.faults b.faults → IsMute a b → PerformsCall o a b v result → PerformsPrefix fate a b (calls verb o ∷ [])
+part_calls a b v verb o {result} changed leaves lands lacks costs cause mute did = record {
+  due = λ f full. due_first f a b (calls verb o) mute.said (changed f full) (leaves_call a b verb o (leaves f full)) (lands_call a b verb o [] (full_done a.pace.last verb o f (changed f full)) (lands f full)) (lacks f full);
   said_whole = λ uncut. whole_none a.said b.said (calls verb o ∷ []) mute.said;
   took = took_call a b verb (calls verb o) result mute costs;
   undamaged = λ t. damaged_same result a.faults b.faults did.undamaged cause;
@@ -793,7 +796,7 @@ took_back works a b takes silent = took_by a b (goes_back works ∷ []) 1 (omega
 
 pub part_back : {fate : Fate} (works : Bool) (a b : Seen) → ((f : ℕ) → fate.full f → (works ≡ true) × (f ≡ 9999)) → ((f : ℕ) → fate.full f → AddsNoFurther true a.landmarks b.landmarks []) → TakesEvents a.desc (goes_back works ∷ []) a.effort b.effort → FindsNoDamage a b → IsSilent a b → a.next + 1 < 2 ^ 64 → PerformsPrefix fate a b (goes_back works ∷ [])
 part_back works a b backs lands takes undamaged silent room = record {
-  due = λ f full. due_first f a b (goes_back works) silent.said (inr (backs f full)) (inl (λ t. runs_weaken (silent.leaves t room) (stopped_before a pause))) (back_full works a b (backs f full).0 (lands f full));
+  due = λ f full. due_first f a b (goes_back works) silent.said (inr (backs f full)) (inl (λ t. runs_weaken (silent.leaves t room) (stopped_before a pause))) (back_full works a b (backs f full).0 (lands f full)) (λ db is. absurd (cc));
   took = took_back works a b takes silent;
   said_whole = λ uncut. whole_none a.said b.said (goes_back works ∷ []) silent.said;
   undamaged = undamaged;

@@ -11,19 +11,20 @@ use Rattle.dms_block.specs.Held.{is_due}
 use Rattle.dms_block.specs.Landmarks.{AddsLandmarks, AddsNoFurther, Landmark}
 use Rattle.dms_block.specs.Texts.{Prints, PrintsPrefix}
 use Rattle.dms_model.specs.Db.{Db}
+use Rattle.dms_model.specs.Lacking.{LacksOne}
 use Rattle.dms_desc.specs.Shape.{Described}
 use Rattle.dms_model.specs.BackOut.{asks_back_out}
 use Rattle.dms_model.specs.declared.reply.Reply.{Reply}
 use Rattle.dms_model.specs.declared.verb.Verb.{Verb}
 use Rattle.dms_model.specs.Seen.{Effort, Seen}
 use Rattle.dms_model.specs.Session.{Outcome, is_waits}
-use Rattle.dms_storeverbs.specs.Costs.{appends, landmarks_of, limit_if, stores, up_if}
+use Rattle.dms_storeverbs.specs.Costs.{appends, landmarks_of, limit_if, stored_by, stores, up_if}
 use Rattle.dms_storeverbs.specs.View.{PointsGrow, LeavesQuiets}
 use Rattle.dms_laws.specs.Exclusive.{is_done}
 
 -- an event: the quiet points that are made in it, the syncpoint that it takes, and the bytes that are said; whether a record may be stored
 -- in it, whether the database goes back to the last quiet point, and whether entries of the audit may be made,
--- other than those of a way back
+-- other than those of a way back; the database with the record that is stored in it, where one is and no quiet point is made
 pub record RunEvent : Type 0 where
   pub quiets : List Quiet
   pub sync : Option ℕ
@@ -31,6 +32,7 @@ pub record RunEvent : Type 0 where
   pub stores : Bool
   pub backs : Bool
   pub appends : Bool
+  pub stored : Option Db
 
 -- a record may be stored: the verb may store one, and its line doesn't wait
 unfoldable pub may_store : Verb → Reply → Bool
@@ -39,11 +41,11 @@ may_store verb reply = stores verb && not (is_waits reply)
 -- a verb is called; nothing is said yet. Only an ABORT that is done goes back, and other entries may be made only where a verb that is done stores
 -- a record or makes a quiet point
 abbrev pub calls : Verb → Outcome → RunEvent
-calls verb o = record { quiets = o.quiets; sync = o.sync; text = []; stores = may_store verb o.reply; backs = asks_back_out verb && is_done o.reply; appends = appends verb o }
+calls verb o = record { quiets = o.quiets; sync = o.sync; text = []; stores = may_store verb o.reply; backs = asks_back_out verb && is_done o.reply; appends = appends verb o; stored = stored_by verb o }
 
 -- bytes are said; no quiet point is made
 abbrev pub says : List ℕ → RunEvent
-says text = record { quiets = []; sync = None; text = text; stores = false; backs = false; appends = false }
+says text = record { quiets = []; sync = None; text = text; stores = false; backs = false; appends = false; stored = None }
 
 -- nothing is done, and nothing said
 abbrev pub pause : RunEvent
@@ -52,7 +54,7 @@ pause = says []
 -- the script ends: where a program is in transaction state, the database goes back to the last quiet point; nothing is said, and no quiet point is
 -- made
 abbrev pub goes_back : Bool → RunEvent
-goes_back works = record { quiets = []; sync = None; text = []; stores = false; backs = works; appends = false }
+goes_back works = record { quiets = []; sync = None; text = []; stores = false; backs = works; appends = false; stored = None }
 
 -- all that is said
 abbrev pub text_of : List RunEvent → List ℕ
@@ -93,7 +95,7 @@ landmarks_after every syncs next [] = []
 landmarks_after every syncs next (e ∷ es) =
     landmarks_of every syncs (next + length e.quiets) (is_some e.sync) e.backs ++ landmarks_after every (up_if (is_some e.sync) syncs) (next + length e.quiets) es
 
--- those of events that a run begins with
+-- those of the events of a run that begins so
 abbrev pub landmarks_from : Seen → List RunEvent → List Landmark
 landmarks_from b events = landmarks_after b.pace.every b.effort.syncs b.next events
 
@@ -234,8 +236,9 @@ IsFullIn last e f = ((e.appends ≡ true) × (f ≡ last)) ⊎ ((e.backs ≡ tru
 
 -- Exactly the text of the first k of these events was said, and the next of them is such a one. Stops on the way left what those first events leave,
 -- so no quiet point of the next one; or a control point was due at the sync of the syncpoint that the next one takes. The landmarks of those first events
--- were added, and no others but maybe a Begin, where the next one goes back.
-pub record IsDue (last f : ℕ) (Leaves Due : List RunEvent → Type 0) (Behind : Bool → List RunEvent → Type 0) (before after : Option (List ℕ)) (events : List RunEvent) : Type 0 where
+-- were added, and no others but maybe a Begin, where the next one goes back. Where the next one stores a record and makes no quiet point, what
+-- `Lacks` says of its database is so.
+pub record IsFullAtEvent (last f : ℕ) (Leaves Due : List RunEvent → Type 0) (Behind : Bool → List RunEvent → Type 0) (Lacks : Db → Type 0) (before after : Option (List ℕ)) (events : List RunEvent) : Type 0 where
   pub k : ℕ
   pub at : RunEvent
   pub is : slice_get events k ≡ Some at
@@ -243,19 +246,21 @@ pub record IsDue (last f : ℕ) (Leaves Due : List RunEvent → Type 0) (Behind 
   pub text : Prints before after (text_of (take k events))
   pub made : Leaves (take k events ++ pause ∷ []) ⊎ ((is_some at.sync ≡ true) × Due (take k events))
   pub landmarks : Behind at.backs (take k events)
+  pub lacks : (db : Db) → at.stored ≡ Some db → Lacks db
 
--- so it is over a store that tells its stops and its landmarks, and counts its syncs
-abbrev pub IsDueOver : ℕ → Seen → Seen → List RunEvent → Type 0
-IsDueOver f b a events =
-    IsDue b.pace.last f (λ es. b.tells → Runs b.clock a.clock (CrashesFrom b es)) (λ es. is_due b.pace.every (syncs_after b.effort.syncs es) ≡ true)
-    (λ backs es. AddsNoFurther backs b.landmarks a.landmarks (landmarks_from b es)) b.said a.said events
+-- So it is over a store that tells its stops and its landmarks, and counts its syncs: its records are those of the next event's database but for one.
+abbrev pub IsFullOver : ℕ → Seen → Seen → List RunEvent → Type 0
+IsFullOver f b a events =
+    IsFullAtEvent b.pace.last f (λ es. b.tells → Runs b.clock a.clock (CrashesFrom b es)) (λ es. is_due b.pace.every (syncs_after b.effort.syncs es) ≡ true)
+    (λ backs es. AddsNoFurther backs b.landmarks a.landmarks (landmarks_from b es)) (LacksOne a.records) b.said a.said events
 
 -- a prefix of the text of these events was said, that of whole events where no text was cut off, and a stop on the way lies
--- within them. No more was done than that prefix may take. Where the audit had no room, entries may have been due. Of what stands afterwards it says nothing else
+-- within them. No more was done than that prefix may take. Where the audit had no room, it is as `IsFullOver` says. Of what stands afterwards it
+-- says nothing else
 pub record PerformsPrefix (fate : Fate) (b a : Seen) (events : List RunEvent) : Type 0 where
   pub text : PrintsPrefix b.said a.said (text_of events)
   pub said_whole : (fate.cut → ⊥) → SaidWhole b.said a.said events
-  pub due : (f : ℕ) → fate.full f → IsDueOver f b a events
+  pub due : (f : ℕ) → fate.full f → IsFullOver f b a events
   pub undamaged : IsTold b → a.faults.damaged ≡ b.faults.damaged
   pub moments : b.tells → Runs b.clock a.clock (CrashesFrom b events)
   pub took : TookPart fate.cut b a events

@@ -8,7 +8,8 @@ use Rattle.dms_block.specs.declared.block_fault.BlockFault.TheVariants as block
 use Rattle.dms_block.specs.Texts.{Prints}
 use Rattle.dms_desc.specs.Shape.{Described}
 use Rattle.dms_feed.specs.Lines.{raw_lines}
-use Rattle.dms_model.specs.Db.{Db}
+use Rattle.dms_model.specs.Db.{Db, Records}
+use Rattle.dms_block.specs.Content.{Content}
 use Rattle.dms_model.specs.Points.{Stop, LeavesPrefix, StopTextIs}
 use Rattle.dms_model.specs.Seen.{Seen}
 use Rattle.dms_model.specs.Session.{end_session, fresh_session}
@@ -27,7 +28,9 @@ use Rattle.dms_running.specs.Points.{DescribedPoint, points_of, next_in}
 use Rattle.dms_site.specs.declared.site.Site.{Ghosts}
 use Rattle.dms_restore.specs.Logging.{Trail, trail_of, telling_of, telling, points, waits}
 use Rattle.dms_restore.specs.Views.{view_of}
-use Rattle.dms_store.specs.Lifted.{point_of, lift_stops}
+use Rattle.dms_store.specs.Lifted.{point_of, records_of, lift_stops}
+use Rattle.dms_store.specs.Spelled.{db_in}
+use Rattle.dms_model.specs.Lacking.{LacksOne}
 use Rattle.dms_storeverbs.specs.View.{StandsFor, View}
 use Rattle.dms_wal.specs.Controls.{KeepsPace}
 use Rattle.dms_wal.specs.declared.running.Running.{Running}
@@ -43,7 +46,8 @@ use Rattle.dms_status.specs.declared.status.LimitKind.TheVariants.{AuditFile}
 use Rattle.dms_status.specs.declared.status.Status.TheVariants.{Limit, Ok, Memory}
 use Rattle.dms_runtop.specs.Bound.{BoundsAudit}
 use Rattle.dms_runtop.specs.Landing.{LandmarksBefore, LandmarksAre, LandmarksClosed, script_landmarks}
-use Rattle.dms_runtop.proofs.Landing.{lands_full}
+use Rattle.dms_runtop.proofs.Landing.{content_here, lands_full}
+use Rattle.dms_runtop.specs.Behind.{TrailLacks}
 use Rattle.dms_block.specs.Landmarks.{AddsNoFurther}
 use Rattle.dms_runtop.specs.Faults.{IsWithin, run_status}
 use Rattle.dms_runtop.proofs.Bounds.{bounds_none, full_not_say}
@@ -75,6 +79,12 @@ told_text false x y same = refl
 -- there is room for one more number at the end of a script
 pub room_after : (d : Described) (db : Db) (next now : ℕ) (lines : List (List ℕ)) → next + 1000003 < 2 ^ 64 → KeepsLimits d db next lines → now ≡ (end_session (script_run d db next lines).going.session).next → now + 1 < 2 ^ 64
 room_after d db next now lines room keeps is = omega (arith, room, keeps.few, is, next_law d db next lines)
+
+-- ---- the records
+
+records_told : (e : Described) (tells : Bool) (c : Content) → IsTrue tells → records_of e tells c ≡ Some (db_in e c).records
+records_told e true c told = refl
+records_told e false c told = absurd cc
 
 -- ---- a fault that isn't another
 
@@ -171,9 +181,18 @@ module _ {S : Type 0} (g : Ghosts S) (d e e' : Described) (r r' : Running S) (sa
   lacks_in_files : waits r'.log.end ≡ [] → (backs : Bool) (es : List RunEvent) → LandsBehind backs es → LacksInFiles backs es
   lacks_in_files emptied = lands_full g d r r' t (told_same begins_trail) (told_same (keeps_trail ∙ begins_trail)) b.nothing b.every b.unused.1 b.tells emptied
 
+  -- the records in the store are those of this database but for one
+  abbrev StandsWithout : Db → Type 0
+  StandsWithout = LacksOne (records_of e' g.tells (running_held g r').content)
+
+  -- the same told of files
+  without_in_files : waits r'.log.end ≡ [] → (x : Db) → StandsWithout x → TrailLacks t d (g.files r'.log.site) x
+  without_in_files emptied x = subst (λ (o : Option Records). LacksOne o x)
+      (records_told e' g.tells (running_held g r').content b.tells ∙ (λ i. Some (db_in (same' i) (content_here g r' t (told_same (keeps_trail ∙ begins_trail)) emptied i)).records))
+
   -- what is changed goes on up to file FILES of the description
-  abbrev at_files : (left' : Option (List ℕ)) (fault : RunFault) → ((f : ℕ) → fault ≡ Block (block.Full f) → waits r'.log.end ≡ []) → Carried r.log.end.limit StopsIn DueBehind LandsBehind d db r.next all left' entry (said_of g r'.log) fault
-      → Carried d.files StopsInFiles (IsControlDue d) LacksInFiles d db r.next all left' entry (said_of g r'.log) fault
+  abbrev at_files : (left' : Option (List ℕ)) (fault : RunFault) → ((f : ℕ) → fault ≡ Block (block.Full f) → waits r'.log.end ≡ []) → Carried r.log.end.limit StopsIn DueBehind LandsBehind StandsWithout d db r.next all left' entry (said_of g r'.log) fault
+      → Carried d.files StopsInFiles (IsControlDue d) LacksInFiles (TrailLacks t d (g.files r'.log.site)) d db r.next all left' entry (said_of g r'.log) fault
   at_files left' fault emptied c = record {
     lines = c.lines;
     events = c.events;
@@ -181,7 +200,7 @@ module _ {S : Type 0} (g : Ghosts S) (d e e' : Described) (r r' : Running S) (sa
     are = c.are;
     part = c.part;
     answers = c.answers;
-    due = λ f is. due_moved r.log.end.limit d.files f entry (said_of g r'.log) c.events b.limit_is (λ es. files_left (es ++ pause ∷ [])) due_behind (lacks_in_files (emptied f is)) (c.due f is);
+    due = λ f is. due_moved r.log.end.limit d.files f entry (said_of g r'.log) c.events b.limit_is (λ es. files_left (es ++ pause ∷ [])) due_behind (lacks_in_files (emptied f is)) (without_in_files (emptied f is)) (c.due f is);
     many_lines = c.many_lines;
     many_bytes = c.many_bytes;
     many_held = c.many_held;
@@ -189,7 +208,7 @@ module _ {S : Type 0} (g : Ghosts S) (d e e' : Described) (r r' : Running S) (sa
   }
 
   -- the script stopped before its end, and the site was given back
-  pub failed_over : (left' : Option (List ℕ)) (fault : RunFault) (status : Status) (site : S) → status ≡ run_status fault → site ≡ r'.log.site → ((f : ℕ) → fault ≡ Block (block.Full f) → waits r'.log.end ≡ []) → (c : Carried r.log.end.limit StopsIn DueBehind LandsBehind d db r.next all left' entry (said_of g r'.log) fault)
+  pub failed_over : (left' : Option (List ℕ)) (fault : RunFault) (status : Status) (site : S) → status ≡ run_status fault → site ≡ r'.log.site → ((f : ℕ) → fault ≡ Block (block.Full f) → waits r'.log.end ≡ []) → (c : Carried r.log.end.limit StopsIn DueBehind LandsBehind StandsWithout d db r.next all left' entry (said_of g r'.log) fault)
       → Runs (lift_stops e (running_held g r).clock) (lift_stops e' (running_held g r').clock) (RunLeaves (running_held g r).whole entry (map (point_of e) (running_held g r).points) n db r.next c.events)
       → ((f k : ℕ) → fault ≡ Block (block.Damaged f k) → ⊥) → BoundsAudit 0 t d c.events (g.files r.log.site) (g.files r'.log.site) entry (said_of g r'.log) (run_status fault)
       → ScriptRuns 0 t d ps n db r.next all (seen_site g r.log.site) (seen_site g site) left' status
@@ -205,7 +224,7 @@ module _ {S : Type 0} (g : Ghosts S) (d e e' : Described) (r r' : Running S) (sa
       subst (λ (x : RunFault). BoundsAudit 0 t d events (g.files r.log.site) (g.files r'.log.site) entry (said_of g r'.log) (run_status x)) same bound
 
   -- what was carried out at one fault, told of want of memory
-  abbrev carried_short : (left' : Option (List ℕ)) (fault : RunFault) → (fault ≡ Block block.Say → ⊥) → Carried r.log.end.limit StopsIn DueBehind LandsBehind d db r.next all left' entry (said_of g r'.log) fault → Carried r.log.end.limit StopsIn DueBehind LandsBehind d db r.next all left' entry (said_of g r'.log) run.Memory
+  abbrev carried_short : (left' : Option (List ℕ)) (fault : RunFault) → (fault ≡ Block block.Say → ⊥) → Carried r.log.end.limit StopsIn DueBehind LandsBehind StandsWithout d db r.next all left' entry (said_of g r'.log) fault → Carried r.log.end.limit StopsIn DueBehind LandsBehind StandsWithout d db r.next all left' entry (said_of g r'.log) run.Memory
   carried_short left' fault unsaid c = record {
     lines = c.lines;
     events = c.events;
@@ -222,7 +241,7 @@ module _ {S : Type 0} (g : Ghosts S) (d e e' : Described) (r r' : Running S) (sa
 
   -- the same, where a full audit at another file counted as want of memory
   pub within_over : (left' : Option (List ℕ)) (last : ℕ) (fault then : RunFault) (status : Status) (site : S) → IsWithin last fault then → last ≡ r'.log.end.limit → status ≡ run_status then → site ≡ r'.log.site → ((f : ℕ) → fault ≡ Block (block.Full f) → waits r'.log.end ≡ [])
-      → (c : Carried r.log.end.limit StopsIn DueBehind LandsBehind d db r.next all left' entry (said_of g r'.log) fault)
+      → (c : Carried r.log.end.limit StopsIn DueBehind LandsBehind StandsWithout d db r.next all left' entry (said_of g r'.log) fault)
       → Runs (lift_stops e (running_held g r).clock) (lift_stops e' (running_held g r').clock) (RunLeaves (running_held g r).whole entry (map (point_of e) (running_held g r).points) n db r.next c.events)
       → ((f k : ℕ) → fault ≡ Block (block.Damaged f k) → ⊥) → BoundsAudit 0 t d c.events (g.files r.log.site) (g.files r'.log.site) entry (said_of g r'.log) (run_status then)
       → ScriptRuns 0 t d ps n db r.next all (seen_site g r.log.site) (seen_site g site) left' status

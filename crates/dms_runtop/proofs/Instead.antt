@@ -22,6 +22,7 @@ use Rattle.dms_runtop.specs.Bound.{closing_of}
 use Rattle.dms_runtop.specs.Landing.{LandmarksBefore, LandmarksAre, script_landmarks}
 use Rattle.dms_runtop.specs.Command.{DatabaseState, RunsCommand, RunsOpened}
 use Rattle.dms_runtop.specs.Full.{IsOfFull}
+use Rattle.dms_runtop.specs.Behind.{TrailLacks}
 use Rattle.dms_runtop.specs.Over.{PassesScript, ScriptRuns, SiteSeen, lacks_at, opening_lacks, seen_site}
 use Rattle.dms_runtop.proofs.Bounds.{bounds_instead, closes_not}
 use Rattle.dms_runtop.proofs.Looked.{said_seen}
@@ -90,7 +91,7 @@ ran_instead opening t d ps n db next all a b c left' s then place moments same f
       let Stops : Clock Left → List RunEvent → Type 0 = λ later es. Runs a.clock later (RunLeavesFiles t d a.said ps n db next es) in
       passes_moved (Stops b.clock) (Stops c.clock) (lacks_at opening t d next a.files b.files) (lacks_at opening t d next a.files c.files) k d db next (raw_lines all) r.lines r.events a.said c.said (λ es l. runs_on l (moments es) (λ x y. y))
       (subst (λ (f : Files). opening_lacks opening a.files f) (sym files)) (λ es. subst (λ (f : Files). LandmarksAre opening t next a.files f (script_landmarks d next es)) (sym files))
-      (λ backs es. subst (λ (f : Files). LandmarksBefore opening t d next a.files f backs es) (sym files))
+      (λ backs es. subst (λ (f : Files). LandmarksBefore opening t d next a.files f backs es) (sym files)) (λ x. subst (λ (f : Files). TrailLacks t d f x) (sym files))
       (subst (λ (x : Option (List ℕ)). PassesScript k (Stops b.clock) (lacks_at opening t d next a.files b.files) d db next (raw_lines all) r.lines r.events a.said x) (sym same) (r.limit k (place.limits k is)));
   input_cut = λ is. absurd (place.not_input is);
   undamaged = λ f k is high. place.undamaged f k is;

@@ -9,8 +9,10 @@ use Rattle.dms_block.specs.declared.block_fault.BlockFault.TheVariants as block
 use Rattle.dms_block.specs.Landmarks.{AddsLandmarks, AddsNoFurther, Landmark, begin, control}
 use Rattle.dms_desc.specs.Shape.{Described}
 use Rattle.dms_history.specs.Entries.{Entry, control_point}
-use Rattle.dms_history.specs.EntryEvents.{history_of}
+use Rattle.dms_history.specs.EntryEvents.{history_of, live_of, next_of}
+use Rattle.dms_history.specs.Events.{quiet}
 use Rattle.dms_history.specs.History.{Pending}
+use Rattle.dms_history.specs.Pick.{blocks_at}
 use Rattle.dms_history.proofs.Order.{append_none}
 use Rattle.dms_opening.specs.Openings.{opening_entries}
 use Rattle.dms_restore.specs.Counts.{file_counts}
@@ -22,13 +24,14 @@ use Rattle.dms_runner.specs.declared.run.RunFault.{RunFault}
 use Rattle.dms_runner.specs.declared.run.RunFault.TheVariants.{Block}
 use Rattle.dms_running.specs.Telling.{Telling}
 use Rattle.dms_site.specs.declared.site.Site.{Ghosts}
-use Rattle.dms_site.specs.Files.{Files}
+use Rattle.dms_site.specs.Files.{Files, stored_of}
 use Rattle.dms_status.specs.declared.status.Status.{Status}
 use Rattle.dms_wal.specs.declared.running.Running.{Running}
 use Rattle.dms_wal.proofs.Landmarked.{control_first, control_landmarks, landmarks_append}
 use Rattle.dms_wal.specs.Landmarks.{landmarks_in}
 use Rattle.dms_wal.specs.Database.{running_held}
 use Rattle.dms_wal.specs.Growing.{GrowsBy}
+use Rattle.dms_runtop.specs.Behind.{blocks_behind}
 use Rattle.dms_runtop.specs.Filling.{ClosesBehind, IsControlPart, IsControlPoint}
 use Rattle.dms_runtop.specs.Landing.{LandmarksBefore, LandmarksAre, LandmarksClosed, opening_landmarks, script_landmarks}
 
@@ -82,6 +85,14 @@ full_emptied g r r' fault a b unused old new blame grows f is =
     let h : HasBlame (Block (block.Full f)) a b = subst (λ (x : RunFault). HasBlame x a b) is blame in
     let rose : min (a.full + 1) (2 ^ 64 - 1) ≤ b.full = h.0.rose in
     (grows.emptied (omega (arith, rose, unused, old, new))).1
+
+-- where nothing waits the content is that of the files
+pub content_here : {S : Type 0} (g : Ghosts S) (r : Running S) (t : Telling) → telling (view_of g r.log) ≡ t → waits r.log.end ≡ [] → (running_held g r).content ≡ blocks_behind t (g.files r.log.site)
+content_here g r t told nothing =
+    let k = telling (view_of g r.log) in
+    let files : Files = g.files r.log.site in
+    let all : k.entries files ++ waits r.log.end ≡ k.entries files = ap (λ (l : List Entry). k.entries files ++ l) nothing ∙ append_none (k.entries files) in
+    ap (λ (es : List Entry). blocks_at (live_of es ++ quiet (next_of es) ∷ []) (stored_of files) (next_of es)) all ∙ ap (λ (w : Telling). blocks_behind w files) told
 
 module _ {S : Type 0} (g : Ghosts S) (d : Described) (r r' : Running S) (t : Telling) (told : telling (view_of g r.log) ≡ t) (told' : telling (view_of g r'.log) ≡ t) (nothing : waits r.log.end ≡ []) (every : r.every ≡ d.controlpoint) (unused : r.syncs ≡ 0) (tells : IsTrue g.tells) where
   -- what the log has added

@@ -8,6 +8,7 @@ use Rattle.dms_block.specs.Landmarks.{AddsNoFurther}
 use Rattle.dms_block.specs.Texts.{Prints, PrintsPrefix}
 use Rattle.dms_desc.specs.Shape.{Described, as_described}
 use Rattle.dms_model.specs.Db.{Db}
+use Rattle.dms_model.specs.Lacking.{LacksOne}
 use Rattle.dms_model.specs.Points.{Point, Stop, LeavesPrefix, StopTextIs}
 use Rattle.dms_moments.specs.Moments.{Runs}
 use Rattle.dms_moments.specs.MomentLaws.{runs_weaken}
@@ -16,7 +17,7 @@ use Rattle.dms_block.specs.declared.block_fault.BlockFault.TheVariants.{Say}
 use Rattle.dms_feed.specs.Lines.{raw_lines}
 use Rattle.dms_runner.specs.Answers.{LineEffect, answers_text, first_state, script_events}
 use Rattle.dms_runner.specs.Blaming.{IsFullRun}
-use Rattle.dms_runner.specs.Events.{CrashesFrom, IsDue, IsFullIn, Performs, RunEvent, SaidWhole, TookAll, landmarks_from, pause, syncs_after, text_of}
+use Rattle.dms_runner.specs.Events.{CrashesFrom, IsFullAtEvent, IsFullIn, Performs, RunEvent, SaidWhole, TookAll, landmarks_from, pause, syncs_after, text_of}
 use Rattle.dms_runner.specs.Running.{AreOfFront, KeepsFront}
 use Rattle.dms_runner.specs.Starting.{CarriesOut}
 use Rattle.dms_runner.proofs.Running.{run_none}
@@ -151,18 +152,18 @@ said_nothing said events = (0, λ t is. is ∙ ap (λ (s : List ℕ). Some s) (s
 
 -- nothing is lacked
 abbrev no_lack : LacksAt
-no_lack = record { opening = ⊥; closing = λ es. ⊥; within = λ backs es. ⊥ }
+no_lack = record { opening = ⊥; closing = λ es. ⊥; within = λ backs es. ⊥; stored = λ db. ⊥ }
 
 -- So much of a script was carried out where the run stopped with this fault, told by the text before it and behind it. What is changed may go on up to
 -- this audit file.
-pub record Carried (last : ℕ) (Stops Due : List RunEvent → Type 0) (Behind : Bool → List RunEvent → Type 0) (d : Described) (db : Db) (next : ℕ) (all : List ℕ) (left' : Option (List ℕ)) (said said' : Option (List ℕ)) (fault : RunFault) : Type 0 where
+pub record Carried (last : ℕ) (Stops Due : List RunEvent → Type 0) (Behind : Bool → List RunEvent → Type 0) (Lacks : Db → Type 0) (d : Described) (db : Db) (next : ℕ) (all : List ℕ) (left' : Option (List ℕ)) (said said' : Option (List ℕ)) (fault : RunFault) : Type 0 where
   pub lines : ℕ
   pub events : List RunEvent
   pub front : KeepsFront (raw_lines all) lines
   pub are : AreOfFront d db next (raw_lines all) lines events
   pub part : PrintsPrefix said said' (text_of events)
   pub answers : (fault ≡ Block Say → ⊥) → SaidWhole said said' events
-  pub due : (f : ℕ) → fault ≡ Block (block.Full f) → IsDue last f Stops Due Behind said said' events
+  pub due : (f : ℕ) → fault ≡ Block (block.Full f) → IsFullAtEvent last f Stops Due Behind Lacks said said' events
   pub many_lines : fault ≡ run.Lines → PassesScript Lines Stops no_lack d db next (raw_lines all) lines events said said'
   pub many_bytes : fault ≡ run.Bytes → PassesScript Bytes Stops no_lack d db next (raw_lines all) lines events said said'
   pub many_held : fault ≡ run.Held → PassesScript limits.Held Stops no_lack d db next (raw_lines all) lines events said said'
@@ -198,7 +199,11 @@ module _ {St : Type 0} {g : store.Ghosts St} (left' : Option (List ℕ)) (old ne
   abbrev pub LandsBehind : Bool → List RunEvent → Type 0
   LandsBehind backs es = AddsNoFurther backs (engine_view old).landmarks (engine_view new).landmarks (landmarks_from (engine_view old) es)
 
-  abbrev pub carried_of : (fault : RunFault) → CarriesOut (fault_of fault) left' old new db first all → Carried (engine_view old).pace.last StopsIn DueBehind LandsBehind (as_described old.desc) db first all left' (engine_view old).said (engine_view new).said fault
+  -- and the records in the store are those of this database but for one
+  abbrev pub StandsWithout : Db → Type 0
+  StandsWithout = LacksOne (engine_view new).records
+
+  abbrev pub carried_of : (fault : RunFault) → CarriesOut (fault_of fault) left' old new db first all → Carried (engine_view old).pace.last StopsIn DueBehind LandsBehind StandsWithout (as_described old.desc) db first all left' (engine_view old).said (engine_view new).said fault
   carried_of fault k = record {
     lines = k.n;
     events = k.events;
@@ -237,10 +242,10 @@ made_moved : {X Y A B C : Type 0} → (X → Y) → (B → C) → X ⊎ (A × B)
 made_moved stops due (inl x) = inl (stops x)
 made_moved stops due (inr x) = inr (x.0, due x.1)
 
-pub due_moved : {Stops Stops' Due Due' : List RunEvent → Type 0} {Behind Behind' : Bool → List RunEvent → Type 0} (last last' f : ℕ) (before after : Option (List ℕ)) (events : List RunEvent) → last ≡ last'
+pub due_moved : {Stops Stops' Due Due' : List RunEvent → Type 0} {Behind Behind' : Bool → List RunEvent → Type 0} {Lacks Lacks' : Db → Type 0} (last last' f : ℕ) (before after : Option (List ℕ)) (events : List RunEvent) → last ≡ last'
     → ((es : List RunEvent) → Stops (es ++ pause ∷ []) → Stops' (es ++ pause ∷ [])) → ((es : List RunEvent) → Due es → Due' es) → ((backs : Bool) (es : List RunEvent) → Behind backs es → Behind' backs es)
-    → IsDue last f Stops Due Behind before after events → IsDue last' f Stops' Due' Behind' before after events
-due_moved last last' f before after events same stops due lands d = record {
+    → ((x : Db) → Lacks x → Lacks' x) → IsFullAtEvent last f Stops Due Behind Lacks before after events → IsFullAtEvent last' f Stops' Due' Behind' Lacks' before after events
+due_moved last last' f before after events same stops due lands without d = record {
   k = d.k;
   at = d.at;
   is = d.is;
@@ -248,6 +253,7 @@ due_moved last last' f before after events same stops due lands d = record {
   text = d.text;
   made = made_moved (stops (take d.k events)) (due (take d.k events)) d.made;
   landmarks = lands d.at.backs (take d.k events) d.landmarks;
+  lacks = λ x is. without x (d.lacks x is);
 }
 
 ends_moved : (lack lack' : LacksAt) (d : Described) (db : Db) (next : ℕ) (lines : List (List ℕ)) (events : List RunEvent) (before after : Option (List ℕ)) → (lack.opening → lack'.opening) → ((es : List RunEvent) → lack.closing es → lack'.closing es)
@@ -257,13 +263,13 @@ ends_moved lack lack' d db next lines events before after opening closing (inr a
 
 pub passes_moved : (Stops Stops' : List RunEvent → Type 0) (lack lack' : LacksAt) (k : LimitKind) (d : Described) (db : Db) (next : ℕ) (lines : List (List ℕ)) (n : ℕ) (events : List RunEvent) (before after : Option (List ℕ))
     → ((es : List RunEvent) → Stops (es ++ pause ∷ []) → Stops' (es ++ pause ∷ [])) → (lack.opening → lack'.opening) → ((es : List RunEvent) → lack.closing es → lack'.closing es)
-    → ((backs : Bool) (es : List RunEvent) → lack.within backs es → lack'.within backs es)
+    → ((backs : Bool) (es : List RunEvent) → lack.within backs es → lack'.within backs es) → ((x : Db) → lack.stored x → lack'.stored x)
     → PassesScript k Stops lack d db next lines n events before after → PassesScript k Stops' lack' d db next lines n events before after
-passes_moved Stops Stops' lack lack' (AuditFile f) d db next lines n events before after stops opening closing going (inl due) = inl (due_moved d.files d.files f before after events refl stops (λ es is. is) going due)
-passes_moved Stops Stops' lack lack' (AuditFile f) d db next lines n events before after stops opening closing going (inr ends) = inr (ends.0, ends_moved lack lack' d db next lines events before after opening closing ends.1)
-passes_moved Stops Stops' lack lack' Lines d db next lines n events before after stops opening closing going passes = passes
-passes_moved Stops Stops' lack lack' Bytes d db next lines n events before after stops opening closing going passes = passes
-passes_moved Stops Stops' lack lack' limits.Held d db next lines n events before after stops opening closing going passes = passes
+passes_moved Stops Stops' lack lack' (AuditFile f) d db next lines n events before after stops opening closing going without (inl due) = inl (due_moved d.files d.files f before after events refl stops (λ es is. is) going without due)
+passes_moved Stops Stops' lack lack' (AuditFile f) d db next lines n events before after stops opening closing going without (inr ends) = inr (ends.0, ends_moved lack lack' d db next lines events before after opening closing ends.1)
+passes_moved Stops Stops' lack lack' Lines d db next lines n events before after stops opening closing going without passes = passes
+passes_moved Stops Stops' lack lack' Bytes d db next lines n events before after stops opening closing going without passes = passes
+passes_moved Stops Stops' lack lack' limits.Held d db next lines n events before after stops opening closing going without passes = passes
 
 -- the last audit file is 9,999
 of_last : (k : LimitKind) → IsOfAuditLimit k → Limit k ≡ Limit (AuditFile 9999)
@@ -322,7 +328,7 @@ module _ (opening : ℕ) (t : Telling) (d : Described) (ps : List DescribedPoint
   }
 
   -- the script stopped before its end
-  pub ran_failed : (fault : RunFault) (c : Carried d.files Leaves (IsControlDue d) lack.within d db next all left' a.said b.said fault) → Leaves c.events
+  pub ran_failed : (fault : RunFault) (c : Carried d.files Leaves (IsControlDue d) lack.within lack.stored d db next all left' a.said b.said fault) → Leaves c.events
       → ((f k : ℕ) → fault ≡ Block (block.Damaged f k) → ⊥) → Bound c.events (run_status fault) → ScriptRuns opening t d ps n db next all a b left' (run_status fault)
   ran_failed fault c moments damaged bound = record {
     lines = c.lines;

@@ -80,7 +80,7 @@ module _ (opening opening0 : ℕ) (t : Telling) (d : Described) (ps : List Descr
         limit = λ k is.
             let Stops : Clock Left → List RunEvent → Type 0 = λ early es. Runs early b.clock (RunLeavesFiles t d a0.said ps n db next es) in
             passes_moved (Stops a.clock) (Stops a0.clock) (lacks_at opening t d next a.files b.files) (lacks_at opening0 t d next a0.files b.files) k d db next (raw_lines all) r.lines r.events a0.said b.said (λ es later. runs_on (before es) later (λ x l. l))
-            short (λ es. lands_since opening opening0 t next a0.files a.files b.files (script_landmarks d next es) since) (λ backs es. lacks_since opening opening0 t d next a0.files a.files b.files backs es since) (r.limit k is);
+            short (λ es. lands_since opening opening0 t next a0.files a.files b.files (script_landmarks d next es) since) (λ backs es. lacks_since opening opening0 t d next a0.files a.files b.files backs es since) (λ x lacks. lacks) (r.limit k is);
         bound = bounds_since grew r.bound;
         landmarks = λ is. closed_since opening opening0 t d next a0.files a.files b.files r.events since (r.landmarks is);
         input_cut = r.input_cut;

@@ -8,6 +8,7 @@ pub mod Guard
 pub mod GuardLaws
 pub mod Adding
 pub mod Filling
+pub mod Behind
 pub mod Landing
 pub mod Naming
 pub mod Full

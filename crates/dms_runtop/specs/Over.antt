@@ -21,12 +21,13 @@ use Rattle.dms_wal.specs.Closing.{LeavesUntil}
 use Rattle.dms_wal.specs.Database.{running_held}
 use Rattle.dms_wal.specs.Growing.{over_site}
 use Rattle.dms_wal.specs.Lifting.{lift_clock}
+use Rattle.dms_runtop.specs.Behind.{TrailLacks}
 use Rattle.dms_runtop.specs.Bound.{BoundsAudit}
 use Rattle.dms_runtop.specs.Landing.{LandmarksBefore, LandmarksAre, LandmarksClosed, script_landmarks}
 use Rattle.dms_store.specs.Lifted.{point_of}
 use Rattle.dms_store.specs.Spelled.{database_in}
 use Rattle.dms_runner.specs.Answers.{answers_quiets, answers_text, left_by, script_events, script_run}
-use Rattle.dms_runner.specs.Events.{IsDue, RunEvent, SaidWhole, pause, syncs_after, text_of}
+use Rattle.dms_runner.specs.Events.{IsFullAtEvent, RunEvent, SaidWhole, pause, syncs_after, text_of}
 use Rattle.dms_runner.specs.Running.{AreExactly, AreOfFront, CutInput, KeepsFront, PassesBytes, PassesLines, PassesWaiting}
 use Rattle.dms_run.specs.Ending.{KeepsLimits}
 use Rattle.dms_run.specs.Files.{points_seen, RunLeavesFiles}
@@ -54,24 +55,28 @@ pub record FilesEndWith (t : Telling) (desc : Described) (n : ℕ) (db : Db) (ne
   pub next_is : next_in t s.files ≡ next
   pub only : Only s.files s.clock
 
--- what the trail lacks, where the audit had no room: for an opening; for a close behind these events; or for an event behind these, which goes back or not
+-- What the trail lacks, where the audit had no room: for an opening; for a close behind these events; for an event behind these, which goes back or not;
+-- and for an event that stores a record and makes no quiet point, by its database.
 pub record LacksAt : Type 1 where
   pub opening : Type 0
   pub closing : List RunEvent → Type 0
   pub within : Bool → List RunEvent → Type 0
+  pub stored : Db → Type 0
 
 -- an opening before it, where there was one, lacks an entry
 abbrev pub opening_lacks : ℕ → Files → Files → Type 0
 opening_lacks zero old new = ⊥
 opening_lacks (suc n) old new = OpensShort old new
 
--- The trail lacks an entry of the opening; or the landmarks that were added are those of the opening and of these events, without that of a close; or those
--- of the opening and of the events before that event, and maybe its Begin, where it goes back.
+-- For an opening: one of its entries. For a close: the landmarks that were added are those of the opening and of these events, without that of the close.
+-- For an event: they are those of the opening and of the events before it, and maybe its Begin, where it goes back. For a stored record: the trail makes the
+-- records of that database but for one.
 abbrev pub lacks_at : ℕ → Telling → Described → ℕ → Files → Files → LacksAt
 lacks_at n t desc next old new = record {
   opening = opening_lacks n old new;
   closing = λ events. LandmarksAre n t next old new (script_landmarks desc next events);
   within = LandmarksBefore n t desc next old new;
+  stored = TrailLacks t desc new;
 }
 
 -- Nothing was carried out and nothing printed, as at the opening, and the trail lacks what that says; or the text of the whole script was, as before the
@@ -88,13 +93,16 @@ IsControlDue desc events = is_due desc.controlpoint (syncs_after 0 events) ≡ t
 -- The script passes this limit. Of lines, bytes and held lines: what the whole lines before that place answer was printed, and these are their events,
 -- so no further line was carried out; of a line that is one too many to hold its first try, if there is one, which waits, is among them. The audit may
 -- go on up to file FILES of the description for what a script changes: exactly the text before the call of a verb was printed that is done, and stores a
--- record or makes a quiet point; and a stop leaves no quiet point of it, but where a control point was due at its syncpoint. It goes on up to file 9,999
--- for openings, ways back and closings: exactly the text before an ABORT that is done was printed, or before the way back at the script's end. In
--- each case the landmarks that were added are those of the opening and of the events before, and maybe the Begin of that ABORT or way back. Or it goes on
--- up to file 9,999, and nothing was carried out, and an entry of the opening is missing; or all that the script answers was printed, and the landmarks
--- that were added are those of the opening and of all events, without that of the close.
+-- record or makes a quiet point. Where that verb makes a quiet point, a stop leaves none of it, but where a control point was due at its syncpoint; where
+-- that verb makes none, the trail makes the records of its database but for one. The audit goes on up to file 9,999 for openings, ways back and closings:
+-- exactly the text before an ABORT that is done was printed, or before the way back at the script's end. In each case the landmarks that were added are
+-- those of the opening and of the events before, and maybe the Begin of that ABORT or way back. Or it goes on up to file 9,999, and nothing was carried
+-- out, and an entry of the opening is missing; or all that the script answers was printed, and the landmarks that were added are those of the opening and
+-- of all events, without that of the close.
 abbrev pub PassesScript : LimitKind → (List RunEvent → Type 0) → LacksAt → Described → Db → ℕ → List (List ℕ) → ℕ → List RunEvent → Option (List ℕ) → Option (List ℕ) → Type 0
-PassesScript (AuditFile f) Leaves lack desc db first lines n events before after = IsDue desc.files f Leaves (IsControlDue desc) lack.within before after events ⊎ ((f ≡ 9999) × IsAtEnds lack desc db first lines events before after)
+PassesScript (AuditFile f) Leaves lack desc db first lines n events before after =
+    IsFullAtEvent desc.files f Leaves (IsControlDue desc) lack.within lack.stored before after events
+    ⊎ ((f ≡ 9999) × IsAtEnds lack desc db first lines events before after)
 PassesScript Lines Leaves lack desc db first lines n events before after = PassesLines desc db first lines before after × AreExactly desc db first lines n events 1000000
 PassesScript Bytes Leaves lack desc db first lines n events before after = (p : PassesBytes desc db first lines before after) × AreExactly desc db first lines n events p.n
 PassesScript Held Leaves lack desc db first lines n events before after = (p : PassesWaiting desc db first lines before after) × AreExactly desc db first lines n events (p.n + 1)

@@ -36,4 +36,7 @@ pub mod PuttingEnters
 pub mod PuttingJudged
 pub mod PuttingNumbers
 pub mod PuttingPlaced
+pub mod PuttingOne
+pub mod PuttingOneLaws
+pub mod PuttingLacks
 pub mod PuttingStore

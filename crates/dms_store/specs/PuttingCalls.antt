@@ -8,7 +8,7 @@ use Rattle.dms_block.specs.declared.block_fault.BlockFault.TheVariants.{Disk, Me
 use Rattle.dms_block.specs.declared.blocks.Blocks.{Ghosts}
 use Rattle.dms_block.specs.declared.overlay.Overlay.{Overlay}
 use Rattle.dms_block.specs.Faults.{NotFull, Unbroken}
-use Rattle.dms_block.specs.Held.{Alters, HasCauses, HasCausesOr, Stays}
+use Rattle.dms_block.specs.Held.{Alters, HasCauses, HasCausesOr, Looks, Stays}
 use Rattle.dms_block.specs.HeldLaws.{alters_as, alters_more, alters_on, causes_or, causes_or_on, lasts_none, looks_alters, looks_as, looks_err, looks_none, looks_on, same_none}
 use Rattle.dms_block.specs.LandmarkLaws.{lands_err}
 use Rattle.dms_block.specs.View.{ReadsOverlay, WritesOverlay, under, overlay_changes}
@@ -82,6 +82,18 @@ module _ {B : Type 0} {g : Ghosts B} where
   -- more were allowed
   pub enters_more : {T : Type 0} (m k : ℕ) (r : Result T BlockFault) (a b : Overlay B g) → m ≤ k → WritesAtMost m r a b → WritesAtMost k r a b
   enters_more m k r a b le p = record { reads = p.reads; writes = record { looks = p.writes.looks; more = omega (arith, p.writes.more, le); same = p.writes.same }; causes = p.causes }
+
+  -- some of what was written is dropped, or stands in another order
+  pub enters_less : {T : Type 0} (m : ℕ) (r : Result T BlockFault) (a b c : Overlay B g) → c.below ≡ b.below → length (overlay_changes c) ≤ length (overlay_changes b) → WritesAtMost m r a b → WritesAtMost m r a c
+  enters_less m r a b c same less p = record {
+    reads = p.reads;
+    writes = record {
+      looks = subst (λ (x : B). Looks p.reads r (under a) (g.held x)) (sym same) p.writes.looks;
+      more = omega (arith, less, p.writes.more);
+      same = subst (λ (x : B). g.same_blocks a.below x) (sym same) p.writes.same;
+    };
+    causes = subst (λ (x : B). HasCausesOr (λ f k. ⊤) r (under a) (g.held x)) (sym same) p.causes;
+  }
 
   -- the causes of a call after it
   pub causes_then : {T U : Type 0} {x : T} (m : ℕ) (r : Result U BlockFault) (a b c : Overlay B g) → WritesAtMost m (Ok x) a b → HasCausesOr (λ f k. ⊥) r (under b) (under c) → HasCausesOr (λ f k. ⊥) r (under a) (under c)

@@ -150,7 +150,7 @@ stands_may records s owner h = by (s.owner == 0) h
 pub owned_may : (s : Shape) (owner : ℕ) → s.owner ≢ 0 → may_own s owner ≡ true
 owned_may s owner apart = let off : (s.owner == 0) ≡ false = grind (arith, nat_tests, apart) in ap (λ b. not b || (owner == 0)) off
 
-slot_fits : (desc : Described) (set : ℕ) (s : Shape) (x : Slot) (made : Record) → structure_of desc set ≡ Some s → x.rec ≡ made → RecordFits desc set made → may_own s made.owner ≡ true → x.counted < 2 ^ 32 → x.owned < 2 ^ 32 → SlotFits s x
+pub slot_fits : (desc : Described) (set : ℕ) (s : Shape) (x : Slot) (made : Record) → structure_of desc set ≡ Some s → x.rec ≡ made → RecordFits desc set made → may_own s made.owner ≡ true → x.counted < 2 ^ 32 → x.owned < 2 ^ 32 → SlotFits s x
 slot_fits desc set s x made at same fits own counted owned =
     let f : AreFitting s.items made.values = subst (λ (q : Option Shape). AreFitting (items_of q) made.values) at fits.values in
     record {
@@ -162,7 +162,7 @@ slot_fits desc set s x made at same fits own counted owned =
       plain = subst (λ (r : Record). ArePlain r.values) (sym same) f.plain;
     }
 
-counts_small : (s : Shape) (o : Option Slot) (rec : Record) → IfSome o (SlotFits s) → ((slot_after s.items o rec).counted < 2 ^ 32) × ((slot_after s.items o rec).owned < 2 ^ 32)
+pub counts_small : (s : Shape) (o : Option Slot) (rec : Record) → IfSome o (SlotFits s) → ((slot_after s.items o rec).counted < 2 ^ 32) × ((slot_after s.items o rec).owned < 2 ^ 32)
 counts_small s None rec f = (omega arith, omega arith)
 counts_small s (Some old) rec f = (f.counted, f.owned)
 

@@ -79,6 +79,7 @@ pub fn count_owner<B: Blocks>(
     ensures below { IsTrue (under over.old).told → IfOwned set (AreSlots (as_described desc.now) (overlay_content over.old)) → HasCausesOr (λ f b. ⊥) result (under over.old) (under over.new) }
     ensures counted { IfOk result (λ done. (db : Db) (own : ℕ → ℕ → ℕ) → IsTrue (under over.old).told → StandsFiles (as_described desc.now) db own (overlay_content over.old)
         → IfOwned set (MayCount db own set owner) → (done ≡ true) × StandsFiles (as_described desc.now) db (owners_after own set None owner) (overlay_content over.new)) }
+    ensures still { set ≡ 0 → overlay_content over.new ≡ overlay_content over.old }
 {
     if set == 0 {
         return Ok(true);

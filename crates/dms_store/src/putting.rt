@@ -1,5 +1,6 @@
 ghost use Rattle.std.specs.Prelude.{◌≡◌, ◌≤◌, ◌+◌, ◌*◌, ℕ, [], true, Some, None, IfOk, IfSome, IsTrue, length};
 ghost use Rattle.std.specs.List.{list_all};
+ghost use Rattle.std.specs.Str.{bytes_eq};
 ghost use Rattle.std.specs.Option.{option_copied};
 ghost use Rattle.std.specs.declared.option.Option.{Option};
 ghost use Rattle.dms_block.specs.Content.{Content};
@@ -9,19 +10,20 @@ ghost use Rattle.dms_block.specs.View.{overlay_content, under, overlay_changes};
 ghost use Rattle.dms_desc.specs.Lookups.{structure_of};
 ghost use Rattle.dms_desc.specs.Shape.{Shape, Described, as_described, shape_of};
 ghost use Rattle.dms_model.specs.Db.{Db};
-ghost use Rattle.dms_layout.specs.Slots.{SlotFits};
+ghost use Rattle.dms_layout.specs.Slots.{SlotFits, slot_bytes};
 ghost use Rattle.dms_model.specs.Fitting.{IsDataSet, IsNumber, PutFits, RecordFits};
 ghost use Rattle.dms_model.specs.Stores.{with_links_of};
 ghost use Rattle.dms_model.specs.Valid.{is_data_set};
 ghost use Rattle.dms_slots.specs.Seen.{count_of};
 ghost use Rattle.dms_slots.specs.SlotBlocks.{block_of, file_of, slot_at, slot_opt};
 ghost use Rattle.dms_store.specs.Lifted.{IsUsable};
-ghost use Rattle.dms_store.specs.Putting.{Answers, AnswersOver, FullStored};
+ghost use Rattle.dms_store.specs.Putting.{Answers, AnswersOver, FullLacks, FullStored};
 ghost use Rattle.dms_store.specs.PuttingAfter.{slot_after, with_record};
 ghost use Rattle.dms_store.specs.PuttingCalls.{WritesAtMost, HandsDown};
 ghost use Rattle.dms_store.specs.Owning.{AreSlots, IfOwned};
 ghost use Rattle.dms_store.specs.PuttingEnters.{FindsSlot, IfStored, IsEntered, IsJudged, IsPlaced, IsUncounted, OwnerStands};
 ghost use Rattle.dms_store.specs.PuttingLaws.{IsFree, ListsPut, MayStand};
+ghost use Rattle.dms_store.specs.PuttingOne.{ChangesSet, IfStoredAs, StoresOne, WritesOne};
 ghost use Rattle.dms_store.specs.PuttingOver.{AreWhole};
 ghost use Rattle.dms_store.specs.PuttingSteps.{SlotChanged};
 ghost use Rattle.dms_store.specs.Rows.{rec_opt};
@@ -30,9 +32,10 @@ ghost use Rattle.dms_store.specs.Spelled.{file_in, is_whole, database_in};
 
 use crate::linking::slot_after;
 use crate::owning::count_owner;
+use dms_base::Memory;
 use dms_block::{Block, BlockFault, Blocks, Change, Overlay};
 use dms_desc::{Description, Record, Structure};
-use dms_layout::Slot;
+use dms_layout::{Slot, to_slot};
 use dms_model::Put;
 use dms_sets::{SetAnswer, change};
 use dms_slots::{read_slot, take_least, write_slot};
@@ -90,6 +93,7 @@ fn write_at<B: Blocks>(
         → IfOwned s.now.owner (IfStored p (AreSlots (as_described desc.now) (overlay_content over.new)))) }
     ensures entered { IfOk result (λ p. (db : Db) (o : Option Slot) (rec : Record) → IsPlaced (as_described desc.now) db (shape_of s.now) number o rec (option_copied old.entry) slot.now over.old
         → OwnerStands db (shape_of s.now) o rec → IsUncounted (as_described desc.now) db s.now.number number slot.now.rec (overlay_content over.new) p) }
+    ensures one { IfOk result (λ p. IsTrue (under over.old).told → IfStoredAs number p (ChangesSet (as_described desc.now) s.now.number (overlay_content over.old) (overlay_content over.new))) }
 {
     match change(over, alloc, desc, s.number, number, old, Some(&slot.rec)) {
         Err(e) => Err(e),
@@ -126,6 +130,7 @@ fn write_new<B: Blocks>(
         → HasCausesOr (λ f b. ⊥) result (under over.old) (under over.new) }
     ensures entered { IfOk result (λ p. (db : Db) (o : Option Slot) (rec : Record) → IsPlaced (as_described desc.now) db (shape_of s.now) number o rec None slot.now over.old
         → OwnerStands db (shape_of s.now) o rec → IsEntered (as_described desc.now) db s.now.number number slot.now.rec (overlay_content over.new) p) }
+    ensures one { IfOk result (λ p. s.now.owner ≡ 0 → IsTrue (under over.old).told → IfStoredAs number p (ChangesSet (as_described desc.now) s.now.number (overlay_content over.old) (overlay_content over.new))) }
 {
     match write_at(over, alloc, desc, s, number, None, slot) {
         Err(e) => Err(e),
@@ -139,7 +144,16 @@ fn write_new<B: Blocks>(
     }
 }
 
-// Stores a record under a number, where this slot stands there.
+// Whether two slots of a data set have the same bytes.
+fn have_same_bytes(alloc: Global, s: &Structure, a: &Slot, b: &Slot) -> Result<bool, Memory>
+    ensures { IfOk result (λ same. same ≡ bytes_eq (slot_bytes s.now.items a.now) (slot_bytes s.now.items b.now)) }
+{
+    let of_a = to_slot(alloc, s, a)?;
+    let of_b = to_slot(alloc, s, b)?;
+    Ok(of_a.as_slice() == of_b.as_slice())
+}
+
+// Stores a record under a number, where this slot stands there. Where the slot would stay as it is, what was written over the blocks is dropped.
 fn store_at<B: Blocks>(
     over: &mut Overlay<B>,
     alloc: Global,
@@ -164,11 +178,25 @@ fn store_at<B: Blocks>(
     ensures entered { IfOk result (λ p. (db : Db) → FindsSlot (as_described desc.now) db (shape_of s.now) number (option_copied old.entry) over.old
         → OwnerStands db (shape_of s.now) (option_copied old.entry) rec.now
         → IsEntered (as_described desc.now) db s.now.number number (with_links_of s.now.items (rec_opt (slot_opt (option_copied old.entry))) rec.now) (overlay_content over.new) p) }
+    ensures one { IfOk result (λ p. (db : Db) → FindsSlot (as_described desc.now) db (shape_of s.now) number (option_copied old.entry) over.old
+        → s.now.owner ≡ 0 → StoresOne (as_described desc.now) db s.now.number rec.now (overlay_changes over.new) (under over.old).content (overlay_content over.new) p) }
 {
     let slot = slot_after(alloc, s, old, rec)?;
     match old {
         None => write_new(over, alloc, desc, s, number, &slot),
-        Some(old) => write_at(over, alloc, desc, s, number, Some(&old.rec), &slot),
+        Some(old) => {
+            let same = have_same_bytes(alloc, s, old, &slot)?;
+            match write_at(over, alloc, desc, s, number, Some(&old.rec), &slot) {
+                Err(e) => Err(e),
+                Ok(answer) => {
+                    if same {
+                        over.forget();
+                        return Ok(answer);
+                    }
+                    Ok(answer)
+                }
+            }
+        }
     }
 }
 
@@ -219,6 +247,8 @@ fn put_new<B: Blocks>(
         → HasCausesOr (λ f b. ⊥) result (under over.old) (under over.new) }
     ensures answers { IfOk result (λ p. IsTrue (under over.old).told
         → AnswersOver (as_described desc.now) (under over.old).content (overlay_content over.new) s.now.number None rec.now p) }
+    ensures one { IfOk result (λ p. IsTrue (under over.old).told
+        → WritesOne (as_described desc.now) (under over.old).content s.now.number rec.now (overlay_changes over.new) (overlay_content over.new) p) }
 {
     match take_least(over, alloc, s) {
         Err(e) => Err(e),
@@ -248,6 +278,8 @@ fn put_old<B: Blocks>(
         → HasCausesOr (λ f b. ⊥) result (under over.old) (under over.new) }
     ensures answers { IfOk result (λ p. IsTrue (under over.old).told
         → AnswersOver (as_described desc.now) (under over.old).content (overlay_content over.new) s.now.number (Some number) rec.now p) }
+    ensures one { IfOk result (λ p. IsTrue (under over.old).told
+        → WritesOne (as_described desc.now) (under over.old).content s.now.number rec.now (overlay_changes over.new) (overlay_content over.new) p) }
 {
     match read_slot(over, alloc, s, number) {
         Err(e) => Err(e),
@@ -276,6 +308,8 @@ fn put_in<B: Blocks>(
         → HasCausesOr (λ f b. ⊥) result (under over.old) (under over.new) }
     ensures answers { IfOk result (λ p. IsTrue (under over.old).told
         → AnswersOver (as_described desc.now) (under over.old).content (overlay_content over.new) s.now.number number rec.now p) }
+    ensures one { IfOk result (λ p. IsTrue (under over.old).told
+        → WritesOne (as_described desc.now) (under over.old).content s.now.number rec.now (overlay_changes over.new) (overlay_content over.new) p) }
 {
     match number {
         None => put_new(over, alloc, desc, s, rec),
@@ -302,6 +336,8 @@ fn put_over<B: Blocks>(
         → HasCausesOr (λ f b. ⊥) result (under over.old) (under over.new) }
     ensures answers { IfOk result (λ p. IsTrue (under over.old).told
         → AnswersOver (as_described desc.now) (under over.old).content (overlay_content over.new) set number rec.now p) }
+    ensures one { IfOk result (λ p. IsTrue (under over.old).told
+        → WritesOne (as_described desc.now) (under over.old).content set rec.now (overlay_changes over.new) (overlay_content over.new) p) }
 {
     match desc.structure(set) {
         None => Ok(Put::Full),
@@ -311,7 +347,9 @@ fn put_over<B: Blocks>(
 
 /// Stores a new record of a data set under the least free number, with null links, which its owner counts from then on;
 /// or replaces all items but the links of the record with this number, which keeps its owner. What is written reaches the
-/// blocks in one call, and only where the record is stored.
+/// blocks in one call, and only where the record is stored; the block of its slot is handed down last. So where the audit has no room
+/// for a record of the outer level, the records in the slots are those of the database with it but for one. Replacing a record by an
+/// equal one changes no block.
 pub fn put<B: Blocks>(
     over: &mut Overlay<B>,
     alloc: Global,
@@ -331,6 +369,7 @@ pub fn put<B: Blocks>(
         → HasCausesOr (λ f b. ⊥) result (under over.old) (under over.new) }
     ensures full { IfFull result (λ f. f ≡ (B.pace over.old.below).last) }
     ensures stored { IsTrue (under over.old).told → FullStored (as_described desc.now) (under over.old).content set number rec.now result }
+    ensures lacks { IsTrue (under over.old).told → FullLacks (as_described desc.now) (under over.old).content (under over.new).content set number rec.now result }
     ensures answers { IfOk result (λ p. IsTrue (under over.old).told
         → Answers (as_described desc.now) (under over.old).content (under over.new).content set number rec.now p) }
 {
@@ -339,9 +378,15 @@ pub fn put<B: Blocks>(
             over.forget();
             Err(e)
         }
-        Ok(Put::Stored(number)) => match over.finish(alloc) {
-            Err(e) => Err(e),
-            Ok(()) => Ok(Put::Stored(number)),
+        Ok(Put::Stored(number)) => match over.put_last(alloc, 30_000 + u32::from(set)) {
+            Err(_refused) => {
+                over.forget();
+                Err(BlockFault::Memory)
+            }
+            Ok(()) => match over.finish(alloc) {
+                Err(e) => Err(e),
+                Ok(()) => Ok(Put::Stored(number)),
+            },
         },
         Ok(Put::Duplicate(structure)) => {
             over.forget();

@@ -12,7 +12,7 @@ ghost use Rattle.dms_model.specs.Seen.{GoesBack, HasStoreCauses, IfPointsTold, I
 ghost use Rattle.dms_store.specs.Lifted.{IsUsable, Serves};
 ghost use Rattle.dms_model.specs.Stores.{Tells};
 ghost use Rattle.dms_store.specs.Looked.{Looked};
-ghost use Rattle.dms_store.specs.PuttingStore.{ChangesAtMost, FullWhere, Stores};
+ghost use Rattle.dms_store.specs.PuttingStore.{ChangesAtMost, FullWhere, LacksWhere, Stores};
 ghost use Rattle.dms_store.specs.Storing.{seen_by};
 ghost use Rattle.std.specs.FinMap.{get};
 
@@ -205,7 +205,8 @@ impl<B: Blocks> BlockStore<B> {
 
     /// Stores a new record of a data set under the least free number, with null links, which its owner counts from then
     /// on; or replaces all items but the links of the record with this number, which keeps its owner. It does so where
-    /// that record stands, and the owner of a new one.
+    /// that record stands, and the owner of a new one. Where the audit has no room for a record of the outer level, the
+    /// records are those of the database with it but for one.
     pub fn put(
         &mut self,
         alloc: Global,
@@ -222,6 +223,7 @@ impl<B: Blocks> BlockStore<B> {
         ensures put { IfOk result (Stores (as_described self.old.desc) (seen_by self.old).db (seen_by self.new).db set number rec.now) }
         ensures full { IfFull result (λ f. f ≡ (seen_by self.old).pace.last) }
         ensures stored { FullWhere (as_described self.old.desc) (seen_by self.old).db set number rec.now result }
+        ensures lacks { LacksWhere (as_described self.old.desc) (seen_by self.old).db (seen_by self.new).records set number rec.now result }
         ensures changed { ChangesAtMost (64 * length (as_described self.old.desc).structures) result (seen_by self.old) (seen_by self.new) }
         ensures landmarks { AddsItsLandmarks false result (seen_by self.old).landmarks (seen_by self.new).landmarks [] }
         ensures same { B.same_blocks self.old.over.below self.new.over.below }

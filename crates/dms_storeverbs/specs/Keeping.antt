@@ -7,7 +7,8 @@ use Rattle.dms_block.specs.Faults.{IfFull}
 use Rattle.dms_desc.specs.Shape.{Described}
 use Rattle.dms_laws.specs.Exclusive.{IsExclusive}
 use Rattle.dms_model.specs.Programs.{Program}
-use Rattle.dms_model.specs.Db.{Db}
+use Rattle.dms_model.specs.Db.{Db, Records}
+use Rattle.dms_model.specs.Lacking.{LacksOne}
 use Rattle.dms_model.specs.declared.reply.Reply.{Reply}
 use Rattle.dms_model.specs.declared.reply.Reply.TheVariants.{Exception}
 use Rattle.dms_model.specs.Session.{Session, StoreResult, Refused, Keeps, keep, restart_of}
@@ -44,3 +45,12 @@ KeepsRecord (Keeps p db) = ⊤
 -- Where the audit had no room, what this rule gives of program i is stored: it refuses nothing.
 abbrev pub FullWhereKept : ℕ → (Program → Db → StoreResult) → List Program → View → {T : Type 0} → Result T BlockFault → Type 0
 FullWhereKept i rule programs old result = (p : Program) → slice_get programs i ≡ Some p → (s : Session) → StandsFor old s → IsExclusive s → IfFull result (λ f. KeepsRecord (rule p s.db))
+
+-- the records are those of the database with the one that is stored, but for one
+abbrev pub IsWithout : Option Records → StoreResult → Type 0
+IsWithout now (Refused reply) = ⊤
+IsWithout now (Keeps p db) = LacksOne now db
+
+-- So it is where the audit had no room for what this rule gives of program i.
+abbrev pub LacksKept : ℕ → (Program → Db → StoreResult) → List Program → View → Option Records → {T : Type 0} → Result T BlockFault → Type 0
+LacksKept i rule programs old now result = (p : Program) → slice_get programs i ≡ Some p → (s : Session) → StandsFor old s → IsExclusive s → IfFull result (λ f. IsWithout now (rule p s.db))

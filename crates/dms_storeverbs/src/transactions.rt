@@ -10,8 +10,8 @@ ghost use Rattle.dms_block.specs.Landmarks.{AddsItsLandmarks};
 ghost use Rattle.dms_block.specs.Faults.{IfFull, NotFull, Undamaged};
 ghost use Rattle.dms_model.specs.Db.{Db};
 ghost use Rattle.dms_storeverbs.specs.Costs.{Costs, limit_if, VerbLandmarks};
-ghost use Rattle.dms_storeverbs.specs.Keeping.{FullWhereKept, WasKept, kept_if};
-ghost use Rattle.dms_storeverbs.specs.Rooms.{FullFor, FullForQuiet, NoPointWhere};
+ghost use Rattle.dms_storeverbs.specs.Keeping.{FullWhereKept, LacksKept, WasKept, kept_if};
+ghost use Rattle.dms_storeverbs.specs.Rooms.{FullFor, FullForQuiet, LacksRecord, NoPointWhere};
 ghost use Rattle.dms_storeverbs.specs.View.{Does, DoesWhere, EngineLasts, MayStep, Room, engine_view, view};
 
 use crate::refusal::{Refusal, refuse, succeed};
@@ -39,6 +39,7 @@ impl<St: Store> Engine<St> {
         ensures mute_fault { IsErrOf result BlockFault.Say → ⊥ }
         ensures file { IfFull result (λ f. f ≡ (engine_view self.old).pace.last) }
         ensures full { FullWhereKept i (λ p db. keep (as_described self.old.desc) p db set) self.old.programs.items (view self.old) result }
+        ensures lacks { LacksKept i (λ p db. keep (as_described self.old.desc) p db set) self.old.programs.items (view self.old) (engine_view self.new).records result }
         ensures landmarks { AddsItsLandmarks false result (engine_view self.old).landmarks (engine_view self.new).landmarks [] }
         ensures lasts { EngineLasts result self.old self.new }
     {
@@ -83,6 +84,7 @@ impl<St: Store> Engine<St> {
         ensures mute_fault { IsErrOf result BlockFault.Say → ⊥ }
         ensures file { IfFull result (λ f. f ≡ (engine_view self.old).pace.last) }
         ensures full { FullWhereKept i (kept_if audit (as_described self.old.desc)) self.old.programs.items (view self.old) result }
+        ensures lacks { LacksKept i (kept_if audit (as_described self.old.desc)) self.old.programs.items (view self.old) (engine_view self.new).records result }
         ensures none { audit ≡ false → NotFull result }
         ensures landmarks { AddsItsLandmarks false result (engine_view self.old).landmarks (engine_view self.new).landmarks [] }
         ensures lasts { EngineLasts result self.old self.new }
@@ -142,6 +144,7 @@ impl<St: Store> Engine<St> {
         ensures file { IfFull result (λ f. f ≡ (engine_view self.old).pace.last) }
         ensures full { (p : Program) → slice_get self.old.programs.items i ≡ Some p → FullFor self.old result (Verb.Store set) (λ s. store_step (as_described self.old.desc) i p s set) }
         ensures no_point { (p : Program) → slice_get self.old.programs.items i ≡ Some p → NoPointWhere MayStep self.old self.new result (λ s. store_step (as_described self.old.desc) i p s set) }
+        ensures lacks { (p : Program) → slice_get self.old.programs.items i ≡ Some p → LacksRecord self.old self.new result (Verb.Store set) (λ s. store_step (as_described self.old.desc) i p s set) }
         ensures landmarks { VerbLandmarks false result (engine_view self.old) (engine_view self.new) }
         ensures lasts { EngineLasts result self.old self.new }
     {
@@ -177,6 +180,7 @@ impl<St: Store> Engine<St> {
         ensures file { IfFull result (λ f. f ≡ (engine_view self.old).pace.last) }
         ensures full { (p : Program) → slice_get self.old.programs.items i ≡ Some p → FullFor self.old result (Verb.Begin audit) (λ s. begin_step (as_described self.old.desc) i p s audit) }
         ensures no_point { (p : Program) → slice_get self.old.programs.items i ≡ Some p → NoPointWhere MayStep self.old self.new result (λ s. begin_step (as_described self.old.desc) i p s audit) }
+        ensures lacks { (p : Program) → slice_get self.old.programs.items i ≡ Some p → LacksRecord self.old self.new result (Verb.Begin audit) (λ s. begin_step (as_described self.old.desc) i p s audit) }
         ensures landmarks { VerbLandmarks false result (engine_view self.old) (engine_view self.new) }
         ensures lasts { EngineLasts result self.old self.new }
     {
@@ -225,6 +229,7 @@ impl<St: Store> Engine<St> {
         ensures file { IfFull result (λ f. f ≡ (engine_view self.old).pace.last) }
         ensures full { (p : Program) → slice_get self.old.programs.items i ≡ Some p → FullFor self.old result (Verb.End audit sync) (λ s. end_step (as_described self.old.desc) i p s audit sync) }
         ensures no_point { (p : Program) → slice_get self.old.programs.items i ≡ Some p → NoPointWhere MayStep self.old self.new result (λ s. end_step (as_described self.old.desc) i p s audit sync) }
+        ensures lacks { (p : Program) → slice_get self.old.programs.items i ≡ Some p → LacksRecord self.old self.new result (Verb.End audit sync) (λ s. end_step (as_described self.old.desc) i p s audit sync) }
         ensures landmarks { VerbLandmarks false result (engine_view self.old) (engine_view self.new) }
         ensures lasts { EngineLasts result self.old self.new }
     {

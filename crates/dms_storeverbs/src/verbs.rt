@@ -12,7 +12,7 @@ ghost use Rattle.dms_model.specs.Verbs.{IsPathOf, IsVerbOf};
 ghost use Rattle.dms_block.specs.Landmarks.{AddsItsLandmarks};
 ghost use Rattle.dms_block.specs.Faults.{IfFull, NotFull, Undamaged};
 ghost use Rattle.dms_storeverbs.specs.Costs.{Costs, block_limit, changes, full_file, takes_none, VerbLandmarks};
-ghost use Rattle.dms_storeverbs.specs.Rooms.{FullFor, NoPointWhere};
+ghost use Rattle.dms_storeverbs.specs.Rooms.{FullFor, LacksRecord, NoPointWhere};
 ghost use Rattle.dms_storeverbs.specs.View.{Does, EngineLasts, MayStep, SameSession, engine_view};
 
 use crate::keys::{agreeing, key_values};
@@ -138,6 +138,7 @@ impl<St: Store> Engine<St> {
         ensures file { IfFull result (λ f. f ≡ full_file verb.now (engine_view self.old).pace.last) }
         ensures full { (p : Program) → slice_get self.old.programs.items i ≡ Some p → FullFor self.old result verb.now (λ s. verb_step (as_described self.old.desc) i p s verb.now) }
         ensures no_point { (p : Program) → slice_get self.old.programs.items i ≡ Some p → NoPointWhere MayStep self.old self.new result (λ s. verb_step (as_described self.old.desc) i p s verb.now) }
+        ensures lacks { (p : Program) → slice_get self.old.programs.items i ≡ Some p → LacksRecord self.old self.new result verb.now (λ s. verb_step (as_described self.old.desc) i p s verb.now) }
         ensures landmarks { VerbLandmarks (asks_back_out verb.now) result (engine_view self.old) (engine_view self.new) }
         ensures lasts { EngineLasts result self.old self.new }
     {
@@ -195,6 +196,7 @@ impl<St: Store> Engine<St> {
         ensures file { IfFull result (λ f. f ≡ full_file verb.now (engine_view self.old).pace.last) }
         ensures full { FullFor self.old result verb.now (λ s. carried_out (as_described self.old.desc) s program.now verb.now) }
         ensures no_point { NoPointWhere MayStep self.old self.new result (λ s. carried_out (as_described self.old.desc) s program.now verb.now) }
+        ensures lacks { LacksRecord self.old self.new result verb.now (λ s. carried_out (as_described self.old.desc) s program.now verb.now) }
         ensures landmarks { VerbLandmarks (asks_back_out verb.now) result (engine_view self.old) (engine_view self.new) }
         ensures lasts { EngineLasts result self.old self.new }
     {
@@ -211,7 +213,8 @@ impl<St: Store> Engine<St> {
     /// One step of a program: its verb, one that a line can spell, is carried out, and its answer ends its wait or begins one.
     /// Answers the store's fault, which is never Say, and Full for STORE, BEGIN, END and ABORT alone; and Memory where memory is refused. Where
     /// the store holds a database, Full comes only of a verb that would be done and store a record or make a quiet point, or of such an ABORT.
-    /// No stop then leaves the verb's quiet point, unless a control point was due at the sync of its syncpoint.
+    /// No stop then leaves the verb's quiet point, unless a control point was due at the sync of its syncpoint; and of a verb that stores
+    /// a record and makes none, the records in the store are those of the database with it but for one.
     #[tactic(auto, using(std::proofs::lemmas::Option::gets), unfolding(dms_model::specs::Session::step))]
     pub fn call(&mut self, alloc: Global, program: &Name, verb: &Verb) -> Result<Answer, BlockFault>
         requires verb { IsVerbOf (as_described self.old.desc) verb.now }
@@ -226,6 +229,7 @@ impl<St: Store> Engine<St> {
         ensures file { IfFull result (λ f. f ≡ full_file verb.now (engine_view self.old).pace.last) }
         ensures full { FullFor self.old result verb.now (λ s. step (as_described self.old.desc) s program.now verb.now) }
         ensures no_point { NoPointWhere MayStep self.old self.new result (λ s. step (as_described self.old.desc) s program.now verb.now) }
+        ensures lacks { LacksRecord self.old self.new result verb.now (λ s. step (as_described self.old.desc) s program.now verb.now) }
         ensures landmarks { VerbLandmarks (asks_back_out verb.now) result (engine_view self.old) (engine_view self.new) }
         ensures lasts { EngineLasts result self.old self.new }
     {

@@ -293,11 +293,12 @@ pub fn dms<S: Site, I: Source>(
     // of the state that is told: at every moment a stop leaves the database of one quiet point, at status 0 the last one's, and exactly the answers or a
     // prefix of them were printed. No more was carried out than the first so many lines, which keep the limits of lines and bytes, or than the whole script
     // to its end; at 6, and 8 of lines or bytes, than the lines before, and at 8 of held lines than these and the first try of one more. At 8 of an audit
-    // file the audit was to grow, no stop leaves a quiet point of that verb but where a control point was due at its syncpoint, and no Control of
-    // that verb or way back is there; or nothing was carried out and the opening lacks an entry, or all that the script answers was printed and no Control
-    // of a close is there. The trail has no more new entries than these may make, at each status: an opening, what was answered, one call whose answer
-    // wasn't printed, and a close. At status 0 the Controls and Begins that were added are exactly those of the opening, of the script and of the close; at
-    // 8 of an audit file, unless the opening lacks an entry, those of the opening and of what comes before, and maybe the Begin of an ABORT or way back
+    // file a verb that is done was to append, or an ABORT or a way back: no stop leaves the verb's quiet point, but where a control point was due at its
+    // syncpoint; where it stores a record and makes none the trail makes the records of its database but for one; and no Control of that verb or way back
+    // is there. Or nothing was carried out and the opening lacks an entry, or all that the script answers was printed and no Control of a close is there.
+    // The trail has no more new entries than these may make, at each status: an opening, what was answered, one call whose answer wasn't printed, and a
+    // close. At status 0 the Controls and Begins that were added are exactly those of the opening, of the script and of the close; at 8 of an audit file,
+    // unless the opening lacks an entry, those of the opening and of what comes before, and maybe the Begin of an ABORT or way back
     ensures run { OnRun words.now (RunsCommand S.Site state site.old site.new (I.left input.old) (I.left input.new) result) }
     // and of its files, whatever the input is: at every moment a stop leaves their trail, with the same tag, and blocks behind it that hold an entry; the
     // audit files before it stay

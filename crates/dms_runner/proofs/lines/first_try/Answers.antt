@@ -12,7 +12,7 @@ use Rattle.dms_runner.proofs.Exclusive.{may_step, step_exclusive}
 use Rattle.dms_runner.proofs.Verbs.{verbs_pushed, verbs_under}
 use Rattle.dms_runner.proofs.Answered.{says_nothing_more}
 use Rattle.dms_storeverbs.specs.Costs.{IsFullFor}
-use Rattle.dms_storeverbs.specs.Rooms.{LeavesNoPoint}
+use Rattle.dms_storeverbs.specs.Rooms.{LacksIts, LeavesNoPoint}
 use Rattle.dms_block.specs.Landmarks.{AddsNoFurther}
 use Rattle.dms_model.specs.BackOut.{asks_back_out}
 use Rattle.dms_runner.proofs.Happening.{step_numbers, ran_calls, ran_on, ran_as, part_calls, part_of_first, part_on, part_on_said, part_all, part_as, part_err, had_room, full_call}
@@ -32,7 +32,7 @@ pub returns-in_err-answer-clause-part : goal.returns-in_err-answer-clause-part
 returns-in_err-answer-clause-part g c = λ now stands same line may.
     let o = step (as_described c.args.engine.now.desc) now.session c.args.name c.args.verb in
     let starts = tried_starts (as_described c.args.engine.now.desc) now c.args.name c.args.verb o in
-    part_as _ _ _ _ (sym starts.1) (part_of_first _ _ (calls c.args.verb o ∷ []) starts.0 (part_calls _ _ _ c.args.verb o (full_call c.from_residual.result _ (IsFullFor _ c.args.verb o) c.from_residual.ensures.1 (c.in_err-answer.ensures.full now.session stands (may_step may))) (full_call c.from_residual.result _ (λ (n : ℕ). LeavesNoPoint (engine_view c.args.engine.now) (engine_view c.call.new.self) o) c.from_residual.ensures.1 (c.in_err-answer.ensures.no_point now.session stands (may_step may))) (full_call c.from_residual.result _ (λ (n : ℕ). AddsNoFurther (asks_back_out c.args.verb) (engine_view c.args.engine.now).landmarks (engine_view c.call.new.self).landmarks []) c.from_residual.ensures.1 c.in_err-answer.ensures.landmarks.full) c.call.ensures.costs c.call.ensures.lasts.causes.cause c.call.ensures.mute (c.call.ensures.step now.session stands (may_step may))))
+    part_as _ _ _ _ (sym starts.1) (part_of_first _ _ (calls c.args.verb o ∷ []) starts.0 (part_calls _ _ _ c.args.verb o (full_call c.from_residual.result _ (IsFullFor _ c.args.verb o) c.from_residual.ensures.1 (c.in_err-answer.ensures.full now.session stands (may_step may))) (full_call c.from_residual.result _ (λ (n : ℕ). LeavesNoPoint (engine_view c.args.engine.now) (engine_view c.call.new.self) o) c.from_residual.ensures.1 (c.in_err-answer.ensures.no_point now.session stands (may_step may))) (full_call c.from_residual.result _ (λ (n : ℕ). AddsNoFurther (asks_back_out c.args.verb) (engine_view c.args.engine.now).landmarks (engine_view c.call.new.self).landmarks []) c.from_residual.ensures.1 c.in_err-answer.ensures.landmarks.full) (full_call c.from_residual.result _ (λ (n : ℕ). LacksIts (engine_view c.call.new.self).records c.args.verb o) c.from_residual.ensures.1 (c.in_err-answer.ensures.lacks now.session stands (may_step may))) c.call.ensures.costs c.call.ensures.lasts.causes.cause c.call.ensures.mute (c.call.ensures.step now.session stands (may_step may))))
 
 pub returns-in_err-say_answer-clause-part : goal.returns-in_err-say_answer-clause-part
 returns-in_err-say_answer-clause-part g c = λ now stands same line may.

@@ -6,7 +6,7 @@ use Rattle.dms_model.proofs.Rises.{step_small}
 use Rattle.dms_desc.specs.Shape.{as_described}
 use Rattle.dms_runner.specs.Events.{calls}
 use Rattle.dms_storeverbs.specs.Costs.{IsFullFor}
-use Rattle.dms_storeverbs.specs.Rooms.{LeavesNoPoint}
+use Rattle.dms_storeverbs.specs.Rooms.{LacksIts, LeavesNoPoint}
 use Rattle.dms_block.specs.Landmarks.{AddsNoFurther}
 use Rattle.dms_model.specs.BackOut.{asks_back_out}
 use Rattle.dms_runner.proofs.Happening.{step_numbers, ran_calls, ran_on, ran_as, part_calls, part_of_first, part_on_said, part_as, part_err, full_call}
@@ -16,7 +16,7 @@ use Rattle.dms_runner.proofs.saying.try_line.Goals as goal
 pub returns-in_err-answer-clause-part : goal.returns-in_err-answer-clause-part
 returns-in_err-answer-clause-part g c = λ s stands may.
     let o = step (as_described c.args.engine.now.desc) s c.args.waiting.now.program c.args.waiting.now.verb in
-    part_of_first _ _ (calls c.args.waiting.now.verb o ∷ []) _ (part_calls _ _ _ c.args.waiting.now.verb o (full_call c.from_residual.result _ (IsFullFor _ c.args.waiting.now.verb o) c.from_residual.ensures.1 (c.in_err-answer.ensures.full s stands may)) (full_call c.from_residual.result _ (λ (n : ℕ). LeavesNoPoint (engine_view c.args.engine.now) (engine_view c.call.new.self) o) c.from_residual.ensures.1 (c.in_err-answer.ensures.no_point s stands may)) (full_call c.from_residual.result _ (λ (n : ℕ). AddsNoFurther (asks_back_out c.args.waiting.now.verb) (engine_view c.args.engine.now).landmarks (engine_view c.call.new.self).landmarks []) c.from_residual.ensures.1 c.in_err-answer.ensures.landmarks.full) c.call.ensures.costs c.call.ensures.lasts.causes.cause c.call.ensures.mute (c.call.ensures.step s stands may))
+    part_of_first _ _ (calls c.args.waiting.now.verb o ∷ []) _ (part_calls _ _ _ c.args.waiting.now.verb o (full_call c.from_residual.result _ (IsFullFor _ c.args.waiting.now.verb o) c.from_residual.ensures.1 (c.in_err-answer.ensures.full s stands may)) (full_call c.from_residual.result _ (λ (n : ℕ). LeavesNoPoint (engine_view c.args.engine.now) (engine_view c.call.new.self) o) c.from_residual.ensures.1 (c.in_err-answer.ensures.no_point s stands may)) (full_call c.from_residual.result _ (λ (n : ℕ). AddsNoFurther (asks_back_out c.args.waiting.now.verb) (engine_view c.args.engine.now).landmarks (engine_view c.call.new.self).landmarks []) c.from_residual.ensures.1 c.in_err-answer.ensures.landmarks.full) (full_call c.from_residual.result _ (λ (n : ℕ). LacksIts (engine_view c.call.new.self).records c.args.waiting.now.verb o) c.from_residual.ensures.1 (c.in_err-answer.ensures.lacks s stands may)) c.call.ensures.costs c.call.ensures.lasts.causes.cause c.call.ensures.mute (c.call.ensures.step s stands may))
 
 pub returns-in_err-say_tried-clause-part : goal.returns-in_err-say_tried-clause-part
 returns-in_err-say_tried-clause-part g c = λ s stands may.

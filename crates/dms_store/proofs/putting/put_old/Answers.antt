@@ -14,6 +14,10 @@ use Rattle.dms_store.specs.Finding.{seen_below}
 use Rattle.dms_store.specs.PuttingCalls.{enters_on}
 use Rattle.dms_store.specs.PuttingJudged.{gone_answers, old_answers, owner_old}
 use Rattle.dms_store.specs.PuttingPlaced.{few_numbers, found_on, none_bad}
+use Rattle.dms_block.specs.View.{overlay_changes}
+use Rattle.dms_desc.specs.Shape.{Shape}
+use Rattle.dms_desc_bytes.specs.Finding.{owner_in as owner_of}
+use Rattle.dms_store.specs.PuttingOne.{StoresOne}
 use Rattle.dms_store.proofs.putting.put_old.Goals as goal
 
 pub returns-in-Err-clause-below : goal.returns-in-Err-clause-below
@@ -60,3 +64,16 @@ returns-in-Ok-Some-clause-answers g c =
     let found = found_on desc a b c.requires.usable db told spelt reads s c.args.number (Some c.in-Ok-Some.old) was in
     old_answers desc c.requires.usable.serves.served db (under a).content (overlay_content c.store_at.new.over) s.number s c.args.rec.now spelt c.requires.at c.requires.set c.requires.new c.args.number c.in-Ok-Some.old p c.requires.low small was fits
     (h db found (owner_old db s c.in-Ok-Some.old c.args.rec.now))) c.store_at.ensures.entered
+
+pub returns-in-Ok-Some-clause-one : goal.returns-in-Ok-Some-clause-one
+returns-in-Ok-Some-clause-one g c =
+    IfOk-weaker c.store_at.result _ _ (λ p h told db spelt outer.
+    let desc = as_described c.args.desc.now in
+    let s = shape_of c.args.s.now in
+    let a = c.args.over.now in
+    let b = c.read_slot.new.b in
+    let reads = c.in-Ok-Some.ensures.reads in
+    let was = ap (λ (x : Content). slot_at s (x (file_of s.number)) c.args.number) (sym (seen_below a c.requires.usable.none)) ∙ c.in-Ok-Some.ensures.slot told ∙ ap slot_opt c.in-Ok-Some.field-0-is in
+    let found = found_on desc a b c.requires.usable db told spelt reads s c.args.number (Some c.in-Ok-Some.old) was in
+    subst (λ (x : Content). StoresOne desc db s.number c.args.rec.now (overlay_changes c.store_at.new.over) x (overlay_content c.store_at.new.over) p) (reads.looks.same.content told)
+    (h db found (ap (λ (o : Option Shape). owner_of o) (sym c.requires.at) ∙ outer.disjoint))) c.store_at.ensures.one

@@ -10,6 +10,8 @@ use Rattle.std.specs.Prelude.{IfOk}
 use Rattle.dms_block.specs.View.{overlay_content, under}
 use Rattle.dms_model.specs.Fitting.{PutFits, RecordFits}
 use Rattle.dms_store.specs.Putting.{AnswersOver}
+use Rattle.dms_block.specs.View.{overlay_changes}
+use Rattle.dms_store.specs.PuttingOne.{WritesOne}
 use Rattle.dms_store.proofs.putting.put_over.Goals as goal
 
 pub returns-in-None-clause-answers : goal.returns-in-None-clause-answers
@@ -57,3 +59,10 @@ returns-in-Some-clause-answers g c =
     let s = shape_of c.in-Some.s.now in
     let at : structure_of desc c.args.set ≡ Some s = sym c.structure.ensures ∙ ap (λ (o : Option (Bor Structure)). option_map shape_of (option_copied o)) c.in-Some.is in
     subst (λ n. IfOk c.put_in.result (λ p. IsTrue (under c.args.over.now).told → AnswersOver desc (under c.args.over.now).content (overlay_content c.put_in.new.over) n c.args.number c.args.rec.now p)) (number_at desc c.args.set s c.requires.usable.serves.served at) c.put_in.ensures.answers
+
+pub returns-in-Some-clause-one : goal.returns-in-Some-clause-one
+returns-in-Some-clause-one g c =
+    let desc = as_described c.args.desc.now in
+    let s = shape_of c.in-Some.s.now in
+    let at : structure_of desc c.args.set ≡ Some s = sym c.structure.ensures ∙ ap (λ (o : Option (Bor Structure)). option_map shape_of (option_copied o)) c.in-Some.is in
+    subst (λ n. IfOk c.put_in.result (λ p. IsTrue (under c.args.over.now).told → WritesOne desc (under c.args.over.now).content n c.args.rec.now (overlay_changes c.put_in.new.over) (overlay_content c.put_in.new.over) p)) (number_at desc c.args.set s c.requires.usable.serves.served at) c.put_in.ensures.one

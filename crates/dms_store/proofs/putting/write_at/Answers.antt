@@ -1,4 +1,4 @@
-use Rattle.std.proofs.Common.{◌∙◌, ◌+◌, ◌*◌, IsTrue, Some, subst, length, arith}
+use Rattle.std.proofs.Common.{◌∙◌, ◌+◌, ◌*◌, IsTrue, Some, refl, subst, length, arith}
 use Rattle.std.specs.Option.{option_copied}
 use Rattle.std.specs.declared.result.Result.TheVariants.{Ok, Err}
 use Rattle.dms_block.specs.HeldLaws.{causes_or_on}
@@ -14,6 +14,8 @@ use Rattle.dms_store.specs.PuttingCalls.{enters_as, enters_err, enters_write}
 use Rattle.dms_store.specs.PuttingEnters.{lists_usable, may_enter, set_off}
 use Rattle.dms_store.specs.PuttingOver.{AreWhole}
 use Rattle.dms_store.specs.PuttingPlaced.{few_numbers, listed_at, not_bad, number_fits, refused_at, slots_at, stands_at, uncounted_at, values_all}
+use Rattle.dms_layout.specs.Slots.{slot_bytes}
+use Rattle.dms_store.specs.PuttingOneLaws.{one_set}
 use Rattle.dms_store.proofs.putting.write_at.Goals as goal
 
 pub change-requires-clause-usable : goal.change-requires-clause-usable
@@ -121,3 +123,14 @@ returns-in-Ok-clause-entered g c db o rec p owner =
 
 pub returns-in-Ok-clause-fits : goal.returns-in-Ok-clause-fits
 returns-in-Ok-clause-fits g c = number_fits (as_described c.args.desc.now) c.args.s.now.number c.args.number (shape_of c.args.s.now) c.requires.at c.requires.low c.requires.most
+
+pub returns-in-Ok-clause-one : goal.returns-in-Ok-clause-one
+returns-in-Ok-clause-one g c told =
+    let desc = as_described c.args.desc.now in
+    let s = shape_of c.args.s.now in
+    let a = c.args.over.now in
+    let calm = c.in-Ok-Done.ensures.calm in (
+      refl,
+      one_set desc a c.requires.usable s c.args.number c.requires.at c.requires.set c.change.new.lists c.write_slot.new.b (3 * length c.args.desc.now.structures) (slot_bytes s.items c.args.slot.now)
+          (g.met.B.Blocks.agrees a.below c.requires.usable.sound) calm c.requires.next told (c.in-Ok.ensures.seen (calm.told ∙ told)),
+    )

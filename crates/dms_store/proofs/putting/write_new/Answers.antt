@@ -1,4 +1,4 @@
-use Rattle.std.proofs.Common.{◌+◌, ◌*◌, Bool, IsTrue, length, refl, subst, arith}
+use Rattle.std.proofs.Common.{◌+◌, ◌*◌, Bool, IsTrue, length, refl, subst, sym, arith}
 use Rattle.std.specs.declared.option.Option.TheVariants.{None}
 use Rattle.std.specs.declared.result.Result.TheVariants.{Ok, Err}
 use Rattle.dms_block.specs.View.{overlay_content, under}
@@ -13,6 +13,8 @@ use Rattle.dms_store.specs.PuttingCalls.{causes_then, enters_as, enters_err, ent
 use Rattle.dms_store.specs.PuttingEnters.{IfStored, IsUncounted}
 use Rattle.dms_store.specs.PuttingPlaced.{counted_at, may_count_at}
 use Rattle.dms_store.specs.Spelled.{owned_in}
+use Rattle.dms_block.specs.Content.{Content}
+use Rattle.dms_store.specs.PuttingOne.{ChangesSet, IfStoredAs}
 use Rattle.dms_store.proofs.putting.write_new.Goals as goal
 
 pub returns-in-Err-clause-enters : goal.returns-in-Err-clause-enters
@@ -94,3 +96,11 @@ returns-in-Ok-true-clause-entered g c db o rec p owner =
     let may = may_count_at desc a c.requires.usable agrees s c.args.number c.requires.at c.requires.set c.requires.low c.requires.most c.args.slot.now c.requires.new None db o rec p refl owner in
     let counted = (c.in-Ok-true.ensures.counted (with_record db s.number c.args.number c.args.slot.now.rec) (owned_in desc db) told u.2 (λ apart. may)).1 in
     (u.0, u.1, counted_at desc a c.requires.usable agrees s c.args.number c.requires.at c.requires.set c.requires.low c.requires.most c.args.slot.now c.requires.new None db o rec p refl owner (overlay_content c.count_owner.new.over) counted)
+
+pub returns-in-Ok-true-clause-one : goal.returns-in-Ok-true-clause-one
+returns-in-Ok-true-clause-one g c disjoint told =
+    let a = c.args.over.now in
+    let desc = as_described c.args.desc.now in
+    let set = c.args.s.now.number in
+    let h = subst (λ (q : Put). IfStoredAs c.args.number q (ChangesSet desc set (overlay_content a) (overlay_content c.write_at.new.over))) c.in-Ok-Stored.field-0-is (c.in-Ok-Stored.ensures.one told) in
+    (h.0, subst (λ (x : Content). ChangesSet desc set (overlay_content a) x) (sym (c.in-Ok-true.ensures.still disjoint)) h.1)

@@ -23,7 +23,8 @@ use Rattle.dms_block.specs.FaultLaws.{full_none}
 use Rattle.dms_model.specs.declared.verb.Verb.TheVariants.{Begin}
 use Rattle.dms_model.specs.Session.{after_begin}
 use Rattle.dms_storeverbs.specs.Costs.{IsFullFor}
-use Rattle.dms_storeverbs.proofs.Rooms.{begin_appends, full_from, full_two, silent_no_point}
+use Rattle.dms_storeverbs.specs.Rooms.{LacksIts}
+use Rattle.dms_storeverbs.proofs.Rooms.{begin_appends, begin_without, full_from, full_two, lacks_from, silent_no_point}
 use Rattle.dms_storeverbs.specs.View.{engine_view}
 use Rattle.dms_block.specs.LandmarkLaws.{landmarks_none}
 use Rattle.dms_storeverbs.proofs.Landing.{failed_lands, plain_lands, same_lands}
@@ -131,6 +132,18 @@ returns-in_err-refusal-clause-full g c = λ p at s stands may.
 pub returns-in_err-refusal-clause-no_point : goal.returns-in_err-refusal-clause-no_point
 returns-in_err-refusal-clause-no_point g c = λ p at s stands may.
     let u = silent_no_point c.keep_restart.result (engine_view c.args.self.now) (engine_view c.keep_restart.new.self) (begin_step (as_described c.args.self.now.desc) c.args.i p s c.args.audit) s c.keep_restart.ensures.silent stands.next may.room in
+    search rules
+
+pub returns-in_err-refusal-clause-lacks : goal.returns-in_err-refusal-clause-lacks
+returns-in_err-refusal-clause-lacks g c = λ p at s stands may.
+    let d = as_described c.args.self.now.desc in
+    let now = (engine_view c.keep_restart.new.self).records in
+    let idle : p.in_transaction ≡ false = grind (arith, common_steps, gets) in
+    let who_is : cond c.args.self.now.pending (workers c.as_slice.result.now) [] ≡ begin_blockers s = (λ j. cond (stands.pending j) (workers ((c.as_slice.ensures.value ∙ stands.programs) j)) []) in
+    let nobody = sym who_is ∙ (rw c.in_default.is at c.in_ok-awaited.ensures) in
+    let k = kept_if c.args.audit d p s.db in
+    let without : IfFull c.keep_restart.result (λ n. LacksIts now (Begin c.args.audit) (after_begin k c.args.i s)) = full_two c.keep_restart.result _ _ _ (λ n kept other. begin_without k c.args.i s c.args.audit now kept other) (c.keep_restart.ensures.full p at s stands may.exclusive) (c.keep_restart.ensures.lacks p at s stands may.exclusive) in
+    let u = lacks_from c.keep_restart.result now (Begin c.args.audit) _ _ (begin_goes d c.args.i p s c.args.audit idle nobody) without in
     search rules
 
 pub returns-then-works-clause-landmarks : goal.returns-then-works-clause-landmarks

@@ -21,3 +21,9 @@ unfolding step
 returns-in_err-answer-clause-no_point g c = λ s stands may.
     let u = c.carry_out.ensures.no_point s stands may in
     search rules
+
+pub returns-in_err-answer-clause-lacks : goal.returns-in_err-answer-clause-lacks
+unfolding step
+returns-in_err-answer-clause-lacks g c = λ s stands may.
+    let u = c.carry_out.ensures.lacks s stands may in
+    search rules

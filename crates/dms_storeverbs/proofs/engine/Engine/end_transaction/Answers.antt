@@ -19,9 +19,9 @@ use Rattle.dms_block.specs.FaultLaws.{full_none, full_weaker}
 use Rattle.dms_model.specs.declared.verb.Verb.TheVariants.{End}
 use Rattle.dms_block.specs.Held.{AuditPace}
 use Rattle.dms_model.specs.Session.{after_end, end_step, settle}
-use Rattle.dms_storeverbs.specs.Costs.{IsFullFor}
-use Rattle.dms_storeverbs.specs.Rooms.{LeavesNoPoint}
-use Rattle.dms_storeverbs.proofs.Rooms.{end_appends, full_from, full_two, no_point_from, quiet_appends, silent_no_point, then_no_point}
+use Rattle.dms_storeverbs.specs.Costs.{IsFullFor, makes_quiet}
+use Rattle.dms_storeverbs.specs.Rooms.{LacksIts, LeavesNoPoint}
+use Rattle.dms_storeverbs.proofs.Rooms.{end_appends, end_without, full_from, full_two, lacks_from, no_point_from, quiet_appends, quiet_lacks, silent_no_point, then_no_point}
 use Rattle.dms_block.specs.LandmarkLaws.{landmarks_none}
 use Rattle.dms_storeverbs.proofs.Landing.{plain_lands, same_lands, then_lands}
 use Rattle.dms_storeverbs.proofs.engine.Engine.end_transaction.Goals as goal
@@ -123,6 +123,31 @@ returns-clause-no_point g c = λ p at s stands may.
     no_point_from c.settle.result a b _ _ (end_step_goes d c.args.i p s c.args.audit c.args.sync works)
     (end_goes (λ (o : Outcome). IfFull c.settle.result (λ n. LeavesNoPoint a b o)) (kept_if c.args.audit d p s.db) d c.args.i s c.args.sync c.index_mut.result.now c.leave.new.program _ _ _ _ c.one_more-self.result _ _ c.is_due-self.result _ low kept c.index_mut.ensures.value c.leave.ensures
     (λ t pend sinc nxt st. full_weaker c.settle.result (λ n. LeavesNoPoint m b (settle t)) _ (λ n. then_no_point a m b (settle t) s c.keep_restart.ensures.lasts.causes.whole c.keep_restart.ensures.silent c.in_ok-refusal.ensures.points stands.next may.room c.keep_restart.ensures.lasts.causes.tells c.keep_restart.ensures.lasts.causes.pace c.keep_restart.ensures.spends.syncs) (c.settle.ensures.no_point t (st (due ∙ sym pend) (c.one_more-self.ensures ∙ sym sinc)) (omega (arith, nxt, may.room)))))
+
+pub returns-in_err-refusal-clause-lacks : goal.returns-in_err-refusal-clause-lacks
+returns-in_err-refusal-clause-lacks g c = λ p at s stands may.
+    let d = as_described c.args.self.now.desc in
+    let verb = End c.args.audit c.args.sync in
+    let now = (engine_view c.keep_restart.new.self).records in
+    let works : p.in_transaction ≡ true = grind (arith, common_steps, gets) in
+    let k = kept_if c.args.audit d p s.db in
+    let without : IfFull c.keep_restart.result (λ n. LacksIts now verb (after_end k d c.args.i s c.args.sync)) = full_two c.keep_restart.result _ _ _ (λ n kept other. end_without k d c.args.i s c.args.audit c.args.sync now kept other) (c.keep_restart.ensures.full p at s stands may.exclusive) (c.keep_restart.ensures.lacks p at s stands may.exclusive) in
+    let u = lacks_from c.keep_restart.result now verb _ _ (end_step_goes d c.args.i p s c.args.audit c.args.sync works) without in
+    search rules
+
+pub returns-clause-lacks : goal.returns-clause-lacks
+returns-clause-lacks g c = λ p at s stands may.
+    let d = as_described c.args.self.now.desc in
+    let verb = End c.args.audit c.args.sync in
+    let now = (engine_view c.settle.new.self).records in
+    let works : p.in_transaction ≡ true = grind (arith, common_steps, gets) in
+    let low : c.args.i < length s.programs = subst (λ (ps : List Program). c.args.i < length ps) stands.programs c.requires.place in
+    let kept = rw c.in_default.is at (c.in_ok-refusal.ensures.kept p at s stands may.exclusive) in
+    let descr = c.keep_restart.ensures.lasts.description in
+    let due = c.is_due-self.ensures ∙ (λ j. c.keep_restart.new.self.pending || c.args.sync || nat_le (descr j).syncpoint (c.one_more-self.ensures j)) in
+    lacks_from c.settle.result now verb _ _ (end_step_goes d c.args.i p s c.args.audit c.args.sync works)
+    (end_goes (λ (o : Outcome). IfFull c.settle.result (λ n. LacksIts now verb o)) (kept_if c.args.audit d p s.db) d c.args.i s c.args.sync c.index_mut.result.now c.leave.new.program _ _ _ _ c.one_more-self.result _ _ c.is_due-self.result _ low kept c.index_mut.ensures.value c.leave.ensures
+    (λ t pend sinc nxt st. full_weaker c.settle.result (λ n. makes_quiet (settle t).quiets ≡ true) _ (λ n quiet. quiet_lacks t c.args.audit c.args.sync now quiet) (c.settle.ensures.full t (st (due ∙ sym pend) (c.one_more-self.ensures ∙ sym sinc)))))
 
 pub returns-then-not-works-clause-landmarks : goal.returns-then-not-works-clause-landmarks
 returns-then-not-works-clause-landmarks g c = plain_lands (engine_view c.args.self.now) (engine_view c.args.self.now) c.refuse.ensures.sync (landmarks_none _)

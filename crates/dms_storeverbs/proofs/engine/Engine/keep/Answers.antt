@@ -15,7 +15,7 @@ use Rattle.dms_model.specs.Fitting.{IsNumber, PutFits}
 use Rattle.dms_storeverbs.proofs.AtHand.{one_changed, one_fits, stored_either}
 use Rattle.dms_block.specs.Faults.{IfFull}
 use Rattle.dms_storeverbs.specs.Keeping.{KeepsRecord}
-use Rattle.dms_storeverbs.proofs.Rooms.{kept_where}
+use Rattle.dms_storeverbs.proofs.Rooms.{kept_where, lacks_where}
 use Rattle.dms_storeverbs.proofs.engine.Engine.keep.Goals as goal
 
 pub judge_record-requires-clause-fit : goal.judge_record-requires-clause-fit
@@ -92,4 +92,17 @@ returns-in_err-number-clause-full g c = λ p at s stands held.
     let ready : IsReady d c.index.result.now c.args.set number rec = rw c.in-Ready.is at c.in_ok-refusal.ensures.ready in
     let may = may_put d s c.index.result.now p c.args.set c.args.i number rec (sym p_is) (subst (λ (ps : List Program). slice_get ps c.args.i ≡ Some p) stands.programs at) held c.requires.outer ready in
     let u : IfFull c.put.result (λ f. KeepsRecord (keep d p s.db c.args.set)) = kept_where c.put.result d _ _ s.db p c.args.set number rec _ c.args.self.now.under stands.db c.put.ensures.stored may k_is in
+    search rules
+
+pub returns-in_err-number-clause-lacks : goal.returns-in_err-number-clause-lacks
+returns-in_err-number-clause-lacks g c = λ p at s stands held.
+    let d = as_described c.args.self.now.desc in
+    let number = c.in-Ready.number in
+    let rec = c.in-Ready.rec in
+    let p_is : c.index.result.now ≡ p = grind (arith, common_steps, gets) in
+    let judged : keep d c.index.result.now s.db c.args.set ≡ put_record (put_answer d s.db c.args.set number rec) d c.index.result.now s.db c.args.set rec = rw c.in-Ready.is at (c.in_ok-refusal.ensures.judged s.db) in
+    let k_is = subst (λ (q : Program). keep d q s.db c.args.set ≡ put_record (put_answer d s.db c.args.set number rec) d q s.db c.args.set rec) p_is judged in
+    let ready : IsReady d c.index.result.now c.args.set number rec = rw c.in-Ready.is at c.in_ok-refusal.ensures.ready in
+    let may = may_put d s c.index.result.now p c.args.set c.args.i number rec (sym p_is) (subst (λ (ps : List Program). slice_get ps c.args.i ≡ Some p) stands.programs at) held c.requires.outer ready in
+    let u = lacks_where c.put.result d _ _ _ s.db p c.args.set number rec (keep d p s.db c.args.set) c.args.self.now.under stands.db c.put.ensures.lacks c.requires.outer may k_is in
     search rules

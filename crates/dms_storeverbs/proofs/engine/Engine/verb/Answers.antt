@@ -3,13 +3,14 @@ use Rattle.std.proofs.lemmas.Grind.{common_steps}
 use Rattle.std.proofs.lemmas.Option.{gets}
 use Rattle.dms_base.specs.declared.category.Category.TheVariants.{OpenError}
 use Rattle.dms_storeverbs.proofs.Calls.{apart_did, unchanged}
-use Rattle.dms_model.specs.Session.{verb_step, refuse}
+use Rattle.dms_model.specs.Session.{abort_step, verb_step, refuse}
 use Rattle.dms_storeverbs.proofs.Costing.{plain_costs, spends_none}
 use Rattle.dms_desc.specs.Shape.{as_described}
 use Rattle.dms_laws.proofs.Formed.{initials}
-use Rattle.dms_block.specs.FaultLaws.{full_none}
+use Rattle.dms_block.specs.FaultLaws.{full_is, full_none}
 use Rattle.dms_block.specs.LandmarkLaws.{landmarks_none}
 use Rattle.dms_storeverbs.proofs.Landing.{plain_lands}
+use Rattle.dms_storeverbs.proofs.Rooms.{abort_lacks}
 use Rattle.dms_storeverbs.specs.View.{engine_view}
 use Rattle.dms_storeverbs.proofs.engine.Engine.verb.Goals as goal
 
@@ -133,6 +134,24 @@ returns-in-Abort-clause-no_point g c = λ p at. rw c.in-Abort.is (c.abort.ensure
 
 pub returns-in-Find-clause-no_point : goal.returns-in-Find-clause-no_point
 returns-in-Find-clause-no_point g c = λ p at s stands may. full_none c.find.result _ c.find.ensures.room
+
+pub returns-in-Store-clause-lacks : goal.returns-in-Store-clause-lacks
+unfolding verb_step
+returns-in-Store-clause-lacks g c = λ p at. rw c.in-Store.is (c.store.ensures.lacks p at)
+
+pub returns-in-Begin-clause-lacks : goal.returns-in-Begin-clause-lacks
+unfolding verb_step
+returns-in-Begin-clause-lacks g c = λ p at. rw c.in-Begin.is (c.begin.ensures.lacks p at)
+
+pub returns-in-End-clause-lacks : goal.returns-in-End-clause-lacks
+unfolding verb_step
+returns-in-End-clause-lacks g c = λ p at. rw c.in-End.is (c.end_transaction.ensures.lacks p at)
+
+pub returns-in-Abort-clause-lacks : goal.returns-in-Abort-clause-lacks
+returns-in-Abort-clause-lacks g c = rw c.in-Abort.is (λ p at s stands may. full_is c.abort.result (λ n. abort_lacks (abort_step c.args.i p s) _))
+
+pub returns-in-Find-clause-lacks : goal.returns-in-Find-clause-lacks
+returns-in-Find-clause-lacks g c = λ p at s stands may. full_none c.find.result _ c.find.ensures.room
 
 pub returns-in_ok-close-in-Close-clause-landmarks : goal.returns-in_ok-close-in-Close-clause-landmarks
 returns-in_ok-close-in-Close-clause-landmarks g c =
