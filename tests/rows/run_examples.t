@@ -21,7 +21,7 @@ The first database of the page at the top: made, and run twice. Each run adds a 
 The same of the guide's short one.
 
   $ mkdir ../two && cd ../two
-  $ head -n 2 "$TESTDIR/../../examples/sharing.dms" | "$DMS" compile
+  $ head -n 3 "$TESTDIR/../../examples/sharing.dms" | "$DMS" compile
   COMPILED 2 STRUCTURES
   $ "$DMS" initialize
   INITIALIZED AT POINT 0

@@ -1,5 +1,5 @@
 -- A block sealed at the end of a trail.
-use Rattle.std.proofs.Common.{◌≡◌, ◌≢◌, ◌⊎◌, inl, inr, ℕ, zero, suc, ◌+◌, ◌-◌, ◌^◌, ◌<◌, ◌≤◌, true, false, List, [], ◌∷◌, ◌++◌, take, drop, map, length, refl, sym, ◌∙◌, ap, subst, arith, append-nil, append_assoc, length-take, length-drop}
+use Rattle.std.proofs.Common.{◌≡◌, ◌≢◌, ◌⊎◌, inl, inr, ℕ, zero, suc, ◌+◌, ◌-◌, ◌^◌, ◌<◌, ◌≤◌, false, List, [], ◌∷◌, ◌++◌, take, drop, map, length, refl, sym, ◌∙◌, ap, subst, arith, append-nil, append_assoc}
 use Rattle.dms_moments.specs.Moments.{Now}
 use Rattle.std.specs.Prelude.{OnOk}
 use Rattle.std.specs.declared.result.Result.{Result}
@@ -13,9 +13,9 @@ use Rattle.dms_audfile.specs.Blocks.{block_entries}
 use Rattle.dms_audfile.specs.BlockLaws.{spellings, AreNoBegins, IsAlone, entered_at, block_of}
 use Rattle.dms_audfile.specs.Trail.{trail_from}
 use Rattle.dms_audfile.specs.TrailEntries.{entry_of, entries_of, entries_in, trail_entries}
-use Rattle.dms_audfile.specs.Ends.{unsealed_bytes, EndsAt, HoldsAnEntry, Grown, Seals, Appends, SealsAll}
+use Rattle.dms_audfile.specs.Ends.{EndsAt, HoldsAnEntry, Grown, Seals, Appends}
 use Rattle.dms_audfile.specs.EndLaws.{filled_on}
-use Rattle.std.proofs.lemmas.Bool.{cases_lt, false≢true, cases_Bool}
+use Rattle.std.proofs.lemmas.Bool.{cases_lt, false≢true}
 use Rattle.dms_audfile.proofs.BlockRead.{block_is_read}
 use Rattle.dms_audfile.proofs.Growing.{writes_same}
 use Rattle.dms_audfile.proofs.Gates.{stands_full}
@@ -30,36 +30,19 @@ pub tag_new : (k total tag : ℕ) → tag < 2 ^ 64 → tag_said (new_header k to
 unfolding tag_said new_header range
 tag_new k total tag small = from_be_bytes-to_be_bytes_8 tag small
 
--- by the same tag and content
-pub grows_as : (h tag total first f : ℕ) (a b : List ℕ) (x y : Clock Left) → h ≡ tag → a ≡ b → Steps (GrowsLeft total h first f (a ∷ [])) x y → Steps (GrowsLeft total tag first f (b ∷ [])) x y
+-- by the same tag and contents
+pub grows_as : (h tag total first f : ℕ) (a b : List (List ℕ)) (x y : Clock Left) → h ≡ tag → a ≡ b → Steps (GrowsLeft total h first f a) x y → Steps (GrowsLeft total tag first f b) x y
 grows_as h tag total first f a b x y same is steps =
-    subst (λ (l : List ℕ). Steps (GrowsLeft total tag first f (l ∷ [])) x y) is (subst (λ k. Steps (GrowsLeft total k first f (a ∷ [])) x y) same steps)
+    subst (λ (l : List (List ℕ)). Steps (GrowsLeft total tag first f l) x y) is (subst (λ k. Steps (GrowsLeft total k first f a) x y) same steps)
 
 -- ---- entries of a trail
-
-entries_more : (bs : List (List ℕ)) (b : List ℕ) → entries_in (bs ++ b ∷ []) ≡ entries_in bs ++ entries_of (block_entries b)
-entries_more [] b = append-nil (entries_of (block_entries b))
-entries_more (a ∷ bs) b =
-    ap (λ (l : List Entry). entries_of (block_entries a) ++ l) (entries_more bs b) ∙ sym (append_assoc (entries_of (block_entries a)) (entries_in bs) (entries_of (block_entries b)))
 
 pub entered_entries : (at : ℕ) (es : List Entry) → map entry_of (entered_at at es) ≡ es
 entered_entries at [] = refl
 entered_entries at (e ∷ es) = ap (λ (l : List Entry). e ∷ l) (entered_entries (at + length (spelling e)) es)
 
-block_holds : (es : List Entry) → AreNoBegins es ⊎ IsAlone es → length (spellings es) ≤ 4094 → entries_of (block_entries (block_of es)) ≡ es
+pub block_holds : (es : List Entry) → AreNoBegins es ⊎ IsAlone es → length (spellings es) ≤ 4094 → entries_of (block_entries (block_of es)) ≡ es
 block_holds es kind few = ap entries_of (block_is_read es kind few) ∙ entered_entries 2 es
-
--- one more block of entries
-pub trail_more : (total first : ℕ) (es : List Entry) (old new : Files) → AreNoBegins es ⊎ IsAlone es → length (spellings es) ≤ 4094
-    → trail_from 10000 total first new ≡ trail_from 10000 total first old ++ block_of es ∷ [] → trail_entries total first new ≡ trail_entries total first old ++ es
-unfolding trail_entries
-trail_more total first es old new kind few grows =
-    ap entries_in grows ∙ entries_more (trail_from 10000 total first old) (block_of es) ∙ ap (λ (l : List Entry). entries_in (trail_from 10000 total first old) ++ l) (block_holds es kind few)
-
-trail_none : (total first : ℕ) (b : List ℕ) (es : List Entry) (old new : Files) → trail_from 10000 total first new ≡ trail_from 10000 total first old ++ [] → trail_entries total first new ≡ trail_entries total first old ++ []
-unfolding trail_entries
-trail_none total first b es old new same =
-    ap entries_in (same ∙ append-nil (trail_from 10000 total first old)) ∙ sym (append-nil (entries_in (trail_from 10000 total first old)))
 
 -- the entries are those of the files that the trail reaches
 pub entries_settled : (total tag first f n : ℕ) (old new : Files) → 10001 ≤ first → f ≤ 20000 → IsWrittenUpTo total tag first f n old → ((g : ℕ) → first ≤ g → g ≤ f → new g ≡ old g) → trail_entries total first new ≡ trail_entries total first old
@@ -94,42 +77,6 @@ grown_on total first a b c one two = record {
   trail = two.trail ∙ ap (λ (l : List (List ℕ)). l ++ two.made) one.trail ∙ append_assoc (trail_from 10000 total first a) one.made two.made;
   filled = filled_on one.made two.made one.filled two.filled;
 }
-
-pub grown_one : (total first : ℕ) (es : List Entry) (content : List ℕ) (old new : Files) → AreNoBegins es ⊎ IsAlone es → length (spellings es) ≤ 4094 → 0 < length es → content ≡ block_of es
-    → trail_from 10000 total first new ≡ trail_from 10000 total first old ++ content ∷ [] → Grown total first old new
-grown_one total first es content old new kind few some is trail = record { made = content ∷ []; trail = trail; filled = (subst (λ (l : List ℕ). HoldsAnEntry l) (sym is) (block_filled es kind few some), tt) }
-
--- some entry waits where some bytes do
-pub some_wait : (end : AuditEnd) (es : List Entry) → unsealed_bytes end ≡ spellings es → length end.block.items ≡ 4096 → end.used ≢ 0 → 0 < length es
-some_wait end [] is size some = absurd (some (omega (arith, ap length is, length-take end.used (drop 2 end.block.items), length-drop 2 end.block.items, size)))
-some_wait end (e ∷ es) is size some = omega arith
-
-pub seals_of : (total tag first f n : ℕ) (es : List Entry) (content : List ℕ) (z x : Left) → 10001 ≤ first → IsWrittenUpTo total tag first f n z.files → f < 20000 → AreNoBegins es ⊎ IsAlone es → length (spellings es) ≤ 4094 → 0 < length es → content ≡ block_of es
-    → GrowsLeft total tag first f (content ∷ []) z x → Seals total tag first es z x
-seals_of total tag first f n es content z x low w high kind few nonempty is grows = by_count grows.files.some grows.files.within (grows.files.trail 10000 (omega (arith, w.order)))
-  where
-    with_some : (k : ℕ) → trail_entries total first x.files ≡ trail_entries total first z.files ++ take k es → Grown total first z.files x.files → Seals total tag first es z x
-    with_some k entries grown = record {
-      some = k;
-      entries = entries;
-      grown = grown;
-      file = grows.files.file;
-      count = grows.files.count;
-      high = omega (arith, high, grows.files.high);
-      writes = grows.files.writes;
-      later = λ g m v. omega (arith, writes_once total tag first f n g m z.files w v, grows.files.low);
-      behind = λ g far. grows.files.others g (omega (arith, far, grows.files.low)) (omega (arith, far, grows.files.low));
-      below = λ g less. grows.files.others g (omega (arith, less, w.order)) (omega (arith, less, w.order));
-      above = λ g more. grows.files.others g (omega arith) (omega arith);
-      said = grows.said;
-    }
-
-    by_count : (k : ℕ) → k ≤ 1 → trail_from 10000 total first x.files ≡ trail_from 10000 total first z.files ++ take k (content ∷ []) → Seals total tag first es z x
-    by_count zero within trail = with_some 0 (trail_none total first content es z.files x.files trail) (record { made = []; trail = trail; filled = tt })
-    by_count (suc zero) within trail = with_some (length es)
-        (trail_more total first es z.files x.files kind few (trail ∙ ap (λ (l : List ℕ). trail_from 10000 total first z.files ++ l ∷ []) is) ∙ ap (λ (l : List Entry). trail_entries total first z.files ++ l) (sym (all_taken es)))
-        (grown_one total first es content z.files x.files kind few nonempty is trail)
-    by_count (suc (suc k)) within trail = absurd (omega arith)
 
 -- no entry is without bytes
 no_bytes : (e : Entry) (rest : List ℕ) → IsEntry e → spelling e ++ rest ≢ []
@@ -176,10 +123,6 @@ seals_none total tag first f n es files a w settled high = record { follows = λ
       said = refl;
     }
 
--- how many bytes wait
-pub few_wait : (end : AuditEnd) (first : ℕ) (es : List Entry) (files : Files) (clock : Clock Left) → EndsAt end first es files clock → end.used ≤ 4094 → length (spellings es) ≤ 4094
-few_wait end first es files clock at few = omega (arith, ap length at.bytes, length-take end.used (drop 2 end.block.items))
-
 -- ---- one entry more
 
 take_behind : (a b : List Entry) (j : ℕ) → take (length a + j) (a ++ b) ≡ a ++ take j b
@@ -206,11 +149,11 @@ plain_drop zero es plain = plain
 plain_drop (suc k) [] plain = tt
 plain_drop (suc k) (e ∷ es) plain = plain_drop k es plain.2
 
-plain_more : (es : List Entry) (e : Entry) → AreNoBegins es → IsEntry e → is_begin e ≡ false → AreNoBegins (es ++ e ∷ [])
+pub plain_more : (es : List Entry) (e : Entry) → AreNoBegins es → IsEntry e → is_begin e ≡ false → AreNoBegins (es ++ e ∷ [])
 plain_more [] e plain is off = (is, off, tt)
 plain_more (x ∷ es) e plain is off = (plain.0, plain.1, plain_more es e plain.2 is off)
 
-spellings_more : (es : List Entry) (e : Entry) → spellings (es ++ e ∷ []) ≡ spellings es ++ spelling e
+pub spellings_more : (es : List Entry) (e : Entry) → spellings (es ++ e ∷ []) ≡ spellings es ++ spelling e
 spellings_more [] e = append-nil (spelling e)
 spellings_more (x ∷ es) e = ap (λ (l : List ℕ). spelling x ++ l) (spellings_more es e) ∙ sym (append_assoc (spelling x) (spellings es) (spelling e))
 
@@ -266,35 +209,8 @@ appends_all end first es old new clock sealed grown ends =
     all_dropped [] = refl
     all_dropped (e ∷ es) = all_dropped es
 
--- what waits is sealed, or nothing waits
-pub seals_all_none : (end : AuditEnd) (first : ℕ) (es : List Entry) (files : Files) (clock : Clock Left) → end.used ≡ 0 → EndsAt end first es files clock → SealsAll end first es files files clock
-seals_all_none end first es files clock none at =
-    let empty : unsealed_bytes end ≡ [] = ap (λ k. take k (drop 2 end.block.items)) none in
-    let no_entry : es ≡ [] = none_waits es at.kind (sym empty ∙ at.bytes) in
-    record {
-      sealed = sym (append-nil (trail_entries end.total first files)) ∙ ap (λ (l : List Entry). trail_entries end.total first files ++ l) (sym no_entry);
-      grown = grown_none end.total first files;
-      ends = subst (λ (l : List Entry). EndsAt end first l files clock) no_entry at;
-    }
-
 pub appends_none : (end : AuditEnd) (first : ℕ) (es : List Entry) (files : Files) (clock : Clock Left) → AreNoBegins es → EndsAt end first es files clock → Appends end first es files files clock
 appends_none end first es files clock plain ends = record { some = 0; sealed = sym (append-nil (trail_entries end.total first files)); grown = grown_none end.total first files; ends = ends; plain = plain }
-
--- an entry is held behind those that wait
-pub held_ends : (end new : AuditEnd) (first : ℕ) (es : List Entry) (e : Entry) (files : Files) (clock : Clock Left) → EndsAt end first es files clock → AreNoBegins es → IsEntry e → (is_begin e ≡ true → end.used ≡ 0)
-    → unsealed_bytes new ≡ unsealed_bytes end ++ spelling e → new.total ≡ end.total → new.tag ≡ end.tag → new.file ≡ end.file → new.count ≡ end.count → EndsAt new first (es ++ e ∷ []) files clock
-held_ends end new first es e files clock at plain is alone bytes total tag file count = record {
-  low = at.low;
-  writes = subst (λ (f : ℕ). IsWrittenUpTo new.total new.tag first f new.count files) (sym file) (subst (λ c. IsWrittenUpTo new.total new.tag first end.file c files) (sym count)
-      (subst (λ t. IsWrittenUpTo new.total t first end.file end.count files) (sym tag) (subst (λ t. IsWrittenUpTo t end.tag first end.file end.count files) (sym total) at.writes)));
-  settled = λ g low high. at.settled g low (omega (arith, high, file));
-  bytes = bytes ∙ ap (λ (l : List ℕ). l ++ spelling e) at.bytes ∙ sym (spellings_more es e);
-  kind = elim (cases_Bool (is_begin e)) [
-    | inl on ↦ (let none : es ≡ [] = none_waits es at.kind (ap (λ k. take k (drop 2 end.block.items)) (sym (alone on)) ∙ at.bytes) in
-        inr (record { entry = e; is = ap (λ (l : List Entry). l ++ e ∷ []) none; fits = is }))
-    | inr off ↦ inl (plain_more es e plain is off)
-  ];
-}
 
 -- ---- for the code
 

@@ -3,15 +3,14 @@ use Rattle.std.proofs.Common.{ℕ, zero, suc, ◌+◌, ◌-◌, ◌*◌, ◌<◌
 use Rattle.std.proofs.lemmas.Bool.{cases_eq, false≢true}
 use Rattle.std.proofs.lemmas.Bool.Decides.{nat_tests}
 use Rattle.std.proofs.lemmas.List.{drop_all}
-use Rattle.dms_site.specs.Files.{Files, Left, range, overlay_bytes, pad_zeros, with_file, OnDisk, InFile, Torn}
-use Rattle.dms_site.specs.Laws.{get_or-range, range_overlaid, length-overlaid, torn_overlaid, with_file_here, with_file_other}
+use Rattle.dms_site.specs.Files.{Files, Left, overlay_bytes, pad_zeros, with_file, OnDisk, InFile, Torn}
+use Rattle.dms_site.specs.Laws.{get_or-range, range_overlaid, with_file_here, with_file_other}
 use Rattle.dms_audfile.specs.Gates.{block_at, gate, sealed_blocks, is_full}
-use Rattle.dms_audfile.specs.Header.{new_header, header_fits, tag_said}
+use Rattle.dms_audfile.specs.Header.{header_fits, tag_said}
 use Rattle.dms_audfile.specs.Trail.{trail_from}
 use Rattle.dms_audfile.specs.Sealing.{IsSealedUpTo, IsWrittenUpTo, Grows, GrowsLeft, Anyhow}
 use Rattle.dms_audfile.proofs.Gates.{stands_sealed, stands_full, stands_opened, content_stands, content_sealed, opened_stands, shut_stands, opened_sealed, shut_sealed}
-use Rattle.dms_audfile.proofs.Blank.{header_stands}
-use Rattle.dms_audfile.proofs.Heads.{fits_content, fits_gate, fits_new, tag_content, tag_gate}
+use Rattle.dms_audfile.proofs.Heads.{fits_content, fits_gate, tag_content, tag_gate}
 use Rattle.dms_audfile.proofs.Several.{trail_grows}
 
 -- ---- what is kept while the trail doesn't grow
@@ -42,9 +41,9 @@ not_true : {A : Type 0} (b : Bool) → b ≡ false → b ≡ true → A
 not_true b off on = absurd (false≢true (sym off ∙ on))
 
 -- within the write of the content, or behind it
-pub content_kept : (total tag first f n : ℕ) (y x : Files) → IsWrittenUpTo total tag first f n y → InFile f (Torn (4096 * (n + 1)) 4096) y x → TrailKept total tag first f n y x
-content_kept total tag first f n y x w step =
-    let s = content_stands total n (y f) (x f) w.stands step.here in
+pub content_kept : (total tag first f n m : ℕ) (y x : Files) → IsWrittenUpTo total tag first f n y → InFile f (Torn (4096 * (n + 1)) m) y x → TrailKept total tag first f n y x
+content_kept total tag first f n m y x w step =
+    let s = content_stands total n (y f) (x f) w.stands m step.here in
     let none : is_full total (x f) ≡ true → (r : ℕ) → trail_from r total (f + 1) x ≡ [] = λ is. not_true _ (stands_full total n (x f) s w.not_full) is in
     record {
       writes = record {
@@ -54,17 +53,17 @@ content_kept total tag first f n y x w step =
         full = λ g low high. ap (is_full total) (step.others g (omega arith)) ∙ w.full g low high;
         stands = s;
         fits = λ g low high. elim (cases_eq g f) [
-          | inl is ↦ subst (λ j. header_fits (j - 10000) total (x j) ≡ true) (sym is) (fits_content (f - 10000) total n (y f) (x f) w.stands.few w.stands.long step.here (w.fits f w.order (omega arith)))
+          | inl is ↦ subst (λ j. header_fits (j - 10000) total (x j) ≡ true) (sym is) (fits_content (f - 10000) total n m (y f) (x f) w.stands.few w.stands.long step.here (w.fits f w.order (omega arith)))
           | inr other ↦ ap (header_fits (g - 10000) total) (step.others g other) ∙ w.fits g low high
         ];
         tags = λ g low high. elim (cases_eq g f) [
-          | inl is ↦ ap (λ j. tag_said (x j)) is ∙ tag_content n (y f) (x f) w.stands.long step.here ∙ w.tags f w.order (omega arith)
+          | inl is ↦ ap (λ j. tag_said (x j)) is ∙ tag_content n m (y f) (x f) w.stands.long step.here ∙ w.tags f w.order (omega arith)
           | inr other ↦ ap tag_said (step.others g other) ∙ w.tags g low high
         ];
       };
-      trail = λ m long.
-          grows_by total tag first f n y x [] w (λ g low high. step.others g (omega arith)) (content_sealed total n (y f) (x f) w.stands step.here ∙ sym (append-nil (sealed_blocks total (y f)))) none m long
-          ∙ append-nil (trail_from m total first y);
+      trail = λ r long.
+          grows_by total tag first f n y x [] w (λ g low high. step.others g (omega arith)) (content_sealed total n (y f) (x f) w.stands m step.here ∙ sym (append-nil (sealed_blocks total (y f)))) none r long
+          ∙ append-nil (trail_from r total first y);
       others = λ g one two. step.others g one;
     }
 
@@ -224,28 +223,16 @@ kept_grows total tag first f n blocks z x k said = record {
   said = said;
 }
 
--- behind the content that was written
-module _ (n : ℕ) (content old new : List ℕ) (size : length content ≡ 4096) (is : new ≡ overlay_bytes (4096 * (n + 1)) content old) where
-  pub content_torn : Torn (4096 * (n + 1)) 4096 old new
-  content_torn = subst (λ l. Torn (4096 * (n + 1)) 4096 old l) (sym is) (subst (λ k. Torn (4096 * (n + 1)) k old (overlay_bytes (4096 * (n + 1)) content old)) size (torn_overlaid (4096 * (n + 1)) content old))
-
-  pub content_long : 4096 * (n + 2) ≤ length new
-  content_long = omega (arith, ap length is, length-overlaid (4096 * (n + 1)) content old, size)
-
-  pub content_block : block_at (n + 1) new ≡ content
-  content_block = ap (λ l. range (4096 * (n + 1)) 4096 l) is ∙ subst (λ k. range (4096 * (n + 1)) k (overlay_bytes (4096 * (n + 1)) content old) ≡ content) size (range_overlaid (4096 * (n + 1)) content old)
-
 -- ---- for the code
 
 pub record KeptLeft (total tag first f n : ℕ) (old new : Left) : Type 0 where
   pub files : TrailKept total tag first f n old.files new.files
   pub said : new.said ≡ old.said
 
-pub content_step : (total tag first f n : ℕ) (content : List ℕ) (old : Files) → IsWrittenUpTo total tag first f n old → length content ≡ 4096 → (z x : Left) → ((g : ℕ) → first ≤ g → g ≤ f → z.files g ≡ old g)
-    → OnDisk f (Torn (4096 * (n + 1)) (length content)) z x → KeptLeft total tag first f n z x
-content_step total tag first f n content old w size z x same step = record {
-  files = content_kept total tag first f n z.files x.files (writes_same total tag first f n old z.files w same)
-      (subst (λ k. InFile f (Torn (4096 * (n + 1)) k) z.files x.files) size step.files);
+pub content_step : (total tag first f n m : ℕ) (old : Files) → IsWrittenUpTo total tag first f n old → (z x : Left) → ((g : ℕ) → first ≤ g → g ≤ f → z.files g ≡ old g)
+    → OnDisk f (Torn (4096 * (n + 1)) m) z x → KeptLeft total tag first f n z x
+content_step total tag first f n m old w z x same step = record {
+  files = content_kept total tag first f n m z.files x.files (writes_same total tag first f n old z.files w same) step.files;
   said = step.said;
 }
 
@@ -254,69 +241,6 @@ next_step total tag first f n z y x k step = record { files = next_kept total ta
 
 pub none_grows : (total tag first f n : ℕ) (blocks : List (List ℕ)) (z x : Left) → KeptLeft total tag first f n z x → GrowsLeft total tag first f blocks z x
 none_grows total tag first f n blocks z x k = kept_grows total tag first f n blocks z x k.files k.said
-
--- what stands before the gate is written
-pub record ReadyToGrow (total tag f n : ℕ) (content : List ℕ) (mid : Files) : Type 0 where
-  pub long : 4096 * (n + 2) ≤ length (mid f)
-  pub block : block_at (n + 1) (mid f) ≡ content
-  pub next : n + 1 ≡ total → IsSealedUpTo total 0 (mid (f + 1))
-  pub head : n + 1 ≡ total → header_fits (f + 1 - 10000) total (mid (f + 1)) ≡ true
-  pub mark : n + 1 ≡ total → tag_said (mid (f + 1)) ≡ tag
-
-pub ready : (total f n k : ℕ) (content head : List ℕ) (old one two : Files) → length content ≡ 4096 → total ≤ 512 → 8 ≤ total → f < 20000 → k ≡ f - 9999 → head ≡ new_header k total (tag_said head)
-    → one ≡ with_file old f (overlay_bytes (4096 * (n + 1)) content (old f)) → (n + 1 ≡ total → two ≡ with_file one (f + 1) head) → (n + 1 ≢ total → two ≡ one) → ReadyToGrow total (tag_said head) f n content two
-ready total f n k content head old one two size few many low k-is head-is first last not_last =
-    let here : one f ≡ overlay_bytes (4096 * (n + 1)) content (old f) = ap (λ (l : Files). l f) first ∙ with_file_here old f (overlay_bytes (4096 * (n + 1)) content (old f)) in
-    let same : two f ≡ one f = elim (cases_eq (n + 1) total) [
-      | inl is ↦ ap (λ (l : Files). l f) (last is) ∙ with_file_other one (f + 1) head f (omega arith)
-      | inr not ↦ ap (λ (l : Files). l f) (not_last not)
-    ] in
-    let is : two f ≡ overlay_bytes (4096 * (n + 1)) content (old f) = same ∙ here in
-    let stands_next : n + 1 ≡ total → two (f + 1) ≡ head = λ at_last. ap (λ (l : Files). l (f + 1)) (last at_last) ∙ with_file_here one (f + 1) head in
-    let made : n + 1 ≡ total → two (f + 1) ≡ new_header k total (tag_said head) = λ at_last. stands_next at_last ∙ head-is in
-    record {
-      long = content_long n content (old f) (two f) size is;
-      block = content_block n content (old f) (two f) size is;
-      next = λ at_last. header_stands k total (tag_said head) (two (f + 1)) (made at_last) few;
-      head = λ at_last.
-          let e : f + 1 - 10000 ≡ k = omega arith in
-          ap (λ j. header_fits j total (two (f + 1))) e ∙ fits_new k total (tag_said head) (two (f + 1)) (made at_last) (header_stands k total (tag_said head) (two (f + 1)) (made at_last) few) (omega arith) many;
-      mark = λ at_last. ap tag_said (stands_next at_last);
-    }
-
-pub ready_same : (total tag f n : ℕ) (content : List ℕ) (mid y : Files) → y ≡ mid → ReadyToGrow total tag f n content mid → ReadyToGrow total tag f n content y
-ready_same total tag f n content mid y is r = subst (λ (l : Files). ReadyToGrow total tag f n content l) (sym is) r
-
-pub gate_step : (total tag first f n : ℕ) (content : List ℕ) (z y x : Left) → KeptLeft total tag first f n z y → ReadyToGrow total tag f n content y.files → OnDisk f (Torn (511 + (n + 1)) 1) y x → GrowsLeft total tag first f (content ∷ []) z x
-gate_step total tag first f n content z y x k r step = record {
-  files = gate_grows total tag first f n content z.files y.files k.files r.long r.block r.next r.head r.mark x.files step.files;
-  said = step.said ∙ k.said;
-}
-
--- all three are done
-module _ (total tag first f n : ℕ) (content : List ℕ) (old one two three : Files) (w : IsWrittenUpTo total tag first f n old) (size : length content ≡ 4096) (r : ReadyToGrow total tag f n content two)
-    (wrote : one ≡ with_file old f (overlay_bytes (4096 * (n + 1)) content (old f))) (others : InFile (f + 1) Anyhow one two) (gated : three ≡ with_file two f (overlay_bytes (511 + (n + 1)) (1 ∷ []) (two f))) where
-  kept : TrailKept total tag first f n old two
-  kept = next_kept total tag first f n old one two
-      (content_kept total tag first f n old one w (record {
-        here = content_torn n content (old f) (one f) size (ap (λ (l : Files). l f) wrote ∙ with_file_here old f (overlay_bytes (4096 * (n + 1)) content (old f)));
-        others = λ g ne. ap (λ (l : Files). l g) wrote ∙ with_file_other old f (overlay_bytes (4096 * (n + 1)) content (old f)) g ne;
-      })) others
-
-  whole : three f ≡ overlay_bytes (511 + (n + 1)) (1 ∷ []) (two f)
-  whole = ap (λ (l : Files). l f) gated ∙ with_file_here two f (overlay_bytes (511 + (n + 1)) (1 ∷ []) (two f))
-
-  step : InFile f (Torn (511 + (n + 1)) 1) two three
-  step = record {
-    here = subst (λ l. Torn (511 + (n + 1)) 1 (two f) l) (sym whole) (torn_overlaid (511 + (n + 1)) (1 ∷ []) (two f));
-    others = λ g ne. ap (λ (l : Files). l g) gated ∙ with_file_other two f (overlay_bytes (511 + (n + 1)) (1 ∷ []) (two f)) g ne;
-  }
-
-  pub done_trail : (m : ℕ) → f < first + m → trail_from m total first three ≡ trail_from m total first old ++ content ∷ []
-  done_trail = gate_done total tag first f n content old two kept r.long r.block r.next r.head r.mark three step whole
-
-  pub done_writes : (n + 1 ≢ total → IsWrittenUpTo total tag first f (n + 1) three) × (n + 1 ≡ total → IsWrittenUpTo total tag first (f + 1) 0 three)
-  done_writes = gate_done_writes total tag first f n content old two kept r.long r.block r.next r.head r.mark three step whole
 
 -- ---- a file that is started
 
@@ -350,14 +274,3 @@ next_others f n total one two head last not_last = record {
     | inr not ↦ ap (λ (l : Files). l g) (not_last not)
   ];
 }
-
-pub all_others : (f n : ℕ) (content : List ℕ) (old one two three : Files) → one ≡ with_file old f (overlay_bytes (4096 * (n + 1)) content (old f)) → InFile (f + 1) Anyhow one two → three ≡ with_file two f (overlay_bytes (511 + (n + 1)) (1 ∷ []) (two f))
-    → (g : ℕ) → g ≢ f → g ≢ f + 1 → three g ≡ old g
-all_others f n content old one two three wrote others gated g here next =
-    ap (λ (l : Files). l g) gated ∙ with_file_other two f (overlay_bytes (511 + (n + 1)) (1 ∷ []) (two f)) g here
-    ∙ others.others g next
-    ∙ ap (λ (l : Files). l g) wrote ∙ with_file_other old f (overlay_bytes (4096 * (n + 1)) content (old f)) g here
-
-pub all_next : (f : ℕ) (a b : List ℕ) (old one two three : Files) → one ≡ with_file old f a → two ≡ one → three ≡ with_file two f b → three (f + 1) ≡ old (f + 1)
-all_next f a b old one two three wrote same gated =
-    ap (λ (l : Files). l (f + 1)) gated ∙ with_file_other two f b (f + 1) (omega arith) ∙ ap (λ (l : Files). l (f + 1)) same ∙ ap (λ (l : Files). l (f + 1)) wrote ∙ with_file_other old f a (f + 1) (omega arith)

@@ -8,6 +8,6 @@ mod reading;
 mod writing;
 
 pub use entry::{BeginHow, Entry};
-pub use pairs::pair_at;
+pub use pairs::{counts_rise, pair_at};
 pub use reading::decode;
 pub use writing::{encode, length};

@@ -22,7 +22,7 @@ pub fn pair_at(bytes: &[u8]) -> (u32, u32, &[u8])
 }
 
 /// Whether these are the bytes of counts of structure files, their numbers rising.
-pub(crate) fn counts_rise(list: &[u8]) -> bool
+pub fn counts_rise(list: &[u8]) -> bool
     ensures { result ≡ counts_rise 30001 (counts_at (length list.now / 8) list.now) }
 {
     let mut low = 30001;

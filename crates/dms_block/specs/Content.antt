@@ -80,27 +80,3 @@ abbrev pub TakesUp : Bool → Content → (ℕ → ℕ) → Change → List Chan
 TakesUp told c counts x kept kept' =
     ((kept' ≡ with_change x.id.file x.id.block x.block.0 kept) × (IsTrue told → true ≡ differs c x))
     ⊎ ((kept' ≡ kept) × (x.id.block < counts x.id.file) × (IsTrue told → false ≡ differs c x))
-
--- the first so many of these changes were made, maybe none, and at least one wasn't
-pub record AppliesPart (changes : List Change) (old new : Content) : Type 0 where
-  pub made : List Change
-  pub missing : Change
-  pub rest : List Change
-  pub are : changes ≡ made ++ missing ∷ rest
-  pub is : new ≡ apply_changes made old
-
--- a change in this file
-abbrev pub is_in : ℕ → Change → Bool
-is_in f x = x.id.file == f
-
--- whether it is in this file; or, where `within` is false, whether it isn't
-abbrev pub is_where : ℕ → Bool → Change → Bool
-is_where f within x = if within then is_in f x else not (is_in f x)
-
--- those that are in this file; or, where `within` is false, those that aren't
-abbrev pub those_in : ℕ → Bool → List Change → List Change
-those_in f within xs = filter (is_where f within) xs
-
--- those in this file behind all others
-abbrev pub file_last : ℕ → List Change → List Change
-file_last f xs = those_in f false xs ++ those_in f true xs

@@ -1,5 +1,5 @@
 -- What blocks tell of themselves, and what their calls leave of that.
-use Rattle.std.specs.Prelude.{ℕ, ◌+◌, ◌-◌, ◌%◌, ◌≤◌, ◌<◌, ◌==◌, ◌^◌, ◌≡◌, ◌++◌, ◌&&◌, not, Bool, false, IsTrue, List, [], ◌∷◌, length, take, Some, min, IsErrOf, OnOk, ◌⊎◌, if◌then◌else◌}
+use Rattle.std.specs.Prelude.{ℕ, ◌+◌, ◌-◌, ◌%◌, ◌≤◌, ◌<◌, ◌==◌, ◌^◌, ◌≡◌, ◌++◌, ◌&&◌, not, Bool, IsTrue, List, [], ◌∷◌, length, take, Some, min, IsErrOf, OnOk, ◌⊎◌}
 use Rattle.std.specs.declared.option.Option.{Option}
 use Rattle.std.specs.declared.result.Result.{Result}
 use Rattle.std.specs.declared.result.Result.TheVariants.{Ok, Err}
@@ -9,7 +9,6 @@ use Rattle.dms_block.specs.declared.block_fault.BlockFault.TheVariants.{Disk, Me
 use Rattle.dms_block.specs.Counts.{Faults, Raised}
 use Rattle.dms_block.specs.Faults.{NotFull, Unbroken}
 use Rattle.dms_block.specs.Content.{Content, block_in}
-use Rattle.dms_block.specs.Landmarks.{Landmark, AddsItsLandmarks, control}
 
 -- a quiet point that stands on a disk: its number, its blocks by file, the bytes of its description
 pub record BlockPoint : Type 0 where
@@ -56,8 +55,6 @@ pub record Held : Type 1 where
   pub points : List BlockPoint
   pub durable : ℕ
   pub here : BlockPoint
-  -- the Controls and Begins of its audit, where they are told
-  pub landmarks : Option (List Landmark)
   -- what stops may leave
   pub clock : Clock BlockStop
   pub faults : Faults
@@ -71,14 +68,15 @@ HasNextNumber h = h.next + 1 < 2 ^ 64
 abbrev pub IfTold : Held → Type 0 → Type 0
 IfTold h P = h.tells → HasNextNumber h → P
 
--- The first so many of the points, not fewer than were made durable, and a next number that has fallen by no more than the points
--- that are missing. Where none is missing it hasn't fallen. The files are as promised.
+-- The first so many of the points, not fewer than were made durable, and a next number that has not risen, and fallen by no more than
+-- the points that are missing. Where none is missing it is the same. The files are as promised.
 pub record Prefix (whole : (ℕ → List ℕ) → Type 0) (durable : ℕ) (points : List BlockPoint) (next : ℕ) (stop : BlockStop) : Type 0 where
   pub count : ℕ
   pub enough : durable ≤ count
   pub within : count ≤ length points
   pub is : stop.points ≡ take count points
   pub not_fallen : next + count ≤ stop.next + length points
+  pub not_risen : stop.next ≤ next
   pub whole_files : whole stop.files
 
 -- the text of a stop is this one, where it is told
@@ -171,10 +169,6 @@ is_due_at every n = not (every == 0) && (n % every == 0)
 abbrev pub is_due : ℕ → ℕ → Bool
 is_due every syncs = is_due_at every (one_more syncs)
 
--- the landmarks of a sync behind so many others: one Control with this next number, where one is due
-abbrev pub sync_landmarks : ℕ → ℕ → ℕ → List Landmark
-sync_landmarks every syncs next = if is_due every syncs then control next ∷ [] else []
-
 -- a count rose by one at most
 abbrev pub IsUpToOne : ℕ → ℕ → Type 0
 IsUpToOne old new = (old ≤ new) × (new ≤ old + 1)
@@ -204,7 +198,7 @@ pub record Used (n m : ℕ) (a b : Uses) : Type 0 where
   pub syncs : b.syncs ≡ a.syncs
   pub outs : b.outs ≡ a.outs
 
--- a call reads blocks alone, at most n of them, and needs no room in the audit. Where it answers it adds no landmark
+-- a call reads blocks alone, at most n of them, and needs no room in the audit
 pub record Looks {T : Type 0} (n : ℕ) (result : Result T BlockFault) (a b : Held) : Type 0 where
   pub not_full : NotFull result
   pub passes : MakesNoPoint a b
@@ -212,16 +206,13 @@ pub record Looks {T : Type 0} (n : ℕ) (result : Result T BlockFault) (a b : He
   pub same : Unbroken result (SameBlocks a b)
   pub counts : b.counts ≡ a.counts
   pub uses : Used n 0 a.uses b.uses
-  pub landmarks : AddsItsLandmarks false result a.landmarks b.landmarks []
 
--- a call may change blocks, at most m of them, and reads at most n; without memory it changes none. Where it answers, or the audit had no room, it adds no
--- landmark
+-- a call may change blocks, at most m of them, and reads at most n; without memory it changes none
 pub record Alters {T : Type 0} (n m : ℕ) (result : Result T BlockFault) (a b : Held) : Type 0 where
   pub passes : MakesNoPoint a b
   pub stays : Unbroken result (Stays a b)
   pub memory : IsErrOf result Memory → SameBlocks a b
   pub uses : Used n m a.uses b.uses
-  pub landmarks : AddsItsLandmarks false result a.landmarks b.landmarks []
 
 -- a quiet point was made
 pub record MadeQuiet (a b : Held) : Type 0 where

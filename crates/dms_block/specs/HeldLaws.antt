@@ -1,5 +1,5 @@
 -- One call on blocks after another.
-use Rattle.std.proofs.Common.{ℕ, ◌+◌, ◌≤◌, ◌≡◌, ◌∙◌, List, length, refl, sym, ap, subst, arith, Bool, false, IsTrue, inl, inr}
+use Rattle.std.proofs.Common.{ℕ, ◌+◌, ◌≤◌, ◌≡◌, ◌∙◌, List, length, refl, sym, ap, subst, arith, Bool, IsTrue, inl, inr}
 use Rattle.std.specs.Prelude.{IsErrOf}
 use Rattle.std.specs.declared.result.Result.{Result}
 use Rattle.std.specs.declared.result.Result.TheVariants.{Ok, Err}
@@ -9,7 +9,6 @@ use Rattle.dms_block.specs.declared.block_fault.BlockFault.TheVariants.{Disk, Me
 use Rattle.dms_block.specs.Content.{Content, block_in}
 use Rattle.dms_block.specs.Counts.{Faults, Raised}
 use Rattle.dms_block.specs.Faults.{NotFull, Unbroken}
-use Rattle.dms_block.specs.LandmarkLaws.{lands_as, lands_err, lands_none, lands_then, lands_yes}
 use Rattle.dms_block.specs.Held.{Held, BlockStop, BlockPoint, Prefix, TextIs, Lasts, MakesNoPoint, Stays, SameBlocks, HasNextNumber, Leaves, Looks, Alters, Uses, Used, Caused, CausedOr, HasCauses, HasCausesOr, IsShort}
 
 pub unbroken_map : {T : Type 0} {P Q : Type 0} (r : Result T BlockFault) → (P → Q) → Unbroken r P → Unbroken r Q
@@ -59,7 +58,7 @@ same_on lasts p q = record { counts = q.counts ∙ p.counts; content = λ t. q.c
 
 -- what stops leave after calls that made no point
 prefix_still : (a b : Held) (points : List BlockPoint) (next : ℕ) (x : BlockStop) → Lasts a b → a.durable ≤ b.durable → Prefix b.whole b.durable points next x → Prefix a.whole a.durable points next x
-prefix_still a b points next x lasts low p = record { count = p.count; enough = omega (arith, low, p.enough); within = p.within; is = p.is; not_fallen = p.not_fallen; whole_files = lasts.whole x.files p.whole_files }
+prefix_still a b points next x lasts low p = record { count = p.count; enough = omega (arith, low, p.enough); within = p.within; is = p.is; not_fallen = p.not_fallen; not_risen = p.not_risen; whole_files = lasts.whole x.files p.whole_files }
 
 -- a call after calls that made no point
 pub leaves_on : (a b c : Held) (points : List BlockPoint) (next : ℕ) → MakesNoPoint a b → Stays a b → a.tells → HasNextNumber a
@@ -89,7 +88,7 @@ used_more n' m' le le' p = record { not_fewer = p.not_fewer; reads = omega (arit
 
 -- nothing was read yet
 pub looks_none : {T : Type 0} (n : ℕ) (r : Result T BlockFault) (a : Held) → NotFull r → a.sound → Looks n r a a
-looks_none n r a room sound = record { not_full = room; passes = passes_none a; stays = unbroken_is r (stays_none a sound); same = unbroken_is r (same_none a); counts = refl; uses = used_none n 0 a.uses; landmarks = lands_none false r a.landmarks }
+looks_none n r a room sound = record { not_full = room; passes = passes_none a; stays = unbroken_is r (stays_none a sound); same = unbroken_is r (same_none a); counts = refl; uses = used_none n 0 a.uses }
 
 -- more reads after reads that went well
 pub looks_on : {T U : Type 0} {m n : ℕ} {x : T} (r : Result U BlockFault) {a b c : Held} → Looks m (Ok x) a b → Looks n r b c → Looks (m + n) r a c
@@ -100,12 +99,11 @@ looks_on {m = m} {n = n} r p q = record {
   same = unbroken_map r (λ s. same_on p.passes.lasts p.same s) q.same;
   counts = q.counts ∙ p.counts;
   uses = used_more (m + n) 0 (omega arith) (omega arith) (used_on p.uses q.uses);
-  landmarks = lands_then r p.landmarks q.landmarks;
 }
 
 -- another answer, after which at most as much is promised
 pub looks_as : {T U : Type 0} {n : ℕ} {x : T} (r : Result U BlockFault) {a b : Held} → NotFull r → Looks n (Ok x) a b → Looks n r a b
-looks_as r room p = record { not_full = room; passes = p.passes; stays = unbroken_is r p.stays; same = unbroken_is r p.same; counts = p.counts; uses = p.uses; landmarks = lands_as r room p.landmarks }
+looks_as r room p = record { not_full = room; passes = p.passes; stays = unbroken_is r p.stays; same = unbroken_is r p.same; counts = p.counts; uses = p.uses }
 
 unbroken_err : (T U P : Type 0) (e : BlockFault) → Unbroken {T = T} (Err e) P → Unbroken {T = U} (Err e) P
 unbroken_err T U P Disk p = tt
@@ -123,11 +121,11 @@ not_full_err T U Say p = tt
 
 -- the same fault, handed on
 pub looks_err : {T U : Type 0} {n : ℕ} (e : BlockFault) {a b : Held} → Looks {T = T} n (Err e) a b → Looks {T = U} n (Err e) a b
-looks_err {T = T} {U = U} e {a} {b} p = record { not_full = not_full_err T U e p.not_full; passes = p.passes; stays = unbroken_err T U (Stays a b) e p.stays; same = unbroken_err T U (SameBlocks a b) e p.same; counts = p.counts; uses = p.uses; landmarks = lands_err e p.landmarks }
+looks_err {T = T} {U = U} e {a} {b} p = record { not_full = not_full_err T U e p.not_full; passes = p.passes; stays = unbroken_err T U (Stays a b) e p.stays; same = unbroken_err T U (SameBlocks a b) e p.same; counts = p.counts; uses = p.uses }
 
 -- more reads were allowed
 pub looks_more : {T : Type 0} {m : ℕ} (n : ℕ) {r : Result T BlockFault} {a b : Held} → m ≤ n → Looks m r a b → Looks n r a b
-looks_more n le p = record { not_full = p.not_full; passes = p.passes; stays = p.stays; same = p.same; counts = p.counts; uses = used_more n 0 le (omega arith) p.uses; landmarks = p.landmarks }
+looks_more n le p = record { not_full = p.not_full; passes = p.passes; stays = p.stays; same = p.same; counts = p.counts; uses = used_more n 0 le (omega arith) p.uses }
 
 memory_is : {T : Type 0} {P : Type 0} (r : Result T BlockFault) → IsErrOf r Memory → Unbroken r P → P
 memory_is (Ok x) e p = p
@@ -139,7 +137,7 @@ memory_is (Err Say) e p = absurd (cc e)
 
 -- reads alone change no block
 pub looks_alters : {T : Type 0} {n : ℕ} (m : ℕ) (r : Result T BlockFault) {a b : Held} → Looks n r a b → Alters n m r a b
-looks_alters {n = n} m r p = record { passes = p.passes; stays = p.stays; memory = λ e. memory_is r e p.same; uses = used_more n m (omega arith) (omega arith) p.uses; landmarks = p.landmarks }
+looks_alters {n = n} m r p = record { passes = p.passes; stays = p.stays; memory = λ e. memory_is r e p.same; uses = used_more n m (omega arith) (omega arith) p.uses }
 
 -- a change after reads that went well
 pub alters_on : {T U : Type 0} {k n m : ℕ} {x : T} (r : Result U BlockFault) {a b c : Held} → Looks k (Ok x) a b → Alters n m r b c → Alters (k + n) m r a c
@@ -148,15 +146,14 @@ alters_on {k = k} {n = n} {m = m} r p q = record {
   stays = unbroken_map r (λ s. stays_on p.passes p.stays s) q.stays;
   memory = λ e. same_on p.passes.lasts p.same (q.memory e);
   uses = used_more (k + n) m (omega arith) (omega arith) (used_on p.uses q.uses);
-  landmarks = lands_then r p.landmarks q.landmarks;
 }
 
 -- reads after a change that went well, without more memory
 pub alters_more : {T : Type 0} {n m : ℕ} (n' m' : ℕ) {r : Result T BlockFault} {a b : Held} → n ≤ n' → m ≤ m' → Alters n m r a b → Alters n' m' r a b
-alters_more n' m' le le' p = record { passes = p.passes; stays = p.stays; memory = p.memory; uses = used_more n' m' le le' p.uses; landmarks = p.landmarks }
+alters_more n' m' le le' p = record { passes = p.passes; stays = p.stays; memory = p.memory; uses = used_more n' m' le le' p.uses }
 
 pub alters_as : {T U : Type 0} {n m : ℕ} {x : T} (y : U) {a b : Held} → Alters n m (Ok x) a b → Alters n m (Ok y) a b
-alters_as y p = record { passes = p.passes; stays = p.stays; memory = λ e. absurd (cc e); uses = p.uses; landmarks = lands_yes y p.landmarks }
+alters_as y p = record { passes = p.passes; stays = p.stays; memory = λ e. absurd (cc e); uses = p.uses }
 
 -- causes
 

@@ -4,11 +4,8 @@ pub mod ContentLaws
 pub mod Counts
 pub mod FaultLaws
 pub mod Faults
-pub mod FileLast
 pub mod Held
 pub mod HeldLaws
-pub mod LandmarkLaws
-pub mod Landmarks
 pub mod Texts
 pub mod View
 pub mod ViewLaws

@@ -1,8 +1,7 @@
-ghost use Rattle.std.specs.Prelude.{◌≡◌, ◌≤◌, ◌<◌, ◌+◌, ◌^◌, ◌++◌, [], ◌∷◌, IfOk, OnOk, IsErrOf, IsOkUnless, IsTrue, length, min, ◌-◌, false, true};
-ghost use Rattle.dms_block.specs.Content.{block_in, apply_changes, counts_after, AppliesPart, FitsIn};
-ghost use Rattle.dms_block.specs.Held.{AuditPace, BlocksAgree, Alters, HasCauses, Held, IfTold, is_due, Lasts, Leaves, LeavesText, Looks, MadeQuiet, MadeDurable, MakesNoPoint, HasNextNumber, SameBlocks, Stays, sync_landmarks, Synced, WentBack, one_more};
+ghost use Rattle.std.specs.Prelude.{◌≡◌, ◌≤◌, ◌<◌, ◌+◌, ◌^◌, ◌++◌, [], ◌∷◌, IfOk, OnOk, IsErrOf, IsOkUnless, IsTrue, length, min, ◌-◌, true};
+ghost use Rattle.dms_block.specs.Content.{block_in, apply_changes, counts_after, FitsIn};
+ghost use Rattle.dms_block.specs.Held.{AuditPace, BlocksAgree, Alters, HasCauses, Held, IfTold, is_due, Lasts, Leaves, LeavesText, Looks, MadeQuiet, MadeDurable, MakesNoPoint, HasNextNumber, SameBlocks, Stays, Synced, WentBack, one_more};
 ghost use Rattle.dms_block.specs.Faults.{IfFull};
-ghost use Rattle.dms_block.specs.Landmarks.{back_landmarks, AddsItsLandmarks};
 ghost use Rattle.dms_block.specs.Texts.{Prints, PrintsPrefix};
 
 use crate::{Block, BlockFault, BlockId, Changes};
@@ -38,14 +37,12 @@ pub trait Blocks {
         ensures same { same_blocks self.old self.new };
 
     /// Makes all changes. Each is of a file that the object owns and of a block below 2,097,152, and each new block
-    /// stands at its file's count, further new ones rising from there. Where the audit has no room the first so many
-    /// changes are made, maybe none, and at least one isn't.
+    /// stands at its file's count, further new ones rising from there.
     fn apply(&mut self, alloc: Global, changes: &Changes) -> Result<(), BlockFault>
         requires sound { (held self.old).sound }
         requires fits { FitsIn changes.now.items.items (held self.old).owns (held self.old).counts }
         ensures counts { OnOk result ((held self.new).counts ≡ counts_after changes.now.items.items (held self.old).counts) }
         ensures content { OnOk result (IsTrue (held self.old).told → (held self.new).content ≡ apply_changes changes.now.items.items (held self.old).content) }
-        ensures part { IfFull result (λ f. IsTrue (held self.old).told → AppliesPart changes.now.items.items (held self.old).content (held self.new).content) }
         ensures alters { Alters 0 (length changes.now.items.items) result (held self.old) (held self.new) }
         ensures spent { OnOk result ((held self.new).uses.spent ≡ min ((held self.old).uses.spent + length changes.now.items.items) (2 ^ 64 - 1)) }
         ensures causes { HasCauses result (held self.old) (held self.new) }
@@ -53,7 +50,8 @@ pub trait Blocks {
         ensures full { IfFull result (λ f. f ≡ (pace self.old).last) }
         ensures same { same_blocks self.old self.new };
 
-    /// Makes a quiet point, and answers its number. Takes no memory. Where the next number is 2^64 - 1 it stays so.
+    /// Makes a quiet point, and answers its number. Takes no memory: it answers Memory exactly where the next number is 2^64 - 1,
+    /// which no point may have.
     /// Where the audit has no room no stop leaves the new point.
     fn quiet(&mut self) -> Result<u64, BlockFault>
         requires { (held self.old).sound }
@@ -65,12 +63,12 @@ pub trait Blocks {
         ensures leaves { let a = held self.old in IfTold a (Leaves a (held self.new) (a.points ++ a.here ∷ []) (a.next + 1)) }
         ensures lasts { Lasts (held self.old) (held self.new) }
         ensures uses { (held self.new).uses ≡ (held self.old).uses }
-        ensures memory { IsErrOf result BlockFault.Memory → ⊥ }
+        ensures numbered { OnOk result (HasNextNumber (held self.old)) }
+        ensures memory { HasNextNumber (held self.old) → IsErrOf result BlockFault.Memory → ⊥ }
         ensures causes { HasCauses result (held self.old) (held self.new) }
         ensures silent { IsErrOf result BlockFault.Say → ⊥ }
         ensures full { IfFull result (λ f. f ≡ (pace self.old).last) }
         ensures no_point { let a = held self.old in IfFull result (λ f. IfTold a (Leaves a (held self.new) a.points a.next)) }
-        ensures landmarks { AddsItsLandmarks false result (held self.old).landmarks (held self.new).landmarks [] }
         ensures same { same_blocks self.old self.new };
 
     /// Makes all quiet points so far durable. Takes no memory. The audit may have no room only where a control point is due.
@@ -84,7 +82,6 @@ pub trait Blocks {
         ensures silent { IsErrOf result BlockFault.Say → ⊥ }
         ensures full { IfFull result (λ f. f ≡ (pace self.old).last) }
         ensures due { IfFull result (λ f. is_due (pace self.old).every (held self.old).uses.syncs ≡ true) }
-        ensures landmarks { let a = held self.old in AddsItsLandmarks false result a.landmarks (held self.new).landmarks (sync_landmarks (pace self.old).every a.uses.syncs a.next) }
         ensures same { same_blocks self.old self.new };
 
     /// Goes back to the last quiet point, or to the content that it began with. Full names file 9,999.
@@ -97,7 +94,6 @@ pub trait Blocks {
         ensures causes { HasCauses result (held self.old) (held self.new) }
         ensures silent { IsErrOf result BlockFault.Say → ⊥ }
         ensures full { IfFull result (λ f. f ≡ 9999) }
-        ensures landmarks { AddsItsLandmarks true result (held self.old).landmarks (held self.new).landmarks (back_landmarks (held self.old).next) }
         ensures same { same_blocks self.old self.new };
 
     /// Prints. Takes no memory of its own. A failed call prints the first bytes or none.
@@ -113,7 +109,6 @@ pub trait Blocks {
         ensures uses { (held self.new).uses ≡ (held self.old).uses }
         ensures fault { IsOkUnless result BlockFault.Say }
         ensures causes { HasCauses result (held self.old) (held self.new) }
-        ensures landmarks { AddsItsLandmarks false result (held self.old).landmarks (held self.new).landmarks [] }
         ensures same { same_blocks self.old self.new };
 
     /// What sound blocks tell hangs together.

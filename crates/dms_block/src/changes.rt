@@ -1,10 +1,9 @@
-ghost use Rattle.std.specs.Prelude.{◌≡◌, ◌<◌, [], length, true, IfOk, IfSome, IfNone, OnErr, OnOk, option_map, ◌++◌};
+ghost use Rattle.std.specs.Prelude.{◌≡◌, ◌<◌, [], length, true, IfSome, IfNone, OnErr, OnOk, option_map};
 ghost use Rattle.std.proofs.Props.{props};
-ghost use Rattle.dms_block.specs.Content.{AreApart, NoneOf, change_at, file_last, is_where, those_in, with_change};
+ghost use Rattle.dms_block.specs.Content.{AreApart, NoneOf, change_at, with_change};
 ghost use Rattle.dms_block.specs.Changing.{AreApart-prop, at_index};
 
 use crate::{Block, BlockFault, BlockId, Change};
-use dms_base::Memory;
 use std::alloc::Global;
 
 /// Changes of distinct blocks, in the order in which each block was first set.
@@ -25,31 +24,6 @@ fn place_of(changes: &[Change], id: BlockId) -> Option<usize>
         }
     }
     None
-}
-
-/// Whether a change is in this file; or, where `within` is false, whether it isn't.
-fn is_where(change: &Change, file: u32, within: bool) -> bool
-    ensures { result ≡ is_where file within change.now }
-{
-    let there = change.id.file == file;
-    if within { there } else { !there }
-}
-
-/// Adds the changes that are in this file; or, where `within` is false, those that aren't.
-fn add_where(
-    items: &mut Vec<Change>,
-    changes: &[Change],
-    file: u32,
-    within: bool,
-) -> Result<(), Memory>
-    ensures { OnOk result (items.new.items ≡ items.old.items ++ those_in file within changes.now) }
-{
-    for change in changes {
-        if is_where(change, file, within) {
-            items.push(*change)?;
-        }
-    }
-    Ok(())
 }
 
 impl Changes {
@@ -82,17 +56,6 @@ impl Changes {
         }
         self.items.push(Change { id, block: *block })?;
         Ok(())
-    }
-
-    /// The same changes, those of one file behind all others.
-    /// Answers Err where memory is refused.
-    pub fn with_last(&self, alloc: Global, file: u32) -> Result<Changes, Memory>
-        ensures { IfOk result (λ r. r.items.items ≡ file_last file self.now.items.items) }
-    {
-        let mut items = Vec::new(alloc);
-        add_where(&mut items, &self.items, file, false)?;
-        add_where(&mut items, &self.items, file, true)?;
-        Ok(Changes { items })
     }
 
     /// What a block is to be, if it is set.

@@ -5,7 +5,6 @@ ghost use Rattle.dms_block.specs.Changing.{FitsIn-prop};
 
 use crate::sift::sift;
 use crate::{Block, BlockFault, BlockId, Blocks, Change, Changes};
-use dms_base::Memory;
 use std::alloc::Global;
 
 /// Writes that are seen here, and handed down at the end.
@@ -29,7 +28,7 @@ fn with_block(n: u32, change: &Change, file: u32) -> u32
 
 impl<B: Blocks> Overlay<B> {
     ghost use Rattle.std.specs.Prelude.{◌≤◌, OnErr, OnOk, IsErrOf, IsTrue, length};
-    ghost use Rattle.dms_block.specs.Content.{block_in, differing, file_last, with_block, AppliesPart};
+    ghost use Rattle.dms_block.specs.Content.{block_in, differing, with_block};
     ghost use Rattle.dms_block.specs.Faults.{IfFull};
     ghost use Rattle.dms_block.specs.Held.{Alters, HasCauses};
     ghost use Rattle.dms_block.specs.View.{ReadsOverlay, overlay_content, seen_counts, under, overlay_changes};
@@ -88,29 +87,13 @@ impl<B: Blocks> Overlay<B> {
         self.changes.set(id, block)
     }
 
-    /// The changes of one file come behind all others: so they are handed down last.
-    /// Answers Err where memory is refused; nothing changes then.
-    pub fn put_last(&mut self, alloc: Global, file: u32) -> Result<(), Memory>
-        ensures below { self.new.below ≡ self.old.below }
-        ensures changes { OnOk result (overlay_changes self.new ≡ file_last file (overlay_changes self.old)) }
-        ensures seen { overlay_content self.new ≡ overlay_content self.old }
-        ensures counts { seen_counts self.new ≡ seen_counts self.old }
-        ensures at_most { length (overlay_changes self.new) ≤ length (overlay_changes self.old) }
-    {
-        let sorted = self.changes.with_last(alloc, file)?;
-        self.changes = sorted;
-        Ok(())
-    }
-
-    /// Hands down what was written, in one call: only blocks that differ from what stands below. Where the audit has no room the first
-    /// so many of these are changed, maybe none, and at least one isn't.
+    /// Hands down what was written, in one call: only blocks that differ from what stands below.
     /// Answers Disk, Memory, Full or Damaged where a read below or that call does, and Memory where the list of these blocks is refused.
     pub fn finish(&mut self, alloc: Global) -> Result<(), BlockFault>
         requires sound { (under self.old).sound }
         ensures written { overlay_changes self.new ≡ [] }
         ensures counts { OnOk result ((under self.new).counts ≡ seen_counts self.old) }
         ensures content { OnOk result (IsTrue (under self.old).told → (under self.new).content ≡ overlay_content self.old) }
-        ensures part { let a = under self.old in IfFull result (λ f. IsTrue a.told → AppliesPart (differing a.content (overlay_changes self.old)) a.content (under self.new).content) }
         ensures alters { Alters (length (overlay_changes self.old)) (length (overlay_changes self.old)) result (under self.old) (under self.new) }
         ensures spent { OnOk result (IsTrue (under self.old).told → (under self.new).uses.spent ≤ (under self.old).uses.spent + length (differing (under self.old).content (overlay_changes self.old))) }
         ensures causes { HasCauses result (under self.old) (under self.new) }

@@ -1,7 +1,7 @@
 -- A folder of the system: names, the files behind them, and what the calls do to them.
-use Rattle.std.specs.Prelude.{ℕ, ◌≡◌, ◌≢◌, ◌⊎◌, List, [], ◌++◌, take, None, Some, slice_get}
+use Rattle.std.specs.Prelude.{ℕ, ◌≡◌, ◌≢◌, ◌⊎◌, Bool, IsTrue, List, [], ◌++◌, take, None, Some, slice_get}
 use Rattle.std.specs.declared.option.Option.{Option}
-use Rattle.dms_moments.specs.Moments.{Clock, Now}
+use Rattle.dms_moments.specs.Moments.{Clock, Now, Steps}
 
 -- the file that each name of the folder leads to, the bytes of each file, and the text that was printed
 pub record World : Type 0 where
@@ -28,6 +28,10 @@ pub record MakesFile (name : List ℕ) (i : ℕ) (old new : World) : Type 0 wher
   pub here : (new.names name ≡ old.names name) ⊎ ((old.names name ≡ None) × (new.names name ≡ Some i))
   pub names : (m : List ℕ) → m ≢ name → new.names m ≡ old.names m
   pub said : new.said ≡ old.said
+
+-- Some file was made for the name, where the calls tell their files it is now, and of it so much holds.
+abbrev pub MakesSome : Bool → List ℕ → World → World → Clock World → Clock World → (ℕ → Type 0) → Type 0
+MakesSome tells name old new began clock P = (i : ℕ) × Steps (MakesFile name i) began clock × (IsTrue tells → MakesFile name i old new) × P i
 
 -- some of these bytes were printed, from the first on
 pub record Speaks (text : List ℕ) (old new : World) : Type 0 where

@@ -3,7 +3,7 @@ ghost use Rattle.std.specs.declared.option.Option.{Option};
 ghost use Rattle.dms_moments.specs.Moments.{Clock, Now, Steps};
 ghost use Rattle.dms_site.specs.Files.{range, overlay_bytes, pad_zeros, Torn, Cut};
 ghost use Rattle.dms_calls.specs.Names.{IsFileName};
-ghost use Rattle.dms_calls.specs.World.{World, Unchanged, OnFile, MakesFile, Speaks, StableFile, StableNames, AllGiven};
+ghost use Rattle.dms_calls.specs.World.{World, Unchanged, OnFile, MakesSome, Speaks, StableFile, StableNames, AllGiven};
 
 use dms_site::Failed;
 
@@ -52,9 +52,8 @@ pub trait Calls {
         requires broken { broken self.old ≡ false }
         requires file { IsFileName name.now }
         requires absent { IsTrue tells → (world self.old).names name.now ≡ None }
-        ensures made { (i : ℕ) × Steps (MakesFile name.now i) (clock self.old) (clock self.new)
-            × (IsTrue tells → MakesFile name.now i (world self.old) (world self.new))
-            × IfOk result (λ h. IsTrue tells → (file h ≡ i) × ((world self.new).names name.now ≡ Some i)) }
+        ensures made { MakesSome tells name.now (world self.old) (world self.new) (clock self.old) (clock self.new) (λ i.
+            IfOk result (λ h. IsTrue tells → (file h ≡ i) × ((world self.new).names name.now ≡ Some i))) }
         ensures said { (world self.new).said ≡ (world self.old).said }
         ensures broken { OnOk result (broken self.new ≡ false) };
 

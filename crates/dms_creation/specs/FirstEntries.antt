@@ -1,11 +1,16 @@
 -- The entries of a new database: its description in parts, and the control point 0.
-use Rattle.std.specs.Prelude.{ℕ, zero, suc, ◌+◌, List, [], ◌∷◌, ◌++◌, length}
+use Rattle.std.specs.Prelude.{ℕ, zero, suc, ◌+◌, ◌/◌, List, [], ◌∷◌, ◌++◌, length}
 use Rattle.dms_desc.specs.Shape.{Described}
 use Rattle.dms_desc_bytes.specs.Spelling.{spelling}
 use Rattle.dms_audrec.specs.Bodies.{bodies}
+use Rattle.dms_audrec.specs.Reading.{counts_at}
 use Rattle.dms_history.specs.declared.event.FileCount.{FileCount}
 use Rattle.dms_history.specs.Entries.{Entry, control_point}
 use Rattle.dms_history.specs.Schemas.{schema_entries}
+
+-- the whole Schema of a description, and directly behind it the control point 0 with these counts; the next number is 1
+abbrev pub schema_control : List ℕ → List ℕ → List Entry
+schema_control description counts = schema_entries (bodies description) ++ control_point 0 1 (counts_at (length counts / 8) counts) ∷ []
 
 -- no blocks in n structure files from the one of structure k on
 abbrev pub zero_counts : ℕ → ℕ → List FileCount

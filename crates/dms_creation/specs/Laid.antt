@@ -1,5 +1,5 @@
 -- How far the audit trail of a new database is laid.
-use Rattle.std.specs.Prelude.{ℕ, zero, suc, ◌+◌, ◌*◌, ◌<◌, ◌≤◌, ◌≡◌, List, [], ◌∷◌, ◌++◌, take, drop}
+use Rattle.std.specs.Prelude.{ℕ, zero, suc, ◌+◌, ◌*◌, ◌<◌, ◌≤◌, ◌≡◌, Bool, IsTrue, List, [], ◌∷◌, ◌++◌, take, drop}
 use Rattle.dms_moments.specs.Moments.{Clock}
 use Rattle.dms_site.specs.Files.{Files, Left}
 use Rattle.dms_history.specs.Entries.{Entry, schema_part}
@@ -28,3 +28,7 @@ pub record Laid (end : AuditEnd) (entries : List Entry) (old files : Files) (clo
   pub dumps : Cleared 20001 29999 files
   pub structures : Cleared 30001 30200 files
   pub apart : ApartStay old files
+
+-- whatever entries are laid so, where the site tells its files
+abbrev pub AtLaid : AuditEnd → Bool → Files → Clock Left → (List Entry → Files → Type 0) → Type 0
+AtLaid end tells files clock P = IsTrue tells → (entries : List Entry) (old : Files) → Laid end entries old files clock → P entries old

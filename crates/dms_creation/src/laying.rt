@@ -1,10 +1,9 @@
 //! The first entries of a new audit trail.
 
-ghost use Rattle.std.specs.Prelude.{◌≡◌, ◌+◌, ◌*◌, ◌/◌, ◌<◌, ◌≤◌, ◌++◌, [], ◌∷◌, List, length, take, drop, false, OnOk, IsTrue};
+ghost use Rattle.std.specs.Prelude.{◌≡◌, ◌+◌, ◌*◌, ◌/◌, ◌<◌, ◌≤◌, ◌++◌, [], ◌∷◌, length, take, drop, false, OnOk, IsTrue};
 ghost use Rattle.dms_base.specs.Causes.{HasCause};
 ghost use Rattle.dms_moments.specs.Moments.{Steps};
 ghost use Rattle.dms_site.specs.Files.{Files, Only};
-ghost use Rattle.dms_history.specs.Entries as meaning;
 ghost use Rattle.dms_history.specs.Entries.{is_begin};
 ghost use Rattle.dms_history.specs.Schemas.{schema_entries};
 ghost use Rattle.dms_audrec.specs.Reading.{counts_at};
@@ -12,7 +11,8 @@ ghost use Rattle.dms_audrec.specs.Spelling.{spelling, IsEntry, IsControl};
 ghost use Rattle.dms_audrec.specs.Seen.{entry_seen};
 ghost use Rattle.dms_creation.specs.Clearing.{KeepsApart, IsClear, ApartStay};
 ghost use Rattle.dms_audrec.specs.Bodies.{part_count, bodies};
-ghost use Rattle.dms_creation.specs.Laid.{Laid};
+ghost use Rattle.dms_creation.specs.FirstEntries.{schema_control};
+ghost use Rattle.dms_creation.specs.Laid.{Laid, AtLaid};
 ghost use Rattle.dms_creation.specs.Creation.{IsFirstTrail};
 
 use dms_audfile::AuditEnd;
@@ -26,10 +26,8 @@ fn lay_entry<S: Site>(end: &mut AuditEnd, site: &mut S, entry: &Entry<'_>) -> Re
     requires plain { is_begin (entry_seen entry.now) ≡ false }
     requires near { end.old.file ≤ 15000 }
     requires limit { end.old.limit ≡ 9999 }
-    ensures moments { IsTrue S.tells → (entries : List meaning.Entry) (old : Files) → Laid end.old entries old (S.files site.old) (S.clock site.old)
-        → Steps KeepsApart (S.clock site.old) (S.clock site.new) }
-    ensures laid { OnOk result (IsTrue S.tells → (entries : List meaning.Entry) (old : Files) → Laid end.old entries old (S.files site.old) (S.clock site.old)
-        → Laid end.new (entries ++ entry_seen entry.now ∷ []) old (S.files site.new) (S.clock site.new)) }
+    ensures moments { AtLaid end.old S.tells (S.files site.old) (S.clock site.old) (λ entries old. Steps KeepsApart (S.clock site.old) (S.clock site.new)) }
+    ensures laid { OnOk result (AtLaid end.old S.tells (S.files site.old) (S.clock site.old) (λ entries old. Laid end.new (entries ++ entry_seen entry.now ∷ []) old (S.files site.new) (S.clock site.new))) }
     ensures kind { (end.new.total ≡ end.old.total) × (end.new.tag ≡ end.old.tag) × (end.new.limit ≡ end.old.limit) }
     ensures waits { OnOk result (0 < end.new.used) }
     ensures place { end.new.file ≤ end.old.file + 2 }
@@ -106,7 +104,7 @@ pub(crate) fn lay_trail<S: Site>(
     requires size { length counts.now ≤ 1600 }
     ensures moments { IsTrue S.tells → IsClear (S.files site.old) → Steps KeepsApart (S.clock site.old) (S.clock site.new) }
     ensures stands { OnOk result (IsTrue S.tells → IsClear (S.files site.old)
-        → IsFirstTrail end.old.tag end.old.total (schema_entries (bodies bytes.now) ++ meaning.control_point 0 1 (counts_at (length counts.now / 8) counts.now) ∷ []) (S.files site.new)) }
+        → IsFirstTrail end.old.tag end.old.total (schema_control bytes.now counts.now) (S.files site.new)) }
     ensures apart { OnOk result (IsTrue S.tells → IsClear (S.files site.old) → ApartStay (S.files site.old) (S.files site.new)) }
     ensures durable { OnOk result (IsTrue S.tells → Only (S.files site.new) (S.clock site.new)) }
     ensures said { S.said site.new ≡ S.said site.old }

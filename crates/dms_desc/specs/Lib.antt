@@ -1,4 +1,5 @@
 pub mod Conds
+pub mod Files
 pub mod Fitting
 pub mod Keys
 pub mod Kinds

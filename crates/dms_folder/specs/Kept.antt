@@ -1,7 +1,9 @@
 -- What a folder keeps between its calls.
 use Rattle.std.specs.Prelude.{ℕ, ◌≡◌, ◌<◌, ◌^◌, Bool, true, false, IsTrue, List, [], ◌∷◌, ◌++◌, Some, slice_get}
+use Rattle.std.specs.declared.option.Option.{Option}
+use Rattle.std.specs.Bool.{MatchBool}
 use Rattle.dms_moments.specs.Moments.{Clock}
-use Rattle.dms_calls.specs.World.{World, StableFile, StableNames}
+use Rattle.dms_calls.specs.World.{World, StableFile, StableNames, AllGiven}
 use Rattle.dms_folder.specs.declared.opened.OpenedFile.{OpenedFile}
 use Rattle.dms_calls.specs.Names.{name_of}
 
@@ -33,3 +35,7 @@ pub record StableNext (old new : List (List ℕ)) (world : World) (clock : Clock
   pub name : List ℕ
   pub given : new ≡ old ++ name ∷ []
   pub stable : (n : ℕ) → n < 2 ^ 32 → name ≡ name_of n → StableAt world clock n
+
+-- A listing went on by one such name, or it was at its end and had given each name, where the calls tell.
+abbrev pub GoesOn : Bool → Bool → (List ℕ → Option ℕ) → List (List ℕ) → List (List ℕ) → World → World → Clock World → Type 0
+GoesOn more tells listed old new began world clock = MatchBool more (IsTrue tells → StableNext old new world clock) (IsTrue tells → AllGiven listed began.names old)

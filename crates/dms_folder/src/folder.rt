@@ -1,12 +1,12 @@
-ghost use Rattle.std.specs.Prelude.{◌≡◌, ◌≢◌, ◌+◌, ◌^◌, ◌<◌, ◌≤◌, ◌⊎◌, ℕ, [], ◌++◌, take, drop, false, length, slice_get, OnOk, IfOk, IfSome, IsTrue, MatchOption, Some, None};
+ghost use Rattle.std.specs.Prelude.{◌≡◌, ◌≢◌, ◌+◌, ◌^◌, ◌<◌, ◌≤◌, ◌⊎◌, ℕ, [], take, false, length, slice_get, OnOk, IfOk, IfSome, IsTrue, MatchOption, Some, None};
 ghost use Rattle.dms_moments.specs.Moments.{Steps};
 ghost use Rattle.dms_site.specs.Files.{with_file, overlay_bytes, range, InFile, Torn, Cut, OnDisk, Same, Only, IsLastPresent};
-ghost use Rattle.dms_calls.specs.World.{Unchanged, AllGiven};
+ghost use Rattle.dms_calls.specs.World.{Unchanged};
 ghost use Rattle.dms_calls.specs.Seen.{site_files, seen_clock};
 ghost use Rattle.dms_calls.specs.Names.{name_of};
-ghost use Rattle.dms_folder.specs.Kept.{KeepsFolder, StableAt, StableNext, IsAt, touch_file};
+ghost use Rattle.dms_folder.specs.Kept.{KeepsFolder, StableAt, GoesOn, IsAt, touch_file};
 ghost use Rattle.dms_folder.specs.Listings.{IsLater};
-ghost use Rattle.std.specs.Bool.{MatchBool};
+ghost use Rattle.dms_folder.specs.Reads.{IsReadInto};
 
 use crate::listing::{MOST_NAMES, next_number};
 use crate::name::file_name;
@@ -310,8 +310,7 @@ impl<C: Calls> Folder<C> {
         requires broken { C.broken self.old.calls ≡ false }
         requires kept { IsTrue C.tells → KeepsFolder C.file self.old.opened.items self.old.made self.old.synced (C.world self.old.calls) (C.clock self.old.calls) }
         ensures kept { IsTrue C.tells → KeepsFolder C.file self.new.opened.items self.new.made self.new.synced (C.world self.new.calls) (C.clock self.new.calls) }
-        ensures next { IfOk result (λ more. MatchBool more (IsTrue C.tells → StableNext (C.given names.old) (C.given names.new) (C.world self.new.calls) (C.clock self.new.calls))
-            (IsTrue C.tells → AllGiven (C.listed names.old) (C.world self.old.calls).names (C.given names.old))) }
+        ensures next { IfOk result (λ more. GoesOn more C.tells (C.listed names.old) (C.given names.old) (C.given names.new) (C.world self.old.calls) (C.world self.new.calls) (C.clock self.new.calls)) }
         ensures listed { IsTrue C.tells → C.listed names.new ≡ C.listed names.old }
         ensures opened { self.new.opened.items ≡ self.old.opened.items }
         ensures made { self.new.made ≡ self.old.made }
@@ -415,8 +414,7 @@ impl<C: Calls> Folder<C> {
         requires kept { IsTrue C.tells → KeepsFolder C.file self.old.opened.items self.old.made self.old.synced (C.world self.old.calls) (C.clock self.old.calls) }
         requires bound { at + length into.old < 2 ^ 40 }
         ensures kept { IsTrue C.tells → KeepsFolder C.file self.new.opened.items self.new.made self.new.synced (C.world self.new.calls) (C.clock self.new.calls) }
-        ensures bytes { IfOk result (λ n. IsTrue C.tells → (n ≡ length (range at (length into.old) (site_files name_of (C.world self.old.calls) file)))
-            × (into.new ≡ range at (length into.old) (site_files name_of (C.world self.old.calls) file) ++ drop n into.old)) }
+        ensures bytes { IfOk result (λ n. IsTrue C.tells → IsReadInto at (site_files name_of (C.world self.old.calls) file) into.old into.new n) }
         ensures count { IfOk result (λ n. n ≤ length into.old) }
         ensures world { C.world self.new.calls ≡ C.world self.old.calls }
         ensures moments { Steps Unchanged (C.clock self.old.calls) (C.clock self.new.calls) }

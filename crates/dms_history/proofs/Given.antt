@@ -163,22 +163,24 @@ module _ (entries : List Event) (base : AllBlocks) (counted : Stored) (m : ℕ) 
       ∙ sym (content_block (count_at entries m) (pick entries m counted) f b low)
       ∙ ap (λ (c : AllBlocks). block_in c f b) (sym (as_content entries m counted) ∙ at_point entries base counted m sound at)
 
-  dump_right : (dump : Dump) (f b : ℕ) → DumpServes dump entries counted m → b < count_at entries m f → dump_pick entries dump m f b ≡ block_in right f b
+  -- a true dump whose point is live up to the place of m
+  pub true_right : (dump : Dump) (f b : ℕ) → IsLive (until_first (is_point m) entries) dump.point → dump.blocks ≡ blocks_at entries counted dump.point → b < count_at entries m f
+      → dump_pick entries dump m f b ≡ block_in right f b
   unfolding dump_pick
-  dump_right dump f b true_dump low =
+  true_right dump f b at_dump same low =
       let p = dump.point in
       let all = from_control entries in
       let front = until_first (is_point m) all in
       let cut : from_control (until_first (is_point m) entries) ≡ front = from_until (is_point m) entries (controlled entries m at) in
-      let in_front : IsLive front p = subst (λ (l : List Event). IsLive l p) cut (live_from (until_first (is_point m) entries) p true_dump.point_lives) in
+      let in_front : IsLive front p = subst (λ (l : List Event). IsLive l p) cut (live_from (until_first (is_point m) entries) p at_dump) in
       let same_late : between p m entries ≡ after_first (is_point p) front =
-      after_until (is_point p) (until_first (is_point m) entries) (controlled (until_first (is_point m) entries) p true_dump.point_lives) ∙ ap (λ (l : List Event). after_first (is_point p) l) cut in
+      after_until (is_point p) (until_first (is_point m) entries) (controlled (until_first (is_point m) entries) p at_dump) ∙ ap (λ (l : List Event). after_first (is_point p) l) cut in
       let same_front : until_first (is_point p) front ≡ until_first (is_point p) all = until_until (is_point m) (is_point p) all in_front.found in
-      let old_found : has (is_point p) entries ≡ true = has_front (is_point m) (is_point p) entries true_dump.point_lives.found in
+      let old_found : has (is_point p) entries ≡ true = has_front (is_point m) (is_point p) entries at_dump.found in
       let old_described : has is_described (until_first (is_point p) entries) ≡ true =
-      ap (λ (l : List Event). has is_described l) (sym (until_until (is_point m) (is_point p) entries true_dump.point_lives.found)) ∙ true_dump.point_lives.described in
+      ap (λ (l : List Event). has is_described l) (sym (until_until (is_point m) (is_point p) entries at_dump.found)) ∙ at_dump.described in
       let was : dump.blocks ≡ replay (until_first (is_point p) front) base =
-      true_dump.same ∙ at_point entries base counted p sound (record { found = old_found; described = old_described }) ∙ ap (λ (l : List Event). replay l base) (sym same_front) in
+      same ∙ at_point entries base counted p sound (record { found = old_found; described = old_described }) ∙ ap (λ (l : List Event). replay l base) (sym same_front) in
       let halves : until_first (is_point p) front ++ after_first (is_point p) front ≡ front = split_first (is_point p) front in_front.found in
       let chain : Chain front base = (chain_split front (after_first (is_point m) all) base
       (subst (λ (l : List Event). Chain l base) (sym (split_first (is_point m) all (live_from entries m at).found)) sound.chain)).0 in
@@ -194,6 +196,9 @@ module _ (entries : List Event) (base : AllBlocks) (counted : Stored) (m : ℕ) 
             ap (λ o. value o None (block_in dump.blocks f b)) none ∙ ap (λ (c : AllBlocks). block_in c f b) was
             ∙ sym (none_stands late start f b late_chain none low_now).1 ∙ ap (λ (c : AllBlocks). block_in c f b) (sym now)
       ]
+
+  dump_right : (dump : Dump) (f b : ℕ) → DumpServes dump entries counted m → b < count_at entries m f → dump_pick entries dump m f b ≡ block_in right f b
+  dump_right dump f b serves low = serves.gives f b low ∙ ap (λ (c : AllBlocks). block_in c f b) (at_point entries base counted m sound at)
 
   restore_right : (how : How) (dumps : Dumps) (stored : Stored) (f b : ℕ) → ((f b : ℕ) → may_hold_anything how f b ≡ false → stored f b ≡ counted f b) → HasDump how dumps entries counted m
       → b < count_at entries m f → restore_pick how dumps entries m stored f b ≡ block_in right f b

@@ -35,3 +35,4 @@ pub mod Alone
 pub mod SchemaParts
 pub mod Sizing
 pub mod Keeping
+pub mod Copied

@@ -2,7 +2,7 @@
 use Rattle.std.proofs.Common.{ℕ, ◌+◌, ◌-◌, ◌^◌, ◌<◌, ◌≤◌, min, max, ◌≡◌, ◌==◌, ◌||◌, ◌⊎◌, inl, inr, Bool, true, false, cond, Option, Some, None, List, [], ◌∷◌, ◌++◌, refl, sym, ◌∙◌, ap, subst, arith, append_assoc}
 use Rattle.std.proofs.lemmas.Bool.Decides.{nat_tests}
 use Rattle.std.proofs.lemmas.Bool.{cases_Bool, true≢false}
-use Rattle.dms_history.specs.Events.{Counts, Event, change, quiet, control, begin}
+use Rattle.dms_history.specs.Events.{AllBlocks, Counts, Event, block_in, change, quiet, control, begin}
 use Rattle.dms_history.specs.Lists.{has, until_first, after_first}
 use Rattle.dms_history.specs.Places.{is_control, is_described, is_point, IsLive, point_numbers}
 use Rattle.dms_history.specs.History.{last_number, pending_point, next_after, next_number}
@@ -13,6 +13,7 @@ use Rattle.dms_history.proofs.Picks.{some_is}
 use Rattle.dms_history.proofs.AtPoints.{split_first, true_or, or_true_right}
 use Rattle.dms_history.proofs.HalfDone.{has_front, until_until, or_at}
 use Rattle.dms_history.proofs.Base.{has_append}
+use Rattle.dms_history.proofs.Given.{at_point, true_right}
 use Rattle.dms_history.proofs.Stops.{has_self}
 
 -- ---- lists
@@ -345,9 +346,10 @@ numbers_control entries h m next counts described numbered last found carried =
     }
 
 pub true_dump_serves : TrueDumpServes
-true_dump_serves live next m dump counted numbered at true_dump le = record {
-  point_lives = (rolls_back live next m numbered at).kept dump.point le true_dump.point_lives;
-  same = true_dump.same;
+true_dump_serves live base next m dump counted sound numbered at true_dump le = record {
+  gives = λ f b low.
+      true_right live base counted m sound at dump f b ((rolls_back live next m numbered at).kept dump.point le true_dump.point_lives) true_dump.same low
+      ∙ ap (λ (c : AllBlocks). block_in c f b) (sym (at_point live base counted m sound at));
 }
 
 one_split : {A : Type 0} (xs : List A) (a : A) (ys : List A) (d : A) → d ∷ [] ≡ xs ++ a ∷ ys → (ys ≡ []) × (a ≡ d)

@@ -10,7 +10,7 @@ use Rattle.dms_history.specs.Images.{last_after, first_before, value, choice}
 use Rattle.dms_history.specs.Lists.{has, until_first, after_first, after_last}
 use Rattle.dms_history.specs.Places.{is_control, is_described, is_point, IsLive}
 use Rattle.dms_history.specs.Base.{Sound, from_control}
-use Rattle.dms_history.specs.Pick.{Dumps, count_at, pick, dump_pick, content_of}
+use Rattle.dms_history.specs.Pick.{Dump, Dumps, count_at, reached_count, pick, dump_pick, content_of}
 use Rattle.dms_history.specs.Here.{restore_pick, outcome, here_by, here}
 use Rattle.dms_history.specs.History.{Pending, History}
 use Rattle.dms_history.specs.Restores.{is_none, is_unlogged, has_no_before, takes_stored}
@@ -173,6 +173,15 @@ pub outcome_length : (how : How) (dumps : Dumps) (entries : List Event) (m f : �
 unfolding outcome
 outcome_length how dumps entries m f s = content_length (count_at entries m) (restore_pick how dumps entries m s) f
 
+-- what a dump gives, and how many blocks there are, is told by the entries up to the place
+dump_until : (xs ys : List Event) (dump : Dump) (m f b : ℕ) → until_first (is_point m) xs ≡ until_first (is_point m) ys → dump_pick xs dump m f b ≡ dump_pick ys dump m f b
+unfolding dump_pick
+dump_until xs ys dump m f b same = ap (λ (l : List Event). value (last_after f b (after_first (is_point dump.point) l)) None (block_in dump.blocks f b)) same
+
+count_until : (xs ys : List Event) (m f : ℕ) → until_first (is_point m) xs ≡ until_first (is_point m) ys → count_at xs m f ≡ count_at ys m f
+unfolding count_at
+count_until xs ys m f same = ap (λ (l : List Event). reached_count f 0 l) same
+
 pub ends_first : EndsFirst
 ends_first dumps t base right stored written p next d named counts described is steady true_dump same count stand =
     let m = p.point in
@@ -191,7 +200,7 @@ ends_first dumps t base right stored written p next d named counts described is 
     ]) in
     let point = steady.point_lives p is in
     let kept = ended.points m point in
-    let dump_in = live_in t.live m (dumps d).point true_dump.point_lives in
+    let more : until_first (is_point m) (t.live ++ e ∷ []) ≡ until_first (is_point m) t.live = until_append (is_point m) t.live (e ∷ []) point.found in
     record {
       steady = ended.steady;
       ready = record {
@@ -199,8 +208,9 @@ ends_first dumps t base right stored written p next d named counts described is 
         same = λ f b off. ap (λ k. cond k (here dumps t right f b) (written f b)) (sym off);
         point_lives = kept.lives;
         dump = record {
-          point_lives = subst (λ (l : List Event). IsLive l (dumps d).point) (sym (until_append (is_point m) t.live (e ∷ []) point.found)) true_dump.point_lives;
-          same = true_dump.same ∙ sym (ended.points (dumps d).point dump_in).same;
+          gives = λ f b low.
+              dump_until (t.live ++ e ∷ []) t.live (dumps d) m f b more ∙ true_dump.gives f b (subst (λ k. b < k) (count_until (t.live ++ e ∷ []) t.live m f more) low)
+              ∙ ap (λ (c : AllBlocks). block_in c f b) (sym kept.same);
         };
       };
       points = ended.points;

@@ -32,3 +32,4 @@ pub mod Kept
 pub mod LawsOfKept
 pub mod Plain
 pub mod PlainHistory
+pub mod Copied

@@ -1,6 +1,7 @@
 -- Laws: the numbers of points.
 use Rattle.std.specs.Prelude.{ℕ, ◌+◌, ◌-◌, ◌^◌, ◌<◌, ◌≤◌, ◌≡◌, Bool, true, false, List, [], ◌∷◌, ◌++◌, min, Option, Some}
-use Rattle.dms_history.specs.Events.{BlockBytes, Stored, Counts, How, Event, change, quiet, control, begin}
+use Rattle.dms_history.specs.Base.{Sound, from_control}
+use Rattle.dms_history.specs.Events.{BlockBytes, AllBlocks, Stored, Counts, How, Event, change, quiet, control, begin}
 use Rattle.dms_history.specs.Lists.{has, until_first}
 use Rattle.dms_history.specs.Places.{is_control, is_point, IsLive}
 use Rattle.dms_history.specs.History.{History, after_event, last_point, next_number}
@@ -97,5 +98,5 @@ EachNext = (entries : List Event) → NextSteps entries
 
 -- A true dump whose point isn't above the chosen one serves.
 abbrev pub TrueDumpServes : Type 0
-TrueDumpServes = (live : List Event) (next m : ℕ) (dump : Dump) (here : Stored) → Numbered live next → IsLive live m
+TrueDumpServes = (live : List Event) (base : AllBlocks) (next m : ℕ) (dump : Dump) (here : Stored) → Sound (from_control live) base here → Numbered live next → IsLive live m
     → IsTrueDump dump live here → dump.point ≤ m → DumpServes dump live here m

@@ -1,12 +1,12 @@
 -- When a restore may begin, which blocks it may write, and what holds of a database at every moment of it.
-use Rattle.std.specs.Prelude.{ℕ, ◌≡◌, ◌&&◌, if◌then◌else◌, Bool, true, false, List, Option, Some, None}
-use Rattle.dms_history.specs.Events.{BlockBytes, AllBlocks, Stored, How, halt_load, back_out, roll_back, rebuild, reconstruct, Event}
+use Rattle.std.specs.Prelude.{ℕ, ◌<◌, ◌≡◌, ◌&&◌, if◌then◌else◌, Bool, true, false, List, Option, Some, None}
+use Rattle.dms_history.specs.Events.{BlockBytes, AllBlocks, Stored, How, halt_load, back_out, roll_back, rebuild, reconstruct, Event, block_in}
 use Rattle.dms_history.specs.Replay.{replay}
 use Rattle.dms_history.specs.Lists.{until_first, after_first, after_last}
 use Rattle.dms_history.specs.Places.{is_control, is_point, IsLive}
 use Rattle.dms_history.specs.History.{Pending, History}
 use Rattle.dms_history.specs.Images.{last_after, first_before}
-use Rattle.dms_history.specs.Pick.{Dump, Dumps, blocks_at}
+use Rattle.dms_history.specs.Pick.{Dump, Dumps, blocks_at, count_at, dump_pick}
 use Rattle.dms_history.specs.Here.{outcome, here}
 use Rattle.dms_history.specs.Base.{from_control, Sound}
 
@@ -15,10 +15,9 @@ pub record IsTrueDump (dump : Dump) (live : List Event) (counted : Stored) : Typ
   pub point_lives : IsLive live dump.point
   pub same : dump.blocks ≡ blocks_at live counted dump.point
 
--- A dump serves a restore to point m where it is true and its point is at m or before it.
+-- A dump serves a restore to point m where it gives each block there: the last after-image between the dump's point and m, else the dump's block.
 pub record DumpServes (dump : Dump) (live : List Event) (counted : Stored) (m : ℕ) : Type 0 where
-  pub point_lives : IsLive (until_first (is_point m) live) dump.point
-  pub same : dump.blocks ≡ blocks_at live counted dump.point
+  pub gives : (f b : ℕ) → b < count_at live m f → dump_pick live dump m f b ≡ block_in (blocks_at live counted m) f b
 
 abbrev pub HasDump : How → Dumps → List Event → Stored → ℕ → Type 0
 HasDump halt_load dumps live counted m = Unit {0}

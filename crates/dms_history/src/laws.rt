@@ -1,5 +1,6 @@
 //! Laws of the definitions. Each stands on a function with an empty body, so that the check proves it.
 
+ghost use Rattle.dms_history.specs.Copied.{CopiedDumpServes};
 ghost use Rattle.dms_history.specs.LawsOfPoints.{ChoiceGivesContent, EachPoint, EachLivePoint, OpeningNeverCounts};
 ghost use Rattle.dms_history.specs.LawsOfBase.{AgreesHasBase, AgreesLeadsToBase, BaseAgrees, AgreesIsSteady, SteadyAgrees, OpeningStays, PrefixGoes};
 ghost use Rattle.dms_history.specs.LawsOfRunning.{ChangesBlock, Quiets, WritesEarly, Controls, RunsSteady, SealsRun, PointsGoOn, QuietIsLive, ControlStands};
@@ -125,6 +126,7 @@ pub fn keeps_numbers()
     ensures control { NumbersControl }
     ensures first { NumbersFirst }
     ensures dump { TrueDumpServes }
+    ensures copied { CopiedDumpServes }
 {}
 
 /// Entries with Ranges are a list of changes with whole images.

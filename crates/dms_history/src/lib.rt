@@ -13,6 +13,3 @@ pub use event::{Begin, BlockChange, Control, Event, FileCount, How, Row};
 pub use half_done::{dump_pick, here, restore_pick};
 pub use history::{History, Pending, last_point, read_history};
 pub use plain::{blocks_at, count_at, is_live, last_after, pick, place, range_of, told_block};
-
-#[cfg(test)]
-mod tests;

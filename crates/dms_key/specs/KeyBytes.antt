@@ -85,3 +85,7 @@ KeyHasKinds kinds (p ∷ ps) (v ∷ vs) = FitsPart (kind_of kinds p) v × KeyHas
 -- the order of byte strings
 abbrev pub bytes_cmp : List ℕ → List ℕ → Ordering
 bytes_cmp = slice_cmp nat_cmp
+
+-- the order of the bytes of two keys, or of the first values of two
+abbrev pub key_bytes_cmp : List ItemKind → List KeyPart → List Value → List Value → Ordering
+key_bytes_cmp kinds ps a b = bytes_cmp (key_bytes kinds ps a) (key_bytes kinds ps b)

@@ -8,17 +8,17 @@ ghost use Rattle.dms_desc.specs.declared.structure.KeyPart.{KeyPart};
 ghost use Rattle.dms_desc.specs.Conds.{is_null};
 ghost use Rattle.dms_desc.specs.Plain.{FitsKind};
 ghost use Rattle.dms_desc.specs.Keys.{key_cmp};
-ghost use Rattle.dms_key.specs.KeyBytes.{bytes_cmp, field_bytes, key_bytes, key_width, KeyHasKinds};
+ghost use Rattle.dms_key.specs.KeyBytes.{bytes_cmp, field_bytes, key_bytes, key_bytes_cmp, key_width, KeyHasKinds};
 
 /// A law: the order of bytes is that of the values of one kind, with null above all others, that of whole keys, in
 /// each direction of each part, and that of the first values of keys.
 pub fn order_law()
     ensures keys { (kinds : List ItemKind) (ps : List KeyPart) (a b : List Value) → KeyHasKinds kinds ps a → KeyHasKinds kinds ps b
         → length a ≡ length ps → length b ≡ length ps
-        → bytes_cmp (key_bytes kinds ps a) (key_bytes kinds ps b) ≡ key_cmp ps a b }
+        → key_bytes_cmp kinds ps a b ≡ key_cmp ps a b }
     ensures first_values { (kinds : List ItemKind) (ps : List KeyPart) (a b : List Value) → KeyHasKinds kinds ps a → KeyHasKinds kinds ps b
         → length a ≡ length b
-        → bytes_cmp (key_bytes kinds ps a) (key_bytes kinds ps b) ≡ key_cmp (take (length a) ps) a b }
+        → key_bytes_cmp kinds ps a b ≡ key_cmp (take (length a) ps) a b }
     ensures values { (k : ItemKind) (v w : Value) → FitsKind k v → FitsKind k w
         → bytes_cmp (field_bytes k v) (field_bytes k w) ≡ value_cmp v w }
     ensures null_highest { (k : ItemKind) (v : Value) → FitsKind k v → is_null v ≡ false

@@ -346,7 +346,7 @@ made_or_left ps here t d x low le left = elim (cases_le left.count (length ps)) 
   | inl within ↦ inl (record { count = left.count; enough = left.enough; within = within; is = left.is ∙ take-append-le left.count ps (here ∷ []) within; next = left.next })
   | inr over ↦
       let long = length-append ps (here ∷ []) in
-      inr (record { count = left.count; enough = omega (arith, over, le); within = left.within; is = left.is; not_fallen = omega (arith, left.next, left.within, long, over); whole_files = tt }, λ s e. absurd (cc e))
+      inr (record { count = left.count; enough = omega (arith, over, le); within = left.within; is = left.is; not_fallen = omega (arith, left.next, left.within, long, over); not_risen = omega (arith, left.next, left.within, long); whole_files = tt }, λ s e. absurd (cc e))
 ]
 
 pub runs_quiet : (schema : List ℕ) (made mark : ℕ) (files : BlockLists) (log : List BlockUndo) (d : ℕ) → d ≤ made → AreBefore made (take mark log) → AreSince made (drop mark log)
@@ -367,7 +367,7 @@ runs_quiet schema made mark files log d le before since =
 -- what a stop now leaves
 pub stops : (schema : List ℕ) (files : BlockLists) (log : List BlockUndo) (made d : ℕ) (x : BlockStop) → LeavesBlocks (points_to schema files log made) d x → Prefix (λ f. Unit {0}) d (points_to schema files log made) (made + 1) x × TextIs None x
 stops schema files log made d x left =
-    (record { count = left.count; enough = left.enough; within = left.within; is = left.is; not_fallen = omega (arith, left.next, points-length schema files log made); whole_files = tt }, λ s e. absurd (cc e))
+    (record { count = left.count; enough = left.enough; within = left.within; is = left.is; not_fallen = omega (arith, left.next, points-length schema files log made); not_risen = omega (arith, left.next, left.within, points-length schema files log made); whole_files = tt }, λ s e. absurd (cc e))
 
 -- a stop now that leaves the durable points alone
 stop_at : List ℕ → BlockLists → List BlockUndo → ℕ → ℕ → BlockStop

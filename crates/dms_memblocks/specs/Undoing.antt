@@ -76,7 +76,6 @@ held_of schema files log made durable uses = record {
   said = None;
   points = points_to schema files log made;
   durable = durable;
-  landmarks = None;
   here = record { number = made + 1; blocks = content_of files; schema = schema };
   clock = clock_of (points_to schema files log made) durable;
   faults = record { disk = 0; say = 0; full = 0; damaged = 0 };

@@ -49,10 +49,11 @@ impl Blocks for MemBlocks {
 
     fn quiet(&mut self) -> Result<u64, BlockFault> {
         let number = self.made + 1;
-        if number < u64::MAX {
-            self.made = number;
-            self.mark = self.log.len();
+        if number == u64::MAX {
+            return Err(BlockFault::Memory);
         }
+        self.made = number;
+        self.mark = self.log.len();
         Ok(number)
     }
 

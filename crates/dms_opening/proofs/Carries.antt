@@ -27,24 +27,24 @@ use Rattle.dms_running.specs.Begun.{LeavesAll, outcome_now}
 use Rattle.dms_opening.specs.declared.choosing.OpenFault.TheVariants.{Audit}
 use Rattle.dms_audrec.specs.Bodies.{bodies}
 use Rattle.dms_restore.specs.Counts.{count_of, file_counts}
-use Rattle.dms_restore.specs.Laying.{schema_control, SealsShort}
+use Rattle.dms_restore.specs.Laying.{schema_control}
 use Rattle.dms_restore.specs.Logging.{LogView, telling_of, telling, state, entries, points, content, PrintsNothing}
-use Rattle.dms_restore.specs.Table.{IsTable}
+use Rattle.dms_restore.specs.Table.{IsTable, IsPlan}
+use Rattle.dms_restore.proofs.ByAudit.{plan_by_audit}
+use Rattle.dms_running.specs.Begun.{ByAudit}
 use Rattle.dms_restore.specs.declared.told.Told.{Told}
 use Rattle.dms_opening.specs.Refusals.{IsOpening}
 use Rattle.dms_restore.specs.Begins.{BegunAt}
 use Rattle.dms_opening.specs.Starts.{MayOpen, MayGoOn, BegunFrom, OpenedAt}
 use Rattle.dms_restore.proofs.CountBytes.{IsCountTable, counts_read, counts_told}
-use Rattle.dms_restore.proofs.Laid.{short_more}
 use Rattle.dms_opening.proofs.GoneOn.{each_on}
-use Rattle.dms_opening.proofs.Sealings.{short_behind}
 use Rattle.dms_wal.specs.Lifting.{last_blocks}
 use Rattle.dms_wal.specs.Marks.{last_number}
 use Rattle.dms_wal.proofs.Under.{under_control}
 use Rattle.dms_opening.specs.declared.plan.OpeningPlan.{OpeningPlan}
 use Rattle.dms_opening.specs.Plans.{Plans}
 use Rattle.dms_opening.specs.Openings.{begin_where_none, opening_entries, RunsFrom, MayHaveWritten, Reopens, text_of}
-use Rattle.dms_opening.specs.Carrying.{IsFitPlan, IsPlanned, PlanShort}
+use Rattle.dms_opening.specs.Carrying.{IsFitPlan, IsPlanned}
 use Rattle.dms_opening.proofs.LastPoint.{last_is, left_is}
 
 -- By the plan of a trail that was scanned the restore is begun, or goes on: its Begin alone stands behind the entries that there were.
@@ -73,6 +73,17 @@ count_table plan ready = record { few = ready.counts.few; small = ready.counts.s
 -- the bytes of the counts, by another name of their list
 pub bytes_are : (counts said bytes : List ℕ) → said ≡ counts → bytes ≡ pair_bytes count_file count_blocks (file_counts 30001 said) → bytes ≡ pair_bytes count_file count_blocks (file_counts 30001 counts)
 bytes_are counts said bytes same is = is ∙ ap (λ (l : List ℕ). pair_bytes count_file count_blocks (file_counts 30001 l)) same
+
+-- it begins or goes on with a restore by the audit
+pub opening_by_audit : (h : History) (begins : Bool) (point : ℕ) (p : Pending) → IsOpening h begins point p → ByAudit p.how
+opening_by_audit h true point p o = subst (λ (q : Pending). ByAudit q.how) (sym (o.new refl).3) tt
+opening_by_audit h false point p o = (o.goes_on refl).1
+
+-- the table of a plan is all that its restore writes
+pub plan_audit : (total first : ℕ) (files : Files) (plan : OpeningPlan) (p : Plans total first files plan) (new : Files) (table : List Told) → table ≡ plan.table.items → Grown total first files new → IsPlan p.chooses.restore new [] table
+plan_audit total first files plan p new table listed grown =
+    plan_by_audit p.chooses.restore (opening_by_audit _ plan.choice.begins plan.choice.point p.chooses.restore p.chooses.is) new table
+    (subst (λ (l : List Told). IsTable p.chooses.restore.entries p.chooses.restore.point new l) (sym listed) (p.table_is new grown))
 
 -- what an opening may do
 pub may_open : (v : LogView) (plan : OpeningPlan) (s : IsPlanned v plan) → IsWhole (telling v) v.files → MayOpen v plan.choice.begins plan.choice.point s.plans.chooses.restore
@@ -107,10 +118,10 @@ module _ (a b : LogView) (plan : OpeningPlan) (w : BeginsWhole a plan b) (ready 
   same : telling b ≡ telling a
   same = λ i. telling_of (w.begins.total_same i) (w.begins.first_same i)
 
-  pub may_end : (table : List Told) → table ≡ plan.table.items → MayGoOn restore b table plan.choice.point plan.next bytes
+  pub may_end : (table : List Told) → table ≡ plan.table.items → MayGoOn restore b [] table plan.choice.point plan.next bytes
   may_end table listed = record {
     begun = w.begun;
-    table_is = subst (λ (l : List Told). IsTable restore.entries restore.point b.files l) (sym listed) (plans.table_is b.files w.begins.grown);
+    plan_is = plan_audit a.end.total a.first a.files plan plans b.files table listed w.begins.grown;
     point_is = sym plans.chooses.is.point_is;
     next_is = sym plans.next_is ∙ sym w.keeps.next_same;
     count = λ f. counts_told plan.counts.items (count_table plan ready) bytes is f ∙ plans.counts_are f;
@@ -169,30 +180,6 @@ module _ (a b : LogView) (plan : OpeningPlan) (w : BeginsWhole a plan b) (ready 
       only = o.only;
     }
 
--- ---- of what it seals not all is sealed
-
--- what stands behind the Begin
-abbrev behind_begin : OpeningPlan → List FileCount → List Entry
-behind_begin plan counts = schema_entries (bodies plan.schema.items) ++ control_point plan.choice.point plan.next counts ∷ []
-
--- not even the Begin
-pub begin_short : (a : LogView) (plan : OpeningPlan) (s : IsPlanned a plan) (new : Files) → plan.choice.begins ≡ true → SealsShort a.end.total a.first (begin_restore plan.choice.point by_halt_load ∷ []) a.files new → PlanShort a plan new
-begin_short a plan s new begins short =
-    let one : List Entry = begin_restore plan.choice.point by_halt_load ∷ [] in
-    let h = history_of (trail_entries a.end.total a.first a.files) in
-    let is : one ≡ begin_where_none h.pending plan.choice.point = ap (λ t. cond t one []) (sym begins) ∙ begin_is h plan.choice.begins plan.choice.point s.plans.chooses.restore s.plans.chooses.is in
-    let rest = behind_begin plan (file_counts 30001 plan.counts.items) in
-    subst (λ (l : List Entry). SealsShort a.end.total a.first (l ++ rest) a.files new) is (short_more a.end.total a.first one rest a.files new short)
-
--- not all of the Schema and the Control behind it
-pub ends_short : (a b : LogView) (plan : OpeningPlan) → BeginsPlan a plan b → IsFitPlan plan → (bytes : List ℕ) → bytes ≡ pair_bytes count_file count_blocks (file_counts 30001 plan.counts.items)
-    → (new : Files) (schema : List ℕ) → schema ≡ plan.schema.items → SealsShort b.end.total b.first (schema_control schema plan.choice.point plan.next bytes) b.files new → PlanShort a plan new
-ends_short a b plan begins ready bytes is new schema described short =
-    let front = begin_where_none (history_of (trail_entries a.end.total a.first a.files)).pending plan.choice.point in
-    subst (λ (l : List FileCount). SealsShort a.end.total a.first (front ++ behind_begin plan l) a.files new) (counts_read plan.counts.items (count_table plan ready) bytes is)
-    (short_behind a b front (behind_begin plan (counts_at (length bytes / 8) bytes)) new begins.total_same begins.first_same begins.sealed
-    (subst (λ (l : List ℕ). SealsShort b.end.total b.first (schema_control l plan.choice.point plan.next bytes) b.files new) described short))
-
 -- ---- at every moment
 
 -- all points of files that hold a database
@@ -203,6 +190,7 @@ left_all t files said x l text =
       whole = l.whole;
       points_same = l.is ∙ ap (λ n. take n (points_of t files)) all ∙ take_all (length (points_of t files)) (points_of t files) (omega arith);
       not_fallen = omega (arith, l.not_fallen, all);
+      not_risen = l.not_risen;
       text = text;
     }
 

@@ -20,6 +20,8 @@ use Rattle.dms_history.proofs.LastPending.{pending_cuts}
 use Rattle.dms_history.proofs.Running.{above_all}
 use Rattle.dms_audfile.specs.TrailEntries.{trail_entries}
 use Rattle.dms_running.specs.Standing.{IsWhole}
+use Rattle.dms_running.proofs.FromDumps.{no_dump_found}
+use Rattle.dms_restore.specs.Dumped.{dumps_of}
 use Rattle.dms_opening.specs.declared.choosing.Choice.{Choice}
 use Rattle.dms_opening.specs.Choices.{Chooses}
 use Rattle.dms_restore.specs.Logging.{telling_of}
@@ -99,7 +101,7 @@ whole_is_opened total first files fault whole last refuses = elim refuses [
     | inl points ↦ elim points [
       | inl memory ↦ inr memory
       | inr more ↦ elim more [
-        | inl by_dump ↦ absurd (none-some by_dump.0 (sym whole.no_dump ∙ by_dump.1))
+        | inl by_dump ↦ absurd (none-some by_dump.0 (sym (no_dump_found (λ d. ⊥) (dumps_of files) (history_of (trail_entries total first files)).pending (λ d x. x) whole.order) ∙ by_dump.1))
         | inr refused ↦ absurd (none-some refused.refused (sym (judged total first files whole last) ∙ refused.is))
       ]
     ]

@@ -8,7 +8,6 @@ use Rattle.std.proofs.lemmas.List.{take-append-drop}
 use Rattle.std.specs.Int.{w32, from_be_bytes}
 use Rattle.dms_site.specs.Files.{Files, range}
 use Rattle.dms_history.specs.declared.event.FileCount.{FileCount}
-use Rattle.dms_history.specs.Events.{Event}
 use Rattle.dms_history.specs.Lists.{has}
 use Rattle.dms_history.specs.Places.{is_control}
 use Rattle.dms_history.specs.Entries.{counts_in}
@@ -23,7 +22,9 @@ use Rattle.dms_audrec.specs.Spelling.{counts_rise}
 use Rattle.dms_audfile.specs.declared.fault.AudFault.{AudFault}
 use Rattle.dms_audfile.specs.declared.fault.AudFault.TheVariants.{Disk, Memory}
 use Rattle.dms_opening.specs.PointCounts.{AllAtMost, IsNoCount, IsNoCountAmong}
-use Rattle.dms_restore.specs.LiveEntries.{event_at, events_at}
+use Rattle.dms_restore.specs.LiveEntries.{logged_at, logged_live, events_at}
+use Rattle.dms_history.specs.Ranges.{is_control_logged}
+use Rattle.dms_restore.proofs.Changes.{events_append, own_controls}
 use Rattle.dms_restore.proofs.Spots.{no_entry, events_more}
 use Rattle.dms_wal.proofs.Tabled.{count_low}
 
@@ -156,23 +157,23 @@ drop_cons zero (e ∷ es) low = refl
 drop_cons (suc i) (e ∷ es) low = drop_cons i es (omega (arith, low))
 
 events_cut : (files : Files) (i : ℕ) (es : List LiveEntry) → events_at files es ≡ events_at files (take i es) ++ events_at files (drop i es)
-events_cut files zero es = refl
-events_cut files (suc i) [] = refl
-events_cut files (suc i) (e ∷ es) = ap (λ (l : List Event). event_at files e ∷ l) (events_cut files i es)
+events_cut files i es = ap (events_at files) (sym (take-append-drop i es)) ∙ events_append files (take i es) (drop i es)
 
-pub from_control : (files : Files) (f i : ℕ) (es : List LiveEntry) → i < length es → is_control (event_at files (get_or es i no_entry)) ≡ true → reached_count f 0 (events_at files es) ≡ reached_count f 0 (events_at files (drop i es))
+pub from_control : (files : Files) (f i : ℕ) (es : List LiveEntry) → i < length es → is_control_logged (logged_at files (get_or es i no_entry)) ≡ true → reached_count f 0 (events_at files es) ≡ reached_count f 0 (events_at files (drop i es))
 from_control files f i es low on =
     ap (reached_count f 0) (events_cut files i es) ∙ reached_append (events_at files (take i es)) (events_at files (drop i es)) f 0
     ∙ reached_any (events_at files (drop i es)) f (reached_count f 0 (events_at files (take i es))) 0 found
   where
     found : has is_control (events_at files (drop i es)) ≡ true
-    found = ap (λ (l : List LiveEntry). has is_control (events_at files l)) (drop_cons i es low) ∙ (λ j. on j || has is_control (events_at files (drop (suc i) es)))
+    found =
+        sym (own_controls (logged_live files (drop i es))) ∙ ap (λ (l : List LiveEntry). has is_control_logged (logged_live files l)) (drop_cons i es low)
+        ∙ (λ j. on j || has is_control_logged (logged_live files (drop (suc i) es)))
 
-pub reached_more : (files other : Files) (es : List LiveEntry) (i f start old new : ℕ) → i < length es → other ≡ files → new ≡ reached_count f old (event_at other (get_or es i no_entry) ∷ []) → old ≡ reached_count f start (events_at files (take i es))
+pub reached_more : (files other : Files) (es : List LiveEntry) (i f start old new : ℕ) → i < length es → other ≡ files → new ≡ reached_count f old (events_at other (get_or es i no_entry ∷ [])) → old ≡ reached_count f start (events_at files (take i es))
     → new ≡ reached_count f start (events_at files (take (i + 1) es))
 reached_more files other es i f start old new low same step so_far =
-    step ∙ (λ j. reached_count f (so_far j) (event_at (same j) (get_or es i no_entry) ∷ []))
-    ∙ sym (ap (reached_count f start) (events_more files es i no_entry low) ∙ reached_append (events_at files (take i es)) (event_at files (get_or es i no_entry) ∷ []) f start)
+    step ∙ (λ j. reached_count f (so_far j) (events_at (same j) (get_or es i no_entry ∷ [])))
+    ∙ sym (ap (reached_count f start) (events_more files es i no_entry low) ∙ reached_append (events_at files (take i es)) (events_at files (get_or es i no_entry ∷ [])) f start)
 
 -- ---- whether the counts rise
 

@@ -17,12 +17,16 @@ use Rattle.dms_audfile.specs.declared.fault.AudFault.TheVariants.{Disk, Memory}
 use Rattle.dms_restore.specs.declared.live.LiveEntry.{LiveEntry}
 use Rattle.dms_restore.specs.declared.schemas.SchemaSpan.{SchemaSpan}
 use Rattle.dms_restore.specs.declared.trace.TrailTrace.{TrailTrace}
-use Rattle.dms_restore.specs.LiveEntries.{events_at}
+use Rattle.dms_restore.specs.LiveEntries.{logged_live, changes_at, events_at}
+use Rattle.dms_history.specs.Ranges.{is_point_logged}
+use Rattle.dms_restore.proofs.Changes.{until_own, changes_own, own_length}
+use Rattle.dms_restore.proofs.Traced.{live_at}
+use Rattle.dms_opening.proofs.Logged.{has_changes, point_kind}
 use Rattle.dms_restore.specs.Scanned.{IsNoEntryOf}
 use Rattle.dms_restore.specs.SchemaSpans.{part_bytes, span_bytes}
 use Rattle.dms_restore.specs.Traces.{IsTraceOf}
 use Rattle.dms_restore.proofs.ReadOn.{no_place, get_place, there_at, map_length, entries_more}
-use Rattle.dms_restore.proofs.Spanned.{until_some, events_length, length_take}
+use Rattle.dms_restore.proofs.Spanned.{until_some, length_take}
 
 -- ---- where it stands
 
@@ -32,25 +36,26 @@ pub record SchemaThere (entries : List Entry) (t : TrailTrace) (point k : ℕ) :
   pub within : k ≤ length t.schemas.before.items
   pub is : span_bytes entries (get_or t.schemas.before.items (k - 1) None) ≡ schema_at entries point
 
-pub schema_there : (files : Files) (entries : List Entry) (t : TrailTrace) (point k : ℕ) (lent : List LiveEntry) → lent ≡ t.history.live.items → k ≤ length lent → until_first (is_point point) (events_at files lent) ≡ events_at files (take k lent)
+pub schema_there : (files : Files) (entries : List Entry) (t : TrailTrace) (point k : ℕ) (lent : List LiveEntry) → lent ≡ t.history.live.items → k ≤ length lent → until_first (is_point_logged point) (logged_live files lent) ≡ logged_live files (take k lent)
     → IsTraceOf files entries t → has (is_point point) (live_of entries) ≡ true → SchemaThere entries t point k
 schema_there files entries t point k lent same le front is found =
-    let live : live_of entries ≡ events_at files lent = is.history.live_is ∙ ap (events_at files) (sym same) in
+    let all : live_of entries ≡ changes_at files lent = live_at files entries t.history is.history ∙ ap (changes_at files) (sym same) in
+    let live : live_of entries ≡ events_at files lent = all ∙ changes_own files lent in
     let size : length (until_first (is_point point) (live_of entries)) ≡ k =
-    ap (λ (l : List Event). length (until_first (is_point point) l)) live ∙ ap length front ∙ events_length files (take k lent) ∙ length_take k lent le in
+    ap (λ (l : List Event). length (until_first (is_point point) l)) all ∙ ap length (until_own files (logged_live files lent) point (take k lent) front) ∙ own_length files (take k lent) ∙ length_take k lent le in
     let some : 0 < k = omega (arith, until_some (is_point point) (live_of entries) found, size) in
     record {
       some = some;
-      within = omega (arith, le, is.schemas.count, ap length live, events_length files lent);
+      within = omega (arith, le, is.schemas.count, ap length live, own_length files lent);
       is = is.schemas.each point (k - 1) found (size ∙ up k some);
     }
   where
     up : (k : ℕ) → 0 < k → k ≡ suc (k - 1)
     up k some = omega (arith, some)
 
-pub no_place_there : (files : Files) (entries : List Entry) (t : TrailTrace) (point : ℕ) (lent : List LiveEntry) → lent ≡ t.history.live.items → has (is_point point) (events_at files lent) ≡ false → IsTraceOf files entries t → has (is_point point) (live_of entries) ≡ true → ⊥
+pub no_place_there : (files : Files) (entries : List Entry) (t : TrailTrace) (point : ℕ) (lent : List LiveEntry) → lent ≡ t.history.live.items → has (is_point_logged point) (logged_live files lent) ≡ false → IsTraceOf files entries t → has (is_point point) (live_of entries) ≡ true → ⊥
 no_place_there files entries t point lent same off is found =
-    true≢false (sym found ∙ ap (λ (l : List Event). has (is_point point) l) (is.history.live_is ∙ ap (events_at files) (sym same)) ∙ off)
+    true≢false (sym found ∙ ap (λ (l : List Event). has (is_point point) l) (live_at files entries t.history is.history ∙ ap (changes_at files) (sym same)) ∙ has_changes (is_point point) (is_point_logged point) (point_kind point) (logged_live files lent) ∙ off)
 
 -- ---- the parts, one after another
 

@@ -1,3 +1,4 @@
+pub mod Logged
 pub mod Faults
 pub mod OpeningPlans
 pub mod Completed
@@ -23,3 +24,5 @@ pub mod Standing
 pub mod Rooms
 pub mod Sealings
 pub mod Growths
+pub mod AskedFor
+pub mod DumpLooks

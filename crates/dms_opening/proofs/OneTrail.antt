@@ -4,6 +4,8 @@ use Rattle.dms_moments.specs.Moments.{Clock, Now, Runs, Steps}
 use Rattle.dms_site.specs.Files.{Files, Left, Same, Only}
 use Rattle.dms_audfile.specs.Header.{blocks_said}
 use Rattle.dms_audfile.specs.AuditTrail.{IsFound}
+use Rattle.dms_audfile.specs.Sealing.{IsWrittenUpTo}
+use Rattle.dms_audfile.specs.EndLaws.{starts_at}
 use Rattle.dms_audfile.specs.Ends.{EndsAt}
 use Rattle.dms_audfile.specs.declared.audit_end.AuditEnd.{AuditEnd}
 use Rattle.dms_audfile.specs.declared.place.EntryPlace.{EntryPlace}
@@ -49,11 +51,20 @@ start_on end first old new a b same steps s =
       low = s.ends.low;
       writes = s.ends.writes;
       settled = λ g from upto x now. let y = steps.follows x now in ap (λ (z : Left). z.files g) y.2 ∙ s.ends.settled g from upto y.0 y.1;
-      bytes = s.ends.bytes;
+      waits = s.ends.waits;
       kind = s.ends.kind;
     } in
     let only : Only old b = λ x now. let y = steps.follows x now in ap (λ (z : Left). z.files) y.2 ∙ s.only y.0 y.1 in
     subst (λ (f : Files). IsAtStart end first f b) (sym same) (record { ends = ends; only = only })
+
+-- so is one whose end was made of what scanning found
+pub start_found : (end : AuditEnd) (total tag first file count : ℕ) (files later : Files) (a b : Clock Left) → end.total ≡ total → end.tag ≡ tag → end.file ≡ file → end.count ≡ count → end.used ≡ 0 → 10001 ≤ first
+    → IsWrittenUpTo total tag first file count files → Only files a → later ≡ files → Steps Same a b → IsAtStart end first later b
+start_found end total tag first file count files later a b same_total same_tag same_file same_count none low writes only same steps =
+    let there : IsWrittenUpTo end.total end.tag first end.file end.count files =
+    subst (λ n. IsWrittenUpTo n end.tag first end.file end.count files) (sym same_total) (subst (λ n. IsWrittenUpTo total n first end.file end.count files) (sym same_tag)
+    (subst (λ n. IsWrittenUpTo total tag first n end.count files) (sym same_file) (subst (λ n. IsWrittenUpTo total tag first file n files) (sym same_count) writes))) in
+    start_on end first files later a b same steps (record { ends = starts_at end first files a low there (λ g from upto x now. ap (λ (l : Files). l g) (only x now)) none; only = only })
 
 pub trail_of : (end : AuditEnd) (first : ℕ) (files now : Files) (clock : Clock Left) (ps : List EntryPlace) → now ≡ files → IsFound files first ps → IsAtStart end first now clock → IsTrailFound end.total first files
 trail_of end first files now clock ps same found s =

@@ -1,7 +1,7 @@
 -- What an opening does, and what it needs, of a trail that was read.
 use Rattle.std.specs.Prelude.{◌||◌}
 use Rattle.std.proofs.Common.{ℕ, ◌≡◌, ◌⊎◌, inl, inr, Bool, true, false, cond, IsTrue, List, [], ◌∷◌, ◌++◌, map, take, drop, Option, Some, None, refl, sym, ◌∙◌, ap, subst, append-nil}
-use Rattle.std.proofs.lemmas.List.{map-append, take-append-drop}
+use Rattle.std.proofs.lemmas.List.{take-append-drop}
 use Rattle.std.proofs.lemmas.Bool.{true≢false}
 use Rattle.std.proofs.lemmas.Option.{none-some}
 use Rattle.dms_site.specs.Files.{Files}
@@ -35,7 +35,11 @@ use Rattle.dms_restore.specs.declared.trace.TrailTrace.{TrailTrace}
 use Rattle.dms_restore.specs.declared.tracing.TrailHistory.{TrailHistory}
 use Rattle.dms_opening.specs.Choices.{RefusesOpening, Chooses}
 use Rattle.dms_restore.specs.Counts.{count_of}
-use Rattle.dms_restore.specs.LiveEntries.{events_at}
+use Rattle.dms_restore.specs.LiveEntries.{logged_live, changes_at}
+use Rattle.dms_history.specs.Ranges.{all_changes}
+use Rattle.dms_history.proofs.Turns.{changes_until}
+use Rattle.dms_restore.proofs.Changes.{changes_on, changes_append}
+use Rattle.dms_restore.proofs.Traced.{live_at}
 use Rattle.dms_opening.specs.Refusals.{judge_pending, judge_last, IsOpening}
 use Rattle.dms_opening.specs.Starts.{TracesOpening}
 use Rattle.dms_restore.specs.Scanned.{IsNoEntryOf}
@@ -98,11 +102,14 @@ chosen_lives files entries h next c t chooses = by_kind c.begins refl
         let judged = or_none (judge_pending next (history_of entries).pending) (judge_last next (live_of entries) (last_point (history_of entries))) chooses.none in
         let own : judge_point p.entries next p.point ≡ None = at_none p.point (judge_point p.entries next p.point) (ap (judge_pending next) (sym pending) ∙ judged.0) in
         let lives : IsLive p.entries p.point = ((each_judged p.entries next p.point).lives.0 own).1 in
-        let front : until_first (is_point p.point) p.entries ≡ events_at files (take kept live) = ap (λ n. until_first (is_point n) p.entries) held.at.point_is ∙ held.at.front in
-        let parts : events_at files live ≡ events_at files (take kept live) ++ events_at files (drop kept live) =
-        ap (events_at files) (sym (take-append-drop kept live)) ∙ map-append _ (take kept live) (drop kept live) in
-        let is : live_of entries ≡ until_first (is_point p.point) p.entries ++ events_at files (drop kept live) = t.live_is ∙ parts ∙ ap (λ (l : List Event). l ++ events_at files (drop kept live)) (sym front) in
-        subst (λ n. IsLive (live_of entries) n) chooses.is.point_is (live_front p.entries (live_of entries) (events_at files (drop kept live)) p.point lives is)
+        let all = logged_live files (take kept live ++ h.removed.items) in
+        let front : until_first (is_point p.point) p.entries ≡ changes_at files (take kept live) =
+        (λ i. until_first (is_point (held.at.point_is i)) (held.at.entries_are i)) ∙ sym (changes_until held.q.point all) ∙ ap all_changes held.at.front in
+        let rest = changes_on (changes_at files (take kept live)) (logged_live files (drop kept live)) in
+        let parts : changes_at files live ≡ changes_at files (take kept live) ++ rest =
+        ap (changes_at files) (sym (take-append-drop kept live)) ∙ changes_append files (take kept live) (drop kept live) in
+        let is : live_of entries ≡ until_first (is_point p.point) p.entries ++ rest = live_at files entries h t ∙ parts ∙ ap (λ (l : List Event). l ++ rest) (sym front) in
+        subst (λ n. IsLive (live_of entries) n) chooses.is.point_is (live_front p.entries (live_of entries) rest p.point lives is)
 
 no_dump_in : (h : History) (next : ℕ) (c : Choice) → Chooses h next c → dump_in h.pending ≡ None
 no_dump_in h next c chooses = by_kind c.begins refl

@@ -6,21 +6,19 @@ use Rattle.dms_moments.specs.Moments.{Now, Runs, Steps}
 use Rattle.dms_moments.specs.MomentLaws.{runs_on}
 use Rattle.dms_site.specs.declared.site.Site.{Ghosts}
 use Rattle.dms_site.specs.Files.{Files, Left, Same}
-use Rattle.dms_history.specs.EntryEvents.{history_of}
 use Rattle.dms_audfile.specs.Counting.{CountedAt}
-use Rattle.dms_audfile.specs.TrailEntries.{trail_entries}
 use Rattle.dms_audfile.specs.declared.fault.AudFault.TheVariants as aud
 use Rattle.dms_running.specs.Telling.{Telling}
 use Rattle.dms_running.specs.Standing.{IsWhole}
 use Rattle.dms_opening.specs.declared.choosing.OpenFault.{OpenFault}
-use Rattle.dms_restore.specs.Laying.{IsAtStart, SealsShort}
+use Rattle.dms_restore.specs.Laying.{IsAtStart}
 use Rattle.dms_restore.specs.Logging.{LogView, telling_of, telling}
 use Rattle.dms_restore.specs.Views.{view_of}
 use Rattle.dms_wal.specs.Marks.{IsDescription}
 use Rattle.dms_opening.specs.declared.looking.PlannedOpening.{PlannedOpening}
 use Rattle.dms_opening.specs.declared.opened.Opened.{Opened}
 use Rattle.dms_opening.specs.Carrying.{IsPlanned}
-use Rattle.dms_opening.specs.Openings.{IsTrailFound, NamesStructures, OpensAt, OpensShort, RunsFrom, Reopens, ReopensSince, text_of, opening_entries, RefusesFiles, CanOpen, MayHaveWritten}
+use Rattle.dms_opening.specs.Openings.{IsTrailFound, NamesStructures, OpensAt, RunsFrom, Reopens, ReopensSince, text_of, RefusesFiles, CanOpen, MayHaveWritten}
 use Rattle.dms_opening.specs.Plans.{Plans}
 use Rattle.dms_opening.proofs.OneTrail.{one_first, one_total, unchanged}
 
@@ -46,19 +44,6 @@ module _ {S : Type 0} (files : Files) (p : PlannedOpening S) where
     schema_is = plans.schema_is;
     counts_are = plans.counts_are;
     named = named;
-  }
-
-  pub opens_short : IsTrailFound p.log.end.total p.log.first files → Plans p.log.end.total p.log.first files p.plan → NamesStructures p.plan.schema.items p.plan.counts.items → (found now : Files) → found ≡ files
-      → SealsShort p.log.end.total p.log.first (opening_entries (history_of (trail_entries p.log.end.total p.log.first found)).pending p.plan.choice.point p.plan.next p.plan.schema.items p.plan.counts.items) found now → OpensShort files now
-  opens_short trail plans named found now same short = record {
-    total = p.log.end.total;
-    first = p.log.first;
-    point = p.plan.choice.point;
-    next = p.plan.next;
-    schema = p.plan.schema.items;
-    counts = p.plan.counts.items;
-    opens = planned_opens trail plans named;
-    short = subst (λ (f : Files). SealsShort p.log.end.total p.log.first (opening_entries (history_of (trail_entries p.log.end.total p.log.first f)).pending p.plan.choice.point p.plan.next p.plan.schema.items p.plan.counts.items) f now) same short;
   }
 
   pub can_open : IsTrailFound p.log.end.total p.log.first files → Plans p.log.end.total p.log.first files p.plan → NamesStructures p.plan.schema.items p.plan.counts.items → IsDescription p.plan.schema.items → CanOpen files

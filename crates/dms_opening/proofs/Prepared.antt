@@ -12,7 +12,10 @@ use Rattle.dms_running.proofs.OneMore.{history_entry}
 use Rattle.dms_restore.specs.declared.live.LiveEntry.{LiveEntry}
 use Rattle.dms_restore.specs.declared.live.PendingAt.{PendingAt}
 use Rattle.dms_restore.specs.declared.tracing.TrailHistory.{TrailHistory}
-use Rattle.dms_restore.specs.LiveEntries.{events_at}
+use Rattle.dms_restore.specs.LiveEntries.{logged_live, events_at}
+use Rattle.dms_history.specs.Ranges.{all_changes}
+use Rattle.dms_history.proofs.Turns.{changes_until}
+use Rattle.dms_restore.proofs.Patched.{reached_own}
 use Rattle.dms_opening.specs.Refusals.{IsOpening}
 use Rattle.dms_opening.specs.Starts.{TracesPending}
 use Rattle.dms_restore.specs.Tracing.{IsPendingAt, MatchesPending, IsTraced}
@@ -54,4 +57,7 @@ unfolding count_at
 counts_at_point files h p kept size f n lent same long least t is =
     let held : HoldsPending files h p = holds files t.entries h p t.traced t.pending in
     let all : kept ≡ held.q.kept = omega (arith, least held.q held.is, long, held.at.within) in
-    is ∙ (λ i. reached_count f 0 (events_at files (take (all i) (same i)))) ∙ ap (reached_count f 0) (sym held.at.front) ∙ ap (λ k. reached_count f 0 (until_first (is_point k) p.entries)) (sym held.at.point_is)
+    let front = logged_live files (take held.q.kept h.live.items) in
+    is ∙ (λ i. reached_count f 0 (events_at files (take (all i) (same i)))) ∙ sym (reached_own f front)
+    ∙ ap (reached_count f 0) (ap all_changes (sym held.at.front) ∙ changes_until held.q.point (logged_live files (take held.q.kept h.live.items ++ h.removed.items)))
+    ∙ (λ i. reached_count f 0 (until_first (is_point (sym held.at.point_is i)) (sym held.at.entries_are i)))

@@ -11,22 +11,23 @@ use Rattle.dms_opening.specs.declared.judging.PointFault.TheVariants.{AuditMissi
 use Rattle.dms_restore.specs.declared.live.LiveEntry.{LiveEntry}
 use Rattle.dms_restore.specs.declared.live.PendingAt.{PendingAt}
 use Rattle.dms_restore.specs.declared.tracing.TrailHistory.{TrailHistory}
-use Rattle.dms_restore.specs.LiveEntries.{events_at}
+use Rattle.dms_restore.specs.LiveEntries.{changes_at}
+use Rattle.dms_restore.proofs.Traced.{live_at}
 use Rattle.dms_opening.specs.Judged.{refusal_of, refusal_seen}
 use Rattle.dms_opening.specs.Refusals.{at_point, judge_pending, judge_last, or_then, judge_opening, refusal_at}
 use Rattle.dms_restore.specs.Tracing.{IsPendingAt, MatchesPending, IsTraced}
 
 -- over the live entries before the Begin
 pub pending_judged : (files : Files) (live removed before lent : List LiveEntry) (at : PendingAt) (p : Pending) (kept next : ℕ) (r : Option PointFault) → kept ≡ min at.kept (length live) → before ≡ take kept live ++ removed → lent ≡ before
-    → refusal_seen r ≡ judge_point (events_at files lent) next at.point → IsPendingAt files live removed at p → refusal_seen r ≡ judge_point p.entries next p.point
+    → refusal_seen r ≡ judge_point (changes_at files lent) next at.point → IsPendingAt files live removed at p → refusal_seen r ≡ judge_point p.entries next p.point
 pending_judged files live removed before lent at p kept next r least is same judged m =
     let all : kept ≡ at.kept = omega (arith, least, m.within) in
-    judged ∙ (λ i. judge_point (events_at files ((same ∙ is ∙ ap (λ (k : ℕ). take k live ++ removed) all) i)) next (sym m.point_is i)) ∙ ap (λ (l : List Event). judge_point l next p.point) (sym m.entries_are)
+    judged ∙ (λ i. judge_point (changes_at files ((same ∙ is ∙ ap (λ (k : ℕ). take k live ++ removed) all) i)) next (sym m.point_is i)) ∙ ap (λ (l : List Event). judge_point l next p.point) (sym m.entries_are)
 
-pub point_judged : (files : Files) (entries : List Entry) (h : TrailHistory) (lent : List LiveEntry) (point : ℕ) (r : Option PointFault) → lent ≡ h.live.items → refusal_seen r ≡ judge_point (events_at files lent) h.next point
+pub point_judged : (files : Files) (entries : List Entry) (h : TrailHistory) (lent : List LiveEntry) (point : ℕ) (r : Option PointFault) → lent ≡ h.live.items → refusal_seen r ≡ judge_point (changes_at files lent) h.next point
     → IsTraced files entries h → refusal_seen r ≡ judge_point (live_of entries) (next_of entries) point
 point_judged files entries h lent point r same is t =
-    is ∙ ap (λ (l : List LiveEntry). judge_point (events_at files l) h.next point) same ∙ (λ i. judge_point (sym t.live_is i) (sym t.next_is i) point)
+    is ∙ ap (λ (l : List LiveEntry). judge_point (changes_at files l) h.next point) same ∙ (λ i. judge_point (sym (live_at files entries h t) i) (sym t.next_is i) point)
 
 pub none_last : (entries : List Entry) (k : Option ℕ) → None ≡ k → k ≡ last_point (history_of entries) → Some (record { point = 0; why = refusal_of AuditMissing }) ≡ judge_last (next_of entries) (live_of entries) (last_point (history_of entries))
 none_last entries k none is = ap (judge_last (next_of entries) (live_of entries)) (none ∙ is)

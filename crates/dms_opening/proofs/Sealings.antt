@@ -1,8 +1,6 @@
 -- Entries that an opening seals, by one call after another.
-use Rattle.std.proofs.Common.{ℕ, ◌+◌, ◌/◌, ◌≤◌, ◌≡◌, List, [], ◌++◌, append_assoc, length, length-append, take, sym, ◌∙◌, ap, subst, arith}
-use Rattle.std.proofs.Math.Seq.{take-append-add}
+use Rattle.std.proofs.Common.{ℕ, ◌+◌, ◌/◌, ◌≤◌, ◌≡◌, List, [], ◌++◌, length, length-append, take, sym, ◌∙◌, ap, subst, arith}
 use Rattle.dms_site.specs.declared.site.Site.{Ghosts}
-use Rattle.dms_site.specs.Files.{Files}
 use Rattle.dms_history.specs.History.{Pending}
 use Rattle.dms_history.specs.Entries.{Entry, control_point}
 use Rattle.dms_audrec.specs.Reading.{counts_at}
@@ -10,8 +8,9 @@ use Rattle.dms_audfile.specs.Ends.{EndsAt}
 use Rattle.dms_audfile.specs.TrailEntries.{trail_entries}
 use Rattle.dms_restore.specs.Begins.{BegunAt}
 use Rattle.dms_restore.specs.GrowLaws.{log_grows_more, log_grows_on}
-use Rattle.dms_restore.specs.Laying.{schema_control, SealsShort}
+use Rattle.dms_restore.specs.Laying.{schema_control}
 use Rattle.dms_restore.specs.Logging.{EndsSealed, LogGrows, LogView, entries, view, waits}
+use Rattle.dms_restore.specs.Parts.{SealsPart}
 use Rattle.dms_restore.specs.Views.{view_of}
 use Rattle.dms_restore.specs.declared.log.Log.{Log}
 use Rattle.dms_restore.proofs.Trails.{waits_is}
@@ -21,28 +20,12 @@ use Rattle.dms_wal.proofs.Grown.{control_few}
 pub ends_sealed : (p : Pending) (v : LogView) → BegunAt p v → EndsSealed v
 ends_sealed p v b = subst (λ (l : List Entry). EndsAt v.end v.first l v.files v.clock) b.begun.nothing b.ends
 
--- the first so many and not all, of the same trail
-short_at : (a b : LogView) (es : List Entry) (new : Files) → b.end.total ≡ a.end.total → b.first ≡ a.first → SealsShort b.end.total b.first es b.files new → SealsShort a.end.total a.first es b.files new
-short_at a b es new total first s = subst (λ n. SealsShort n a.first es b.files new) total (subst (λ n. SealsShort b.end.total n es b.files new) first s)
-
--- behind entries that are the same
-pub short_as : (a b : LogView) (es : List Entry) (new : Files) → b.end.total ≡ a.end.total → b.first ≡ a.first → trail_entries a.end.total a.first b.files ≡ trail_entries a.end.total a.first a.files
-    → SealsShort b.end.total b.first es b.files new → SealsShort a.end.total a.first es a.files new
-short_as a b es new total first same s =
-    let short = short_at a b es new total first s in
-    record { some = short.some; lacks = short.lacks; sealed = short.sealed ∙ ap (λ (l : List Entry). l ++ take short.some es) same }
-
--- behind all of some others
-pub short_behind : (a b : LogView) (front es : List Entry) (new : Files) → b.end.total ≡ a.end.total → b.first ≡ a.first → trail_entries a.end.total a.first b.files ≡ trail_entries a.end.total a.first a.files ++ front
-    → SealsShort b.end.total b.first es b.files new → SealsShort a.end.total a.first (front ++ es) a.files new
-short_behind a b front es new total first sealed s =
-    let short = short_at a b es new total first s in
-    let old : List Entry = trail_entries a.end.total a.first a.files in
-    record {
-      some = length front + short.some;
-      lacks = omega (arith, short.lacks, length-append front es);
-      sealed = short.sealed ∙ ap (λ (l : List Entry). l ++ take short.some es) sealed ∙ append_assoc old front (take short.some es) ∙ ap (λ (l : List Entry). old ++ l) (sym (take-append-add front es short.some));
-    }
+-- the first so many, behind entries that are the same
+pub sealed_as : (a b c : LogView) (es : List Entry) → b.end.total ≡ a.end.total → b.first ≡ a.first → trail_entries a.end.total a.first b.files ≡ trail_entries a.end.total a.first a.files → SealsPart b c es → SealsPart a c es
+sealed_as a b c es total first same p = (
+  p.0,
+  (λ i. trail_entries (sym total i) (sym first i) c.files) ∙ p.1 ∙ (λ i. trail_entries (total i) (first i) b.files ++ take p.0 es) ∙ ap (λ (l : List Entry). l ++ take p.0 es) same,
+)
 
 -- the whole Schema of a description and a Control are 18 entries at most
 pub grows_ended : (a b : LogView) (description : List ℕ) (point next : ℕ) (counts : List ℕ) → length description ≤ 65535 → LogGrows (length (schema_control description point next counts)) a b → LogGrows 18 a b

@@ -68,7 +68,7 @@ module _ (v : LogView) (begins : Bool) (point : ℕ) (p : Pending) (s : MayOpen 
   leaves_new later leaves = subst (λ n. LeavesPoints (telling v) (points_of (telling v) v.files) n (state v) later) next_found (subst (λ (l : List DescribedPoint). LeavesPoints (telling v) l (next v) (state v) later) points_found leaves)
 
   pub begun_found : begins ≡ false → BegunAt p v
-  begun_found old = opens_begun v s.start s.whole p (s.opening.goes_on old).0 (s.opening.goes_on old).1
+  begun_found old = opens_begun v s.start s.whole p (s.opening.goes_on old).0
 
 -- nothing changes where the restore goes on
 pub keeps_found : (p : Pending) (v : LogView) → BegunFrom p v v

@@ -1,3 +1,5 @@
+pub mod Asked
+pub mod DumpLooks
 pub mod Plans
 pub mod Laws
 pub mod Openings

@@ -33,7 +33,6 @@ use Rattle.dms_opening.specs.declared.choosing.Choice.{Choice}
 use Rattle.dms_audrec.specs.Bodies.{bodies}
 use Rattle.dms_opening.specs.Choices.{Chooses}
 use Rattle.dms_restore.specs.Counts.{count_of, file_counts}
-use Rattle.dms_restore.specs.Laying.{SealsShort}
 use Rattle.dms_restore.specs.Views.{view_of}
 use Rattle.dms_restore.specs.Logging as logs
 use Rattle.dms_restore.specs.Logging.{LogView, telling_of, telling, state, waits, LogRuns, TrailKept, LeavesTrail, entries, points, durable, content}
@@ -99,12 +98,13 @@ pub record RunsFrom (files : Files) (point next : ℕ) (schema counts : List ℕ
   pub written : AllWritten (telling v) (state v)
   pub only : Only v.files v.clock
 
--- A stop leaves files that hold a database with all points of these files and with no lower next number, and no text but this one, where it
+-- A stop leaves files that hold a database with all points of these files and with the same next number, and no text but this one, where it
 -- is told.
 pub record Reopens (t : Telling) (files : Files) (said : Option (List ℕ)) (x : Left) : Type 0 where
   pub whole : IsWhole t x.files
   pub points_same : points_of t x.files ≡ points_of t files
   pub not_fallen : next_in t files ≤ next_in t x.files
+  pub not_risen : next_in t x.files ≤ next_in t files
   pub text : (s : List ℕ) → said ≡ Some s → x.said ≡ s
 
 module _ {S : Type 0} (g : Ghosts S) where
@@ -169,17 +169,6 @@ pub record HasFullTrail (files now : Files) : Type 0 where
   pub first : ℕ
   pub trail : IsTrailFound total first files
   pub full : (g : ℕ) → first ≤ g → g ≤ 19999 → is_full total (now g) ≡ true
-
--- Of the entries that an opening of these files seals only the first so many were sealed behind those that there were, and not all.
-pub record OpensShort (files now : Files) : Type 0 where
-  pub total : ℕ
-  pub first : ℕ
-  pub point : ℕ
-  pub next : ℕ
-  pub schema : List ℕ
-  pub counts : List ℕ
-  pub opens : OpensAt total first files point next schema counts
-  pub short : SealsShort total first (opening_entries (history_of (trail_entries total first files)).pending point next schema counts) files now
 
 -- Neither the trail of these files nor a point of it is refused, and the Schema at the point has from 1 to 65,535 bytes: so they are opened.
 pub record CanOpen (files : Files) : Type 0 where

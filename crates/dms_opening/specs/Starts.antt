@@ -17,7 +17,8 @@ use Rattle.dms_restore.specs.Begins.{BegunAt}
 use Rattle.dms_restore.specs.declared.told.Told.{Told}
 use Rattle.dms_restore.specs.declared.tracing.TrailHistory.{TrailHistory}
 use Rattle.dms_restore.specs.Tracing.{IsTraced}
-use Rattle.dms_restore.specs.Table.{IsTable}
+use Rattle.dms_restore.specs.Table.{IsPlan}
+use Rattle.dms_restore.specs.declared.run.Run.{Run}
 use Rattle.dms_restore.specs.Laying.{IsAtStart}
 use Rattle.dms_opening.specs.declared.choosing.Choice.{Choice}
 use Rattle.dms_opening.specs.Refusals.{IsOpening}
@@ -34,10 +35,10 @@ pub record BegunFrom (p : Pending) (a b : LogView) : Type 0 where
   pub next_same : next_in (telling b) b.files ≡ next_in (telling a) a.files
   pub outcome_same : outcome_now (telling b) p (state b) ≡ outcome_now (telling a) p (state a)
 
--- The restore is begun, the table is that of its point, and the Control is one of its point with the next number and the counts there.
-pub record MayGoOn (p : Pending) (v : LogView) (table : List Told) (point next : ℕ) (counts : List ℕ) : Type 0 where
+-- The restore is begun, runs and table are what it writes, and the Control is one of its point with the next number and the counts there.
+pub record MayGoOn (p : Pending) (v : LogView) (runs : List Run) (table : List Told) (point next : ℕ) (counts : List ℕ) : Type 0 where
   pub begun : BegunAt p v
-  pub table_is : IsTable p.entries p.point v.files table
+  pub plan_is : IsPlan p v.files runs table
   pub point_is : point ≡ p.point
   pub next_is : next ≡ next_in (telling v) v.files
   pub count : (f : ℕ) → counts_in (counts_at (length counts / 8) counts) f ≡ count_at p.entries p.point f

@@ -7,7 +7,7 @@ ghost use Rattle.dms_running.specs.Standing.{IsWhole};
 ghost use Rattle.dms_restore.specs.Logging.{LogGrows, telling, view};
 ghost use Rattle.dms_restore.specs.Views.{view_of};
 ghost use Rattle.dms_wal.specs.Closing.{IsFullTrail};
-ghost use Rattle.dms_opening.specs.Carrying.{IsFitPlan, IsPlanned, PlanShort};
+ghost use Rattle.dms_opening.specs.Carrying.{IsFitPlan, IsPlanned};
 ghost use Rattle.dms_opening.specs.Openings.{RunsFrom, Reopens, text_of, IsFullFault, MayHaveWritten};
 
 use crate::going_on::go_on;
@@ -42,8 +42,6 @@ pub(crate) fn carry_out<S: Site>(planned: PlannedOpening<S>) -> Result<Opened<S>
         → Runs v.clock (S.clock e.1) (Reopens (telling v) v.files (text_of S.Site planned.log.site))) }
     ensures only { IfErr result (λ e. IsTrue S.tells → IsPlanned (view_of S.Site planned.log) planned.plan → MayHaveWritten e.0) }
     ensures full { IfErr result (λ e. IsTrue S.tells → IsPlanned (view_of S.Site planned.log) planned.plan → IsFullFault e.0 → IsFullTrail (view_of S.Site planned.log) (S.files e.1)) }
-    ensures short { IfErr result (λ e. IsTrue S.tells → let v = view_of S.Site planned.log in IsPlanned v planned.plan → IsFullFault e.0
-        → PlanShort v planned.plan (S.files e.1)) }
     ensures grown { IfOk result (λ o. IsTrue S.tells → let v = view_of S.Site planned.log in IsPlanned v planned.plan
         → LogGrows 19 v (view_of S.Site o.log)) }
     ensures grown_then { IfErr result (λ e. IsTrue S.tells → let v = view_of S.Site planned.log in IsPlanned v planned.plan
@@ -73,7 +71,15 @@ pub(crate) fn carry_out<S: Site>(planned: PlannedOpening<S>) -> Result<Opened<S>
     };
     let mut bytes = [0u8; 1600];
     let used = count_bytes(&counts, &mut bytes);
-    match go_on(begun, &table, &schema, choice.point, next, &bytes[..used]) {
+    match go_on(
+        begun,
+        &[],
+        &table,
+        &schema,
+        choice.point,
+        next,
+        &bytes[..used],
+    ) {
         Ok(log) => Ok(Opened {
             log,
             schema,

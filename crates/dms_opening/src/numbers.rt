@@ -6,7 +6,7 @@ ghost use Rattle.dms_history.specs.History.{Pending, last_number, last_point, pe
 ghost use Rattle.dms_history.specs.Entries as meaning;
 ghost use Rattle.dms_history.specs.EntryEvents.{history_of};
 ghost use Rattle.dms_restore.specs.declared.live.LiveEntry as entry;
-ghost use Rattle.dms_restore.specs.LiveEntries.{event_at, events_at};
+ghost use Rattle.dms_restore.specs.LiveEntries.{events_at};
 ghost use Rattle.dms_restore.specs.Tracing.{MatchesPending, IsTraced};
 
 use dms_restore::{LiveEntry, PendingAt, TrailHistory};
@@ -23,7 +23,7 @@ fn pending_number(pending: Option<PendingAt>) -> Option<u64>
 
 /// The last number after one more entry.
 fn number_after(last: Option<u64>, entry: &LiveEntry) -> Option<u64>
-    ensures { (files : Files) → result ≡ last_number last (event_at files entry.now ∷ []) }
+    ensures { (files : Files) → result ≡ last_number last (events_at files (entry.now ∷ [])) }
 {
     match entry {
         LiveEntry::Changed(_) => last,

@@ -9,7 +9,7 @@ ghost use Rattle.dms_restore.specs.Views.{view_of};
 ghost use Rattle.dms_wal.specs.Database.{IsRunningUsable, running_held};
 ghost use Rattle.dms_wal.specs.Lifting.{AreCounts};
 ghost use Rattle.dms_wal.specs.Marks.{IsDescription};
-ghost use Rattle.dms_opening.specs.Openings.{NamesStructures, OpensAt, RunsFrom, RunsWhere, OpenedRuns, ReopensSince, TellsOpened, RefusesFiles, IsFullFault, HasFullTrail, OpensShort, OpeningGrows, CanOpen, StaysUnopened, MayHaveWritten, IsOpenable, IsNoRefusal};
+ghost use Rattle.dms_opening.specs.Openings.{NamesStructures, OpensAt, RunsFrom, RunsWhere, OpenedRuns, ReopensSince, TellsOpened, RefusesFiles, IsFullFault, HasFullTrail, OpeningGrows, CanOpen, StaysUnopened, MayHaveWritten, IsOpenable, IsNoRefusal};
 
 use crate::carrying::{carry_out, site_of};
 use crate::looking::look;
@@ -49,7 +49,6 @@ pub fn open<S: Site>(alloc: Global, found: Found<S>) -> Result<Opened<S>, (OpenF
     ensures stopped { IfErr result (λ e. IsTrue S.tells → ReopensSince S.Site found.site e.1) }
     ensures refused { IfErr result (λ e. IsTrue S.tells → RefusesFiles (S.files found.site) e.0) }
     ensures full { IfErr result (λ e. IsTrue S.tells → IsFullFault e.0 → HasFullTrail (S.files found.site) (S.files e.1)) }
-    ensures short { IfErr result (λ e. IsTrue S.tells → IsFullFault e.0 → OpensShort (S.files found.site) (S.files e.1)) }
     ensures grows { IfOk result (λ o. IsTrue S.tells → OpeningGrows S.Site found.site o.log.site) }
     ensures grows_then { IfErr result (λ e. IsTrue S.tells → OpeningGrows S.Site found.site e.1) }
     ensures begun { IfErr result (λ e. IsTrue S.tells → CanOpen (S.files found.site) ⊎ StaysUnopened S.Site found.site e.1 e.0) }
@@ -89,9 +88,8 @@ impl<S: Site> Opened<S> {
             → TellsOpened (telling_of self.log.end.total self.log.first) files self.next (running_held S.Site r)) }
         ensures log { IfOk result (λ r. (r.log.site ≡ self.log.site) × (r.log.first ≡ self.log.first) × (r.log.end.total ≡ self.log.end.total) × (r.log.end.limit ≡ limit)) }
         ensures kept { IfOk result (λ r. (r.schema ≡ self.schema) × (r.counts ≡ self.counts) × (r.next ≡ self.next) × (r.point ≡ self.point)
-            × (r.every ≡ every) × (r.changed ≡ false) × (r.syncs ≡ 0) × (r.spent ≡ 0) × (r.outs ≡ 0) × (r.full ≡ 0)) }
+            × (r.every ≡ every) × (r.changed ≡ false) × (r.syncs ≡ 0) × (r.spent ≡ 0) × (r.outs ≡ 0)) }
         ensures nothing { IfOk result (λ r. waits self.log.end ≡ [] → waits r.log.end ≡ []) }
-        ensures used { IfOk result (λ r. r.log.end.used ≡ self.log.end.used) }
         ensures site { IfErr result (λ e. e.1 ≡ self.log.site) }
     {
         let Opened {

@@ -10,7 +10,7 @@ ghost use Rattle.dms_audfile.specs.Counting.{CountedAt};
 ghost use Rattle.dms_audfile.specs.Reads.{ReadsAlone};
 ghost use Rattle.dms_restore.specs.Counts.{count_of};
 ghost use Rattle.dms_opening.specs.PointCounts.{AllAtMost, HasNoCounts, HasNoCount, IsNoCount, IsNoCountAmong};
-ghost use Rattle.dms_restore.specs.LiveEntries.{event_at, events_at};
+ghost use Rattle.dms_restore.specs.LiveEntries.{events_at};
 ghost use Rattle.dms_restore.specs.declared.live.LiveEntry.TheVariants.{Changed};
 
 use dms_audfile::AudFault;
@@ -109,7 +109,7 @@ fn read_counts<S: Site>(
 /// Raises the count of a file by a new block. Whether the Image is of a block of a structure file.
 fn raise(counts: &mut [u32], image: &ImageAt) -> bool
     requires { length counts.old ≡ 200 }
-    ensures raised { IsTrue result → (files : Files) (f : ℕ) → count_of counts.new f ≡ reached_count f (count_of counts.old f) (event_at files (Changed image.now) ∷ []) }
+    ensures raised { IsTrue result → (files : Files) (f : ℕ) → count_of counts.new f ≡ reached_count f (count_of counts.old f) (events_at files (Changed image.now ∷ [])) }
     ensures small { IsTrue result → AllAtMost counts.old → AllAtMost counts.new }
     ensures none { result ≡ false → HasNoCount image.now }
 {
@@ -126,7 +126,7 @@ fn raise(counts: &mut [u32], image: &ImageAt) -> bool
 /// Counts one more live entry.
 fn count_entry<S: Site>(site: &mut S, entry: &LiveEntry, counts: &mut [u32]) -> Result<(), AudFault>
     requires { length counts.old ≡ 200 }
-    ensures counts { OnOk result (IsTrue S.tells → (f : ℕ) → count_of counts.new f ≡ reached_count f (count_of counts.old f) (event_at (S.files site.old) entry.now ∷ [])) }
+    ensures counts { OnOk result (IsTrue S.tells → (f : ℕ) → count_of counts.new f ≡ reached_count f (count_of counts.old f) (events_at (S.files site.old) (entry.now ∷ []))) }
     ensures small { OnOk result (AllAtMost counts.old → AllAtMost counts.new) }
     ensures only { IfErr result (λ e. (e ≡ AudFault.Disk) ⊎ IsNoCount S.tells (S.files site.old) entry.now e) }
     ensures reads { ReadsAlone S.Site site.old site.new }

@@ -16,7 +16,7 @@ use dms_restore::{LiveEntry, PendingAt, TrailHistory};
 use std::alloc::{AllocError, Global};
 
 /// The live entries before the Begin of a restore: those that it kept, and those that it removed.
-fn entries_before(
+pub(crate) fn entries_before(
     alloc: Global,
     live: &[LiveEntry],
     removed: &[LiveEntry],

@@ -6,7 +6,6 @@ ghost use Rattle.dms_audfile.specs.Counting.{CountedAt};
 ghost use Rattle.dms_history.specs.Entries.{begin_restore, by_halt_load};
 ghost use Rattle.dms_audrec.specs.Spelling.{spelling};
 ghost use Rattle.dms_audfile.specs.Ends.{is_past};
-ghost use Rattle.dms_restore.specs.Laying.{SealsShort};
 ghost use Rattle.dms_restore.specs.Logging.{Ends, EndsSealed, LogGrows};
 ghost use Rattle.dms_restore.specs.Parts.{SealsPart};
 ghost use Rattle.dms_restore.specs.Views.{view_of, StaysSilent, LogStarts, IsSameTrail, SealsBehind};
@@ -53,8 +52,6 @@ pub(crate) fn start<S: Site>(
     ensures full { IfErr result (λ e. e.0 ≡ AudFault.Full log.end.limit → (e.1.end.used ≡ 0) × (10000 + log.end.limit < e.1.end.file)) }
     ensures ends { IfErr result (λ e. e.0 ≡ AudFault.Full log.end.limit → IsTrue S.tells → LogStarts (view_of S.Site log) → Ends (view_of S.Site e.1)) }
     ensures part { IfErr result (λ e. IsTrue S.tells → LogStarts (view_of S.Site log) → SealsPart (view_of S.Site log) (view_of S.Site e.1) (begin_restore point by_halt_load ∷ [])) }
-    ensures short { IfErr result (λ e. e.0 ≡ AudFault.Full log.end.limit → IsTrue S.tells → LogStarts (view_of S.Site log)
-        → SealsShort log.end.total log.first (begin_restore point by_halt_load ∷ []) (S.files log.site) (S.files e.1.site)) }
     ensures disk { IfErr result (λ e. CountedAt (e.0 ≡ AudFault.Disk) (S.disk_faults log.site) (S.disk_faults e.1.site)) }
     ensures say_faults { IfOk result (λ b. S.say_faults b.log.site ≡ S.say_faults log.site) }
     ensures say_faults_then { IfErr result (λ e. S.say_faults e.1.site ≡ S.say_faults log.site) }

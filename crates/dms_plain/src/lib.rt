@@ -8,8 +8,6 @@ mod rows;
 mod scan;
 mod state;
 mod store;
-#[cfg(test)]
-mod tests;
 
 pub use laws::number_law;
 pub use store::PlainStore;

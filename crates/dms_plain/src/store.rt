@@ -1,7 +1,7 @@
-ghost use Rattle.std.specs.Prelude.{◌≡◌, ⊤, IfErr, IfOk, IsTrue, None, Some, [], option_map, refl};
-ghost use Rattle.std.proofs.Common.{◌∙◌, ap};
+ghost use Rattle.std.specs.Prelude.{◌≡◌, ⊤, IfErr, IfOk, IsTrue, Some, [], refl};
+ghost use Rattle.std.proofs.Common.{◌∙◌};
 ghost use Rattle.dms_desc.specs.Shape.{as_described};
-ghost use Rattle.dms_model.specs.Db.{Db, empty_db};
+ghost use Rattle.dms_model.specs.Db.{empty_db};
 ghost use Rattle.dms_model.specs.Seen.{Starts};
 ghost use Rattle.std.proofs.Props.{props};
 ghost use Rattle.dms_plain.specs.Props.{RowsFit-prop};
@@ -83,12 +83,10 @@ impl<S: Site> Store for PlainStore<S> {
       desc = as_described s.desc;
       db = Some (db_of (records_in s.rows.items));
       mark = Some (db_of (undo_all s.undo.items (records_in s.rows.items)));
-      records = Some (db_of (records_in s.rows.items)).records;
       next = s.next;
       said = text_if S.tells_said (S.said s.site);
       points = [];
       durable = 0;
-      landmarks = None;
       here = point_of s.next (as_described s.desc) (db_of (records_in s.rows.items));
       clock = no_clock;
       whole = λ files. ⊤;
@@ -103,7 +101,6 @@ impl<S: Site> Store for PlainStore<S> {
     ghost agrees = { λ s sound. record {
       may_stop = λ tells. absurd tells;
       number = refl;
-      records = λ db is. ap (option_map (λ (d : Db). d.records)) is;
       here = λ db is. is;
       under = λ db is. refl;
       points = λ tells. absurd tells;
@@ -159,8 +156,11 @@ impl<S: Site> Store for PlainStore<S> {
 
     fn quiet(&mut self) -> Result<u64, BlockFault> {
         let number = self.next;
+        if number == u64::MAX {
+            return Err(BlockFault::Memory);
+        }
         self.undo.clear();
-        self.next = number.saturating_add(1);
+        self.next = number + 1;
         Ok(number)
     }
 

@@ -5,20 +5,21 @@ use Rattle.dms_moments.specs.Moments.{Clock, Steps}
 use Rattle.dms_moments.specs.MomentLaws.{steps_on}
 use Rattle.dms_site.specs.Files.{Files, Left, Only, Same}
 use Rattle.dms_history.specs.History.{Pending}
-use Rattle.dms_history.specs.Pick.{count_at}
-use Rattle.dms_history.specs.Entries.{Kind, Entry, begin_restore, how_of, by_halt_load, by_back_out, by_roll_back, by_rebuild, by_reconstruct}
-use Rattle.dms_audrec.specs.Spelling.{IsRestoreKind}
+use Rattle.dms_history.specs.Entries.{Kind, Entry, begin_restore, how_of}
 use Rattle.dms_audfile.specs.BlockLaws.{AreNoBegins}
 use Rattle.dms_audfile.proofs.Growing.{writes_same}
 use Rattle.dms_audfile.specs.Ends as ends
 use Rattle.dms_audfile.specs.Ends.{EndsAt, Appends}
 use Rattle.dms_audfile.specs.TrailEntries.{trail_entries}
 use Rattle.dms_audfile.specs.declared.audit_end.AuditEnd.{AuditEnd}
+use Rattle.dms_restore.proofs.ByAudit.{rewritten_kept, rewrites_kept}
+use Rattle.dms_running.specs.ByHow.{IsKeptBy}
+use Rattle.dms_running.proofs.Rewriting.{rewritten_on, steps_more}
 use Rattle.dms_running.specs.Telling.{Telling, IsTelling}
 use Rattle.dms_running.specs.Points.{points_of, next_in}
 use Rattle.dms_running.specs.Sealing.{AreSealed}
 use Rattle.dms_running.specs.Running.{LeavesPoints}
-use Rattle.dms_running.specs.Restoring.{IsKept, Rewritten, Rewrites}
+use Rattle.dms_running.specs.Restoring.{Rewritten, Rewrites}
 use Rattle.dms_running.specs.Begun.{ByAudit, IsBegun, LeavesAll, outcome_now}
 use Rattle.dms_running.proofs.Beginning.{begin_goes, all_sealed, begun, begun_points, begun_next, begun_outcome}
 use Rattle.dms_running.proofs.Restored.{restore_leaves, restore_begun, restored_all, restored_points, restored_next, restored_outcome}
@@ -26,18 +27,10 @@ use Rattle.dms_restore.specs.Logging.{waits, LogView, view, telling, state, Ends
 use Rattle.dms_restore.specs.Parts.{SealsPart}
 use Rattle.dms_restore.specs.Begins.{LastIs, begun_to, BegunAt, BeginsRestore, RestoredAt, Restores}
 use Rattle.dms_restore.specs.declared.told.Told.{Told}
-use Rattle.dms_restore.specs.Table.{IsTable, AllStandAsTold}
+use Rattle.dms_restore.specs.declared.run.Run.{Run}
+use Rattle.dms_restore.specs.Table.{Kept, keeps_by, IsPlan, Holds, all_in}
 use Rattle.dms_restore.proofs.Trails.{is_telling, first_low, waits_is}
-use Rattle.dms_restore.proofs.Tables.{table_stands}
 use Rattle.dms_restore.proofs.Logs.{ReadsNow, tells, plain, entry_steps, same_telling, appended, ends_then, settles, sealing}
-
--- a restore by the audit has a spelling
-pub kind_is : (kind : Kind) → ByAudit (how_of kind) → IsRestoreKind kind
-kind_is by_halt_load by_audit = tt
-kind_is by_back_out by_audit = tt
-kind_is by_roll_back by_audit = tt
-kind_is (by_rebuild d) by_audit = absurd by_audit
-kind_is (by_reconstruct d rows) by_audit = absurd by_audit
 
 -- a Begin never waits
 none_waits : (w : List Entry) (m : ℕ) (kind : Kind) (k : ℕ) → AreNoBegins (drop k (w ++ begin_restore m kind ∷ [])) → drop k (w ++ begin_restore m kind ∷ []) ≡ []
@@ -123,30 +116,41 @@ ends_kept a w keeps files clock ends steps written = record {
   settled = λ g from upto x now.
       let after = steps.follows x now in
       after.2.files.others g (omega (arith, upto, a.end.high)) ∙ ends.settled g from upto after.0 after.1 ∙ sym (written.others g (omega (arith, upto, a.end.high)));
-  bytes = ends.bytes;
+  waits = ends.waits;
   kind = ends.kind;
 }
 
-module _ (p : Pending) (a : LogView) (r : BegunAt p a) (read : ReadsNow a) (table : List Told) (is : IsTable p.entries p.point a.files table) where
+-- the runs and then the table are written, and a call that only looks follows
+pub plan_steps : (p : Pending) (x y z w : Clock Left) → Steps (Rewrites (Kept (keeps_by p.how p.entries p.point))) x y → Steps (Rewrites (Kept (keeps_by p.how p.entries p.point))) y z → Steps Same z w
+    → Steps (Rewrites (IsKeptBy p.how p.entries p.point)) x w
+plan_steps p x y z w one two look =
+    let keeps = Kept (keeps_by p.how p.entries p.point) in
+    rewrites_kept p.how p.entries p.point (then_looks keeps x z w (steps_more keeps x y z one two) look)
+
+pub plan_written : (p : Pending) (x y z w : Files) → Rewritten (Kept (keeps_by p.how p.entries p.point)) x y → Rewritten (Kept (keeps_by p.how p.entries p.point)) y z → w ≡ z → Rewritten (IsKeptBy p.how p.entries p.point) x w
+plan_written p x y z w one two same =
+    subst (λ (l : Files). Rewritten (IsKeptBy p.how p.entries p.point) x l) (sym same) (rewritten_kept p.how p.entries p.point x z (rewritten_on (Kept (keeps_by p.how p.entries p.point)) x y z one two))
+
+module _ (p : Pending) (a : LogView) (r : BegunAt p a) (read : ReadsNow a) where
   abbrev pub tells_it : IsTelling (telling a)
   tells_it = is_telling a.end.total a.first (first_low a.end a.first (waits a.end) a.files a.clock r.ends)
 
-  pub table_leave : (later : Clock Left) → Steps (Rewrites (IsKept p.entries p.point)) a.clock later → LeavesAll (telling a) (state a) later
+  pub table_leave : (later : Clock Left) → Steps (Rewrites (IsKeptBy p.how p.entries p.point)) a.clock later → LeavesAll (telling a) (state a) later
   table_leave later steps = restore_leaves (telling a) tells_it p (state a) r.begun read later steps
 
-  module _ (files : Files) (clock : Clock Left) (steps : Steps (Rewrites (IsKept p.entries p.point)) a.clock clock) (written : Rewritten (IsKept p.entries p.point) a.files files) where
+  module _ (files : Files) (clock : Clock Left) (steps : Steps (Rewrites (IsKeptBy p.how p.entries p.point)) a.clock clock) (written : Rewritten (IsKeptBy p.how p.entries p.point) a.files files) where
     abbrev pub then_ : LogView
     then_ = view a.end a.first files clock
 
     ends_still : Ends then_
-    ends_still = ends_kept a (waits a.end) (IsKept p.entries p.point) files clock r.ends steps written
+    ends_still = ends_kept a (waits a.end) (IsKeptBy p.how p.entries p.point) files clock r.ends steps written
 
     pub table_begun : BegunAt p then_
     table_begun = record { ends = ends_still; begun = restore_begun (telling a) tells_it p (state a) r.begun read (state then_) written r.begun.nothing steps }
 
-    pub table_restored : AllStandAsTold p.entries p.point files table → Only files clock → RestoredAt p then_
-    table_restored all only = record {
-      restored = restored_all (telling a) tells_it p (state a) r.begun read (state then_) written (λ f. table_stands p.entries p.point a.files files table is all f (count_at p.entries p.point f));
+    pub table_restored : (runs : List Run) (table : List Told) → IsPlan p a.files runs table → Holds a.files (all_in runs ++ table) files → Only files clock → RestoredAt p then_
+    table_restored runs table is holds only = record {
+      restored = restored_all (telling a) tells_it p (state a) r.begun read (state then_) written (λ f b low x told size. holds f b x (is.all f b x low told size));
       only = only;
     }
 

@@ -8,7 +8,8 @@ use Rattle.dms_moments.specs.MomentLaws.{runs_none, runs_on, steps_on}
 use Rattle.dms_site.specs.Files.{Files, Left, Same}
 use Rattle.dms_history.specs.Events.{AllBlocks, Event}
 use Rattle.dms_history.specs.Lists.{until_first, after_first}
-use Rattle.dms_history.specs.Places.{IsLive, is_point}
+use Rattle.dms_history.specs.Ranges.{all_changes, is_point_logged}
+use Rattle.dms_history.specs.Places.{IsLive}
 use Rattle.dms_history.specs.History.{last_point}
 use Rattle.dms_history.specs.Pick.{blocks_at}
 use Rattle.dms_history.specs.Entries.{Entry}
@@ -26,7 +27,8 @@ use Rattle.dms_running.proofs.Appending.{sync_leaves}
 use Rattle.dms_running.proofs.Looking.{look_runs}
 use Rattle.dms_restore.specs.declared.live.LiveEntry.{LiveEntry}
 use Rattle.dms_restore.specs.declared.told.Told.{Told}
-use Rattle.dms_restore.specs.LiveEntries.{events_at, AllStandWhole}
+use Rattle.dms_restore.specs.LiveEntries.{logged_live, changes_at, AllStandWhole}
+use Rattle.dms_restore.proofs.Changes.{live_changes}
 use Rattle.dms_restore.specs.Table.{IsTable}
 use Rattle.dms_restore.specs.Tracing.{IsTraced}
 use Rattle.dms_restore.specs.declared.tracing.TrailHistory.{TrailHistory}
@@ -41,15 +43,15 @@ use Rattle.dms_restore.proofs.Traced.{whole_take, whole_drop}
 -- ---- the table of a point
 
 -- from all live entries, which are cut at the place of the point
-pub table_cut : (files : Files) (live tail : List LiveEntry) (m k : ℕ) (v : List Told) → tail ≡ drop k live → until_first (is_point m) (events_at files live) ≡ events_at files (take k live) → after_first (is_point m) (events_at files live) ≡ events_at files (drop k live)
-    → Tables files (take k live) tail v → AllStandWhole files live → IsTable (events_at files live) m files v
+pub table_cut : (files : Files) (live tail : List LiveEntry) (m k : ℕ) (v : List Told) → tail ≡ drop k live → until_first (is_point_logged m) (logged_live files live) ≡ logged_live files (take k live) → after_first (is_point_logged m) (logged_live files live) ≡ logged_live files (drop k live)
+    → Tables files (take k live) tail v → AllStandWhole files live → IsTable (changes_at files live) m files v
 table_cut files live tail m k v is front behind table whole =
-    table (events_at files live) m front (behind ∙ ap (events_at files) (sym is)) (whole_take files k live whole) (subst (AllStandWhole files) (sym is) (whole_drop files k live whole))
+    table (logged_live files live) m front (behind ∙ ap (logged_live files) (sym is)) (whole_take files k live whole) (subst (AllStandWhole files) (sym is) (whole_drop files k live whole))
 
 -- of entries that were traced
-pub table_traced : (files : Files) (es : List Entry) (h : TrailHistory) (live : List LiveEntry) (m : ℕ) (v : List Told) → live ≡ h.live.items → (AllStandWhole files live → IsTable (events_at files live) m files v) → IsTraced files es h → IsTable (live_of es) m files v
+pub table_traced : (files : Files) (es : List Entry) (h : TrailHistory) (live : List LiveEntry) (m : ℕ) (v : List Told) → live ≡ h.live.items → (AllStandWhole files live → IsTable (changes_at files live) m files v) → IsTraced files es h → IsTable (live_of es) m files v
 table_traced files es h live m v lent table t =
-    subst (λ (l : List Event). IsTable l m files v) (ap (events_at files) lent ∙ sym t.live_is) (table (subst (AllStandWhole files) (sym lent) t.live_whole))
+    subst (λ (l : List Event). IsTable l m files v) (ap (changes_at files) lent ∙ ap all_changes (sym t.live_is) ∙ sym (live_changes es)) (table (subst (AllStandWhole files) (sym lent) t.live_whole))
 
 -- it serves behind entries of which none waits
 pub serves_on : (v : LogView) (files : Files) (m : ℕ) (table : List Told) → v.files ≡ files → waits v.end ≡ [] → ((new : Files) → Grown v.end.total v.first files new → IsTable (live_of (trail_entries v.end.total v.first files)) m new table) → ServesBehind v m table
@@ -68,7 +70,7 @@ module _ (a m : LogView) (runs : LogRuns m) (same : LogsNothing a m) (nothing : 
       low = runs.ends.low;
       writes = runs.ends.writes;
       settled = λ g from to x now. let y = looks.follows x now in ap (λ (l : Left). l.files g) y.2 ∙ runs.ends.settled g from to y.0 y.1;
-      bytes = runs.ends.bytes;
+      waits = runs.ends.waits;
       kind = runs.ends.kind;
     };
     runs = look_runs (telling m) (state m) clock runs.runs looks;
@@ -136,7 +138,7 @@ module _ (a b : LogView) (s : SealedAlone a b) where
         let q = subst (λ (t : Telling). LeavesPointsPrefix t (points a) (durable b) (next a) x) kind
         (subst (λ (ps : List DescribedPoint). LeavesPointsPrefix (telling b) ps (durable b) (next a) x) s.same.points_same
         (subst (λ n. LeavesPointsPrefix (telling b) (points b) (durable b) n x) s.same.next_same p)) in
-        record { count = q.count; enough = omega (arith, q.enough, s.same.durable_kept); within = q.within; is = q.is; not_fallen = q.not_fallen; whole = q.whole }
+        record { count = q.count; enough = omega (arith, q.enough, s.same.durable_kept); within = q.within; is = q.is; not_fallen = q.not_fallen; not_risen = q.not_risen; whole = q.whole }
 
     pub leaves_then : (c : LogView) → LogLeaves a b (points a) (next a) → LogLeaves b c (points b) (next b) → LogLeaves a c (points a) (next a)
     leaves_then c first then = runs_on first then left_then

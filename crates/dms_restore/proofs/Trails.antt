@@ -3,7 +3,6 @@ use Rattle.std.proofs.Common.{ℕ, zero, suc, ◌+◌, ◌-◌, ◌*◌, ◌≤�
 use Rattle.std.specs.Option.{option_copied}
 use Rattle.std.specs.Borrow.{Bor}
 use Rattle.std.specs.Prelude.{◌&&◌, nat_lt, nat_le}
-use Rattle.std.proofs.lemmas.List.{length-take}
 use Rattle.std.proofs.lemmas.Bool.{cases_lt}
 use Rattle.std.proofs.lemmas.Bool.Decides.{nat_tests}
 use Rattle.dms_moments.specs.Moments.{Clock, Steps}
@@ -14,11 +13,9 @@ use Rattle.dms_audrec.specs.declared.entry.Entry.TheVariants.{Image}
 use Rattle.dms_audrec.specs.Seen.{entry_seen}
 use Rattle.dms_audfile.specs.declared.audit_end.AuditEnd.{AuditEnd}
 use Rattle.dms_audfile.specs.Gates.{sealed_blocks, is_full}
-use Rattle.dms_audfile.specs.Blocks.{block_entries}
-use Rattle.dms_audfile.specs.BlockLaws.{spellings, AreNoBegins, IsAlone}
-use Rattle.dms_audfile.specs.Unsealed.{block_with}
+use Rattle.dms_audfile.specs.BlockLaws.{AreNoBegins, IsAlone}
 use Rattle.dms_audfile.specs.Trail.{trail_from}
-use Rattle.dms_audfile.specs.TrailEntries.{entries_of, entries_in, trail_entries}
+use Rattle.dms_audfile.specs.TrailEntries.{entries_in, trail_entries}
 use Rattle.dms_audfile.specs.Ends as ends
 use Rattle.dms_audfile.specs.Ends.{EndsAt, Appends}
 use Rattle.dms_audfile.specs.Sealing.{IsWrittenUpTo}
@@ -28,15 +25,17 @@ use Rattle.dms_audfile.specs.AuditTrail.{IsScanned}
 use Rattle.dms_audfile.specs.TrailLaws.{read_trail, all_of}
 use Rattle.dms_audfile.specs.Database.{HasDatabase}
 use Rattle.dms_audfile.proofs.Again.{scans_again}
-use Rattle.dms_audfile.proofs.BlockRead.{block_is_read}
+use Rattle.dms_audfile.proofs.Waiting.{waiting_is}
 use Rattle.dms_audfile.proofs.Followed.{fits_says, scans_trail}
 use Rattle.dms_audfile.proofs.Growing.{writes_same}
-use Rattle.dms_audfile.proofs.Ended.{entries_settled, writes_once, entered_entries}
+use Rattle.dms_audfile.proofs.Ended.{entries_settled, writes_once}
 use Rattle.dms_audfile.proofs.Kept.{long_head, found_is_kept}
 use Rattle.dms_running.specs.Telling.{IsTelling}
 use Rattle.dms_running.specs.Sealing.{SealsSome, Appended, AreSealed, Settled}
 use Rattle.dms_running.specs.Running.{AllPlain}
-use Rattle.dms_restore.specs.Dumped.{no_dump, dump_of, dumps_of}
+use Rattle.dms_dump.specs.Body.{no_dump, dump_of}
+use Rattle.dms_dump.specs.Judged.{dump_read}
+use Rattle.dms_restore.specs.Dumped.{dumps_of, IsDumpFound}
 use Rattle.dms_restore.specs.Finding.{IsFoundFrom}
 use Rattle.dms_restore.specs.Logging.{telling_of, waits}
 
@@ -63,6 +62,16 @@ dump_numbers d on = (grind (arith, nat_tests), grind (arith, nat_tests))
 dumps_same : (x y : Files) → ((g : ℕ) → 20000 < g → g ≤ 30000 → x g ≡ y g) → dumps_of x ≡ dumps_of y
 dumps_same x y same =
     λ i. λ d. dump_same x y d (nat_lt 0 d && nat_le d 10000) (λ on. let n = dump_numbers d on in same (20000 + d) (omega (arith, n.0)) (omega (arith, n.1))) i
+
+-- a dump that is found is found in files with the same dumps
+pub found_dump : (first : ℕ) (x y : Files) (d : ℕ) → ((g : ℕ) → 20000 < g → g ≤ 30000 → x g ≡ y g) → IsDumpFound first y d → IsDumpFound first x d
+found_dump first x y d same found = record {
+  some = found.some;
+  few = found.few;
+  head = found.head;
+  read = ap dump_read (same (20000 + d) (omega (arith, found.some)) (omega (arith, found.few))) ∙ found.read;
+  within = found.within;
+}
 
 -- ---- scanning
 
@@ -156,7 +165,7 @@ found_sealed total tag first g n w y x writes seals f =
     })
 
 pub is_telling : (total first : ℕ) → first ≤ 20000 → IsTelling (telling_of total first)
-is_telling total first low = record { entries_low = trail_entries_low total first low; dumps_between = dumps_same; found_low = found_stays total first }
+is_telling total first low = record { entries_low = trail_entries_low total first low; dumps_between = dumps_same; found_low = found_stays total first; dump_found_between = λ x y d same found. found }
 
 pub first_low : (end : AuditEnd) (first : ℕ) (w : List Entry) (files : Files) (clock : Clock Left) → EndsAt end first w files clock → first ≤ 20000
 first_low end first w files clock e = omega (arith, e.writes.order, end.high)
@@ -165,9 +174,7 @@ first_low end first w files clock e = omega (arith, e.writes.order, end.high)
 
 pub waits_is : (end : AuditEnd) (first : ℕ) (w : List Entry) (files : Files) (clock : Clock Left) → EndsAt end first w files clock → waits end ≡ w
 unfolding waits
-waits_is end first w files clock e =
-    let few : length (spellings w) ≤ 4094 = omega (arith, sym (ap length e.bytes), length-take end.used (drop 2 end.block.items), end.few) in
-    ap (λ (l : List ℕ). entries_of (block_entries (block_with l))) e.bytes ∙ ap entries_of (block_is_read w e.kind few) ∙ entered_entries 2 w
+waits_is end first w files clock e = waiting_is end w e.waits
 
 -- so it ends with what waits
 pub ends_waiting : (end : AuditEnd) (first : ℕ) (w : List Entry) (files : Files) (clock : Clock Left) → EndsAt end first w files clock → EndsAt end first (waits end) files clock
@@ -226,7 +233,7 @@ ends_written end first w f b files later old new structure e step steps = record
       let other : g ≡ f → ⊥ = λ is. omega (arith, structure, upto, end.high, is) in
       let after = steps.follows x now in
       after.2.files.others g other ∙ e.settled g from upto after.0 after.1 ∙ sym (step.others g other);
-  bytes = e.bytes;
+  waits = e.waits;
   kind = e.kind;
 }
 

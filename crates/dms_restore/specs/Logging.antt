@@ -13,9 +13,9 @@ use Rattle.dms_audfile.specs.declared.audit_end.AuditEnd.{AuditEnd}
 use Rattle.dms_audfile.specs.Blocks.{block_entries}
 use Rattle.dms_audfile.specs.Header.{tag_said}
 use Rattle.dms_audfile.specs.Unsealed.{block_with}
-use Rattle.dms_audfile.specs.TrailEntries.{entries_of, trail_entries}
+use Rattle.dms_audfile.specs.TrailEntries.{entries_of, entries_in, trail_entries}
 use Rattle.dms_audfile.specs.BlockLaws.{AreNoBegins}
-use Rattle.dms_audfile.specs.Ends.{unsealed_bytes, EndsAt, Grown}
+use Rattle.dms_audfile.specs.Ends.{unsealed_bytes, full_blocks, EndsAt, Grown}
 use Rattle.dms_running.specs.Telling.{Telling}
 use Rattle.dms_running.specs.Points.{DescribedPoint}
 use Rattle.dms_running.specs.Running.{State, entries_now, next_now, points_now, durable_now, here_now, content_now, IsRunning, IsChanged, LeavesPoints}
@@ -24,11 +24,11 @@ use Rattle.dms_restore.specs.Finding.{IsFoundFrom}
 
 -- what files tell of which the trail begins with file `first` and has so many blocks a file
 abbrev pub telling_of : ℕ → ℕ → Telling
-telling_of total first = record { first = first == 10001; entries = trail_entries total first; dumps = dumps_of; found = IsFoundFrom total first }
+telling_of total first = record { first = first == 10001; entries = trail_entries total first; dumps = dumps_of; found = IsFoundFrom total first; dump_found = λ files d. ⊥ }
 
--- the entries that wait: those of the block that is sealed next
+-- the entries that wait: those of the full blocks, and those of the block that is filled
 unfoldable pub waits : AuditEnd → List Entry
-waits end = entries_of (block_entries (block_with (unsealed_bytes end)))
+waits end = entries_in (full_blocks end) ++ entries_of (block_entries (block_with (unsealed_bytes end)))
 
 -- the end of a trail, its first file, what a read of the site gives, and what a stop leaves
 pub record LogView : Type 1 where
@@ -179,8 +179,7 @@ pub record LogsWrite (a b : LogView) : Type 0 where
   pub content_same : content b ≡ content a
   pub durable_same : durable b ≡ durable a
 
--- The first so many of these entries were logged, and nothing else, and not all of them.
-pub record LogsShort (a b : LogView) (es : List Entry) : Type 0 where
+-- The first so many of these entries were logged, and nothing else.
+pub record LogsPart (a b : LogView) (es : List Entry) : Type 0 where
   pub some : ℕ
-  pub lacks : some < length es
   pub entries_are : entries b ≡ entries a ++ take some es

@@ -1,12 +1,7 @@
 -- A stop behind the last event of a run lies within it.
 use Rattle.std.proofs.Common.{ℕ, ◌≡◌, ◌≤◌, ◌+◌, ◌∙◌, Bool, List, [], ◌∷◌, ◌++◌, length, refl, sym, ap, subst, arith}
-use Rattle.std.specs.Prelude.{OnOk}
-use Rattle.std.specs.declared.option.Option.{Option}
-use Rattle.std.specs.declared.result.Result.{Result}
-use Rattle.std.specs.declared.result.Result.TheVariants.{Ok, Err}
 use Rattle.std.proofs.lemmas.List.{append_assoc, append-nil}
 use Rattle.dms_desc.specs.Shape.{Described, as_described}
-use Rattle.dms_feed.specs.Lines.{raw_lines}
 use Rattle.dms_model.specs.Db.{Db}
 use Rattle.dms_model.specs.declared.store.Store.{Ghosts}
 use Rattle.dms_model.specs.Points.{Quiet, Stop, LeavesPrefix, StopTextIs}
@@ -14,14 +9,10 @@ use Rattle.dms_model.specs.Seen.{Seen}
 use Rattle.dms_model.specs.Session.{someone_works}
 use Rattle.dms_runner.specs.Answers.{script_run, script_events, unanswered_events}
 use Rattle.dms_runner.specs.Events.{RunEvent, goes_back, text_of, quiets_of, durable_after, CrashesWithin, Performs}
-use Rattle.dms_runner.specs.Running.{AnswersWhole}
-use Rattle.dms_runner.specs.Starting.{AtStart}
 use Rattle.dms_runner.proofs.Happening.{text_on, quiets_on, durable_on}
 use Rattle.dms_storeverbs.specs.declared.engine.Engine.{Engine}
 use Rattle.dms_storeverbs.specs.View.{PointsGrow, engine_view}
-use Rattle.dms_run.specs.Starting.{OfScript}
-use Rattle.dms_run.specs.States.{EndsWith}
-use Rattle.dms_run.specs.Ending.{EndsLeave, KeepsLimits}
+use Rattle.dms_run.specs.Ending.{ScriptCloses}
 use Rattle.dms_run.proofs.Leaving.{stop_leaves}
 
 -- a script's last event: the database goes back where a program is in transaction state
@@ -51,6 +42,7 @@ module _ (b a : Seen) (es : List RunEvent) (works : Bool) (stop : Stop) where
       durable_on (length b.points) b.durable es (goes_back works ∷ []) in
       let low : durable_after (length b.points) b.durable es ≤ a.durable = subst (λ (n : ℕ). n ≤ a.durable) durable (did.durable tells) in
       let next : b.next + length (quiets_of es) ≤ a.next = subst (λ (q : List Quiet). b.next + length q ≤ a.next) no_more did.next in
+      let next_high : a.next ≤ b.next + length (quiets_of es) = subst (λ (q : List Quiet). a.next ≤ b.next + length q) no_more did.next_high in
       record {
         before = es;
         at = goes_back works;
@@ -62,7 +54,7 @@ module _ (b a : Seen) (es : List RunEvent) (works : Bool) (stop : Stop) where
           all = a.points;
           front_of = refl;
           grew = grew;
-          front = record { count = left.count; enough = omega (arith, low, left.enough); within = left.within; is = left.is; not_fallen = omega (arith, next, left.not_fallen); files = did.whole stop.files left.files };
+          front = record { count = left.count; enough = omega (arith, low, left.enough); within = left.within; is = left.is; not_fallen = omega (arith, next, left.not_fallen); not_risen = omega (arith, next_high, left.not_risen); files = did.whole stop.files left.files };
         };
         text = λ t is. (
           0,
@@ -72,26 +64,15 @@ module _ (b a : Seen) (es : List RunEvent) (works : Bool) (stop : Stop) where
       }
 
 -- so it is of a run that ended well
-module _ {St : Type 0} {g : Ghosts St} (old new : Engine St g) where
-  stop_of_run : (n : ℕ) (db : Db) (first : ℕ) (lines : List (List ℕ)) → EndsWith (engine_view old).points n db → (engine_view old).tells → (engine_view old).durable ≡ length (engine_view old).points → (engine_view old).next ≡ first
-      → Performs (engine_view old) (engine_view new) (script_events (as_described old.desc) db first lines) → EndsLeave old new n db first (script_events (as_described old.desc) db first lines)
-  stop_of_run n db first lines state tells durable next did stop front text =
-      let d = as_described old.desc in
-      let b = engine_view old in
-      let es = before_last d db first lines in
-      let works = works_at_end d db first lines in
-      let whole : Performs b (engine_view new) (es ++ goes_back works ∷ []) = subst (λ (x : List RunEvent). Performs b (engine_view new) x) (sym (last_event d db first lines)) did in
-      let within : CrashesWithin b.whole b.said b.points b.durable b.next (script_events d db first lines) stop =
-      subst (λ (x : List RunEvent). CrashesWithin b.whole b.said b.points b.durable b.next x stop) (last_event d db first lines) (closes b (engine_view new) es works stop tells whole front text) in
-      stop_leaves b.whole b.said b.points n db first (script_events d db first lines) stop state
-      (subst (λ (k : ℕ). CrashesWithin b.whole b.said b.points (length b.points) k (script_events d db first lines) stop) next
-      (subst (λ (k : ℕ). CrashesWithin b.whole b.said b.points k b.next (script_events d db first lines) stop) durable within))
-
-module _ {St : Type 0} {g : Ghosts St} {T E : Type 0} (old new : Engine St g) (feed : List ℕ) (left : Option (List ℕ)) where
-  pub closes_run : (r : Result T E) → OnOk r (AtStart old feed left (λ db first all. Performs (engine_view old) (engine_view new) (script_events (as_described old.desc) db first (raw_lines all)))) → OnOk r (OfScript old feed left (EndsLeave old new))
-  closes_run (Ok x) ran = λ n db first all begins remains. stop_of_run old new n db first (raw_lines all) begins.state begins.tells begins.durable begins.stands.next (ran db first all begins.stands begins.room remains)
-  closes_run (Err e) ran = tt
-
-  pub keeps_limits : (r : Result T E) → OnOk r (AtStart old feed left (λ db first all. AnswersWhole (as_described old.desc) db first (raw_lines all) (engine_view old).said (engine_view new).said)) → OnOk r (AtStart old feed left (λ db first all. KeepsLimits (as_described old.desc) db first (raw_lines all)))
-  keeps_limits (Ok x) answers = λ db first all stands room remains. let a = answers db first all stands room remains in record { few = a.few; short = a.short; room = a.room }
-  keeps_limits (Err e) answers = tt
+pub script_closes : {St : Type 0} {g : Ghosts St} (old new : Engine St g) → ScriptCloses old new
+script_closes old new n db first begins lines did stop front text =
+    let d = as_described old.desc in
+    let b = engine_view old in
+    let es = before_last d db first lines in
+    let works = works_at_end d db first lines in
+    let whole : Performs b (engine_view new) (es ++ goes_back works ∷ []) = subst (λ (x : List RunEvent). Performs b (engine_view new) x) (sym (last_event d db first lines)) did in
+    let within : CrashesWithin b.whole b.said b.points b.durable b.next (script_events d db first lines) stop =
+    subst (λ (x : List RunEvent). CrashesWithin b.whole b.said b.points b.durable b.next x stop) (last_event d db first lines) (closes b (engine_view new) es works stop begins.tells whole front text) in
+    stop_leaves b.whole b.said b.points n db first (script_events d db first lines) stop begins.state
+    (subst (λ (k : ℕ). CrashesWithin b.whole b.said b.points (length b.points) k (script_events d db first lines) stop) begins.stands.next
+    (subst (λ (k : ℕ). CrashesWithin b.whole b.said b.points k b.next (script_events d db first lines) stop) begins.durable within))

@@ -48,6 +48,7 @@ record QuietsLeft (whole : StopFiles → Type 0) (points : List Point) (durable 
   spells : map told_point more ≡ map known_point made
   enough : durable ≤ length points + length made
   next_is : next + length made ≤ stop.next
+  not_risen : stop.next ≤ next + length quiets
   files : whole stop.files
 
 map_take : {A B : Type 0} (f : A → B) (k : ℕ) (l : List A) → map f (take k l) ≡ take k (map f l)
@@ -76,6 +77,7 @@ cut_of whole points durable next quiets stop le left =
       spells = map_take told_point k g.more ∙ ap (λ (l : List (ℕ × Option Db)). take k l) g.spells ∙ sym (map_take known_point k left.made);
       enough = omega (arith, f.enough, count, len);
       next_is = omega (arith, f.not_fallen, all, lens, count, low, len);
+      not_risen = omega (arith, f.not_risen, ap length left.front_of, length-append left.made left.rest);
       files = f.files;
     }
 
@@ -107,6 +109,7 @@ module _ (whole : StopFiles → Type 0) (entry : Option (List ℕ)) (points : Li
       let enough : d ≤ length c.made = omega (arith, c.enough, shift) in
       let few : length c.made ≤ length (quiets_of s.before) + length s.at.quiets =
       omega (arith, ap length c.front_of, length-append c.made c.rest, length-append (quiets_of s.before) s.at.quiets) in
+      let up_to : length (quiets_of s.before ++ s.at.quiets) ≤ length (quiets_of events) = omega (arith, ap length c.front_of, ap length quiets, length-append c.made c.rest, length-append c.made (c.rest ++ quiets_of s.rest), length-append c.rest (quiets_of s.rest)) in
       record {
         made = c.made;
         rest = c.rest ++ quiets_of s.rest;
@@ -117,6 +120,7 @@ module _ (whole : StopFiles → Type 0) (entry : Option (List ℕ)) (points : Li
         are = c.spells;
         each = each_behind stop.points points c.more c.made c.is c.spells;
         next_is = c.next_is;
+        not_risen = omega (arith, c.not_risen, up_to);
         text = λ t is.
             let x = s.text t is in
             record { before = s.before; at = s.at; rest = s.rest; all = s.all; printed = x.0; said_is = x.1 ∙ append_assoc t (text_of s.before) (take x.0 s.at.text); enough = enough; few = few };

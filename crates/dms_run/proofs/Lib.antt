@@ -1,6 +1,11 @@
+pub mod Lives
 pub mod Leaving
 pub mod Words
 pub mod Lowering
 pub mod Standing
 pub mod Running
 pub mod Ending
+pub mod NoLater
+pub mod Stands
+pub mod Fine
+pub mod Held

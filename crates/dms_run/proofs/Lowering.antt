@@ -111,6 +111,7 @@ leaves_files t desc entry ps n db next events x r =
       are = sym (seen_told desc (map bare r.more)) ∙ ap (map told_point) (sym back) ∙ r.are;
       each = all_live desc now r.made r.each;
       next_is = r.next_is;
+      not_risen = r.not_risen;
       text = r.text;
       whole = r.files;
     }

@@ -1,6 +1,5 @@
 -- What the points that files hold say of their entries.
-use Rattle.std.proofs.Common.{ℕ, ◌≡◌, ◌≤◌, ◌<◌, ◌==◌, ◌||◌, ◌∙◌, List, [], ◌∷◌, ◌++◌, map, Bool, true, false, refl, sym, subst, ap, arith, Some}
-use Rattle.std.proofs.lemmas.Bool.Decides.{nat_tests}
+use Rattle.std.proofs.Common.{ℕ, ◌≡◌, ◌≤◌, ◌<◌, ◌==◌, ◌∙◌, List, [], ◌∷◌, ◌++◌, map, true, false, refl, sym, subst, ap, arith, Some}
 use Rattle.dms_desc.specs.Shape.{Described}
 use Rattle.dms_desc_bytes.specs.Spelling.{spelling}
 use Rattle.dms_desc_bytes.specs.WellFormed.{IsWellFormed}
@@ -19,6 +18,7 @@ use Rattle.dms_history.proofs.Order.{last_lives}
 use Rattle.dms_model.specs.Db.{Db}
 use Rattle.dms_running.specs.Standing.{IsWhole}
 use Rattle.dms_running.specs.Points.{DescribedPoint, described_in, points_of}
+use Rattle.dms_running.proofs.FromDumps.{no_dump_found}
 use Rattle.dms_running.proofs.Described.{schema_there}
 use Rattle.dms_running.proofs.Wholes.{whole_agrees}
 use Rattle.dms_site.specs.Files.{Files, stored_of}
@@ -28,20 +28,9 @@ use Rattle.dms_restore.specs.Dumped.{dumps_of}
 use Rattle.dms_restore.specs.Logging.{telling_of}
 use Rattle.dms_run.specs.State.{StateAt}
 use Rattle.dms_run.specs.Files.{StandsLaw}
-
--- one of the live points
-one_of : (live : List Event) (counted : Stored) (front after : List LivePoint) (p : LivePoint) → AllLive live counted (front ++ p ∷ after) → HasPoint live counted p.number p.blocks
-one_of live counted [] after p all = all.0
-one_of live counted (x ∷ xs) after p all = one_of live counted xs after p all.1
+use Rattle.dms_run.proofs.Lives.{live_one, or_cases, same_number}
 
 -- ---- the last of rising numbers is the greatest
-
-or_cases : (b c : Bool) {A : Type 0} → (b ≡ true → A) → (c ≡ true → A) → (b || c) ≡ true → A
-or_cases true c f g h = f refl
-or_cases false c f g h = g h
-
-same_number : (n m : ℕ) → (n == m) ≡ true → n ≡ m
-same_number n m e = grind (arith, nat_tests, e)
 
 above_last : (x n : ℕ) (ns : List ℕ) → AllAbove x (ns ++ n ∷ []) → x < n
 above_last x n [] h = h.0
@@ -107,7 +96,7 @@ module _ (total first : ℕ) (files : Files) (desc : Described) (well : IsWellFo
   TellsAt n db = IsLive live n × (schema_at entries n ≡ Some (spelling desc)) × (database_in desc (blocks_at live counted n) ≡ Some db)
 
   abbrev state_by : (n : ℕ) (db : Db) → TellsAt n db → StateAt files n desc db
-  state_by n db t = record { entries = entries; finds = w.found.finds; agrees = agrees; no_dump = w.no_dump; lives = t.0; described = t.1; well_formed = well; spells = t.2 }
+  state_by n db t = record { entries = entries; finds = w.found.finds; agrees = agrees; no_dump = no_dump_found (λ d. ⊥) (dumps_of files) (history_of entries).pending (λ d x. x) w.order; lives = t.0; described = t.1; well_formed = well; spells = t.2 }
 
   module _ (front after : List DescribedPoint) (p : DescribedPoint) (n : ℕ) (db : Db) (are : points_of (telling_of total first) files ≡ front ++ p ∷ after) (number : p.number ≡ n) (schema : p.schema ≡ spelling desc)
       (spells : database_in desc p.blocks ≡ Some db) where
@@ -115,7 +104,7 @@ module _ (total first : ℕ) (files : Files) (desc : Described) (well : IsWellFo
     bare_one = bare_of entries bare_points front p after are
 
     has_point : HasPoint live counted bare_one.point.number bare_one.point.blocks
-    has_point = one_of live counted bare_one.front bare_one.after bare_one.point (subst (AllLive live counted) bare_one.are listed.lives)
+    has_point = live_one live counted bare_one.front bare_one.point bare_one.after (subst (AllLive live counted) bare_one.are listed.lives)
 
     same_number_there : bare_one.point.number ≡ n
     same_number_there = ap (λ (q : DescribedPoint). q.number) bare_one.is ∙ number

@@ -34,7 +34,8 @@ stop_seen t desc x = stop_of desc (wal.stop_of t x)
 
 -- The files that a stop within a run leaves hold a database. Its live points are those of entry, as they were, and behind them exactly the
 -- first so many of the quiet points of the run, under the Schema of the description, and the blocks of each spell its own database. At least
--- those of the syncpoints before what was printed last are left, and the next number rose by one at least for each that is left.
+-- those of the syncpoints before what was printed last are left, and the next number rose by one at least for each that is left, and by one at most
+-- for each of all.
 pub record RunLeavesFiles (t : Telling) (desc : Described) (entry : Option (List ℕ)) (points : List DescribedPoint) (n : ℕ) (db : Db) (next : ℕ) (events : List RunEvent) (x : Left) : Type 0 where
   pub made : List Quiet
   pub rest : List Quiet
@@ -45,6 +46,7 @@ pub record RunLeavesFiles (t : Telling) (desc : Described) (entry : Option (List
   pub are : map (told_live desc) more ≡ map known_point made
   pub each : AllByRecursion (HasLive desc (points_of t x.files)) made
   pub next_is : next + length made ≤ next_in t x.files
+  pub not_risen : next_in t x.files ≤ next + length (quiets_of events)
   pub text : (b : List ℕ) → entry ≡ Some b → PrintedUpTo b events (length made) x.said
   pub whole : IsWhole t x.files
 

@@ -5,3 +5,6 @@ pub mod Laws
 pub mod Files
 pub mod Starting
 pub mod Ending
+pub mod Told
+pub mod Held
+pub mod RunStands

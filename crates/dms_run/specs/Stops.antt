@@ -29,7 +29,7 @@ pub record PrintedUpTo (entry : List ℕ) (events : List RunEvent) (left : ℕ) 
 -- What a stop within a run leaves. At entry the points ended with database db at point n, and next was the next number; the run does
 -- these events. The stop leaves the points of entry as they were and behind them exactly the first so many of the quiet points, each with its
 -- own database, at least those of the syncpoints before what was printed last. The next number rose by one at least for each of these quiet
--- points, and the files are whole as the store means it.
+-- points, and by one at most for each of all that the events make; and the files are whole as the store means it.
 pub record RunLeaves (whole : StopFiles → Type 0) (entry : Option (List ℕ)) (points : List Point) (n : ℕ) (db : Db) (next : ℕ) (events : List RunEvent) (stop : Stop) : Type 0 where
   pub made : List Quiet
   pub rest : List Quiet
@@ -40,6 +40,7 @@ pub record RunLeaves (whole : StopFiles → Type 0) (entry : Option (List ℕ)) 
   pub are : map told_point more ≡ map known_point made
   pub each : AllByRecursion (HasState stop.points) made
   pub next_is : next + length made ≤ stop.next
+  pub not_risen : stop.next ≤ next + length (quiets_of events)
   pub text : (t : List ℕ) → entry ≡ Some t → PrintedUpTo t events (length made) stop.said
   pub files : whole stop.files
 

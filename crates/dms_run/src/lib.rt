@@ -1,8 +1,9 @@
-//! What a run of a script over a database leaves, at every moment and at its end, in the words of the database.
+//! What a run of a script over a database leaves, at every moment and at its end, in the words of the database, as states that files
+//! stand for and against the text that it printed.
 #![tactic(auto)]
 
 mod laws;
-mod run;
 
-pub use laws::{files_law, run_law, site_law, state_law};
-pub use run::run_script;
+pub use laws::{
+    engine_law, files_law, held_law, run_law, site_law, stands_law, state_law, told_law,
+};

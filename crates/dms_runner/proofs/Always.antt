@@ -13,10 +13,10 @@ pub then_on : {T E : Type 0} (r : Result T E) (P Q : Type 0) → (P → Q) → O
 then_on (Ok x) P Q f p = f p
 then_on (Err e) P Q f p = tt
 
--- and what follows from three things
-pub then_all : {T E : Type 0} (r : Result T E) (P Q R S : Type 0) → (P → Q → R → S) → OnOk r P → OnOk r Q → OnOk r R → OnOk r S
-then_all (Ok x) P Q R S f p q s = f p q s
-then_all (Err e) P Q R S f p q s = tt
+-- and what follows from two things
+pub then_both : {T E : Type 0} (r : Result T E) (P Q R : Type 0) → (P → Q → R) → OnOk r P → OnOk r Q → OnOk r R
+then_both (Ok x) P Q R f p q = f p q
+then_both (Err e) P Q R f p q = tt
 
 or_this : {T E : Type 0} → Result T E → E → E
 or_this (Ok x) e = e

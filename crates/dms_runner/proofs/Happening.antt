@@ -1,31 +1,26 @@
 -- Events, one behind another.
-use Rattle.std.specs.Prelude.{IsErrAnd, IsOkUnless, OnOk, ◌<◌, ◌^◌, nat_le, not, ◌&&◌, ◌||◌, if◌then◌else◌, is_some, slice_get}
+use Rattle.std.specs.Prelude.{IsErrAnd, IsOkUnless, OnOk, ◌<◌, ◌^◌, nat_le, not, ◌&&◌, is_some, slice_get}
 use Rattle.std.specs.declared.result.Result.{Result}
 use Rattle.std.specs.declared.result.Result.TheVariants.{Ok, Err}
 use Rattle.dms_block.specs.declared.block_fault.BlockFault.{BlockFault}
 use Rattle.dms_block.specs.declared.block_fault.BlockFault.TheVariants.{Disk, Memory, Full, Damaged, Say}
 use Rattle.dms_block.specs.Counts.{Faults, CausedBy}
-use Rattle.dms_block.specs.Held.{AuditPace, is_due}
+use Rattle.dms_block.specs.Held.{AuditPace}
 use Rattle.dms_block.specs.Faults.{IfFull, NotFull, Undamaged}
-use Rattle.dms_block.specs.Landmarks.{AddsLandmarks, AddsNoFurther, Landmark, AddsItsLandmarks, back_landmarks}
-use Rattle.dms_block.specs.LandmarkLaws.{landmarks_none, landmarks_on, no_control_on}
 use Rattle.dms_model.specs.Programs.{Program, Wait}
 use Rattle.dms_model.specs.BackOut.{asks_back_out}
 use Rattle.dms_model.specs.declared.reply.Reply.{Reply}
 use Rattle.dms_model.specs.Seen.{Effort, GoesBack, Seen, IsMute, IsSilent, Keeps, SaysPart, StaysDurable}
-use Rattle.dms_storeverbs.specs.Costs.{Costs, IsFullFor, VerbLandmarks, block_limit, landmarks_of, limit_if, makes_quiet, stores, up_if}
+use Rattle.dms_storeverbs.specs.Costs.{Costs, IsFullFor, block_limit, limit_if, stores, up_if}
 use Rattle.std.proofs.Common.{ℕ, zero, suc, ◌≡◌, ◌≤◌, ◌+◌, ◌⊎◌, inl, inr, List, [], ◌∷◌, ◌++◌, length, take, map, Some, None, refl, sym, ◌∙◌, ap, subst, arith, append_assoc, length-append, Bool, true, false}
 use Rattle.std.specs.declared.option.Option.{Option}
 use Rattle.std.proofs.lemmas.List.{append-nil, map-append, length-map, take-append-le, take_all}
 use Rattle.std.proofs.lemmas.Option.{slice_get_within}
 use Rattle.std.proofs.Math.Seq.{take-append-add}
-use Rattle.std.proofs.lemmas.Bool.{and_from, and_parts}
 use Rattle.std.proofs.lemmas.Bool.Decides.{nat_tests}
-use Rattle.dms_moments.specs.Moments.{Runs}
 use Rattle.dms_moments.specs.MomentLaws.{runs_none, runs_on, runs_weaken}
 use Rattle.dms_model.specs.declared.reply.Answer.{Answer}
 use Rattle.dms_model.specs.Db.{Db}
-use Rattle.dms_model.specs.Lacking.{LacksOne}
 use Rattle.dms_model.specs.Points.{StopFiles, Point, Quiet, Stop, LeavesPrefix, StopTextIs, StopTextGrows, told_point, known_point}
 use Rattle.dms_block.specs.Texts.{Prints, PrintsPrefix}
 use Rattle.dms_desc.specs.Shape.{Described}
@@ -33,10 +28,9 @@ use Rattle.dms_model.specs.declared.verb.Verb.{Verb}
 use Rattle.dms_model.specs.Session.{Session, Outcome, end_session, is_waits, step}
 use Rattle.dms_storeverbs.specs.Laws.{MakesWhereQuiet}
 use Rattle.dms_storeverbs.proofs.Quiet.{quiet_rule}
-use Rattle.dms_storeverbs.specs.Rooms.{LacksIts, LeavesNoPoint}
 use Rattle.dms_storeverbs.specs.View.{View, PerformsCall, PointsGrow, LeavesQuiets, StandsFor, view_of}
 use Rattle.dms_storeverbs.proofs.Calls.{lower, stays}
-use Rattle.dms_runner.specs.Events.{IsTold, RunEvent, calls, says, pause, goes_back, text_of, quiets_of, durable_by, durable_after, CrashesFrom, IsCutShort, Fate, fate_of, IsFullOver, IsFullIn, IsFullOf, SaidWhole, Performs, PerformsPrefix, SaidAtLeast, TakesEvents, TookAll, TookOneMore, TookPart, EndsAnswered, blocks_of, syncs_of, syncs_after, landmarks_after, landmarks_from, backs_of, may_store, one_if}
+use Rattle.dms_runner.specs.Events.{IsTold, RunEvent, calls, says, goes_back, text_of, quiets_of, durable_by, durable_after, CrashesFrom, IsCutShort, Fate, fate_of, IsFullOver, IsFullIn, IsFullOf, SaidWhole, Performs, PerformsPrefix, SaidAtLeast, TakesEvents, TookAll, TookOneMore, TookPart, EndsAnswered, blocks_of, syncs_of, backs_of, may_store, one_if}
 use Rattle.dms_runner.specs.Blaming.{IsFullRun, run_fate}
 use Rattle.dms_runner.specs.declared.run.RunFault.TheVariants.{Block}
 use Rattle.dms_runner.proofs.Texts.{prints_none, prints_on, front_none, front_all, front_of_first, front_on}
@@ -64,22 +58,6 @@ syncs_on (e ∷ x) y = omega (arith, syncs_on x y)
 pub backs_on : (x y : List RunEvent) → backs_of (x ++ y) ≡ backs_of x + backs_of y
 backs_on [] y = omega arith
 backs_on (e ∷ x) y = omega (arith, backs_on x y)
-
--- how many syncs there were behind events that come behind others
-syncs_behind : (n : ℕ) (x y : List RunEvent) → syncs_after n (x ++ y) ≡ syncs_after (syncs_after n x) y
-syncs_behind n [] y = refl
-syncs_behind n (e ∷ x) y = syncs_behind (up_if (is_some e.sync) n) x y
-
--- the landmarks of events that come behind others
-landmarks_behind : (every syncs next : ℕ) (x y : List RunEvent) → landmarks_after every syncs next (x ++ y) ≡ landmarks_after every syncs next x ++ landmarks_after every (syncs_after syncs x) (next + length (quiets_of x)) y
-landmarks_behind every syncs next [] y = let e : next ≡ next + 0 = omega arith in ap (λ (n : ℕ). landmarks_after every syncs n y) e
-landmarks_behind every syncs next (e ∷ x) y =
-    let n = next + length e.quiets in
-    let s = up_if (is_some e.sync) syncs in
-    let first = landmarks_of every syncs n (is_some e.sync) e.backs in
-    let same : n + length (quiets_of x) ≡ next + length (e.quiets ++ quiets_of x) = omega (arith, length-append e.quiets (quiets_of x)) in
-    ap (λ (l : List Landmark). first ++ l) (landmarks_behind every s n x y ∙ ap (λ (k : ℕ). landmarks_after every s n x ++ landmarks_after every (syncs_after s x) k y) same)
-    ∙ sym (append_assoc first (landmarks_after every s n x) (landmarks_after every (syncs_after s x) (next + length (e.quiets ++ quiets_of x)) y))
 
 -- nothing was done
 pub takes_still : (desc : Described) (x : List RunEvent) {a b : Effort} → b ≡ a → TakesEvents desc x a b
@@ -125,7 +103,7 @@ pub length_grew : {a b : List Point} {q : List Quiet} → PointsGrow a q b → l
 length_grew {a} {b} {q} x = omega (arith, ap length x.is, length-append a x.more, length-map x.more told_point, ap length x.spells, length-map q known_point)
 
 -- what is left of later points is left of all
-pub left_on : {V W : StopFiles → Type 0} {a b : List Point} {q r : List Quiet} {low high m n : ℕ} {stop : Stop} → ((files : StopFiles) → V files → W files) → PointsGrow a q b → low ≤ high → m + length q ≤ n → LeavesQuiets V high b n r stop → LeavesQuiets W low a m (q ++ r) stop
+pub left_on : {V W : StopFiles → Type 0} {a b : List Point} {q r : List Quiet} {low high m n : ℕ} {stop : Stop} → ((files : StopFiles) → V files → W files) → PointsGrow a q b → low ≤ high → m + length q ≡ n → LeavesQuiets V high b n r stop → LeavesQuiets W low a m (q ++ r) stop
 left_on {q = q} whole grew under fell l = record { made = q ++ l.made; rest = l.rest; all = l.all; front_of = append_assoc q l.made l.rest ∙ ap (λ (x : List Quiet). q ++ x) l.front_of; grew = grew_on grew l.grew; front = lower whole under (omega (arith, fell, length-append q l.made)) l.front }
 
 -- what is told before is told behind
@@ -148,7 +126,7 @@ pub undamaged_by : {T : Type 0} (a b : Seen) (r : Result T BlockFault) → ((d :
 undamaged_by a b r u p t = damaged_same r a.faults b.faults (u t.db t.db_is) p
 
 pub ran_none : (a : Seen) → Performs a a []
-ran_none a = record { text = prints_none a.said a.said refl; tells = λ t. t; whole = λ files w. w; told = λ t. t; undamaged = λ t. refl; next = omega arith; next_high = omega arith; grew = λ t. grew_none a.points; durable = λ t. omega arith; moments = λ t. runs_none a.clock (CrashesFrom a []); desc = refl; pace = refl; effort = takes_still a.desc [] refl; synced = refl; landmarks = landmarks_none a.landmarks }
+ran_none a = record { text = prints_none a.said a.said refl; tells = λ t. t; whole = λ files w. w; told = λ t. t; undamaged = λ t. refl; next = omega arith; next_high = omega arith; grew = λ t. grew_none a.points; durable = λ t. omega arith; moments = λ t. runs_none a.clock (CrashesFrom a []); desc = refl; pace = refl; effort = takes_still a.desc [] refl }
 
 -- a stop within the first events
 pub stopped_first : (a : Seen) (x y : List RunEvent) (stop : Stop) → CrashesFrom a x stop → CrashesFrom a (x ++ y) stop
@@ -165,22 +143,11 @@ stopped_on a b x y stop t ran s =
       at = s.at;
       rest = s.rest;
       all = append_assoc x s.before (s.at ∷ s.rest) ∙ ap (λ (l : List RunEvent). x ++ l) s.all;
-      left = subst (λ (q : List Quiet). LeavesQuiets a.whole (durable_after c a.durable (x ++ s.before)) a.points a.next q stop) (sym (append_assoc (quiets_of x) (quiets_of s.before) s.at.quiets) ∙ ap (λ (q : List Quiet). q ++ s.at.quiets) (sym (quiets_on x s.before))) (left_on ran.whole (ran.grew t) high ran.next s.left);
+      left = subst (λ (q : List Quiet). LeavesQuiets a.whole (durable_after c a.durable (x ++ s.before)) a.points a.next q stop) (sym (append_assoc (quiets_of x) (quiets_of s.before) s.at.quiets) ∙ ap (λ (q : List Quiet). q ++ s.at.quiets) (sym (quiets_on x s.before))) (left_on ran.whole (ran.grew t) high (omega (arith, ran.next, ran.next_high)) s.left);
       text = λ said is.
           let n = s.text (said ++ text_of x) (ran.text said is) in
           (n.0, n.1 ∙ ap (λ (l : List ℕ). l ++ take n.0 s.at.text) (append_assoc said (text_of x) (text_of s.before) ∙ ap (λ (l : List ℕ). said ++ l) (sym (text_on x s.before))));
     }
-
--- the landmarks of events behind those that happened
-landmarks_from_on : (a b : Seen) (x y : List RunEvent) → Performs a b x → landmarks_from a (x ++ y) ≡ landmarks_from a x ++ landmarks_from b y
-landmarks_from_on a b x y ran =
-    let number : a.next + length (quiets_of x) ≡ b.next = omega (arith, ran.next, ran.next_high) in
-    let count : syncs_after a.effort.syncs x ≡ b.effort.syncs = sym ran.synced in
-    landmarks_behind a.pace.every a.effort.syncs a.next x y
-    ∙ ap (λ (l : List Landmark). landmarks_from a x ++ l)
-    (ap (λ (n : ℕ). landmarks_after a.pace.every n (a.next + length (quiets_of x)) y) count
-    ∙ ap (λ (n : ℕ). landmarks_after a.pace.every b.effort.syncs n y) number
-    ∙ ap (λ (p : AuditPace). landmarks_after p.every b.effort.syncs b.next y) (sym ran.pace))
 
 -- events behind events
 pub ran_on : (a b c : Seen) (x y : List RunEvent) → Performs a b x → Performs b c y → Performs a c (x ++ y)
@@ -198,8 +165,6 @@ ran_on a b c x y first next = record {
   desc = next.desc ∙ first.desc;
   pace = next.pace ∙ first.pace;
   effort = takes_on a.desc x y first.effort (subst (λ (d : Described). TakesEvents d y b.effort c.effort) first.desc next.effort);
-  synced = next.synced ∙ ap (λ (n : ℕ). syncs_after n y) first.synced ∙ sym (syncs_behind a.effort.syncs x y);
-  landmarks = subst (λ (l : List Landmark). AddsLandmarks a.landmarks c.landmarks l) (sym (landmarks_from_on a b x y first)) (landmarks_on first.landmarks next.landmarks);
 }
 
 -- whole events
@@ -374,14 +339,9 @@ get_behind : (x y : List RunEvent) (k : ℕ) → slice_get (x ++ y) (length x + 
 get_behind [] y k = let e : 0 + k ≡ k = omega arith in ap (slice_get y) e
 get_behind (f ∷ x) y k = let e : suc (length x) + k ≡ suc (length x + k) = omega arith in ap (slice_get (f ∷ (x ++ y))) e ∙ get_behind x y k
 
--- behind these events a stop leaves nothing of the next one, or a control point was due at the sync that it takes
-abbrev LeavesOrDue : Seen → Seen → RunEvent → List RunEvent → Type 0
-LeavesOrDue a b at events =
-    (a.tells → Runs a.clock b.clock (CrashesFrom a (events ++ pause ∷ []))) ⊎ ((is_some at.sync ≡ true) × (is_due a.pace.every (syncs_after a.effort.syncs events) ≡ true))
-
--- what is due in the first events is due in all
-due_front : (f : ℕ) (a b : Seen) (x y : List RunEvent) → IsFullOver f a b x → IsFullOver f a b (x ++ y)
-due_front f a b x y d =
+-- where it was so in the first events it is so in all
+full_front : (f : ℕ) (a b : Seen) (x y : List RunEvent) → IsFullOver f a b x → IsFullOver f a b (x ++ y)
+full_front f a b x y d =
     let front : take d.k (x ++ y) ≡ take d.k x = take-append-le d.k x y (omega (arith, slice_get_within x d.k d.at d.is)) in
     record {
       k = d.k;
@@ -389,23 +349,11 @@ due_front f a b x y d =
       is = get_front x y d.k d.at d.is;
       full = d.full;
       text = subst (λ (e : List RunEvent). Prints a.said b.said (text_of e)) (sym front) d.text;
-      made = subst (λ (e : List RunEvent). LeavesOrDue a b d.at e) (sym front) d.made;
-      landmarks = subst (λ (e : List RunEvent). AddsNoFurther d.at.backs a.landmarks b.landmarks (landmarks_from a e)) (sym front) d.landmarks;
-      lacks = d.lacks;
     }
 
--- what holds behind later events holds behind all
-leaves_on : (a b c : Seen) (at : RunEvent) (x y : List RunEvent) → Performs a b x → LeavesOrDue b c at y → LeavesOrDue a c at (x ++ y)
-leaves_on a b c at x y first (inl left) = inl (λ t. subst (λ (e : List RunEvent). Runs a.clock c.clock (CrashesFrom a e)) (sym (append_assoc x y (pause ∷ [])))
-    (runs_on (runs_weaken (first.moments t) (stopped_first a x (y ++ pause ∷ []))) (left (told_on first t)) (λ stop s. stopped_on a b x (y ++ pause ∷ []) stop t first s)))
-leaves_on a b c at x y first (inr due) = inr (
-  due.0,
-  ap (λ (p : AuditPace). is_due p.every (syncs_after a.effort.syncs (x ++ y))) (sym first.pace) ∙ ap (is_due b.pace.every) (syncs_behind a.effort.syncs x y ∙ ap (λ (n : ℕ). syncs_after n y) (sym first.synced)) ∙ due.1,
-)
-
--- what is due behind events is due in all
-due_on : (f : ℕ) (a b c : Seen) (x y : List RunEvent) → Performs a b x → IsFullOver f b c y → IsFullOver f a c (x ++ y)
-due_on f a b c x y first d =
+-- where it was so behind events it is so in all
+full_on : (f : ℕ) (a b c : Seen) (x y : List RunEvent) → Performs a b x → IsFullOver f b c y → IsFullOver f a c (x ++ y)
+full_on f a b c x y first d =
     let front : take (length x + d.k) (x ++ y) ≡ x ++ take d.k y = take-append-add x y d.k in
     record {
       k = length x + d.k;
@@ -413,15 +361,11 @@ due_on f a b c x y first d =
       is = get_behind x y d.k ∙ d.is;
       full = subst (λ (p : AuditPace). IsFullIn p.last d.at f) first.pace d.full;
       text = subst (λ (t : List ℕ). Prints a.said c.said t) (sym (ap text_of front ∙ text_on x (take d.k y))) (prints_on a.said b.said c.said (text_of x) (text_of (take d.k y)) first.text d.text);
-      made = subst (λ (e : List RunEvent). LeavesOrDue a c d.at e) (sym front) (leaves_on a b c d.at x (take d.k y) first d.made);
-      landmarks = subst (λ (l : List Landmark). AddsNoFurther d.at.backs a.landmarks c.landmarks l) (sym (ap (landmarks_from a) front ∙ landmarks_from_on a b x (take d.k y) first))
-          (no_control_on first.landmarks d.landmarks);
-      lacks = d.lacks;
     }
 
 -- nothing was said, and the only event had no room
-due_first : (f : ℕ) (a b : Seen) (e : RunEvent) → b.said ≡ a.said → IsFullIn a.pace.last e f → LeavesOrDue a b e [] → AddsNoFurther e.backs a.landmarks b.landmarks [] → ((db : Db) → e.stored ≡ Some db → LacksOne b.records db) → IsFullOver f a b (e ∷ [])
-due_first f a b e same full made lands lacks = record { k = 0; at = e; is = refl; full = full; text = prints_none a.said b.said same; made = made; landmarks = lands; lacks = lacks }
+full_first : (f : ℕ) (a b : Seen) (e : RunEvent) → b.said ≡ a.said → IsFullIn a.pace.last e f → IsFullOver f a b (e ∷ [])
+full_first f a b e same full = record { k = 0; at = e; is = refl; full = full; text = prints_none a.said b.said same }
 
 -- no event of them happened
 pub part_none : {fate : Fate} → ((f : ℕ) → fate.full f → ⊥) → (a : Seen) (x : List RunEvent) → PerformsPrefix fate a a x
@@ -436,7 +380,7 @@ pub part_of_first : {fate : Fate} (a b : Seen) (x y : List RunEvent) → Perform
 part_of_first a b x y part = record {
   text = subst (λ (t : List ℕ). PrintsPrefix a.said b.said t) (sym (text_on x y)) (front_of_first a.said b.said (text_of x) (text_of y) part.text);
   said_whole = λ uncut. whole_of_first a.said b.said x y (part.said_whole uncut);
-  due = λ f full. due_front f a b x y (part.due f full);
+  due = λ f full. full_front f a b x y (part.due f full);
   undamaged = part.undamaged;
   moments = λ t. runs_weaken (part.moments t) (stopped_first a x y);
   took = took_of_first a b x y part.took;
@@ -446,7 +390,7 @@ part_behind : {fate : Fate} (a b c : Seen) (x y : List RunEvent) → Performs a 
 part_behind a b c x y first next took = record {
   text = subst (λ (t : List ℕ). PrintsPrefix a.said c.said t) (sym (text_on x y)) (front_on a.said b.said c.said (text_of x) (text_of y) first.text next.text);
   said_whole = λ uncut. whole_on a.said b.said c.said x y first.text (next.said_whole uncut);
-  due = λ f full. due_on f a b c x y first (next.due f full);
+  due = λ f full. full_on f a b c x y first (next.due f full);
   undamaged = λ t. next.undamaged (first.told t) ∙ first.undamaged t;
   moments = λ t. runs_on (runs_weaken (first.moments t) (stopped_first a x y)) (next.moments (told_on first t)) (λ stop s. stopped_on a b x y stop t first s);
   took = took;
@@ -540,10 +484,6 @@ full_if {T} false r n room is = absurd (not_full_is {T = T} n r (room refl) is)
 pub full_back : (e : BlockFault) (b : Bool) → (b ≡ false → NotFull {T = Unit {0}} (Err e)) → IfFull {T = Unit {0}} (Err e) (λ f. f ≡ 9999) → (n : ℕ) → IsFullRun {T = Unit {0}} (Err (Block e)) n → (b ≡ true) × (n ≡ 9999)
 full_back e b room file n is = (full_if {T = Unit {0}} b (Err e) n room is, full_at {T = Unit {0}} (Err e) (λ f. f ≡ 9999) n file is)
 
--- and it added no Control
-pub full_lands : (e : BlockFault) (a b : Seen) {more : List Landmark} → AddsItsLandmarks {T = Unit {0}} true (Err e) a.landmarks b.landmarks more → (n : ℕ) → IsFullRun {T = Unit {0}} (Err (Block e)) n → AddsNoFurther true a.landmarks b.landmarks []
-full_lands e a b lands n is = full_at {T = Unit {0}} (Err e) (λ f. AddsNoFurther true a.landmarks b.landmarks []) n lands.full is
-
 -- a fault of printing is the only one of a call that prints
 pub unless_cut : {T : Type 0} (r : Result T BlockFault) (P : Type 0) → IsOkUnless r Say → OnOk r P → (IsCutShort r → ⊥) → P
 unless_cut (Ok x) P only p uncut = p
@@ -561,9 +501,8 @@ stopped_says a x stop p = record {
   text = λ t is. let n = p.1 t is in (n.0, n.1 ∙ ap (λ (l : List ℕ). l ++ take n.0 x) (sym (append-nil t)));
 }
 
-pub ran_says : (a b : Seen) (x y : List ℕ) → x ≡ y → (a.tells → b.tells) → ((files : StopFiles) → b.whole files → a.whole files) → b.desc ≡ a.desc → b.pace ≡ a.pace → b.effort ≡ a.effort → FindsNoDamage a b → Prints a.said b.said x → SaysPart a b x → Keeps a b
-    → AddsLandmarks a.landmarks b.landmarks [] → a.next + 1 < 2 ^ 64 → Performs a b (says y ∷ [])
-ran_says a b x y is tells whole desc pace same undamaged text part keeps lands room = record {
+pub ran_says : (a b : Seen) (x y : List ℕ) → x ≡ y → (a.tells → b.tells) → ((files : StopFiles) → b.whole files → a.whole files) → b.desc ≡ a.desc → b.pace ≡ a.pace → b.effort ≡ a.effort → FindsNoDamage a b → Prints a.said b.said x → SaysPart a b x → Keeps a b → a.next + 1 < 2 ^ 64 → Performs a b (says y ∷ [])
+ran_says a b x y is tells whole desc pace same undamaged text part keeps room = record {
   text = subst (λ (t : List ℕ). Prints a.said b.said t) (is ∙ sym (append-nil y)) text;
   tells = tells;
   whole = whole;
@@ -577,8 +516,6 @@ ran_says a b x y is tells whole desc pace same undamaged text part keeps lands r
   desc = desc;
   pace = pace;
   effort = takes_still a.desc (says y ∷ []) same;
-  synced = ap (λ (e : Effort). e.syncs) same;
-  landmarks = lands;
 }
 
 -- a text that may have been cut off
@@ -607,7 +544,7 @@ part_says fits a b x y is same undamaged part whole room = record {
 
 -- nothing to say
 pub ran_silent : (a : Seen) (x : List ℕ) → x ≡ [] → Performs a a (says x ∷ [])
-ran_silent a x is = subst (λ (t : List ℕ). Performs a a (says t ∷ [])) (sym is) (record { text = prints_none a.said a.said refl; tells = λ t. t; whole = λ files w. w; told = λ t. t; undamaged = λ t. refl; next = omega arith; next_high = omega arith; grew = λ t. grew_none a.points; durable = λ t. omega arith; moments = λ t. runs_none a.clock (CrashesFrom a (says [] ∷ [])); desc = refl; pace = refl; effort = takes_still a.desc (says [] ∷ []) refl; synced = refl; landmarks = landmarks_none a.landmarks })
+ran_silent a x is = subst (λ (t : List ℕ). Performs a a (says t ∷ [])) (sym is) (record { text = prints_none a.said a.said refl; tells = λ t. t; whole = λ files w. w; told = λ t. t; undamaged = λ t. refl; next = omega arith; next_high = omega arith; grew = λ t. grew_none a.points; durable = λ t. omega arith; moments = λ t. runs_none a.clock (CrashesFrom a (says [] ∷ [])); desc = refl; pace = refl; effort = takes_still a.desc (says [] ∷ []) refl })
 
 -- nothing of an event was done yet
 stopped_before : (a : Seen) (e : RunEvent) (stop : Stop) → LeavesPrefix a.whole a.durable a.points a.next stop × StopTextIs a.said stop → CrashesFrom a (e ∷ []) stop
@@ -663,18 +600,6 @@ call_takes desc verb o answer {a} {b} reply sync costs idle = record {
   outs = up_by (asks_back_out verb && is_done o.reply) a.outs b.outs (costs.outs ∙ ap (λ (r : Reply). up_if (asks_back_out verb && is_done r) a.outs) reply);
 }
 
--- the landmarks of its event are those of its answer
-call_lands : (a b : Seen) (verb : Verb) (o : Outcome) (answer : Answer) → answer.reply ≡ o.reply → answer.sync ≡ o.sync → b.next ≡ a.next + length o.quiets → VerbLandmarks (asks_back_out verb) (Ok answer) a b
-    → AddsLandmarks a.landmarks b.landmarks (landmarks_from a (calls verb o ∷ []))
-call_lands a b verb o answer reply sync next lands =
-    let every = a.pace.every in
-    let syncs = a.effort.syncs in
-    subst (λ (l : List Landmark). AddsLandmarks a.landmarks b.landmarks l)
-    (ap (λ (n : ℕ). landmarks_of every syncs n (is_some answer.sync) (asks_back_out verb && is_done answer.reply)) next
-    ∙ ap (λ (s : Option ℕ). landmarks_of every syncs (a.next + length o.quiets) (is_some s) (asks_back_out verb && is_done answer.reply)) sync
-    ∙ ap (λ (r : Reply). landmarks_of every syncs (a.next + length o.quiets) (is_some o.sync) (asks_back_out verb && is_done r)) reply
-    ∙ sym (append-nil (landmarks_of every syncs (a.next + length o.quiets) (is_some o.sync) (asks_back_out verb && is_done o.reply)))) lands.done
-
 limit_low : (b : Bool) (desc : Described) → limit_if b desc ≤ limit_if true desc
 limit_low true desc = omega arith
 limit_low false desc = omega arith
@@ -700,9 +625,9 @@ took_call a b verb call result mute costs = record {
   });
 }
 
-pub ran_calls : (a b : Seen) {programs : List Program} {pending : Bool} {since : ℕ} {waits : List Wait} (verb : Verb) (o : Outcome) (answer : Answer) → (a.tells → b.tells) → ((files : StopFiles) → b.whole files → a.whole files) → b.desc ≡ a.desc → b.pace ≡ a.pace → Costs (block_limit a.desc verb) (asks_back_out verb) (Ok answer) a.effort b.effort
-    → VerbLandmarks (asks_back_out verb) (Ok answer) a b → (is_waits answer.reply ≡ true → b.effort.spent ≤ a.effort.spent) → b.faults ≡ a.faults → IsMute a b → b.next ≡ a.next + length o.quiets → PerformsCall o a b (view_of b.db b.mark b.next programs pending since waits) (Ok answer) → Performs a b (calls verb o ∷ [])
-ran_calls a b verb o answer tells whole desc pace costs lands idle same mute next did = record {
+pub ran_calls : (a b : Seen) {programs : List Program} {pending : Bool} {since : ℕ} {waits : List Wait} (verb : Verb) (o : Outcome) (answer : Answer) → (a.tells → b.tells) → ((files : StopFiles) → b.whole files → a.whole files) → b.desc ≡ a.desc → b.pace ≡ a.pace → Costs (block_limit a.desc verb) (asks_back_out verb) (Ok answer) a.effort b.effort → (is_waits answer.reply ≡ true → b.effort.spent ≤ a.effort.spent)
+    → b.faults ≡ a.faults → IsMute a b → b.next ≡ a.next + length o.quiets → PerformsCall o a b (view_of b.db b.mark b.next programs pending since waits) (Ok answer) → Performs a b (calls verb o ∷ [])
+ran_calls a b verb o answer tells whole desc pace costs idle same mute next did = record {
   text = prints_none a.said b.said mute.said;
   tells = tells;
   whole = whole;
@@ -716,29 +641,11 @@ ran_calls a b verb o answer tells whole desc pace costs lands idle same mute nex
   desc = desc;
   pace = pace;
   effort = call_takes a.desc verb o answer did.answers.reply did.answers.sync costs idle;
-  synced = costs.syncs ∙ ap (λ (s : Option ℕ). up_if (is_some s) a.effort.syncs) did.answers.sync;
-  landmarks = call_lands a b verb o answer did.answers.reply did.answers.sync next lands;
 }
 
--- a call whose quiet point no stop leaves, or at whose sync a control point was due
-leaves_call : (a b : Seen) (verb : Verb) (o : Outcome) → LeavesNoPoint a b o → LeavesOrDue a b (calls verb o) []
-leaves_call a b verb o (inl left) = inl (λ t. runs_weaken (left t) (stopped_before a pause))
-leaves_call a b verb o (inr due) = inr due
-
--- where the audit had no room for a verb it would have been done
-full_done : (last : ℕ) (verb : Verb) (o : Outcome) (f : ℕ) → IsFullFor last verb o f → is_done o.reply ≡ true
-full_done last verb o f (inl full) = (and_parts (is_done o.reply) (stores verb || makes_quiet o.quiets) full.0).0
-full_done last verb o f (inr full) = (and_parts (asks_back_out verb) (is_done o.reply) full.0).1
-
--- so its event goes back where the verb asks for it
-lands_call : (a b : Seen) (verb : Verb) (o : Outcome) (more : List Landmark) → is_done o.reply ≡ true → AddsNoFurther (asks_back_out verb) a.landmarks b.landmarks more → AddsNoFurther (asks_back_out verb && is_done o.reply) a.landmarks b.landmarks more
-lands_call a b verb o more done (inl added) = inl added
-lands_call a b verb o more done (inr back) = inr (and_from (asks_back_out verb) (is_done o.reply) back.0 done, back.1)
-
-pub part_calls : {fate : Fate} (a b : Seen) (v : View) (verb : Verb) (o : Outcome) {result : Result Answer BlockFault} → ((f : ℕ) → fate.full f → IsFullFor a.pace.last verb o f) → ((f : ℕ) → fate.full f → LeavesNoPoint a b o)
-    → ((f : ℕ) → fate.full f → AddsNoFurther (asks_back_out verb) a.landmarks b.landmarks []) → ((f : ℕ) → fate.full f → LacksIts b.records verb o) → Costs (block_limit a.desc verb) (asks_back_out verb) result a.effort b.effort → CausedBy result a.faults b.faults → IsMute a b → PerformsCall o a b v result → PerformsPrefix fate a b (calls verb o ∷ [])
-part_calls a b v verb o {result} changed leaves lands lacks costs cause mute did = record {
-  due = λ f full. due_first f a b (calls verb o) mute.said (changed f full) (leaves_call a b verb o (leaves f full)) (lands_call a b verb o [] (full_done a.pace.last verb o f (changed f full)) (lands f full)) (lacks f full);
+pub part_calls : {fate : Fate} (a b : Seen) (v : View) (verb : Verb) (o : Outcome) {result : Result Answer BlockFault} → ((f : ℕ) → fate.full f → IsFullFor a.pace.last verb o f) → Costs (block_limit a.desc verb) (asks_back_out verb) result a.effort b.effort → CausedBy result a.faults b.faults → IsMute a b → PerformsCall o a b v result → PerformsPrefix fate a b (calls verb o ∷ [])
+part_calls a b v verb o {result} changed costs cause mute did = record {
+  due = λ f full. full_first f a b (calls verb o) mute.said (changed f full);
   said_whole = λ uncut. whole_none a.said b.said (calls verb o ∷ []) mute.said;
   took = took_call a b verb (calls verb o) result mute costs;
   undamaged = λ t. damaged_same result a.faults b.faults did.undamaged cause;
@@ -753,26 +660,8 @@ pub back_takes : {T : Type 0} (r : Result T BlockFault) (works : Bool) (desc : D
 back_takes r true desc back stays = let p = back refl in record { spent = omega (arith, p.spent); syncs = omega (arith, p.syncs); outs = omega (arith, p.few.1) }
 back_takes r false desc back stays = takes_still desc (goes_back false ∷ []) (stays refl)
 
--- no way back takes a syncpoint
-pub back_syncs : {T : Type 0} (r : Result T BlockFault) (works : Bool) {a b : Effort} → (works ≡ true → GoesBack r a b) → (works ≡ false → b ≡ a) → b.syncs ≡ a.syncs
-back_syncs r true back stays = (back refl).syncs
-back_syncs r false back stays = ap (λ (e : Effort). e.syncs) (stays refl)
-
--- the landmarks of a way back
-back_lands : (works : Bool) (a b : Seen) → AddsLandmarks a.landmarks b.landmarks (if works then back_landmarks a.next else []) → AddsLandmarks a.landmarks b.landmarks (landmarks_from a (goes_back works ∷ []))
-back_lands true a b lands = let e : a.next ≡ a.next + 0 = omega arith in subst (λ (n : ℕ). AddsLandmarks a.landmarks b.landmarks (back_landmarks n)) e lands
-back_lands false a b lands = lands
-
-pub back_as : (a b : Seen) {works works' : Bool} → works ≡ works' → AddsLandmarks a.landmarks b.landmarks (if works then back_landmarks a.next else []) → AddsLandmarks a.landmarks b.landmarks (if works' then back_landmarks a.next else [])
-back_as a b same lands = subst (λ (w : Bool). AddsLandmarks a.landmarks b.landmarks (if w then back_landmarks a.next else [])) same lands
-
--- where the audit had no room for it somebody worked
-back_full : (works : Bool) (a b : Seen) → works ≡ true → AddsNoFurther true a.landmarks b.landmarks [] → AddsNoFurther works a.landmarks b.landmarks []
-back_full works a b some lands = subst (λ (w : Bool). AddsNoFurther w a.landmarks b.landmarks []) (sym some) lands
-
-pub ran_back : (works : Bool) (a b : Seen) → (a.tells → b.tells) → ((files : StopFiles) → b.whole files → a.whole files) → b.desc ≡ a.desc → b.pace ≡ a.pace → TakesEvents a.desc (goes_back works ∷ []) a.effort b.effort → b.effort.syncs ≡ a.effort.syncs → (IsTold a → IsTold b) → FindsNoDamage a b → IsSilent a b → StaysDurable a b
-    → AddsLandmarks a.landmarks b.landmarks (if works then back_landmarks a.next else []) → a.next + 1 < 2 ^ 64 → Performs a b (goes_back works ∷ [])
-ran_back works a b tells whole desc pace takes synced told_point undamaged silent points lands room = record {
+pub ran_back : (works : Bool) (a b : Seen) → (a.tells → b.tells) → ((files : StopFiles) → b.whole files → a.whole files) → b.desc ≡ a.desc → b.pace ≡ a.pace → TakesEvents a.desc (goes_back works ∷ []) a.effort b.effort → (IsTold a → IsTold b) → FindsNoDamage a b → IsSilent a b → StaysDurable a b → a.next + 1 < 2 ^ 64 → Performs a b (goes_back works ∷ [])
+ran_back works a b tells whole desc pace takes told_point undamaged silent points room = record {
   text = prints_none a.said b.said silent.said;
   tells = tells;
   whole = whole;
@@ -786,17 +675,15 @@ ran_back works a b tells whole desc pace takes synced told_point undamaged silen
   desc = desc;
   pace = pace;
   effort = takes;
-  synced = synced;
-  landmarks = back_lands works a b lands;
 }
 
 -- it may be done in part
 took_back : {cut : Type 0} (works : Bool) (a b : Seen) → TakesEvents a.desc (goes_back works ∷ []) a.effort b.effort → IsSilent a b → TookPart cut a b (goes_back works ∷ [])
 took_back works a b takes silent = took_by a b (goes_back works ∷ []) 1 (omega arith) (prints_none a.said b.said silent.said) takes (omega (arith, silent.next))
 
-pub part_back : {fate : Fate} (works : Bool) (a b : Seen) → ((f : ℕ) → fate.full f → (works ≡ true) × (f ≡ 9999)) → ((f : ℕ) → fate.full f → AddsNoFurther true a.landmarks b.landmarks []) → TakesEvents a.desc (goes_back works ∷ []) a.effort b.effort → FindsNoDamage a b → IsSilent a b → a.next + 1 < 2 ^ 64 → PerformsPrefix fate a b (goes_back works ∷ [])
-part_back works a b backs lands takes undamaged silent room = record {
-  due = λ f full. due_first f a b (goes_back works) silent.said (inr (backs f full)) (inl (λ t. runs_weaken (silent.leaves t room) (stopped_before a pause))) (back_full works a b (backs f full).0 (lands f full)) (λ db is. absurd (cc));
+pub part_back : {fate : Fate} (works : Bool) (a b : Seen) → ((f : ℕ) → fate.full f → (works ≡ true) × (f ≡ 9999)) → TakesEvents a.desc (goes_back works ∷ []) a.effort b.effort → FindsNoDamage a b → IsSilent a b → a.next + 1 < 2 ^ 64 → PerformsPrefix fate a b (goes_back works ∷ [])
+part_back works a b backs takes undamaged silent room = record {
+  due = λ f full. full_first f a b (goes_back works) silent.said (inr (backs f full));
   took = took_back works a b takes silent;
   said_whole = λ uncut. whole_none a.said b.said (goes_back works ∷ []) silent.said;
   undamaged = undamaged;

@@ -3,14 +3,17 @@ pub mod Answered
 pub mod Blames
 pub mod Counting
 pub mod Exclusive
+pub mod Firsts
 pub mod Fronts
 pub mod Happening
+pub mod Kept
 pub mod Leaving
 pub mod LineVerbs
 pub mod Lining
 pub mod Passes
 pub mod Rooms
 pub mod Running
+pub mod Splits
 pub mod Stopping
 pub mod Texts
 pub mod Tried

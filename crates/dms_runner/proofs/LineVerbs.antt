@@ -14,9 +14,9 @@ use Rattle.dms_desc.specs.Shape.{Shape, Described}
 use Rattle.dms_desc_bytes.specs.WellFormed.{IsWellFormed}
 use Rattle.dms_model.specs.declared.verb.Setting.{Setting}
 use Rattle.dms_model.specs.declared.verb.Path.{Path}
-use Rattle.dms_model.specs.declared.verb.Path.TheVariants.{First, Last, At}
+use Rattle.dms_model.specs.declared.verb.Path.TheVariants.{First, Last, Next, Prior, Current, At}
 use Rattle.dms_model.specs.declared.verb.Verb.{Verb}
-use Rattle.dms_model.specs.declared.verb.Verb.TheVariants.{OpenUpdate, OpenInquiry, Close, Find, Create, Put, Get, Store, Begin, End, Abort}
+use Rattle.dms_model.specs.declared.verb.Verb.TheVariants.{OpenUpdate, OpenInquiry, Close, Find, Lock, Free, Create, Put, Get, Store, Begin, End, Abort}
 use Rattle.dms_model.specs.Session.{restart_in, restart_of}
 use Rattle.dms_model.specs.Spoken.{IsOuter}
 use Rattle.dms_model.specs.Verbs.{has_kind, is_outer_path, IsKeyOf, IsPathOf, IsSettingOf, IsVerbOf, TakesLiteral}
@@ -133,6 +133,9 @@ module _ (desc : Described) (well : IsWellFormed desc) where
   way_so : (path : Path) → IsWay desc path → IsPathOf desc path
   way_so (First x) h = path_so (structure_of desc x) h
   way_so (Last x) h = path_so (structure_of desc x) h
+  way_so (Next x) h = path_so (structure_of desc x) h
+  way_so (Prior x) h = path_so (structure_of desc x) h
+  way_so (Current set) h = outer_of desc kinds set h
   way_so (At x literals) h = (path_so (structure_of desc x) h.0, at_so x literals (structure_of desc x) refl h.1)
 
   verb_so : (verb : Verb) → NamesWhatIsThere desc verb → IsVerbOf desc verb
@@ -140,6 +143,8 @@ module _ (desc : Described) (well : IsWellFormed desc) where
   verb_so OpenInquiry h = tt
   verb_so Close h = tt
   verb_so (Find path) h = way_so path h
+  verb_so (Lock path) h = way_so path h
+  verb_so (Free set) h = outer_of desc kinds set h
   verb_so (Create set) h = outer_of desc kinds set h
   verb_so (Put set settings) h = (outer_of desc kinds set h.0, settings_so (items_of (structure_of desc set)) settings h.1)
   verb_so (Get set items) h = (outer_of desc kinds set h.0, h.1)

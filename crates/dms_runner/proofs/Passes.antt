@@ -1,14 +1,18 @@
 -- One retry over the waiting lines, turn by turn.
 use Rattle.dms_model.specs.Seen.{Seen}
-use Rattle.std.proofs.Common.{◌≡◌, ◌+◌, ◌<◌, ◌≤◌, ℕ, zero, suc, List, [], ◌∷◌, ◌++◌, Bool, true, false, cond, not, Some, None, refl, sym, ap, ◌∙◌, subst, arith, append_assoc, length, take, drop}
-use Rattle.std.specs.Prelude.{slice_get, slice_set}
-use Rattle.std.proofs.lemmas.List.{append-nil, take_more, take_more_set, drop_more, drop-set-lt, take_all, drop_all}
-use Rattle.std.proofs.lemmas.Option.{slice_get_within, get_or_from_slice_get}
+use Rattle.std.proofs.Common.{◌≡◌, ℕ, suc, List, [], ◌∷◌, ◌++◌, Bool, true, false, cond, not, Some, ◌||◌, refl, sym, ap, ◌∙◌, subst, arith, append_assoc}
+use Rattle.std.specs.List.{list_any}
+use Rattle.std.specs.Str.{bytes_eq}
+use Rattle.std.proofs.lemmas.List.{append-nil}
 use Rattle.dms_desc.specs.Shape.{Described}
 use Rattle.dms_storeverbs.specs.View.{View, MayStep, StandsFor}
 use Rattle.dms_model.specs.Session.{Session, Outcome, step, is_waits}
 use Rattle.dms_model.proofs.Rises.{step_small}
 use Rattle.dms_runner.specs.declared.waiting.WaitingLine.{WaitingLine}
+use Rattle.dms_runner.specs.declared.waiting.WaitingLines.{WaitingLines}
+use Rattle.dms_runner.specs.Firsts.{standing}
+use Rattle.dms_runner.proofs.Firsts.{standing_on}
+use Rattle.dms_runner.proofs.Splits.{AreSeen, Reached, Split}
 use Rattle.dms_runner.proofs.Exclusive.{step_exclusive}
 use Rattle.dms_runner.proofs.Answered.{tries_answered}
 use Rattle.dms_runner.proofs.Happening.{answered_on, ran_none, ran_on, part_on, part_of_first}
@@ -46,55 +50,67 @@ pub retries_end : (n : ℕ) (desc : Described) (s : Session) (waiting : List Wai
 unfolding retries
 retries_end n desc s waiting answered = rw answered refl
 
--- how a retry stands at a place: the lines before it were passed over, and the rest is still to be tried, in the session that those
--- that were tried leave
-pub record Passing (desc : Described) (s : Session) (first now : List WaitingLine) (i : ℕ) (v : View) (before after : Seen) : Type 0 where
+-- lines of which each has one of its program in front are passed over at once
+
+any_more : (t : WaitingLine → Bool) (xs ys : List WaitingLine) → list_any t xs ≡ true → list_any t (xs ++ ys) ≡ true
+any_more t [] ys h = absurd (cc)
+any_more t (x ∷ xs) ys h = by (t x) h (any_more t xs ys)
+  where
+    by : (b : Bool) → (b || list_any t xs) ≡ true → (list_any t xs ≡ true → list_any t (xs ++ ys) ≡ true) → (b || list_any t (xs ++ ys)) ≡ true
+    by true h rest = refl
+    by false h rest = rest h
+
+more_seen : (front : List WaitingLine) (x : WaitingLine) (hs : List WaitingLine) → AreSeen (has_line front) hs → AreSeen (has_line (front ++ x ∷ [])) hs
+more_seen front x [] all = tt
+more_seen front x (h ∷ hs) all = (any_more (λ (y : WaitingLine). bytes_eq y.program h.program) front (x ∷ []) all.0, more_seen front x hs all.1)
+
+retry_jumps : (desc : Described) (s : Session) (front passed hs : List WaitingLine) → AreSeen (has_line front) passed → retry desc s front (passed ++ hs) ≡ retry desc s (front ++ passed) hs
+retry_jumps desc s front [] hs all = ap (λ (f : List WaitingLine). retry desc s f hs) (sym (append-nil front))
+retry_jumps desc s front (h ∷ passed) hs all =
+    retry_skips desc s front h (passed ++ hs) all.0 ∙ retry_jumps desc s (front ++ h ∷ []) passed hs (more_seen front h passed all.1) ∙ ap (λ (f : List WaitingLine). retry desc s f hs) (append_assoc front (h ∷ []) passed)
+
+-- how a retry stands: the lines in front were passed over, and the rest is still to be tried, in the session that those that were tried
+-- leave
+pub record Passing (desc : Described) (s : Session) (first front hs : List WaitingLine) (v : View) (before after : Seen) : Type 0 where
   pub events : List RunEvent
   pub at : Session
-  pub is : retry desc s [] first ≡ events_before events (retry desc at (take i now) (drop i now))
+  pub is : retry desc s [] first ≡ events_before events (retry desc at front hs)
   pub stands : StandsFor v at
   pub may : MayStep at
   pub ran : Performs before after events
   pub answered : EndsAnswered events
 
-pub passing_start : (desc : Described) (s : Session) (first : List WaitingLine) (v : View) (said : Seen) → StandsFor v s → MayStep s → Passing desc s first first 0 v said said
+pub passing_start : (desc : Described) (s : Session) (first : List WaitingLine) (v : View) (said : Seen) → StandsFor v s → MayStep s → Passing desc s first [] first v said said
 passing_start desc s first v said stands may = record { events = []; at = s; is = refl; stands = stands; may = may; ran = ran_none said; answered = tt }
 
-at_place : (now : List WaitingLine) (i : ℕ) (h : WaitingLine) → slice_get now i ≡ Some h → drop i now ≡ h ∷ drop (i + 1) now
-at_place now i h is = drop_more now i h (slice_get_within now i h is) ∙ ap (λ (x : WaitingLine). x ∷ drop (i + 1) now) (get_or_from_slice_get now i h h is)
+-- the same retry, told otherwise
+pub passing_as : (desc : Described) (s : Session) (first front hs front' hs' : List WaitingLine) (v : View) (before after : Seen) → ((t : Session) → retry desc t front hs ≡ retry desc t front' hs')
+    → Passing desc s first front hs v before after → Passing desc s first front' hs' v before after
+passing_as desc s first front hs front' hs' v before after same p =
+    record { events = p.events; at = p.at; is = p.is ∙ ap (λ (w : RetryEffect). events_before p.events w) (same p.at); stands = p.stands; may = p.may; ran = p.ran; answered = p.answered }
 
-to_place : (now : List WaitingLine) (i : ℕ) (h : WaitingLine) → slice_get now i ≡ Some h → take (i + 1) now ≡ take i now ++ h ∷ []
-to_place now i h is = take_more now i h (slice_get_within now i h is) ∙ ap (λ (x : WaitingLine). take i now ++ x ∷ []) (get_or_from_slice_get now i h h is)
-
--- a line is passed over
-pub passing_skip : (desc : Described) (s : Session) (first now : List WaitingLine) (i : ℕ) (v : View) (before after : Seen) (h : WaitingLine) → slice_get now i ≡ Some h → has_line (take i now) h.program ≡ true
-    → Passing desc s first now i v before after → Passing desc s first now (i + 1) v before after
-passing_skip desc s first now i v before after h here has p =
-    let e : retry desc p.at (take i now) (drop i now) ≡ retry desc p.at (take (i + 1) now) (drop (i + 1) now) =
-    ap (λ (l : List WaitingLine). retry desc p.at (take i now) l) (at_place now i h here) ∙ retry_skips desc p.at (take i now) h (drop (i + 1) now) has ∙ ap (λ (l : List WaitingLine). retry desc p.at l (drop (i + 1) now)) (sym (to_place now i h here)) in
-    record { events = p.events; at = p.at; is = p.is ∙ ap (λ (w : RetryEffect). events_before p.events w) e; stands = p.stands; may = p.may; ran = p.ran; answered = p.answered }
+-- the next first line is reached
+pub passing_reach : (desc : Described) (s : Session) (first : List WaitingLine) (w : WaitingLines) (j : ℕ) (c : Split w j) (r : Reached w j c) (v : View) (before after : Seen)
+    → Passing desc s first (standing c.behind) (standing c.ahead) v before after → Passing desc s first (standing r.first.behind) (r.first.line ∷ standing r.first.ahead) v before after
+passing_reach desc s first w j c r v before after p =
+    passing_as desc s first (standing c.behind) (standing c.ahead) (standing r.first.behind) (r.first.line ∷ standing r.first.ahead) v before after (λ t.
+    ap (λ (l : List WaitingLine). retry desc t (standing c.behind) l) (ap standing r.is_ahead ∙ standing_on r.skipped (Some r.first.line ∷ r.first.ahead))
+    ∙ retry_jumps desc t (standing c.behind) (standing r.skipped) (r.first.line ∷ standing r.first.ahead) r.all
+    ∙ ap (λ (l : List WaitingLine). retry desc t l (r.first.line ∷ standing r.first.ahead)) (sym (ap standing r.is_behind ∙ standing_on c.behind r.skipped))) p
 
 pub behind_on : (x y : List RunEvent) (w : RetryEffect) → events_before x (events_before y w) ≡ events_before (x ++ y) w
 behind_on x y w = λ j. record w { events = sym (append_assoc x y w.events) j }
 
 -- a line was tried and waits
-pub passing_wait : (desc : Described) (s : Session) (first now next : List WaitingLine) (i : ℕ) (v w : View) (before mid after : Seen) (h : WaitingLine) (answered : Bool)
-    → slice_get now i ≡ Some h → has_line (take i now) h.program ≡ false → next ≡ slice_set now i (said_to_wait h) → answered ≡ false
-    → (p : Passing desc s first now i v before mid) → PerformsTry (step desc p.at h.program h.verb) h answered w mid after → Passing desc s first next (i + 1) w before after
-passing_wait desc s first now next i v w before mid after h answered here has set_ answered_is p t =
+pub passing_wait : (desc : Described) (s : Session) (first front : List WaitingLine) (h : WaitingLine) (hs : List WaitingLine) (v w : View) (before mid after : Seen) (answered : Bool) → has_line front h.program ≡ false → answered ≡ false
+    → (p : Passing desc s first front (h ∷ hs) v before mid) → PerformsTry (step desc p.at h.program h.verb) h answered w mid after → Passing desc s first (front ++ said_to_wait h ∷ []) hs w before after
+passing_wait desc s first front h hs v w before mid after answered has answered_is p t =
     let o = step desc p.at h.program h.verb in
     let waits : is_waits o.reply ≡ true = not_false (is_waits o.reply) (sym t.answers ∙ answered_is) in
-    let within = slice_get_within now i h here in
-    let front : take (i + 1) next ≡ take i now ++ said_to_wait h ∷ [] = ap (λ (l : List WaitingLine). take (i + 1) l) set_ ∙ take_more_set now i (said_to_wait h) within in
-    let back : drop (i + 1) next ≡ drop (i + 1) now = ap (λ (l : List WaitingLine). drop (i + 1) l) set_ ∙ drop-set-lt (i + 1) now i (said_to_wait h) (omega arith) in
-    let e : retry desc p.at (take i now) (drop i now) ≡ events_before (tries h o) (retry desc o.session (take (i + 1) next) (drop (i + 1) next)) =
-    ap (λ (l : List WaitingLine). retry desc p.at (take i now) l) (at_place now i h here) ∙ retry_waits desc p.at (take i now) h (drop (i + 1) now) has waits
-    ∙ ap (λ (l : List WaitingLine). events_before (tries h o) (retry desc o.session l (drop (i + 1) now))) (sym front)
-    ∙ ap (λ (l : List WaitingLine). events_before (tries h o) (retry desc o.session (take (i + 1) next) l)) (sym back) in
     record {
       events = p.events ++ tries h o;
       at = o.session;
-      is = p.is ∙ ap (λ (x : RetryEffect). events_before p.events x) e ∙ behind_on p.events (tries h o) _;
+      is = p.is ∙ ap (λ (x : RetryEffect). events_before p.events x) (retry_waits desc p.at front h hs has waits) ∙ behind_on p.events (tries h o) _;
       stands = t.session;
       may = record {
         room = omega (arith, p.may.room, ap (λ (x : Session). x.next) ((step_small desc p.at h.program h.verb).waits waits));
@@ -108,21 +124,17 @@ passing_wait desc s first now next i v w before mid after h answered here has se
     not_false true e = refl
     not_false false e = absurd (cc)
 
-one_on : (i : ℕ) → i + 1 ≡ suc i
-one_on i = omega arith
-
 -- a line was tried and answered
-pub passing_answered : (desc : Described) (s : Session) (first now : List WaitingLine) (i : ℕ) (v w : View) (before mid after : Seen) (h : WaitingLine) (answered : Bool)
-    → slice_get now i ≡ Some h → has_line (take i now) h.program ≡ false → answered ≡ true
-    → (p : Passing desc s first now i v before mid) → PerformsTry (step desc p.at h.program h.verb) h answered w mid after → PerformsRetry (retry desc s [] first) w now (Some i) before after
-passing_answered desc s first now i v w before mid after h answered here has answered_is p t =
+pub passing_answered : (desc : Described) (s : Session) (first front : List WaitingLine) (h : WaitingLine) (hs now : List WaitingLine) (v w : View) (before mid after : Seen) (answered : Bool) → has_line front h.program ≡ false → answered ≡ true → now ≡ front ++ hs
+    → (p : Passing desc s first front (h ∷ hs) v before mid) → PerformsTry (step desc p.at h.program h.verb) h answered w mid after → PerformsRetry (retry desc s [] first) w now true before after
+passing_answered desc s first front h hs now v w before mid after answered has answered_is left p t =
     let o = step desc p.at h.program h.verb in
     let waits : is_waits o.reply ≡ false = not_true (is_waits o.reply) (sym t.answers ∙ answered_is) in
-    let e : retry desc s [] first ≡ events_before p.events (answer_effect h o (take i now ++ drop (i + 1) now)) =
-    p.is ∙ ap (λ (l : List WaitingLine). events_before p.events (retry desc p.at (take i now) l)) (at_place now i h here) ∙ ap (λ (x : RetryEffect). events_before p.events x) (retry_answers desc p.at (take i now) h (drop (i + 1) now) has waits) in
+    let e : retry desc s [] first ≡ events_before p.events (answer_effect h o (front ++ hs)) = p.is ∙ ap (λ (x : RetryEffect). events_before p.events x) (retry_answers desc p.at front h hs has waits) in
     record {
       session = subst (λ (x : Session). StandsFor w x) (sym (ap (λ (x : RetryEffect). x.session) e)) t.session;
-      found_is = (slice_get_within now i h here, ap (λ (x : RetryEffect). x.answered) e, ap (λ (x : RetryEffect). x.waiting) e ∙ ap (λ (k : ℕ). take i now ++ drop k now) (one_on i));
+      answered_is = ap (λ (x : RetryEffect). x.answered) e;
+      waiting_is = ap (λ (x : RetryEffect). x.waiting) e ∙ sym left;
       ran = subst (λ (x : List RunEvent). Performs before after x) (sym (ap (λ (x : RetryEffect). x.events) e)) (ran_on before mid after p.events (tries h o) p.ran t.ran);
     }
   where
@@ -130,37 +142,32 @@ passing_answered desc s first now i v w before mid after h answered here has ans
     not_true false e = refl
     not_true true e = absurd (cc)
 
--- the retry came to the end
-pub passing_end : (desc : Described) (s : Session) (first now : List WaitingLine) (i : ℕ) (v : View) (before after : Seen) → length now ≤ i
-    → Passing desc s first now i v before after → PerformsRetry (retry desc s [] first) v now None before after
-passing_end desc s first now i v before after end p =
-    let e : retry desc s [] first ≡ events_before p.events (record { session = p.at; waiting = now; events = []; answered = false }) =
-    p.is ∙ ap (λ (l : List WaitingLine). events_before p.events (retry desc p.at (take i now) l)) (drop_all i now end) ∙ ap (λ (l : List WaitingLine). events_before p.events (retry desc p.at l [])) (take_all i now end) ∙ ap (λ (x : RetryEffect). events_before p.events x) (retry_ends desc p.at now) in
+-- the retry came to the end: all that are left are passed over
+pub passing_end : (desc : Described) (s : Session) (first front hs now : List WaitingLine) (v : View) (before after : Seen) → AreSeen (has_line front) hs → now ≡ front ++ hs
+    → Passing desc s first front hs v before after → PerformsRetry (retry desc s [] first) v now false before after
+passing_end desc s first front hs now v before after all left p =
+    let e : retry desc s [] first ≡ events_before p.events (record { session = p.at; waiting = front ++ hs; events = []; answered = false }) =
+    p.is ∙ ap (λ (x : RetryEffect). events_before p.events x) (ap (λ (l : List WaitingLine). retry desc p.at front l) (sym (append-nil hs)) ∙ retry_jumps desc p.at front hs [] all ∙ retry_ends desc p.at (front ++ hs)) in
     record {
       session = subst (λ (x : Session). StandsFor v x) (sym (ap (λ (x : RetryEffect). x.session) e)) p.stands;
-      found_is = (ap (λ (x : RetryEffect). x.answered) e, ap (λ (x : RetryEffect). x.waiting) e);
+      answered_is = ap (λ (x : RetryEffect). x.answered) e;
+      waiting_is = ap (λ (x : RetryEffect). x.waiting) e ∙ sym left;
       ran = subst (λ (x : List RunEvent). Performs before after x) (sym (ap (λ (x : RetryEffect). x.events) e ∙ append-nil p.events)) p.ran;
     }
 
 -- a try that failed did a prefix of what the retry does
-pub passing_part : {fate : Fate} (desc : Described) (s : Session) (first now : List WaitingLine) (i : ℕ) (v : View) (before mid after : Seen) (h : WaitingLine) → slice_get now i ≡ Some h → has_line (take i now) h.program ≡ false
-    → (p : Passing desc s first now i v before mid) → PerformsPrefix fate mid after (tries h (step desc p.at h.program h.verb)) → PerformsPrefix fate before after (retry desc s [] first).events
-passing_part {fate} desc s first now i v before mid after h here has p part =
+pub passing_part : {fate : Fate} (desc : Described) (s : Session) (first front : List WaitingLine) (h : WaitingLine) (hs : List WaitingLine) (v : View) (before mid after : Seen) → has_line front h.program ≡ false
+    → (p : Passing desc s first front (h ∷ hs) v before mid) → PerformsPrefix fate mid after (tries h (step desc p.at h.program h.verb)) → PerformsPrefix fate before after (retry desc s [] first).events
+passing_part {fate} desc s first front h hs v before mid after has p part =
     by_reply (is_waits (step desc p.at h.program h.verb).reply) refl
   where
     o : Outcome
     o = step desc p.at h.program h.verb
 
-    from : (x : RetryEffect) (rest : List RunEvent) → retry desc p.at (take i now) (drop i now) ≡ x → x.events ≡ tries h o ++ rest → PerformsPrefix fate before after (retry desc s [] first).events
+    from : (x : RetryEffect) (rest : List RunEvent) → retry desc p.at front (h ∷ hs) ≡ x → x.events ≡ tries h o ++ rest → PerformsPrefix fate before after (retry desc s [] first).events
     from x rest e more = subst (λ (t : List RunEvent). PerformsPrefix fate before after t) (sym (ap (λ (y : RetryEffect). y.events) (p.is ∙ ap (λ (y : RetryEffect). events_before p.events y) e) ∙ ap (λ (t : List RunEvent). p.events ++ t) more))
         (part_on before mid after p.events (tries h o ++ rest) p.ran p.answered (part_of_first mid after (tries h o) rest part))
 
     by_reply : (b : Bool) → is_waits o.reply ≡ b → PerformsPrefix fate before after (retry desc s [] first).events
-    by_reply true waits = from _ _ (ap (λ (l : List WaitingLine). retry desc p.at (take i now) l) (at_place now i h here) ∙ retry_waits desc p.at (take i now) h (drop (i + 1) now) has waits) refl
-    by_reply false waits = from _ [] (ap (λ (l : List WaitingLine). retry desc p.at (take i now) l) (at_place now i h here) ∙ retry_answers desc p.at (take i now) h (drop (i + 1) now) has waits) (sym (append-nil (tries h o)))
-
--- the line at a place
-pub line_at : (waiting : List WaitingLine) (i : ℕ) → i < length waiting → (h : WaitingLine) × (slice_get waiting i ≡ Some h)
-line_at [] i within = absurd (omega (arith, within))
-line_at (x ∷ xs) zero within = (x, refl)
-line_at (x ∷ xs) (suc i) within = line_at xs i (omega (arith, within))
+    by_reply true waits = from _ _ (retry_waits desc p.at front h hs has waits) refl
+    by_reply false waits = from _ [] (retry_answers desc p.at front h hs has waits) (sym (append-nil (tries h o)))

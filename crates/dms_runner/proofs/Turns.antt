@@ -1,9 +1,7 @@
 -- The retries over the waiting lines, one after another.
 use Rattle.dms_model.specs.Seen.{Seen}
-use Rattle.std.proofs.Common.{◌≡◌, ◌+◌, ◌<◌, ◌≤◌, ◌^◌, ℕ, zero, suc, List, [], ◌∷◌, ◌++◌, Bool, true, false, Some, None, refl, sym, ap, ◌∙◌, subst, arith, length, length-append, take, drop}
-use Rattle.std.specs.declared.option.Option.{Option}
-use Rattle.std.specs.List.{remove}
-use Rattle.std.proofs.lemmas.List.{append-nil, take_at}
+use Rattle.std.proofs.Common.{◌≡◌, ◌+◌, ◌<◌, ◌≤◌, ◌^◌, ℕ, zero, suc, List, [], ◌∷◌, ◌++◌, Bool, true, false, refl, sym, ap, ◌∙◌, subst, arith, length, length-append}
+use Rattle.std.proofs.lemmas.List.{append-nil}
 use Rattle.dms_desc.specs.Shape.{Described}
 use Rattle.dms_laws.specs.Exclusive.{IsExclusive}
 use Rattle.dms_storeverbs.specs.View.{View, StandsFor, Room}
@@ -71,15 +69,15 @@ pub retrying_room : (desc : Described) (s : Session) (first : List WaitingLine) 
 retrying_room desc s first turn now v before after k room = omega (arith, k.low, room)
 
 -- a retry answered a line
-pub retrying_on : (desc : Described) (s : Session) (first : List WaitingLine) (turn : ℕ) (now next last : List WaitingLine) (i : ℕ) (v w : View) (before mid after : Seen) (k : Retrying desc s first turn now v before mid)
-    → turn < length first → PerformsRetry (retry desc k.at [] now) w next (Some i) mid after → last ≡ remove next i → Retrying desc s first (turn + 1) last w before after
-retrying_on desc s first turn now next last i v w before mid after k more p gone = from k.left k.fuel k.is
+pub retrying_on : (desc : Described) (s : Session) (first : List WaitingLine) (turn : ℕ) (now last : List WaitingLine) (v w : View) (before mid after : Seen) (k : Retrying desc s first turn now v before mid)
+    → turn < length first → PerformsRetry (retry desc k.at [] now) w last true mid after → Retrying desc s first (turn + 1) last w before after
+retrying_on desc s first turn now last v w before mid after k more p = from k.left k.fuel k.is
   where
     x : RetryEffect
     x = retry desc k.at [] now
 
     waiting_is : x.waiting ≡ last
-    waiting_is = p.found_is.2 ∙ sym gone
+    waiting_is = p.waiting_is
 
     from : (n : ℕ) → n + turn ≡ length first → retries (length first) desc s first ≡ events_before k.events (retries n desc k.at now) → Retrying desc s first (turn + 1) last w before after
     from zero fuel is = absurd (omega (arith, fuel, more))
@@ -88,7 +86,7 @@ retrying_on desc s first turn now next last i v w before mid after k more p gone
       at = x.session;
       left = n;
       fuel = omega (arith, fuel);
-      is = is ∙ ap (λ (y : RetryEffect). events_before k.events y) (retries_again n desc k.at now p.found_is.1) ∙ behind_on k.events x.events _ ∙ ap (λ (l : List WaitingLine). events_before (k.events ++ x.events) (retries n desc x.session l)) waiting_is;
+      is = is ∙ ap (λ (y : RetryEffect). events_before k.events y) (retries_again n desc k.at now p.answered_is) ∙ behind_on k.events x.events _ ∙ ap (λ (l : List WaitingLine). events_before (k.events ++ x.events) (retries n desc x.session l)) waiting_is;
       stands = p.session;
       exclusive = retry_exclusive desc k.at [] now k.exclusive;
       low = omega (arith, k.low, retry_low desc k.at [] now, ap length waiting_is);
@@ -98,7 +96,7 @@ retrying_on desc s first turn now next last i v w before mid after k more p gone
 
 -- a retry answered none
 pub retrying_end : (desc : Described) (s : Session) (first : List WaitingLine) (turn : ℕ) (now next : List WaitingLine) (v w : View) (before mid after : Seen) (k : Retrying desc s first turn now v before mid)
-    → turn < length first → PerformsRetry (retry desc k.at [] now) w next None mid after → PerformsRetries (retries (length first) desc s first) w next before after
+    → turn < length first → PerformsRetry (retry desc k.at [] now) w next false mid after → PerformsRetries (retries (length first) desc s first) w next before after
 retrying_end desc s first turn now next v w before mid after k more p = from k.left k.fuel k.is
   where
     x : RetryEffect
@@ -107,10 +105,10 @@ retrying_end desc s first turn now next v w before mid after k more p = from k.l
     from : (n : ℕ) → n + turn ≡ length first → retries (length first) desc s first ≡ events_before k.events (retries n desc k.at now) → PerformsRetries (retries (length first) desc s first) w next before after
     from zero fuel is = absurd (omega (arith, fuel, more))
     from (suc n) fuel is =
-        let e : retries (length first) desc s first ≡ events_before k.events x = is ∙ ap (λ (y : RetryEffect). events_before k.events y) (retries_end n desc k.at now p.found_is.0) in
+        let e : retries (length first) desc s first ≡ events_before k.events x = is ∙ ap (λ (y : RetryEffect). events_before k.events y) (retries_end n desc k.at now p.answered_is) in
         record {
           session = subst (λ (t : Session). StandsFor w t) (sym (ap (λ (y : RetryEffect). y.session) e)) p.session;
-          waiting_is = sym (ap (λ (y : RetryEffect). y.waiting) e ∙ p.found_is.1);
+          waiting_is = sym (ap (λ (y : RetryEffect). y.waiting) e ∙ p.waiting_is);
           ran = subst (λ (t : List RunEvent). Performs before after t) (sym (ap (λ (y : RetryEffect). y.events) e)) (ran_on before mid after k.events x.events k.ran p.ran);
         }
 
@@ -146,15 +144,11 @@ retrying_part {fate} desc s first turn now v before mid after k more part = from
         let r = rest n x.answered refl in
         subst (λ (t : List RunEvent). PerformsPrefix fate before after t) (sym (ap (λ (y : RetryEffect). y.events) is ∙ ap (λ (t : List RunEvent). k.events ++ t) r.1)) (part_on before mid after k.events (x.events ++ r.0) k.ran k.answered (part_of_first mid after x.events r.0 part))
 
--- the same retry over the same list
-pub passes_from : (d e : Described) (s : Session) (l m : List WaitingLine) (v : View) (now : List WaitingLine) (found found' : Option ℕ) (before after : Seen) → d ≡ e → l ≡ m → found ≡ found'
-    → PerformsRetry (retry d s [] l) v now found before after → PerformsRetry (retry e s [] m) v now found' before after
-passes_from d e s l m v now found found' before after p q r x =
-    subst (λ (o : Option ℕ). PerformsRetry (retry e s [] m) v now o before after) r (subst (λ (k : List WaitingLine). PerformsRetry (retry e s [] k) v now found before after) q (subst (λ (k : Described). PerformsRetry (retry k s [] l) v now found before after) p x))
+-- the same retry under the same description
+pub passes_from : (d e : Described) (s : Session) (l : List WaitingLine) (v : View) (now : List WaitingLine) (answered answered' : Bool) (before after : Seen) → d ≡ e → answered ≡ answered'
+    → PerformsRetry (retry d s [] l) v now answered before after → PerformsRetry (retry e s [] l) v now answered' before after
+passes_from d e s l v now answered answered' before after p r x =
+    subst (λ (o : Bool). PerformsRetry (retry e s [] l) v now o before after) r (subst (λ (k : Described). PerformsRetry (retry k s [] l) v now answered before after) p x)
 
-pub part_from : {fate : Fate} (d e : Described) (s : Session) (l m : List WaitingLine) (before after : Seen) → d ≡ e → l ≡ m → PerformsPrefix fate before after (retry d s [] l).events → PerformsPrefix fate before after (retry e s [] m).events
-part_from {fate} d e s l m before after p q x = subst (λ (k : List WaitingLine). PerformsPrefix fate before after (retry e s [] k).events) q (subst (λ (k : Described). PerformsPrefix fate before after (retry k s [] l).events) p x)
-
--- a list of the same length, written back
-pub written : (old new : List WaitingLine) (n : ℕ) → n ≡ length old → length new ≡ length old → take n (new ++ drop (length new) old) ≡ new
-written old new n is same = take_at new (drop (length new) old) n (same ∙ sym is)
+pub part_from : {fate : Fate} (d e : Described) (s : Session) (l : List WaitingLine) (before after : Seen) → d ≡ e → PerformsPrefix fate before after (retry d s [] l).events → PerformsPrefix fate before after (retry e s [] l).events
+part_from {fate} d e s l before after p x = subst (λ (k : Described). PerformsPrefix fate before after (retry k s [] l).events) p x

@@ -69,15 +69,22 @@ length_front {points = points} f = omega (arith, ap (λ (l : List Point). length
 next_left : {W : StopFiles → Type 0} {high durable next : ℕ} {points : List Point} {q : List Quiet} {stop : Stop} → LeavesQuiets W high points next q stop → durable ≤ high → durable ≡ length points → next ≤ stop.next
 next_left l under all = omega (arith, l.front.not_fallen, length_grew l.grew, l.front.enough, under, all)
 
+-- it never rose by more than the points that are made
+next_most : {W : StopFiles → Type 0} {durable next : ℕ} {points : List Point} {q : List Quiet} {stop : Stop} → LeavesQuiets W durable points next q stop → stop.next ≤ next + length q
+next_most l = omega (arith, l.front.not_risen, length-append l.made l.rest, ap length l.front_of)
+
 pub whole_law : WholeLaw
-whole_law said points durable next events stop low s = record {
-  left = left_more (quiets_of s.rest) (ap quiets_of (sym s.all) ∙ quiets_on s.before (s.at ∷ s.rest) ∙ sym (append_assoc (quiets_of s.before) s.at.quiets (quiets_of s.rest))) (left_lower (durable_keeps (length points) durable s.before low) s.left);
-  not_fallen = λ all. next_left s.left (durable_keeps (length points) durable s.before low) all;
-  text = λ t is.
-      let n = s.text t is in
-      let front = some_front (text_of s.before) s.at.text (text_of s.rest) n.0 in
-      (front.0, n.1 ∙ append_assoc t (text_of s.before) (take n.0 s.at.text) ∙ ap (λ (l : List ℕ). t ++ l) (front.1 ∙ ap (take front.0) (sym (text_on s.before (s.at ∷ s.rest)) ∙ ap text_of s.all)));
-}
+whole_law said points durable next events stop low s =
+    let left = left_more (quiets_of s.rest) (ap quiets_of (sym s.all) ∙ quiets_on s.before (s.at ∷ s.rest) ∙ sym (append_assoc (quiets_of s.before) s.at.quiets (quiets_of s.rest))) (left_lower (durable_keeps (length points) durable s.before low) s.left) in
+    record {
+      left = left;
+      not_fallen = λ all. next_left s.left (durable_keeps (length points) durable s.before low) all;
+      not_risen = next_most left;
+      text = λ t is.
+          let n = s.text t is in
+          let front = some_front (text_of s.before) s.at.text (text_of s.rest) n.0 in
+          (front.0, n.1 ∙ append_assoc t (text_of s.before) (take n.0 s.at.text) ∙ ap (λ (l : List ℕ). t ++ l) (front.1 ∙ ap (take front.0) (sym (text_on s.before (s.at ∷ s.rest)) ∙ ap text_of s.all)));
+    }
 
 -- the text of a stop is no longer than that up to its event, this one's too, and no shorter than that before it
 text_most : (t x y : List ℕ) (n : ℕ) (l : List ℕ) → l ≡ (t ++ x) ++ take n y → (length l ≤ length t + length x + length y) × (length t + length x ≤ length l)

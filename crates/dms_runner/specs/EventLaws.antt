@@ -17,10 +17,12 @@ abbrev pub any : StopFiles → Type 0
 any files = ⊤
 
 -- the quiet points are the first ones of those at first and all that are made behind them, and none that was durable at first is
--- missing; where all were durable at first the next number hasn't fallen; the text is a prefix of all that is said
+-- missing; where all were durable at first the next number hasn't fallen, and it never rose by more than the points that are made; the text is a
+-- prefix of all that is said
 pub record LeavesOfRun (said : Option (List ℕ)) (points : List Point) (durable next : ℕ) (events : List RunEvent) (stop : Stop) : Type 0 where
   pub left : LeavesQuiets any durable points next (quiets_of events) stop
   pub not_fallen : durable ≡ length points → next ≤ stop.next
+  pub not_risen : stop.next ≤ next + length (quiets_of events)
   pub text : (t : List ℕ) → said ≡ Some t → (n : ℕ) × (stop.said ≡ t ++ take n (text_of events))
 
 abbrev pub WholeLaw : Type 0

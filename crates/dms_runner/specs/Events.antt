@@ -7,24 +7,21 @@ use Rattle.dms_block.specs.declared.block_fault.BlockFault.{BlockFault}
 use Rattle.dms_block.specs.declared.block_fault.BlockFault.TheVariants.{Disk, Memory, Full, Damaged, Say}
 use Rattle.dms_moments.specs.Moments.{Runs}
 use Rattle.dms_model.specs.Points.{StopFiles, Point, Quiet, Stop}
-use Rattle.dms_block.specs.Held.{is_due}
-use Rattle.dms_block.specs.Landmarks.{AddsLandmarks, AddsNoFurther, Landmark}
 use Rattle.dms_block.specs.Texts.{Prints, PrintsPrefix}
 use Rattle.dms_model.specs.Db.{Db}
-use Rattle.dms_model.specs.Lacking.{LacksOne}
 use Rattle.dms_desc.specs.Shape.{Described}
 use Rattle.dms_model.specs.BackOut.{asks_back_out}
 use Rattle.dms_model.specs.declared.reply.Reply.{Reply}
 use Rattle.dms_model.specs.declared.verb.Verb.{Verb}
 use Rattle.dms_model.specs.Seen.{Effort, Seen}
 use Rattle.dms_model.specs.Session.{Outcome, is_waits}
-use Rattle.dms_storeverbs.specs.Costs.{appends, landmarks_of, limit_if, stored_by, stores, up_if}
+use Rattle.dms_storeverbs.specs.Costs.{appends, limit_if, stores}
 use Rattle.dms_storeverbs.specs.View.{PointsGrow, LeavesQuiets}
 use Rattle.dms_laws.specs.Exclusive.{is_done}
 
 -- an event: the quiet points that are made in it, the syncpoint that it takes, and the bytes that are said; whether a record may be stored
 -- in it, whether the database goes back to the last quiet point, and whether entries of the audit may be made,
--- other than those of a way back; the database with the record that is stored in it, where one is and no quiet point is made
+-- other than those of a way back
 pub record RunEvent : Type 0 where
   pub quiets : List Quiet
   pub sync : Option ℕ
@@ -32,7 +29,6 @@ pub record RunEvent : Type 0 where
   pub stores : Bool
   pub backs : Bool
   pub appends : Bool
-  pub stored : Option Db
 
 -- a record may be stored: the verb may store one, and its line doesn't wait
 unfoldable pub may_store : Verb → Reply → Bool
@@ -41,11 +37,11 @@ may_store verb reply = stores verb && not (is_waits reply)
 -- a verb is called; nothing is said yet. Only an ABORT that is done goes back, and other entries may be made only where a verb that is done stores
 -- a record or makes a quiet point
 abbrev pub calls : Verb → Outcome → RunEvent
-calls verb o = record { quiets = o.quiets; sync = o.sync; text = []; stores = may_store verb o.reply; backs = asks_back_out verb && is_done o.reply; appends = appends verb o; stored = stored_by verb o }
+calls verb o = record { quiets = o.quiets; sync = o.sync; text = []; stores = may_store verb o.reply; backs = asks_back_out verb && is_done o.reply; appends = appends verb o }
 
 -- bytes are said; no quiet point is made
 abbrev pub says : List ℕ → RunEvent
-says text = record { quiets = []; sync = None; text = text; stores = false; backs = false; appends = false; stored = None }
+says text = record { quiets = []; sync = None; text = text; stores = false; backs = false; appends = false }
 
 -- nothing is done, and nothing said
 abbrev pub pause : RunEvent
@@ -54,7 +50,7 @@ pause = says []
 -- the script ends: where a program is in transaction state, the database goes back to the last quiet point; nothing is said, and no quiet point is
 -- made
 abbrev pub goes_back : Bool → RunEvent
-goes_back works = record { quiets = []; sync = None; text = []; stores = false; backs = works; appends = false; stored = None }
+goes_back works = record { quiets = []; sync = None; text = []; stores = false; backs = works; appends = false }
 
 -- all that is said
 abbrev pub text_of : List RunEvent → List ℕ
@@ -83,21 +79,6 @@ syncs_of (e ∷ es) = one_if (is_some e.sync) + syncs_of es
 abbrev pub backs_of : List RunEvent → ℕ
 backs_of [] = 0
 backs_of (e ∷ es) = one_if e.backs + backs_of es
-
--- how many syncs there were behind these events, where there were so many before them; the count stands still at 2^64 - 1
-abbrev pub syncs_after : ℕ → List RunEvent → ℕ
-syncs_after n [] = n
-syncs_after n (e ∷ es) = syncs_after (up_if (is_some e.sync) n) es
-
--- the landmarks that these events add to the audit, where there were so many syncs before them and this was the next number
-abbrev pub landmarks_after : ℕ → ℕ → ℕ → List RunEvent → List Landmark
-landmarks_after every syncs next [] = []
-landmarks_after every syncs next (e ∷ es) =
-    landmarks_of every syncs (next + length e.quiets) (is_some e.sync) e.backs ++ landmarks_after every (up_if (is_some e.sync) syncs) (next + length e.quiets) es
-
--- those of the events of a run that begins so
-abbrev pub landmarks_from : Seen → List RunEvent → List Landmark
-landmarks_from b events = landmarks_after b.pace.every b.effort.syncs b.next events
 
 -- No more was done than these events may take.
 pub record TakesEvents (desc : Described) (events : List RunEvent) (old new : Effort) : Type 0 where
@@ -139,8 +120,7 @@ pub record IsTold (s : Seen) : Type 0 where
 
 -- these events happened: their text was said, their quiet points were made and have used up their numbers, at least those are
 -- durable that a syncpoint among them covers, and a stop on the way lies within them. Where the database is told it still is, and no
--- block was found damaged. No more was done than they may take, and no number but those of the quiet points was used; exactly their landmarks
--- were added to the audit
+-- block was found damaged. No more was done than they may take, and no number but those of the quiet points was used
 pub record Performs (b a : Seen) (events : List RunEvent) : Type 0 where
   pub text : Prints b.said a.said (text_of events)
   pub tells : b.tells → a.tells
@@ -155,8 +135,6 @@ pub record Performs (b a : Seen) (events : List RunEvent) : Type 0 where
   pub desc : a.desc ≡ b.desc
   pub pace : a.pace ≡ b.pace
   pub effort : TakesEvents b.desc events b.effort a.effort
-  pub synced : a.effort.syncs ≡ syncs_after b.effort.syncs events
-  pub landmarks : AddsLandmarks b.landmarks a.landmarks (landmarks_from b events)
 
 -- the answer is a fault of printing: the last text may have been cut off
 abbrev pub IsCutShort : {T : Type 0} → Result T BlockFault → Type 0
@@ -234,29 +212,22 @@ pub record TookPart (cut : Type 0) (b a : Seen) (events : List RunEvent) : Type 
 abbrev pub IsFullIn : ℕ → RunEvent → ℕ → Type 0
 IsFullIn last e f = ((e.appends ≡ true) × (f ≡ last)) ⊎ ((e.backs ≡ true) × (f ≡ 9999))
 
--- Exactly the text of the first k of these events was said, and the next of them is such a one. Stops on the way left what those first events leave,
--- so no quiet point of the next one; or a control point was due at the sync of the syncpoint that the next one takes. The landmarks of those first events
--- were added, and no others but maybe a Begin, where the next one goes back. Where the next one stores a record and makes no quiet point, what
--- `Lacks` says of its database is so.
-pub record IsFullAtEvent (last f : ℕ) (Leaves Due : List RunEvent → Type 0) (Behind : Bool → List RunEvent → Type 0) (Lacks : Db → Type 0) (before after : Option (List ℕ)) (events : List RunEvent) : Type 0 where
+-- Exactly the text of the first k of these events was said, and the next of them is such a one: it stores a record or makes a quiet point, and the
+-- file is the last one that the audit goes on to for that; or it goes back, and the file is 9,999.
+pub record IsFullAtEvent (last f : ℕ) (before after : Option (List ℕ)) (events : List RunEvent) : Type 0 where
   pub k : ℕ
   pub at : RunEvent
   pub is : slice_get events k ≡ Some at
   pub full : IsFullIn last at f
   pub text : Prints before after (text_of (take k events))
-  pub made : Leaves (take k events ++ pause ∷ []) ⊎ ((is_some at.sync ≡ true) × Due (take k events))
-  pub landmarks : Behind at.backs (take k events)
-  pub lacks : (db : Db) → at.stored ≡ Some db → Lacks db
 
--- So it is over a store that tells its stops and its landmarks, and counts its syncs: its records are those of the next event's database but for one.
+-- so it is over a store
 abbrev pub IsFullOver : ℕ → Seen → Seen → List RunEvent → Type 0
-IsFullOver f b a events =
-    IsFullAtEvent b.pace.last f (λ es. b.tells → Runs b.clock a.clock (CrashesFrom b es)) (λ es. is_due b.pace.every (syncs_after b.effort.syncs es) ≡ true)
-    (λ backs es. AddsNoFurther backs b.landmarks a.landmarks (landmarks_from b es)) (LacksOne a.records) b.said a.said events
+IsFullOver f b a events = IsFullAtEvent b.pace.last f b.said a.said events
 
 -- a prefix of the text of these events was said, that of whole events where no text was cut off, and a stop on the way lies
--- within them. No more was done than that prefix may take. Where the audit had no room, it is as `IsFullOver` says. Of what stands afterwards it
--- says nothing else
+-- within them. No more was done than that prefix may take. Where the audit had no room, an event is told that may make entries. Of what stands afterwards
+-- it says nothing else
 pub record PerformsPrefix (fate : Fate) (b a : Seen) (events : List RunEvent) : Type 0 where
   pub text : PrintsPrefix b.said a.said (text_of events)
   pub said_whole : (fate.cut → ⊥) → SaidWhole b.said a.said events

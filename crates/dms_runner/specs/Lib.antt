@@ -2,6 +2,7 @@ pub mod Answers
 pub mod EventLaws
 pub mod Blaming
 pub mod Events
+pub mod Firsts
 pub mod Waiting
 pub mod Running
 pub mod Starting

@@ -24,9 +24,9 @@ use Rattle.dms_runner.specs.Running.{AnswersWhole, AreExactly, AreOfFront, CutIn
 use Rattle.dms_runner.specs.Trying.{MatchesLine, PerformsRetries, PerformsRetry, PerformsTry}
 use Rattle.dms_runner.specs.Waiting.{RetryEffect, retries}
 
--- it holds of the waiting line at a place
-abbrev pub AtWaiting : List WaitingLine → ℕ → (WaitingLine → Type 0) → Type 0
-AtWaiting waiting i P = (h : WaitingLine) → slice_get waiting i ≡ Some h → P h
+-- it holds of the waiting line in a slot
+abbrev pub AtSlot : List (Option WaitingLine) → ℕ → (WaitingLine → Type 0) → Type 0
+AtSlot slots i P = (h : WaitingLine) → slice_get slots i ≡ Some (Some h) → P h
 
 -- it holds of the input that a feed and its source have left
 abbrev pub OnInput : List ℕ → Option (List ℕ) → (List ℕ → Type 0) → Type 0
@@ -69,9 +69,9 @@ module _ {St : Type 0} {g : Ghosts St} where
   abbrev pub LineTried : Engine St g → Engine St g → WaitingLine → Bool → Outcome → Type 0
   LineTried old new h answered o = PerformsTry o h answered (view new) (engine_view old) (engine_view new)
 
-  -- one retry was made, up to the line at a place that was answered
-  abbrev pub RetryMade : Engine St g → Engine St g → List WaitingLine → Option ℕ → RetryEffect → Type 0
-  RetryMade old new waiting found effect = PerformsRetry effect (view new) waiting found (engine_view old) (engine_view new)
+  -- one retry was made; answered: whether a line was answered
+  abbrev pub RetryMade : Engine St g → Engine St g → List WaitingLine → Bool → RetryEffect → Type 0
+  RetryMade old new waiting answered effect = PerformsRetry effect (view new) waiting answered (engine_view old) (engine_view new)
 
   -- what the retries of the waiting lines leave and do
   abbrev pub retries_at : Engine St g → Session → List WaitingLine → RetryEffect

@@ -1,6 +1,5 @@
 -- What the tries of waiting lines leave.
-use Rattle.std.specs.Prelude.{◌≡◌, ◌<◌, ℕ, List, Bool, true, false, not, Some, None, length, remove}
-use Rattle.std.specs.declared.option.Option.{Option}
+use Rattle.std.specs.Prelude.{◌≡◌, List, Bool, not}
 use Rattle.dms_model.specs.Seen.{Seen}
 use Rattle.dms_model.specs.Session.{Outcome, is_waits}
 use Rattle.dms_storeverbs.specs.View.{View, StandsFor}
@@ -15,14 +14,11 @@ pub record PerformsTry (o : Outcome) (h : WaitingLine) (answered : Bool) (now : 
   pub session : StandsFor now o.session
   pub ran : Performs before after (tries h o)
 
-abbrev pub MatchesFound : RetryEffect → List WaitingLine → Option ℕ → Type 0
-MatchesFound w waiting None = (w.answered ≡ false) × (w.waiting ≡ waiting)
-MatchesFound w waiting (Some i) = (i < length waiting) × (w.answered ≡ true) × (w.waiting ≡ remove waiting i)
-
--- one retry was made, up to the line at a place that was answered
-pub record PerformsRetry (w : RetryEffect) (now : View) (waiting : List WaitingLine) (found : Option ℕ) (before after : Seen) : Type 0 where
+-- one retry was made, and left these lines; answered: whether a line was answered
+pub record PerformsRetry (w : RetryEffect) (now : View) (waiting : List WaitingLine) (answered : Bool) (before after : Seen) : Type 0 where
   pub session : StandsFor now w.session
-  pub found_is : MatchesFound w waiting found
+  pub answered_is : w.answered ≡ answered
+  pub waiting_is : w.waiting ≡ waiting
   pub ran : Performs before after w.events
 
 -- the retries were made

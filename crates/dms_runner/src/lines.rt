@@ -4,12 +4,13 @@ ghost use Rattle.dms_storeverbs.specs.View.{EngineLasts, engine_view};
 ghost use Rattle.dms_script.specs.declared.line.Line.TheVariants.{Verb as Spoken, Bad};
 ghost use Rattle.dms_runner.specs.Answers.{tried_first};
 ghost use Rattle.dms_model.specs.Verbs.{IsVerbOf};
-ghost use Rattle.dms_runner.specs.Waiting.{AreVerbs};
+ghost use Rattle.dms_runner.specs.Firsts.{AreHeld, lines_of};
 ghost use Rattle.dms_runner.specs.Starting.{AtRawLine, AtRunState, LineTaken, PartHappened, effect_at, step_at};
 
-use crate::WaitingLine;
-use crate::retrying::{has_line, retry_all};
+use crate::retrying::retry_all;
 use crate::saying::{is_waits, say_answer};
+use crate::slots::{has_line, hold};
+use crate::{WaitingLine, WaitingLines};
 use dms_base::{Memory, Name};
 use dms_block::BlockFault;
 use dms_feed::line_text;
@@ -25,15 +26,15 @@ pub const WAITING_LINES: usize = 10_000;
 fn bad_line<St: Store>(
     alloc: Global,
     engine: &mut Engine<St>,
-    waiting: &mut Vec<WaitingLine>,
+    waiting: &mut WaitingLines,
     line: u32,
     place: u32,
 ) -> Result<bool, BlockFault>
     requires sound { (engine_view engine.old).sound }
-    requires verbs { AreVerbs (as_described engine.old.desc) waiting.old.items }
-    ensures lined { IfOk result (λ on. AtRunState engine.old waiting.old.items line (λ g. LineTaken engine.old engine.new waiting.new.items on (effect_at engine.old g (Bad place)))) }
-    ensures part { AtRunState engine.old waiting.old.items line (λ g. PartHappened result engine.old engine.new (effect_at engine.old g (Bad place)).events) }
-    ensures verbs { OnOk result (AreVerbs (as_described engine.old.desc) waiting.new.items) }
+    requires verbs { AreHeld (as_described engine.old.desc) waiting.old }
+    ensures lined { IfOk result (λ on. AtRunState engine.old (lines_of waiting.old) line (λ g. LineTaken engine.old engine.new (lines_of waiting.new) on (effect_at engine.old g (Bad place)))) }
+    ensures part { AtRunState engine.old (lines_of waiting.old) line (λ g. PartHappened result engine.old engine.new (effect_at engine.old g (Bad place)).events) }
+    ensures verbs { OnOk result (AreHeld (as_described engine.old.desc) waiting.new) }
     ensures lasts { EngineLasts result engine.old engine.new }
 {
     let text = bad_text(alloc, line, place)?;
@@ -46,17 +47,17 @@ fn bad_line<St: Store>(
 fn first_try<St: Store>(
     alloc: Global,
     engine: &mut Engine<St>,
-    waiting: &mut Vec<WaitingLine>,
+    waiting: &mut WaitingLines,
     line: u32,
     name: Name,
     verb: Verb,
 ) -> Result<bool, BlockFault>
     requires sound { (engine_view engine.old).sound }
-    requires verbs { AreVerbs (as_described engine.old.desc) waiting.old.items }
+    requires verbs { AreHeld (as_described engine.old.desc) waiting.old }
     requires verb { IsVerbOf (as_described engine.old.desc) verb }
-    ensures lined { IfOk result (λ on. AtRunState engine.old waiting.old.items line (λ g. LineTaken engine.old engine.new waiting.new.items on (tried_first (as_described engine.old.desc) g name verb))) }
-    ensures part { AtRunState engine.old waiting.old.items line (λ g. PartHappened result engine.old engine.new (tried_first (as_described engine.old.desc) g name verb).events) }
-    ensures verbs { OnOk result (AreVerbs (as_described engine.old.desc) waiting.new.items) }
+    ensures lined { IfOk result (λ on. AtRunState engine.old (lines_of waiting.old) line (λ g. LineTaken engine.old engine.new (lines_of waiting.new) on (tried_first (as_described engine.old.desc) g name verb))) }
+    ensures part { AtRunState engine.old (lines_of waiting.old) line (λ g. PartHappened result engine.old engine.new (tried_first (as_described engine.old.desc) g name verb).events) }
+    ensures verbs { OnOk result (AreHeld (as_described engine.old.desc) waiting.new) }
     ensures lasts { EngineLasts result engine.old engine.new }
 {
     let answer = engine.call(alloc, &name, &verb)?;
@@ -65,16 +66,17 @@ fn first_try<St: Store>(
         retry_all(alloc, engine, waiting)?;
         return Ok(true);
     }
-    if waiting.len() >= WAITING_LINES {
+    if waiting.count >= WAITING_LINES {
         return Ok(false);
     }
     say_answer(alloc, engine, line, &name, &answer)?;
-    waiting.push(WaitingLine {
+    let held = WaitingLine {
         line,
         program: name,
         verb,
         printed: true,
-    })?;
+    };
+    hold(waiting, held)?;
     Ok(true)
 }
 
@@ -82,31 +84,32 @@ fn first_try<St: Store>(
 fn spoken_line<St: Store>(
     alloc: Global,
     engine: &mut Engine<St>,
-    waiting: &mut Vec<WaitingLine>,
+    waiting: &mut WaitingLines,
     line: u32,
     name: Name,
     verb: Verb,
 ) -> Result<bool, BlockFault>
     requires sound { (engine_view engine.old).sound }
-    requires verbs { AreVerbs (as_described engine.old.desc) waiting.old.items }
+    requires verbs { AreHeld (as_described engine.old.desc) waiting.old }
     requires verb { IsVerbOf (as_described engine.old.desc) verb }
-    ensures lined { IfOk result (λ on. AtRunState engine.old waiting.old.items line (λ g. LineTaken engine.old engine.new waiting.new.items on (effect_at engine.old g (Spoken name verb)))) }
-    ensures part { AtRunState engine.old waiting.old.items line (λ g. PartHappened result engine.old engine.new (effect_at engine.old g (Spoken name verb)).events) }
-    ensures verbs { OnOk result (AreVerbs (as_described engine.old.desc) waiting.new.items) }
+    ensures lined { IfOk result (λ on. AtRunState engine.old (lines_of waiting.old) line (λ g. LineTaken engine.old engine.new (lines_of waiting.new) on (effect_at engine.old g (Spoken name verb)))) }
+    ensures part { AtRunState engine.old (lines_of waiting.old) line (λ g. PartHappened result engine.old engine.new (effect_at engine.old g (Spoken name verb)).events) }
+    ensures verbs { OnOk result (AreHeld (as_described engine.old.desc) waiting.new) }
     ensures lasts { EngineLasts result engine.old engine.new }
 {
-    if !has_line(waiting.as_slice(), &name) {
+    if !has_line(waiting, &name) {
         return first_try(alloc, engine, waiting, line, name, verb);
     }
-    if waiting.len() >= WAITING_LINES {
+    if waiting.count >= WAITING_LINES {
         return Ok(false);
     }
-    waiting.push(WaitingLine {
+    let held = WaitingLine {
         line,
         program: name,
         verb,
         printed: false,
-    })?;
+    };
+    hold(waiting, held)?;
     Ok(true)
 }
 
@@ -115,15 +118,15 @@ fn spoken_line<St: Store>(
 pub fn take_line<St: Store>(
     alloc: Global,
     engine: &mut Engine<St>,
-    waiting: &mut Vec<WaitingLine>,
+    waiting: &mut WaitingLines,
     line: u32,
     raw: &[u8],
 ) -> Result<bool, BlockFault>
     requires sound { (engine_view engine.old).sound }
-    requires verbs { AreVerbs (as_described engine.old.desc) waiting.old.items }
-    ensures lined { IfOk result (λ on. AtRawLine engine.old waiting.old.items line raw.now (λ g whole. LineTaken engine.old engine.new waiting.new.items on (step_at engine.old g whole))) }
-    ensures part { AtRawLine engine.old waiting.old.items line raw.now (λ g whole. PartHappened result engine.old engine.new (step_at engine.old g whole).events) }
-    ensures verbs { OnOk result (AreVerbs (as_described engine.old.desc) waiting.new.items) }
+    requires verbs { AreHeld (as_described engine.old.desc) waiting.old }
+    ensures lined { IfOk result (λ on. AtRawLine engine.old (lines_of waiting.old) line raw.now (λ g whole. LineTaken engine.old engine.new (lines_of waiting.new) on (step_at engine.old g whole))) }
+    ensures part { AtRawLine engine.old (lines_of waiting.old) line raw.now (λ g whole. PartHappened result engine.old engine.new (step_at engine.old g whole).events) }
+    ensures verbs { OnOk result (AreHeld (as_described engine.old.desc) waiting.new) }
     ensures lasts { EngineLasts result engine.old engine.new }
 {
     match read_line(alloc, engine.description(), line_text(raw))? {

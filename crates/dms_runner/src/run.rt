@@ -10,13 +10,15 @@ ghost use Rattle.dms_model.specs.Session.{Session, end_session, someone_works};
 ghost use Rattle.dms_storeverbs.specs.View.{EngineLasts, SameSession, StandsFor, engine_view, view};
 ghost use Rattle.dms_runner.specs.Events.{text_of, Performs, PerformsPrefix, fate_of};
 ghost use Rattle.dms_runner.specs.Answers.{unanswered_events, end_events};
-ghost use Rattle.dms_runner.specs.Waiting.{AreVerbs};
+ghost use Rattle.dms_runner.specs.Firsts.{AreFirst, AreHeld, lines_of};
 ghost use Rattle.dms_runner.specs.Starting.{AnswersAll, AtInput, AtStart, CarriesOut, HeldTooMany, InputEnds, LineOfInputTaken, LinePart, OnInput, StandsAtEnd, TakesAll, events_at};
 ghost use Rattle.dms_runner.specs.Blaming.{LastsRun, run_fate};
 ghost use Rattle.dms_runner.specs.Running.{FitsScript, HasTooManyBytes, HasTooManyLines, InputBreaks, TakesRawLine};
 
-use crate::WaitingLine;
 use crate::lines::take_line;
+use crate::slots::{into_lines, no_lines};
+use crate::{WaitingLine, WaitingLines};
+use dms_base::Memory;
 use dms_block::BlockFault;
 use dms_feed::{Feed, RawFault, next_raw};
 use dms_model::Store;
@@ -99,6 +101,28 @@ fn end_run<St: Store>(
     }
 }
 
+/// The same, of the lines that are held.
+fn end_lines<St: Store>(
+    alloc: Global,
+    engine: &mut Engine<St>,
+    waiting: WaitingLines,
+) -> Result<(), RunFault>
+    requires sound { (engine_view engine.old).sound }
+    ensures text { OnOk result (Prints (engine_view engine.old).said (engine_view engine.new).said (text_of (unanswered_events (lines_of waiting)))) }
+    ensures front { PrintsPrefix (engine_view engine.old).said (engine_view engine.new).said (text_of (unanswered_events (lines_of waiting))) }
+    ensures ran { OnOk result ((engine_view engine.old).next + 1 < 2 ^ 64 → Performs (engine_view engine.old) (engine_view engine.new) (end_events (someone_works engine.old.programs.items) (lines_of waiting))) }
+    ensures part { (engine_view engine.old).next + 1 < 2 ^ 64 → PerformsPrefix (run_fate result) (engine_view engine.old) (engine_view engine.new) (end_events (someone_works engine.old.programs.items) (lines_of waiting)) }
+    ensures ended { OnOk result ((s : Session) → StandsFor (view engine.old) s → StandsFor (view engine.new) (end_session s)) }
+    ensures limits { (IsErrOf result RunFault.Lines → ⊥) × (IsErrOf result RunFault.Bytes → ⊥) × (IsErrOf result RunFault.Held → ⊥) }
+    ensures lasts { LastsRun result engine.old engine.new }
+    ensures input { IsErrOf result RunFault.Input → ⊥ }
+{
+    match into_lines(alloc, waiting) {
+        Err(Memory) => Err(RunFault::Memory),
+        Ok(lines) => end_run(alloc, engine, lines.as_slice()),
+    }
+}
+
 /// What was taken of an input: a line with its line feed, the last line without one, or nothing, at its end.
 #[derive(Clone, Copy, Debug, PartialEq, Eq)]
 enum TakenLine {
@@ -113,27 +137,27 @@ fn one_line<St: Store, I: Source>(
     engine: &mut Engine<St>,
     feed: &mut Feed,
     source: &mut I,
-    waiting: &mut Vec<WaitingLine>,
+    waiting: &mut WaitingLines,
     line: u32,
     room: &mut u64,
 ) -> Result<TakenLine, RunFault>
     requires sound { (engine_view engine.old).sound }
-    requires verbs { AreVerbs (as_described engine.old.desc) waiting.old.items }
+    requires verbs { AreHeld (as_described engine.old.desc) waiting.old }
     requires room { room.old ≤ 2147483648 }
     requires line { line < 4294967295 }
     ensures read { IfOk result (λ t. t ≢ TakenLine.Nothing → OnInput feed.old (I.left source.old) (TakesRawLine room.old room.new feed.new (I.left source.new))) }
-    ensures took { IfOk result (λ t. t ≢ TakenLine.Nothing → AtInput engine.old waiting.old.items line feed.old (I.left source.old) (LineOfInputTaken engine.old engine.new waiting.new.items)) }
+    ensures took { IfOk result (λ t. t ≢ TakenLine.Nothing → AtInput engine.old (lines_of waiting.old) line feed.old (I.left source.old) (LineOfInputTaken engine.old engine.new (lines_of waiting.new))) }
     ensures ended { IfOk result (λ t. t ≡ TakenLine.Ended → OnInput feed.old (I.left source.old) (λ all. has_end (first_line all) ≡ true)) }
     ensures last { IfOk result (λ t. t ≡ TakenLine.Last → OnInput feed.old (I.left source.old) (λ all. IsUnended (first_line all))) }
     ensures none { IfOk result (λ t. t ≡ TakenLine.Nothing → (engine.new ≡ engine.old) × (waiting.new ≡ waiting.old) × InputEnds feed.old (I.left source.old) feed.new (I.left source.new)) }
-    ensures part { (f : Fault) → IsErrOf result (RunFault.Block f) → AtInput engine.old waiting.old.items line feed.old (I.left source.old) (LinePart result engine.old engine.new room.old) }
+    ensures part { (f : Fault) → IsErrOf result (RunFault.Block f) → AtInput engine.old (lines_of waiting.old) line feed.old (I.left source.old) (LinePart result engine.old engine.new room.old) }
     ensures untouched { (IsErrOf result RunFault.Input ⊎ (IsErrOf result RunFault.Memory ⊎ IsErrOf result RunFault.Bytes)) → engine.new ≡ engine.old }
     ensures bytes { IsErrOf result RunFault.Bytes → OnInput feed.old (I.left source.old) (λ all. room.old < length (first_line all)) }
-    ensures full_list { IsErrOf result RunFault.Held → AtInput engine.old waiting.old.items line feed.old (I.left source.old) (HeldTooMany engine.old engine.new room.old) }
+    ensures full_list { IsErrOf result RunFault.Held → AtInput engine.old (lines_of waiting.old) line feed.old (I.left source.old) (HeldTooMany engine.old engine.new room.old) }
     ensures no_lines { IsErrOf result RunFault.Lines → ⊥ }
     ensures failed { IsErrOf result RunFault.Input → OnInput feed.old (I.left source.old) (CutLine room.old (I.left source.new)) }
     ensures rest { OnOk result ((all : List ℕ) → Remains feed.old (I.left source.old) all → (rest : List ℕ) × Remains feed.new (I.left source.new) rest) }
-    ensures verbs { OnOk result (AreVerbs (as_described engine.old.desc) waiting.new.items) }
+    ensures verbs { OnOk result (AreHeld (as_described engine.old.desc) waiting.new) }
     ensures lasts { LastsRun result engine.old engine.new }
     ensures room { room.new ≤ room.old }
     ensures same_source { I.same_source source.old source.new }
@@ -193,11 +217,12 @@ fn take_lines<St: Store, I: Source>(
     engine: &mut Engine<St>,
     feed: &mut Feed,
     source: &mut I,
-    waiting: &mut Vec<WaitingLine>,
+    waiting: &mut WaitingLines,
 ) -> Result<(), RunFault>
     requires sound { (engine_view engine.old).sound }
-    requires none { waiting.old.items ≡ [] }
-    ensures all { OnOk result (AtStart engine.old feed.old (I.left source.old) (TakesAll engine.old engine.new waiting.new.items)) }
+    requires none { lines_of waiting.old ≡ [] }
+    requires held { AreFirst waiting.old }
+    ensures all { OnOk result (AtStart engine.old feed.old (I.left source.old) (TakesAll engine.old engine.new (lines_of waiting.new))) }
     ensures stops { IsErr result → AtStart engine.old feed.old (I.left source.old) (CarriesOut result (I.left source.new) engine.old engine.new) }
     ensures fits { OnOk result (OnInput feed.old (I.left source.old) FitsScript) }
     ensures too_many_lines { IsErrOf result RunFault.Lines → OnInput feed.old (I.left source.old) HasTooManyLines }
@@ -250,9 +275,9 @@ pub fn run_lines<St: Store, I: Source>(
     ensures once { I.faults source.new ≤ I.faults source.old + 1 }
     ensures clean { (IsErrOf result RunFault.Input → ⊥) → I.faults source.new ≡ I.faults source.old }
 {
-    let mut waiting: Vec<WaitingLine> = Vec::new(alloc);
+    let mut waiting = no_lines(alloc);
     match take_lines(alloc, engine, feed, source, &mut waiting) {
         Err(fault) => Err(fault),
-        Ok(()) => end_run(alloc, engine, waiting.as_slice()),
+        Ok(()) => end_lines(alloc, engine, waiting),
     }
 }

@@ -10,13 +10,13 @@ use Rattle.dms_history.specs.Pick.{Dumps, blocks_at}
 use Rattle.dms_history.specs.History.{next_number}
 use Rattle.dms_history.specs.Points.{LivePoint, numbers_from, live_numbers, point_at, live_points}
 use Rattle.dms_history.specs.Entries.{Entry, image, quiet_point}
-use Rattle.dms_history.specs.EntryEvents.{events, live_of, next_of}
+use Rattle.dms_history.specs.EntryEvents.{history_of, events, live_of, next_of}
 use Rattle.dms_history.specs.Kept.{content_told}
 use Rattle.dms_history.proofs.Order.{append_none, next_steps}
 use Rattle.dms_history.proofs.Sealed.{image_sealed, quiet_sealed}
 use Rattle.dms_history.proofs.Listed.{points_front, numbers_append}
 use Rattle.dms_running.specs.Telling.{Telling, IsTelling}
-use Rattle.dms_running.specs.FromDumps.{dump_in}
+use Rattle.dms_running.proofs.FromDumps.{none_order}
 use Rattle.dms_running.specs.Standing.{MayRun, IsWhole}
 use Rattle.dms_running.specs.Points.{DescribedPoint, described_in, points_told, points_of, LeavesPointsPrefix}
 use Rattle.dms_running.specs.Sealing.{SealsSome, Appended, AreSealed, Settled}
@@ -37,7 +37,7 @@ running_whole t a r read =
     let m : MayRun t.first (t.entries a.files) (t.dumps a.files) r.base (stored_of a.files) =
     subst (λ (l : Files). MayRun t.first (t.entries a.files) (t.dumps l) r.base (stored_of l)) read.2
     (subst (λ (l : List Entry). MayRun t.first l (t.dumps read.0.files) r.base (stored_of read.0.files)) (append_none (t.entries a.files)) (r.each 0 read.0 read.1)) in
-    record { found = subst t.found read.2 (r.found read.0 read.1); base = r.base; stands = m.stands; no_dump = ap dump_in m.none }
+    record { found = subst t.found read.2 (r.found read.0 read.1); base = r.base; stands = m.stands; order = none_order (t.dump_found a.files) (t.dumps a.files) (history_of (t.entries a.files)).pending m.none }
 
 -- ---- lists of points
 

@@ -25,7 +25,7 @@ use Rattle.dms_history.proofs.Sealed.{begin_sealed, one_more_event}
 use Rattle.dms_history.proofs.Keeping.{kept_begin}
 use Rattle.dms_history.proofs.Listed.{points_listed, one_list, points_stay}
 use Rattle.dms_history.proofs.ListSteps.{lists_begin, last_keeps_all}
-use Rattle.dms_running.specs.FromDumps.{dump_in, NoDumpPending}
+use Rattle.dms_running.specs.FromDumps.{DumpsInOrder}
 use Rattle.dms_running.specs.Telling.{Telling, IsTelling}
 use Rattle.dms_running.specs.Standing.{Stands, MayRun}
 use Rattle.dms_running.specs.Points.{described_in, points_told, points_of, next_in, LeavesPointsPrefix}
@@ -33,14 +33,14 @@ use Rattle.dms_running.specs.Sealing.{SealsSome, Appended, AreSealed, Settled}
 use Rattle.dms_running.specs.Running.{State, entries_now, next_now, points_now, durable_now, IsRunning, IsAnOutcome, LeavesPoints}
 use Rattle.dms_running.specs.Begun.{ByAudit, IsBegun, IsLast, restore_to, outcome_now, content_at_point}
 use Rattle.dms_running.proofs.Described.{all_placed, described_begun}
-use Rattle.dms_running.proofs.FromDumps.{audit_no_dump}
+use Rattle.dms_running.proofs.FromDumps.{audit_order, outcomes_by}
 use Rattle.dms_running.proofs.MayRun.{counted, sound, points_are}
 use Rattle.dms_running.proofs.Plain.{push_all, take_whole}
 use Rattle.dms_running.proofs.Stopped.{front_left, blocks_same}
 use Rattle.dms_running.proofs.Appending.{now_runs, points_enough}
 use Rattle.dms_running.proofs.Planned.{all_left, carried}
 
-images_first : (xs ys : List Event) → ImagesSized (xs ++ ys) → ImagesSized xs
+pub images_first : (xs ys : List Event) → ImagesSized (xs ++ ys) → ImagesSized xs
 images_first [] ys all = tt
 images_first (change f b before after ∷ xs) ys all = (all.0, images_first xs ys all.1)
 images_first (quiet n ∷ xs) ys all = images_first xs ys all
@@ -69,8 +69,8 @@ module _ (first : Bool) (es : List Entry) (d : Dumps) (base : AllBlocks) (st : S
   pub begin_is : history_of with_begin ≡ after_event (history_of es) (begin m (how_of kind))
   begin_is = ap history (begin_sealed es m kind) ∙ one_more_event (events es) (begin m (how_of kind))
 
-  pub begin_no_dump : NoDumpPending with_begin
-  begin_no_dump = ap (λ (h : History). dump_in h.pending) begin_is ∙ audit_no_dump (how_of kind) by_audit
+  pub begin_order : (found : ℕ → Type 0) (e : Dumps) → DumpsInOrder found e (history_of with_begin).pending
+  begin_order found e = subst (λ (h : History). DumpsInOrder found e h.pending) (sym begin_is) (audit_order found e (record { entries = live_of es; point = m; how = how_of kind }) (how_of kind) by_audit)
 
   live_is : live_of with_begin ≡ until_first (is_point m) (live_of es)
   live_is = ap (λ (h : History). h.live) begin_is
@@ -159,14 +159,15 @@ module _ (t : Telling) (telling : IsTelling t) (a : State) (r : IsRunning t a) (
     front_all : t.entries x.files ≡ all ++ the_begin ∷ [] → LeavesPointsPrefix t (points_now t a) (durable_now t a) (next_now t a) x
     front_all is =
         let left = all_left t (points_now t a) (next_now t a) x (ap (λ (l : List Entry). points_told (t.dumps x.files) l (stored_of x.files)) is ∙ points_all)
-        (omega (arith, ap (λ (l : List Entry). next_of l) is, next_all))
-        (record { found = s.found (r.found y now); base = base; stands = subst (λ (l : List Entry). Stands t.first l (t.dumps x.files) base (stored_of x.files)) (sym is) at_begin; no_dump = ap (λ (l : List Entry). dump_in (history_of l).pending) is ∙ begin_no_dump t.first all (t.dumps x.files) base (stored_of x.files) run_all m kind by_audit at.lives }) in
+        (ap (λ (l : List Entry). next_of l) is ∙ next_all)
+        (record { found = s.found (r.found y now); base = base; stands = subst (λ (l : List Entry). Stands t.first l (t.dumps x.files) base (stored_of x.files)) (sym is) at_begin; order = subst (λ (l : List Entry). DumpsInOrder (t.dump_found x.files) (t.dumps x.files) (history_of l).pending) (sym is) (begin_order t.first all (t.dumps x.files) base (stored_of x.files) run_all m kind by_audit at.lives (t.dump_found x.files) (t.dumps x.files)) }) in
         record {
           count = left.count;
           enough = omega (arith, left.enough, points_enough t telling a r read);
           within = left.within;
           is = left.is;
           not_fallen = left.not_fallen;
+          not_risen = left.not_risen;
           whole = left.whole;
         }
 
@@ -198,7 +199,8 @@ module _ (t : Telling) (telling : IsTelling t) (a : State) (r : IsRunning t a) (
       settled = settles;
       found = λ x now. let after = steps.follows x now in after.2.found (r.found after.0 after.1);
       pending = ap (λ (l : List Entry). (history_of l).pending) entries_are ∙ ap (λ (h : History). h.pending) (begin_is t.first all (t.dumps a.files) base (stored_of a.files) run_now m kind by_audit at.lives);
-      by_audit = by_audit;
+      outcome_stays = λ x st now. outcomes_by (restore_to t a m (how_of kind)) by_audit (t.dumps x.files) (t.dumps b.files) st;
+      order = λ x now. audit_order (t.dump_found x.files) (t.dumps x.files) (restore_to t a m (how_of kind)) (how_of kind) by_audit;
       each = λ x now. let after = steps.follows x now in
           subst (λ (l : List Entry). Stands t.first l (t.dumps x.files) base (stored_of x.files)) (sym entries_are) (at_begin after.0 x after.1 after.2);
     }

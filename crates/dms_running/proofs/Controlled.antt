@@ -1,5 +1,6 @@
 -- A whole Schema and its Control, in part or whole, at the end of a restore or of a database that runs.
-use Rattle.std.proofs.Common.{ℕ, ◌+◌, ◌≤◌, ◌<◌, ◌≡◌, inl, inr, Bool, true, List, [], ◌∷◌, ◌++◌, map, length, take, Some, refl, sym, ◌∙◌, ap, subst, arith, append_assoc}
+use Rattle.std.proofs.Common.{ℕ, min, ◌-◌, ◌^◌, ◌+◌, ◌≤◌, ◌<◌, ◌≡◌, inl, inr, Bool, true, List, [], ◌∷◌, ◌++◌, map, length, take, Some, refl, sym, ◌∙◌, ap, subst, arith, append_assoc}
+use Rattle.std.proofs.Math.Nat.{min-le_left, min-eq_right}
 use Rattle.dms_moments.specs.Moments.{Clock, Runs}
 use Rattle.dms_site.specs.Files.{Left, Only, stored_of}
 use Rattle.dms_history.specs.Events.{AllBlocks, Stored, Event, control, block_in}
@@ -23,13 +24,14 @@ use Rattle.dms_history.proofs.AtPoints.{true_or}
 use Rattle.dms_history.proofs.Base.{has_append}
 use Rattle.dms_history.proofs.Converse.{opening_append}
 use Rattle.dms_history.proofs.Given.{described_control}
-use Rattle.dms_history.proofs.Order.{append_none, next_stays}
+use Rattle.dms_history.proofs.Order.{append_none, next_steps}
 use Rattle.dms_history.proofs.Sealed.{control_sealed, one_more_event}
 use Rattle.dms_history.proofs.SchemaParts.{parts_say_nothing, schema_in_parts}
 use Rattle.dms_history.proofs.Keeping.{kept_schema, kept_control, kept_in_parts}
 use Rattle.dms_history.proofs.Listed.{points_listed, one_list}
 use Rattle.dms_history.proofs.ListSteps.{lists_control}
-use Rattle.dms_running.specs.FromDumps.{dump_in, NoDumpPending}
+use Rattle.dms_running.specs.FromDumps.{DumpsInOrder}
+use Rattle.dms_running.proofs.FromDumps.{none_order}
 use Rattle.dms_running.specs.Telling.{Telling, IsTelling}
 use Rattle.dms_running.specs.Standing.{Stands, MayRun}
 use Rattle.dms_running.specs.Points.{described_in, points_told, next_in}
@@ -58,6 +60,10 @@ pub kept_parts : (first : Bool) (es ps : List Entry) (d : Dumps) (base : AllBloc
 kept_parts first es [] d base st all k = subst (λ (l : List Entry). Kept first l d base st) (sym (append_none es)) k
 kept_parts first es (p ∷ ps) d base st all k =
     subst (λ (l : List Entry). Kept first l d base st) (append_assoc es (p ∷ []) ps) (kept_parts first (es ++ p ∷ []) ps d base st all.1 (kept_one first es p d base st all.0 k))
+
+next_bound : (es : List Entry) → next_of es ≤ 2 ^ 64 - 1
+unfolding next_number
+next_bound es = min-le_left (2 ^ 64 - 1) _
 
 module _ (first : Bool) (es : List Entry) (d : Dumps) (base : AllBlocks) (st : Stored) (n next : ℕ) (one : List ℕ) (rest : List (List ℕ)) (counts : List FileCount) where
   abbrev pub schema : List Entry
@@ -118,8 +124,10 @@ module _ (first : Bool) (es : List Entry) (d : Dumps) (base : AllBlocks) (st : S
         ap (map (described_in (es ++ plan))) same
         ∙ described_on es plan (both_on schema (control_point n next counts ∷ []) (parts_on schema schema_parts) (refl, tt)) old (all_placed es counted old before.lives)
 
-    pub whole_next : next_of es ≤ next_of (es ++ plan)
-    whole_next = subst (λ (l : List Event). next_of es ≤ next_number l) (sym (control_sealed es one rest n next counts)) (next_stays (events es) last carried)
+    pub whole_next : next ≡ next_of es → next_of (es ++ plan) ≡ next_of es
+    whole_next same =
+        ap next_number (control_sealed es one rest n next counts) ∙ (next_steps (events es)).control n next (counts_in counts) true ∙ ap (λ k. min (2 ^ 64 - 1) k) same
+        ∙ min-eq_right (next_bound es)
 
     module _ (k : ℕ) where
       part_history : AllSchemaParts (take k plan) → history_of (es ++ take k plan) ≡ history_of es
@@ -146,16 +154,16 @@ module _ (first : Bool) (es : List Entry) (d : Dumps) (base : AllBlocks) (st : S
         | inr all ↦ ap (λ (l : List Entry). points_told d (es ++ l) st) all ∙ whole_points
       ]
 
-      pub part_no_dump : NoDumpPending es → NoDumpPending (es ++ take k plan)
-      part_no_dump none = elim (schema_in_parts k one rest (control_point n next counts)) [
-        | inl parts ↦ ap (λ (h : History). dump_in h.pending) (part_history parts) ∙ none
-        | inr all ↦ ap (λ (l : List Entry). dump_in (history_of (es ++ l)).pending) all ∙ ap (λ (h : History). dump_in h.pending) whole_is
+      pub part_order : (found : ℕ → Type 0) (e : Dumps) → DumpsInOrder found e (history_of es).pending → DumpsInOrder found e (history_of (es ++ take k plan)).pending
+      part_order found e order = elim (schema_in_parts k one rest (control_point n next counts)) [
+        | inl parts ↦ subst (λ (h : History). DumpsInOrder found e h.pending) (sym (part_history parts)) order
+        | inr all ↦ none_order found e (history_of (es ++ take k plan)).pending (ap (λ (l : List Entry). (history_of (es ++ l)).pending) all ∙ ap (λ (h : History). h.pending) whole_is)
       ]
 
-      pub part_next : next_of es ≤ next_of (es ++ take k plan)
-      part_next = elim (schema_in_parts k one rest (control_point n next counts)) [
-        | inl parts ↦ subst (λ (l : List Event). next_of es ≤ next_number l) (sym (parts_say_nothing es (take k plan) parts).1) (omega arith)
-        | inr all ↦ subst (λ (l : List Entry). next_of es ≤ next_of (es ++ l)) (sym all) whole_next
+      pub part_next : next ≡ next_of es → next_of (es ++ take k plan) ≡ next_of es
+      part_next same = elim (schema_in_parts k one rest (control_point n next counts)) [
+        | inl parts ↦ ap next_number (parts_say_nothing es (take k plan) parts).1
+        | inr all ↦ ap (λ (l : List Entry). next_of (es ++ l)) all ∙ whole_next same
       ]
 
   -- ---- of a database that runs
@@ -212,9 +220,9 @@ module _ (t : Telling) (telling : IsTelling t) (a : State) (r : IsRunning t a) (
   keeps : KeepsAll t es a.files base
   keeps = subst (λ (l : List Entry). KeepsAll t l a.files base) (sym c.is) (record {
     points = part_points t.first (t.entries a.files) (t.dumps a.files) base (stored_of a.files) n (next_in t a.files) c.first c.rest counts m.stands kept placed (omega arith);
-    next = part_next t.first (t.entries a.files) (t.dumps a.files) base (stored_of a.files) n (next_in t a.files) c.first c.rest counts m.stands kept placed (omega arith);
+    next = λ k. part_next t.first (t.entries a.files) (t.dumps a.files) base (stored_of a.files) n (next_in t a.files) c.first c.rest counts m.stands kept placed (omega arith) k refl;
     stands = part_stands t.first (t.entries a.files) (t.dumps a.files) base (stored_of a.files) n (next_in t a.files) c.first c.rest counts m.stands kept placed (omega arith);
-    no_dump = λ k. part_no_dump t.first (t.entries a.files) (t.dumps a.files) base (stored_of a.files) n (next_in t a.files) c.first c.rest counts m.stands kept placed (omega arith) k (ap dump_in m.none);
+    order = λ k. part_order t.first (t.entries a.files) (t.dumps a.files) base (stored_of a.files) n (next_in t a.files) c.first c.rest counts m.stands kept placed (omega arith) k (t.dump_found a.files) (t.dumps a.files) (none_order (t.dump_found a.files) (t.dumps a.files) (history_of (t.entries a.files)).pending m.none);
   })
 
   whole : MayRun t.first (t.entries a.files ++ es) (t.dumps a.files) base (stored_of a.files)

@@ -149,19 +149,20 @@ module _ (t : Telling) (telling : IsTelling t) (a : State) (r : IsRunning t a) (
             count_told t.first (t.entries c.files) (t.dumps c.files) early_runs.base (stored_of c.files) two ∙ ap (λ (l : List Entry). count_live l) later_entries
             ∙ sym (count_told t.first (t.entries a.files) (t.dumps a.files) r.base (stored_of a.files) one)
 
--- a prefix of points of which more are durable, with a next number that is no lower
-pub leaves_less : (t : Telling) (points later : List DescribedPoint) (durable more next up : ℕ) (x : Left) → later ≡ points → durable ≤ more → next ≤ up → LeavesPointsPrefix t later more up x → LeavesPointsPrefix t points durable next x
+-- a prefix of points of which more are durable, with the same next number
+pub leaves_less : (t : Telling) (points later : List DescribedPoint) (durable more next up : ℕ) (x : Left) → later ≡ points → durable ≤ more → up ≡ next → LeavesPointsPrefix t later more up x → LeavesPointsPrefix t points durable next x
 leaves_less t points later durable more next up x same le rise front = record {
   count = front.count;
   enough = omega (arith, le, front.enough);
   within = omega (arith, front.within, ap (λ (l : List DescribedPoint). length l) same);
   is = front.is ∙ ap (λ (l : List DescribedPoint). take front.count l) same;
   not_fallen = omega (arith, rise, front.not_fallen, ap (λ (l : List DescribedPoint). length l) same);
+  not_risen = omega (arith, rise, front.not_risen);
   whole = front.whole;
 }
 
 -- one call after another that leave the same points
 pub both_leave : (t : Telling) (points later : List DescribedPoint) (next up : ℕ) (a b : State) (end : Clock Left) → LeavesPoints t points next a b.clock → LeavesPoints t later up b end
-    → later ≡ points → durable_now t a ≤ durable_now t b → next ≤ up → LeavesPoints t points next a end
+    → later ≡ points → durable_now t a ≤ durable_now t b → up ≡ next → LeavesPoints t points next a end
 both_leave t points later next up a b end first second same durable rise =
     runs_on first second (λ x l. leaves_less t points later (durable_now t a) (durable_now t b) next up x same durable rise l)

@@ -1,7 +1,7 @@
 -- A restore ends: its Schema and Control are appended and sealed.
-use Rattle.std.proofs.Common.{ℕ, ◌≤◌, ◌<◌, ◌≡◌, Bool, true, List, [], ◌∷◌, ◌++◌, Some, sym, ◌∙◌, ap, subst, arith}
+use Rattle.std.proofs.Common.{Option, ℕ, ◌≤◌, ◌<◌, ◌≡◌, Bool, true, List, [], ◌∷◌, ◌++◌, Some, sym, ◌∙◌, ap, subst, arith}
 use Rattle.dms_moments.specs.Moments.{Clock, Runs}
-use Rattle.dms_site.specs.Files.{Left, Only, stored_of}
+use Rattle.dms_site.specs.Files.{Files, Left, Only, stored_of}
 use Rattle.dms_history.specs.Events.{AllBlocks, Stored}
 use Rattle.dms_history.specs.Replay.{replay}
 use Rattle.dms_history.specs.Lists.{has}
@@ -23,10 +23,10 @@ use Rattle.dms_running.specs.Standing.{Stands, MayRun}
 use Rattle.dms_running.specs.Points.{points_told, points_of, next_in}
 use Rattle.dms_running.specs.Running.{State, entries_now, content_now, points_now, IsRunning, IsAnOutcome}
 use Rattle.dms_running.specs.Begun.{IsBegun, LeavesAll, IsRestored, outcome_now, IsSchemaControl}
-use Rattle.dms_running.proofs.FromDumps.{begun_no_dump}
+use Rattle.dms_running.specs.FromDumps.{DumpsInOrder}
 use Rattle.dms_running.proofs.Stopped.{blocks_same}
 use Rattle.dms_running.proofs.Appending.{content_of}
-use Rattle.dms_running.proofs.Controlled.{schema_parts, same_history, same_next, behind, kept_parts, whole_may, whole_points, part_points, part_next, part_no_dump, part_stands}
+use Rattle.dms_running.proofs.Controlled.{schema_parts, same_history, same_next, behind, kept_parts, whole_may, whole_points, part_points, part_next, part_order, part_stands}
 use Rattle.dms_running.specs.Plans.{KeepsAll, Planned}
 use Rattle.dms_running.proofs.Planned.{still_runs, plan_leaves}
 use Rattle.dms_running.proofs.Restored.{read_stands}
@@ -70,9 +70,10 @@ module _ (t : Telling) (telling : IsTelling t) (p : Pending) (a : State) (r : Is
   keeps : KeepsAll t es a.files base
   keeps = subst (λ (l : List Entry). KeepsAll t l a.files base) (sym c.is) (record {
     points = part_points t.first old (t.dumps a.files) base (stored_of a.files) p.point (next_in t a.files) c.first c.rest counts s kept placed (omega arith);
-    next = part_next t.first old (t.dumps a.files) base (stored_of a.files) p.point (next_in t a.files) c.first c.rest counts s kept placed (omega arith);
+    next = λ k. part_next t.first old (t.dumps a.files) base (stored_of a.files) p.point (next_in t a.files) c.first c.rest counts s kept placed (omega arith) k (λ i. next_in t a.files);
     stands = part_stands t.first old (t.dumps a.files) base (stored_of a.files) p.point (next_in t a.files) c.first c.rest counts s kept placed (omega arith);
-    no_dump = λ k. part_no_dump t.first old (t.dumps a.files) base (stored_of a.files) p.point (next_in t a.files) c.first c.rest counts s kept placed (omega arith) k (begun_no_dump old p r.pending r.by_audit);
+    order = λ k. part_order t.first old (t.dumps a.files) base (stored_of a.files) p.point (next_in t a.files) c.first c.rest counts s kept placed (omega arith) k (t.dump_found a.files) (t.dumps a.files)
+        (subst (λ (q : Option Pending). DumpsInOrder (t.dump_found a.files) (t.dumps a.files) q) (sym r.pending) (subst (λ (l : Files). DumpsInOrder (t.dump_found l) (t.dumps l) (Some p)) read.2 (r.order read.0 read.1)));
   })
 
   whole : MayRun t.first (old ++ es) (t.dumps a.files) base (stored_of a.files)

@@ -1,11 +1,63 @@
--- A restore by the audit takes no block from a dump.
-use Rattle.std.proofs.Common.{◌≡◌, List, Some, None, refl, ◌∙◌, ap}
-use Rattle.dms_history.specs.Events.{How, halt_load, back_out, roll_back, rebuild, reconstruct}
+-- The dump of a restore that is pending is in order.
+use Rattle.std.proofs.Common.{ℕ, ◌<◌, ◌≤◌, ◌≡◌, List, Option, Some, None, refl, sym, ◌∙◌, ap, subst}
+use Rattle.std.proofs.lemmas.Option.{none-some}
+use Rattle.dms_site.specs.Files.{Files}
+use Rattle.dms_history.specs.Events.{Stored, Event, How, halt_load, back_out, roll_back, rebuild, reconstruct}
+use Rattle.dms_history.specs.Places.{IsLive}
 use Rattle.dms_history.specs.History.{Pending}
-use Rattle.dms_history.specs.Entries.{Entry}
-use Rattle.dms_history.specs.EntryEvents.{history_of}
+use Rattle.dms_history.specs.Pick.{Dumps, count_at, pick, content_of}
+use Rattle.dms_history.specs.Here.{outcome, restore_pick}
 use Rattle.dms_running.specs.Begun.{ByAudit}
-use Rattle.dms_running.specs.FromDumps.{dump_by, dump_in, NoDumpPending}
+use Rattle.dms_running.specs.Telling.{Telling, IsTelling}
+use Rattle.dms_running.specs.FromDumps.{OrderBy, DumpsInOrder, dump_by, dump_in}
+
+-- a restore by the audit asks nothing of dumps
+pub audit_order : (found : ℕ → Type 0) (d : Dumps) (p : Pending) → (how : How) → ByAudit how → OrderBy found d p how
+audit_order found d p halt_load by_audit = tt
+audit_order found d p back_out by_audit = tt
+audit_order found d p roll_back by_audit = tt
+audit_order found d p (rebuild k) by_audit = absurd by_audit
+audit_order found d p (reconstruct k named) by_audit = absurd by_audit
+
+-- nor where none is pending
+pub none_order : (found : ℕ → Type 0) (d : Dumps) (q : Option Pending) → q ≡ None → DumpsInOrder found d q
+none_order found d q none = subst (DumpsInOrder found d) (sym none) tt
+
+order_by : (x y : ℕ → Type 0) (a b : Dumps) (p : Pending) (how : How) → ((k : ℕ) → x k → y k) → b ≡ a → OrderBy x a p how → OrderBy y b p how
+order_by x y a b p halt_load goes same order = tt
+order_by x y a b p back_out goes same order = tt
+order_by x y a b p roll_back goes same order = tt
+order_by x y a b p (rebuild k) goes same order = record {
+  is_found = goes k order.is_found;
+  point_lives = subst (λ (d : Dumps). IsLive p.entries (d k).point) (sym same) order.point_lives;
+  not_later = subst (λ (d : Dumps). (d k).point ≤ p.point) (sym same) order.not_later;
+}
+order_by x y a b p (reconstruct k named) goes same order = record {
+  is_found = goes k order.is_found;
+  point_lives = subst (λ (d : Dumps). IsLive p.entries (d k).point) (sym same) order.point_lives;
+  not_later = subst (λ (d : Dumps). (d k).point ≤ p.point) (sym same) order.not_later;
+}
+
+order_on : (x y : ℕ → Type 0) (a b : Dumps) (q : Option Pending) → ((k : ℕ) → x k → y k) → b ≡ a → DumpsInOrder x a q → DumpsInOrder y b q
+order_on x y a b None goes same order = tt
+order_on x y a b (Some p) goes same order = order_by x y a b p p.how goes same order
+
+-- while the dump files are the same it stays so
+pub order_stays : (t : Telling) → IsTelling t → (x y : Files) (q : Option Pending) → ((g : ℕ) → 20000 < g → g ≤ 30000 → y g ≡ x g) → DumpsInOrder (t.dump_found x) (t.dumps x) q → DumpsInOrder (t.dump_found y) (t.dumps y) q
+order_stays t telling x y q same order = order_on (t.dump_found x) (t.dump_found y) (t.dumps x) (t.dumps y) q (λ k found. telling.dump_found_between y x k same found) (telling.dumps_between y x same) order
+
+picks_audit : (how : How) (d : Dumps) (live : List Event) (m : ℕ) (st : Stored) → ByAudit how → restore_pick how d live m st ≡ pick live m st
+unfolding restore_pick
+picks_audit halt_load d live m st by_audit = refl
+picks_audit back_out d live m st by_audit = refl
+picks_audit roll_back d live m st by_audit = refl
+picks_audit (rebuild d) dumps live m st by_audit = absurd by_audit
+picks_audit (reconstruct d named) dumps live m st by_audit = absurd by_audit
+
+-- no dump counts in it
+pub outcomes_by : (q : Pending) → ByAudit q.how → (e d : Dumps) (st : Stored) → outcome q.how e q.entries q.point st ≡ outcome q.how d q.entries q.point st
+unfolding outcome
+outcomes_by q by_audit e d st = ap (λ (s : Stored). content_of (count_at q.entries q.point) s) (picks_audit q.how e q.entries q.point st by_audit ∙ sym (picks_audit q.how d q.entries q.point st by_audit))
 
 pub audit_no_dump : (how : How) → ByAudit how → dump_by how ≡ None
 audit_no_dump halt_load by_audit = refl
@@ -14,6 +66,26 @@ audit_no_dump roll_back by_audit = refl
 audit_no_dump (rebuild d) by_audit = absurd by_audit
 audit_no_dump (reconstruct d named) by_audit = absurd by_audit
 
--- so none is pending where that is
-pub begun_no_dump : (es : List Entry) (p : Pending) → (history_of es).pending ≡ Some p → ByAudit p.how → NoDumpPending es
-begun_no_dump es p is by_audit = ap dump_in is ∙ audit_no_dump p.how by_audit
+found_by : (found : ℕ → Type 0) (dumps : Dumps) (p : Pending) (how : How) → ((d : ℕ) → found d → ⊥) → OrderBy found dumps p how → dump_by how ≡ None
+found_by found dumps p halt_load never order = refl
+found_by found dumps p back_out never order = refl
+found_by found dumps p roll_back never order = refl
+found_by found dumps p (rebuild d) never order = absurd (never d order.is_found)
+found_by found dumps p (reconstruct d named) never order = absurd (never d order.is_found)
+
+-- while no dump is found, none is in order but where no restore by a dump is pending
+pub no_dump_found : (found : ℕ → Type 0) (dumps : Dumps) (q : Option Pending) → ((d : ℕ) → found d → ⊥) → DumpsInOrder found dumps q → dump_in q ≡ None
+no_dump_found found dumps None never order = refl
+no_dump_found found dumps (Some p) never order = found_by found dumps p p.how never order
+
+no_order_by : (found : ℕ → Type 0) (dumps : Dumps) (p : Pending) (how : How) → dump_by how ≡ None → OrderBy found dumps p how
+no_order_by found dumps p halt_load none = tt
+no_order_by found dumps p back_out none = tt
+no_order_by found dumps p roll_back none = tt
+no_order_by found dumps p (rebuild d) none = absurd (none-some d (sym none))
+no_order_by found dumps p (reconstruct d named) none = absurd (none-some d (sym none))
+
+-- and where none is pending, it is in order
+pub no_dump_order : (found : ℕ → Type 0) (dumps : Dumps) (q : Option Pending) → dump_in q ≡ None → DumpsInOrder found dumps q
+no_dump_order found dumps None none = tt
+no_dump_order found dumps (Some p) none = no_order_by found dumps p p.how none

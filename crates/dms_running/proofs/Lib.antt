@@ -16,3 +16,9 @@ pub mod Wholes
 pub mod Looking
 pub mod OneMore
 pub mod NoRoom
+pub mod ByHow
+pub mod AnyRestore
+pub mod EndsFirst
+pub mod SizedContent
+pub mod AnyBegin
+pub mod NewDumps

@@ -1,14 +1,14 @@
 -- Entries that wait between two control points.
-use Rattle.std.proofs.Common.{ℕ, zero, suc, ◌≡◌, ◌||◌, false, List, [], ◌∷◌, ◌++◌, take, drop, length, refl, sym, ◌∙◌, ap, subst, append_assoc}
+use Rattle.std.proofs.Common.{ℕ, zero, suc, ◌≤◌, ◌≡◌, arith, ◌||◌, false, List, [], ◌∷◌, ◌++◌, take, drop, length, refl, sym, ◌∙◌, ap, subst, append_assoc}
 use Rattle.std.proofs.lemmas.List.{take_at, take-append-drop}
 use Rattle.dms_history.specs.Events.{Event, change, quiet}
 use Rattle.dms_history.specs.Lists.{has}
 use Rattle.dms_history.specs.Places.{is_control}
-use Rattle.dms_history.specs.History.{History, history}
+use Rattle.dms_history.specs.History.{History, history, next_number}
 use Rattle.dms_history.specs.Entries.{Entry, schema_part, image, byte_range, quiet_point, control_point, begin_restore}
-use Rattle.dms_history.specs.EntryEvents.{events, live_of}
+use Rattle.dms_history.specs.EntryEvents.{events, live_of, next_of}
 use Rattle.dms_history.proofs.Base.{has_append}
-use Rattle.dms_history.proofs.Order.{append_none}
+use Rattle.dms_history.proofs.Order.{append_none, next_stays}
 use Rattle.dms_history.proofs.Sealed.{image_sealed, quiet_sealed, one_more_event}
 use Rattle.dms_running.specs.Running.{IsPlainEntry, AllPlain}
 use Rattle.dms_history.proofs.SchemaParts.{take_nothing}
@@ -71,3 +71,17 @@ push_all P (w ∷ ws) e some whole (suc k) = push_all (λ l. P (w ∷ l)) ws e (
 -- the two parts of a list behind another one
 pub split_behind : (xs es : List Entry) (k : ℕ) → (xs ++ take k es) ++ drop k es ≡ xs ++ es
 split_behind xs es k = append_assoc xs (take k es) (drop k es) ∙ ap (λ (l : List Entry). xs ++ l) (take-append-drop k es)
+
+-- plain entries never lower the next number
+pub plain_rises : (xs ys : List Entry) → AllPlain ys → next_of xs ≤ next_of (xs ++ ys)
+plain_rises xs [] plain = omega (arith, ap (λ (l : List Entry). next_of l) (append_none xs))
+plain_rises xs (schema_part part parts bytes ∷ ys) plain = absurd plain.0
+plain_rises xs (image f b before after ∷ ys) plain =
+    let one : next_of xs ≤ next_of (xs ++ image f b before after ∷ []) = subst (λ (l : List Event). next_of xs ≤ next_number l) (sym (image_sealed xs f b before after)) (next_stays (events xs) (change f b before after) tt) in
+    omega (arith, one, plain_rises (xs ++ image f b before after ∷ []) ys plain.1, ap (λ (l : List Entry). next_of l) (append_assoc xs (image f b before after ∷ []) ys))
+plain_rises xs (byte_range f b place bytes ∷ ys) plain = absurd plain.0
+plain_rises xs (quiet_point n ∷ ys) plain =
+    let one : next_of xs ≤ next_of (xs ++ quiet_point n ∷ []) = subst (λ (l : List Event). next_of xs ≤ next_number l) (sym (quiet_sealed xs n)) (next_stays (events xs) (quiet n) tt) in
+    omega (arith, one, plain_rises (xs ++ quiet_point n ∷ []) ys plain.1, ap (λ (l : List Entry). next_of l) (append_assoc xs (quiet_point n ∷ []) ys))
+plain_rises xs (control_point n next counts ∷ ys) plain = absurd plain.0
+plain_rises xs (begin_restore n kind ∷ ys) plain = absurd plain.0

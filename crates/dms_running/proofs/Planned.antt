@@ -1,5 +1,5 @@
 -- A planned list of entries, appended and sealed over files on which nothing is pending.
-use Rattle.std.proofs.Common.{ℕ, zero, suc, min, ◌+◌, ◌≤◌, ◌<◌, ◌≡◌, List, [], ◌∷◌, ◌++◌, length, take, drop, refl, sym, ◌∙◌, ap, subst, arith, append_assoc}
+use Rattle.std.proofs.Common.{ℕ, zero, suc, min, ◌+◌, ◌<◌, ◌≡◌, List, [], ◌∷◌, ◌++◌, length, take, drop, refl, sym, ◌∙◌, ap, subst, arith, append_assoc}
 use Rattle.std.proofs.lemmas.List.{take_all, take-append-drop}
 use Rattle.std.proofs.Math.Seq.{take-append-add}
 use Rattle.dms_moments.specs.Moments.{Clock, Now, Runs, Steps}
@@ -10,7 +10,8 @@ use Rattle.dms_history.specs.Pick.{Dumps}
 use Rattle.dms_history.specs.Entries.{Entry}
 use Rattle.dms_history.specs.EntryEvents.{history_of, next_of}
 use Rattle.dms_history.proofs.Order.{append_none}
-use Rattle.dms_running.specs.FromDumps.{dump_in}
+use Rattle.dms_running.specs.FromDumps.{DumpsInOrder}
+use Rattle.dms_running.proofs.FromDumps.{order_stays}
 use Rattle.dms_running.specs.Telling.{Telling, IsTelling}
 use Rattle.dms_running.specs.Standing.{Stands, MayRun, IsWhole}
 use Rattle.dms_running.specs.Points.{DescribedPoint, points_told, points_of, next_in, LeavesPointsPrefix}
@@ -22,13 +23,14 @@ use Rattle.dms_running.proofs.Stopped.{blocks_same, joined}
 use Rattle.dms_history.proofs.SchemaParts.{take_nothing}
 
 -- a stop leaves all of these points
-pub all_left : (t : Telling) (points : List DescribedPoint) (next : ℕ) (x : Left) → points_of t x.files ≡ points → next ≤ next_in t x.files → IsWhole t x.files → LeavesPointsPrefix t points (length points) next x
+pub all_left : (t : Telling) (points : List DescribedPoint) (next : ℕ) (x : Left) → points_of t x.files ≡ points → next_in t x.files ≡ next → IsWhole t x.files → LeavesPointsPrefix t points (length points) next x
 all_left t points next x is up whole = record {
   count = length points;
   enough = omega arith;
   within = omega arith;
   is = is ∙ sym (take_all (length points) points (omega arith));
   not_fallen = omega (arith, up);
+  not_risen = omega (arith, up);
   whole = whole;
 }
 
@@ -134,8 +136,8 @@ module _ (t : Telling) (telling : IsTelling t) (es : List Entry) (a : State) (ba
   planned_front x p =
       all_left t (points_of t a.files) (next_in t a.files) x
       ((λ i. points_told (telling.dumps_between x.files a.files (λ g up below. p.above g up) i) (p.sealed i) (blocks_same x.files a.files p.above i)) ∙ keeps.points p.some)
-      (subst (λ (l : List Entry). next_in t a.files ≤ next_of l) (sym p.sealed) (keeps.next p.some))
-      (record { found = p.found finds; base = base; stands = carried t telling a.files x.files (t.entries x.files) base p.above (subst (λ (l : List Entry). Stands t.first l (t.dumps a.files) base (stored_of a.files)) (sym p.sealed) (keeps.stands p.some)); no_dump = ap (λ (l : List Entry). dump_in (history_of l).pending) p.sealed ∙ keeps.no_dump p.some })
+      (ap (λ (l : List Entry). next_of l) p.sealed ∙ keeps.next p.some)
+      (record { found = p.found finds; base = base; stands = carried t telling a.files x.files (t.entries x.files) base p.above (subst (λ (l : List Entry). Stands t.first l (t.dumps a.files) base (stored_of a.files)) (sym p.sealed) (keeps.stands p.some)); order = subst (λ (l : List Entry). DumpsInOrder (t.dump_found x.files) (t.dumps x.files) (history_of l).pending) (sym p.sealed) (order_stays t telling a.files x.files _ (λ g up below. p.above g up) (keeps.order p.some)) })
 
   -- a stop while they are appended and sealed leaves all points
   pub plan_leaves : (later : Clock Left) → Runs a.clock later (Planned t es a.files) → LeavesAll t a later

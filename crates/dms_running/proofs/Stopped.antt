@@ -14,7 +14,7 @@ use Rattle.dms_history.specs.Entries.{Entry}
 use Rattle.dms_history.specs.EntryEvents.{history_of, live_of, next_of}
 use Rattle.dms_history.proofs.Order.{append_none}
 use Rattle.dms_history.proofs.Listed.{points_front}
-use Rattle.dms_running.specs.FromDumps.{dump_in}
+use Rattle.dms_running.proofs.FromDumps.{none_order}
 use Rattle.dms_running.specs.Telling.{Telling, IsTelling}
 use Rattle.dms_running.specs.Standing.{Stands, MayRun}
 use Rattle.dms_running.specs.Points.{DescribedPoint, described_in, points_told, points_of, LeavesPointsPrefix}
@@ -22,7 +22,7 @@ use Rattle.dms_running.specs.Sealing.{SealsSome, Appended, AreSealed, Settled}
 use Rattle.dms_running.specs.Running.{State, entries_now, AllPlain, count_live, IsRunning, IsAnOutcome, LeavesPoints}
 use Rattle.dms_running.proofs.Described.{plain_on, described_on}
 use Rattle.dms_running.proofs.MayRun.{sound, points_are, points_placed}
-use Rattle.dms_running.proofs.Plain.{plain_grows, plain_drop, plain_take, take_whole, split_behind}
+use Rattle.dms_running.proofs.Plain.{plain_grows, plain_drop, plain_take, plain_rises, take_whole, split_behind}
 use Rattle.dms_history.proofs.SchemaParts.{take_nothing}
 
 -- how many points there are
@@ -95,7 +95,8 @@ module _ (t : Telling) (telling : IsTelling t) (a : State) (es : List Entry) (ba
           count_told t.first (old ++ take k es) (t.dumps x.files) base (stored_of x.files) here,
           count_told t.first (old ++ es) (t.dumps a.files) base (stored_of a.files) whole_read,
         );
-        whole = record { found = found; base = base; stands = subst (λ (l : List Entry). Stands t.first l (t.dumps x.files) base (stored_of x.files)) (sym is) here.stands; no_dump = ap (λ (l : List Entry). dump_in (history_of l).pending) is ∙ ap dump_in here.none };
+        not_risen = omega (arith, ap (λ (l : List Entry). next_of l) is, plain_rises (old ++ take k es) (drop k es) (plain_drop k es plain), ap (λ (l : List Entry). next_of l) (split_behind old es k));
+        whole = record { found = found; base = base; stands = subst (λ (l : List Entry). Stands t.first l (t.dumps x.files) base (stored_of x.files)) (sym is) here.stands; order = none_order (t.dump_found x.files) (t.dumps x.files) (history_of (t.entries x.files)).pending (ap (λ (l : List Entry). (history_of l).pending) is ∙ here.none) };
       }
 
   -- what stands after so many of the entries were sealed

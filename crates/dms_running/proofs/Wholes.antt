@@ -14,7 +14,7 @@ use Rattle.dms_history.proofs.Keeping.{kept_agrees, agrees_kept}
 use Rattle.dms_history.proofs.Given.{described_control}
 use Rattle.dms_history.proofs.Running.{above_all}
 use Rattle.dms_history.proofs.Sizing.{sized_base}
-use Rattle.dms_running.specs.FromDumps.{NoDumpPending}
+use Rattle.dms_running.specs.FromDumps.{DumpsInOrder}
 use Rattle.dms_running.specs.Telling.{Telling}
 use Rattle.dms_running.specs.Standing.{IsWhole}
 use Rattle.dms_running.specs.Points.{next_in}
@@ -54,10 +54,10 @@ agrees_stands first es dumps stored agrees described lives images sized =
 -- files in which scanning finds the entries hold a database where these agree so
 pub agrees_whole : (t : Telling) (files : Files) → t.found files → Agrees t.first (t.entries files) (t.dumps files) (stored_of files) → has is_described (live_of (t.entries files)) ≡ true
     → ((p : Pending) → (history_of (t.entries files)).pending ≡ Some p → IsLive (live_of (t.entries files)) p.point) → ImagesSized (from_control (live_of (t.entries files)))
-    → ((base : AllBlocks) → Kept t.first (t.entries files) (t.dumps files) base (stored_of files) → AllSized (content_told (t.entries files) base)) → NoDumpPending (t.entries files) → IsWhole t files
-agrees_whole t files found agrees described lives images sized no_dump =
+    → ((base : AllBlocks) → Kept t.first (t.entries files) (t.dumps files) base (stored_of files) → AllSized (content_told (t.entries files) base)) → DumpsInOrder (t.dump_found files) (t.dumps files) (history_of (t.entries files)).pending → IsWhole t files
+agrees_whole t files found agrees described lives images sized order =
     let over = agrees_stands t.first (t.entries files) (t.dumps files) (stored_of files) agrees described lives images sized in
-    record { found = found; base = over.0; stands = over.1; no_dump = no_dump }
+    record { found = found; base = over.0; stands = over.1; order = order }
 
 pub runs_image : RunsImage
 runs_image first es dumps base stored f b before after m tells sized = (may_image first es dumps base stored m f b before after tells sized, content_image first es dumps base stored m f b before after tells sized)

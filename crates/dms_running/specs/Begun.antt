@@ -2,7 +2,8 @@
 use Rattle.std.specs.Prelude.{ℕ, ◌<◌, ◌≡◌, List, [], ◌∷◌, ◌++◌, Some}
 use Rattle.dms_moments.specs.Moments.{Clock, Now}
 use Rattle.dms_site.specs.Files.{Left, stored_of}
-use Rattle.dms_history.specs.Events.{AllBlocks, How, halt_load, back_out, roll_back, rebuild, reconstruct}
+use Rattle.dms_running.specs.FromDumps.{DumpsInOrder}
+use Rattle.dms_history.specs.Events.{Stored, AllBlocks, How, halt_load, back_out, roll_back, rebuild, reconstruct}
 use Rattle.dms_history.specs.Places.{IsLive}
 use Rattle.dms_history.specs.History.{Pending, last_point}
 use Rattle.dms_history.specs.Pick.{count_at, blocks_at}
@@ -25,7 +26,7 @@ ByAudit roll_back = Unit {0}
 ByAudit (rebuild d) = ⊥
 ByAudit (reconstruct d named) = ⊥
 
--- No entry waits, and in each image that a stop leaves the Begin of this restore by the audit is sealed and pending, scanning finds the
+-- No entry waits, and in each image that a stop leaves the Begin of this restore is sealed and pending, scanning finds the
 -- entries, and the database stands over one base.
 pub record IsBegun (t : Telling) (p : Pending) (s : State) : Type 0 where
   pub base : AllBlocks
@@ -33,7 +34,9 @@ pub record IsBegun (t : Telling) (p : Pending) (s : State) : Type 0 where
   pub settled : Settled t s.files s.clock
   pub found : (x : Left) → Now s.clock x → t.found x.files
   pub pending : (history_of (t.entries s.files)).pending ≡ Some p
-  pub by_audit : ByAudit p.how
+  -- what the restore is to leave is the same by the dumps that each stop leaves, and its dump is in order
+  pub outcome_stays : (x : Left) (st : Stored) → Now s.clock x → outcome p.how (t.dumps x.files) p.entries p.point st ≡ outcome p.how (t.dumps s.files) p.entries p.point st
+  pub order : (x : Left) → Now s.clock x → DumpsInOrder (t.dump_found x.files) (t.dumps x.files) (Some p)
   pub each : (x : Left) → Now s.clock x → Stands t.first (t.entries s.files) (t.dumps x.files) base (stored_of x.files)
 
 -- a stop leaves all points that these files hold

@@ -1,9 +1,29 @@
 -- Restores that take blocks from a dump.
-use Rattle.std.specs.Prelude.{ℕ, ◌≡◌, List, Option, Some, None}
+use Rattle.std.specs.Prelude.{ℕ, ◌≤◌, ◌≡◌, List, Option, Some, None}
 use Rattle.dms_history.specs.Events.{How, halt_load, back_out, roll_back, rebuild, reconstruct}
+use Rattle.dms_history.specs.Places.{IsLive}
 use Rattle.dms_history.specs.History.{Pending}
+use Rattle.dms_history.specs.Pick.{Dumps}
 use Rattle.dms_history.specs.Entries.{Entry}
 use Rattle.dms_history.specs.EntryEvents.{history_of}
+
+-- Dump d can serve a restore: it is found, its point is live among the entries before the Begin, and isn't above the restore's.
+pub record DumpInOrder (found : ℕ → Type 0) (dumps : Dumps) (p : Pending) (d : ℕ) : Type 0 where
+  pub is_found : found d
+  pub point_lives : IsLive p.entries (dumps d).point
+  pub not_later : (dumps d).point ≤ p.point
+
+abbrev pub OrderBy : (ℕ → Type 0) → Dumps → Pending → How → Type 0
+OrderBy found dumps p halt_load = Unit {0}
+OrderBy found dumps p back_out = Unit {0}
+OrderBy found dumps p roll_back = Unit {0}
+OrderBy found dumps p (rebuild d) = DumpInOrder found dumps p d
+OrderBy found dumps p (reconstruct d named) = DumpInOrder found dumps p d
+
+-- The dump of a restore that is pending is in order; where none is pending, or one by the audit, nothing is asked.
+abbrev pub DumpsInOrder : (ℕ → Type 0) → Dumps → Option Pending → Type 0
+DumpsInOrder found dumps None = Unit {0}
+DumpsInOrder found dumps (Some p) = OrderBy found dumps p p.how
 
 -- the number of the dump by which a restore goes
 abbrev pub dump_by : How → Option ℕ

@@ -9,3 +9,7 @@ pub mod Restoring
 pub mod Begun
 pub mod Plans
 pub mod Laws
+pub mod ByHow
+pub mod AnyLaws
+pub mod FirstLaws
+pub mod AnyBegun

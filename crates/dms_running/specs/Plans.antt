@@ -1,11 +1,11 @@
 -- A planned list of entries that is appended and sealed over files on which nothing was pending.
-use Rattle.std.specs.Prelude.{ℕ, ◌<◌, ◌≤◌, ◌≡◌, List, ◌++◌, take}
+use Rattle.std.specs.Prelude.{ℕ, ◌<◌, ◌≡◌, List, ◌++◌, take}
 use Rattle.dms_moments.specs.Moments.{Clock, Now, Runs}
 use Rattle.dms_site.specs.Files.{Files, Left, stored_of}
 use Rattle.dms_history.specs.Events.{AllBlocks}
 use Rattle.dms_history.specs.Entries.{Entry}
-use Rattle.dms_history.specs.EntryEvents.{next_of}
-use Rattle.dms_running.specs.FromDumps.{NoDumpPending}
+use Rattle.dms_history.specs.EntryEvents.{history_of, next_of}
+use Rattle.dms_running.specs.FromDumps.{DumpsInOrder}
 use Rattle.dms_running.specs.Telling.{Telling}
 use Rattle.dms_running.specs.Standing.{Stands}
 use Rattle.dms_running.specs.Points.{points_told, points_of, next_in}
@@ -27,10 +27,10 @@ pub record Lays (t : Telling) (es : List Entry) (start : Files) (old : Clock Lef
   pub since : Runs old s.clock (Planned t es start)
   pub now : (x : Left) → Now s.clock x → Planned t es start x
 
--- What holds of each prefix of a plan: it has the points of the start, a next number that is no lower, and stands, and no restore by a dump is
--- pending.
+-- What holds of each prefix of a plan: it has the points of the start, the same next number, and stands, and the dump of a restore that
+-- is pending is in order.
 pub record KeepsAll (t : Telling) (es : List Entry) (start : Files) (base : AllBlocks) : Type 0 where
   pub points : (k : ℕ) → points_told (t.dumps start) (t.entries start ++ take k es) (stored_of start) ≡ points_of t start
-  pub next : (k : ℕ) → next_in t start ≤ next_of (t.entries start ++ take k es)
+  pub next : (k : ℕ) → next_of (t.entries start ++ take k es) ≡ next_in t start
   pub stands : (k : ℕ) → Stands t.first (t.entries start ++ take k es) (t.dumps start) base (stored_of start)
-  pub no_dump : (k : ℕ) → NoDumpPending (t.entries start ++ take k es)
+  pub order : (k : ℕ) → DumpsInOrder (t.dump_found start) (t.dumps start) (history_of (t.entries start ++ take k es)).pending

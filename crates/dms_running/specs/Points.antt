@@ -39,11 +39,12 @@ abbrev pub next_in : Telling → Files → ℕ
 next_in t files = next_of (t.entries files)
 
 -- A stop leaves the first so many of these points, at least the durable ones, each with its content and its Schema, in files that hold a database. The
--- next number has fallen from this one by no more than the points that are missing.
+-- next number has fallen from this one by no more than the points that are missing, and hasn't risen.
 pub record LeavesPointsPrefix (t : Telling) (points : List DescribedPoint) (durable next : ℕ) (x : Left) : Type 0 where
   pub count : ℕ
   pub enough : durable ≤ count
   pub within : count ≤ length points
   pub is : points_of t x.files ≡ take count points
   pub not_fallen : next + count ≤ next_in t x.files + length points
+  pub not_risen : next_in t x.files ≤ next
   pub whole : IsWhole t x.files

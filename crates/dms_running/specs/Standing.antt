@@ -10,7 +10,7 @@ use Rattle.dms_history.specs.Entries.{Entry}
 use Rattle.dms_history.specs.EntryEvents.{history_of, live_of}
 use Rattle.dms_history.specs.Kept.{Kept}
 use Rattle.dms_history.specs.Sizes.{AllSized, ImagesSized}
-use Rattle.dms_running.specs.FromDumps.{NoDumpPending}
+use Rattle.dms_running.specs.FromDumps.{DumpsInOrder}
 use Rattle.dms_running.specs.Telling.{Telling}
 
 -- All that a database keeps between two calls is kept over a base, a Control directly behind a whole Schema is live, and each block
@@ -26,9 +26,9 @@ pub record MayRun (first : Bool) (entries : List Entry) (dumps : Dumps) (base : 
   pub stands : Stands first entries dumps base stored
   pub none : (history_of entries).pending ≡ None
 
--- Files hold a database, be a restore by the audit pending or not: scanning finds its entries, all stands, and no restore by a dump is pending.
+-- Files hold a database, be a restore pending or not: scanning finds its entries, all stands, and the dump of a restore that is pending is in order.
 pub record IsWhole (t : Telling) (files : Files) : Type 0 where
   pub found : t.found files
   pub base : AllBlocks
   pub stands : Stands t.first (t.entries files) (t.dumps files) base (stored_of files)
-  pub no_dump : NoDumpPending (t.entries files)
+  pub order : DumpsInOrder (t.dump_found files) (t.dumps files) (history_of (t.entries files)).pending

@@ -10,7 +10,6 @@ use Rattle.dms_model.specs.Seen.{Effort, Seen}
 use Rattle.dms_runner.specs.EventLaws.{AreCounted}
 use Rattle.dms_runner.specs.Events.{RunEvent, SaidAtLeast, TakesEvents, TookAll, TookOneMore, TookPart, backs_of, blocks_of, quiets_of, syncs_of, text_of}
 use Rattle.dms_runner.specs.declared.run.RunFault.{RunFault}
-use Rattle.dms_runner.specs.declared.run.RunFault.TheVariants as run
 use Rattle.dms_runner.specs.declared.run.RunFault.TheVariants.{Block}
 use Rattle.dms_runner.proofs.Texts.{front_all, front_none, prints_none}
 use Rattle.dms_running.specs.Telling.{Telling}
@@ -19,22 +18,21 @@ use Rattle.dms_restore.specs.Views.{view_of}
 use Rattle.dms_site.specs.declared.site.Site.{Ghosts}
 use Rattle.dms_site.specs.Files.{Files}
 use Rattle.dms_status.specs.declared.status.Status.{Status}
-use Rattle.dms_status.specs.declared.status.LimitKind.TheVariants.{AuditFile, Lines, Bytes, Held}
-use Rattle.dms_status.specs.declared.status.Status.TheVariants.{Ok, BadWords, SchemaRefused, NoDatabase, Needed, InputFault, Memory, Limit, Damaged, SayFault, DiskFault, Exists}
+use Rattle.dms_status.specs.declared.status.Status.TheVariants.{Ok, SayFault}
 use Rattle.dms_storeverbs.specs.Costs.{limit_if}
 use Rattle.dms_wal.specs.declared.running.Running.{Running}
 use Rattle.dms_wal.specs.Growing.{GrowsBy, IsCounted, controls_among}
 use Rattle.dms_wal.proofs.Grown.{controls_low}
-use Rattle.dms_runtop.specs.Bound.{BoundsAudit, GrewWithin, PrintsEvents, StopsAtLine, audit_begun, audit_of, closing_of}
+use Rattle.dms_runtop.specs.Bound.{AnswersPart, GrewWithin, PrintsEvents, audit_begun, audit_of}
 use Rattle.dms_runtop.specs.Faults.{IsWithin, run_status}
-use Rattle.dms_runtop.specs.Statuses.{IsOfClosing}
-use Rattle.dms_runtop.proofs.Endings.{run_not_ok, run_input, run_lines_is, run_bytes_is, run_held_is}
+use Rattle.dms_runtop.proofs.Endings.{run_not_ok}
 
 -- ---- the text
 
 -- nothing was printed
 says_none : (cut : Type 0) (events : List RunEvent) (x y : Option (List ℕ)) → y ≡ x → PrintsEvents cut 0 events x y
 says_none cut events x y same = record {
+  within = omega arith;
   text = λ off. prints_none x y same;
   whole = 0;
   near = (omega arith, omega arith);
@@ -47,6 +45,7 @@ says_all : (cut : Type 0) (events : List RunEvent) (x y : Option (List ℕ)) →
 says_all cut events x y text =
     let all : take (length events) events ≡ events = take_all (length events) events (omega arith) in
     record {
+      within = omega arith;
       text = λ off. subst (λ (es : List RunEvent). Prints x y (text_of es)) (sym all) text;
       whole = length events;
       near = (omega arith, omega arith);
@@ -56,51 +55,18 @@ says_all cut events x y text =
 
 -- where less may have cut it off
 says_uncut : {cut cut' : Type 0} {k : ℕ} {events : List RunEvent} {x y : Option (List ℕ)} → ((cut' → ⊥) → cut → ⊥) → PrintsEvents cut k events x y → PrintsEvents cut' k events x y
-says_uncut whole p = record { text = λ off. p.text (whole off); whole = p.whole; near = p.near; least = p.least; most = p.most }
+says_uncut whole p = record { within = p.within; text = λ off. p.text (whole off); whole = p.whole; near = p.near; least = p.least; most = p.most }
 
 -- and where the text is the same
 says_same : {cut : Type 0} {k : ℕ} {events : List RunEvent} {x y z : Option (List ℕ)} → z ≡ y → PrintsEvents cut k events x y → PrintsEvents cut k events x z
 says_same {k = k} {events = events} {x = x} same p = record {
+  within = p.within;
   text = λ off. subst (λ (o : Option (List ℕ)). Prints x o (text_of (take k events))) (sym same) (p.text off);
   whole = p.whole;
   near = p.near;
   least = subst (λ (o : Option (List ℕ)). SaidAtLeast x o (text_of (take p.whole events))) (sym same) p.least;
   most = subst (λ (o : Option (List ℕ)). PrintsPrefix x o (text_of (take k events))) (sym same) p.most;
 }
-
--- ---- the close
-
--- none is made where the script stopped at a line
-pub closes_none : (s : Status) → StopsAtLine s → closing_of s ≡ 0
-closes_none s (inl is) = ap closing_of is
-closes_none s (inr (inl is)) = ap closing_of is
-closes_none s (inr (inr (inl is))) = ap closing_of is
-closes_none s (inr (inr (inr is))) = ap closing_of is
-
-pub closes_not : (s : Status) → closing_of s ≡ 18 → StopsAtLine s → ⊥
-closes_not s closing at = omega (arith, closing, closes_none s at)
-
--- one was begun
-closes_of : (s : Status) → IsOfClosing s → closing_of s ≡ 18
-closes_of Ok of = absurd of
-closes_of BadWords of = absurd of
-closes_of (SchemaRefused f) of = absurd of
-closes_of NoDatabase of = absurd of
-closes_of (Needed n) of = absurd of
-closes_of InputFault of = absurd of
-closes_of Memory of = refl
-closes_of (Limit (AuditFile f)) of = refl
-closes_of (Limit Lines) of = absurd of
-closes_of (Limit Bytes) of = absurd of
-closes_of (Limit Held) of = absurd of
-closes_of (Damaged f b) of = absurd of
-closes_of SayFault of = absurd of
-closes_of DiskFault of = refl
-closes_of Exists of = absurd of
-
-pub closes : (s : Status) → (s ≡ Ok) ⊎ IsOfClosing s → closing_of s ≡ 18
-closes s (inl ok) = ap closing_of ok
-closes s (inr of) = closes_of s of
 
 -- ---- what was done before, and what is done since
 
@@ -109,67 +75,38 @@ grew_since : (n m : ℕ) (t : Telling) (desc : Described) (whole k : ℕ) (event
 grew_since n m t desc whole k events a0 a b grew (inl all) = inl (omega (arith, grew, all))
 grew_since n m t desc whole k events a0 a b grew (inr more) = inr (more.0, omega (arith, grew, more.1))
 
-pub bounds_since : {n m : ℕ} {t : Telling} {desc : Described} {events : List RunEvent} {a0 a b : Files} {x y : Option (List ℕ)} {s : Status} → length (t.entries a) + n ≤ length (t.entries a0) + m → BoundsAudit n t desc events a b x y s → BoundsAudit m t desc events a0 b x y s
-bounds_since {n} {m} {t} {desc} {events} {a0} {a} {b} {s = s} grew bound = record {
-  at_ok = λ is. omega (arith, grew, bound.at_ok is);
-  at_line = λ at. omega (arith, grew, bound.at_line at);
-  at_end =
-      let p = bound.at_end in
-      let more : length (t.entries a) + (n + closing_of s) ≤ length (t.entries a0) + (m + closing_of s) = omega (arith, grew) in
-      record { k = p.k; within = p.within; printed = p.printed; grew = grew_since (n + closing_of s) (m + closing_of s) t desc p.printed.whole p.k events a0 a b more p.grew };
-}
+pub bounds_since : {n m : ℕ} {t : Telling} {desc : Described} {events : List RunEvent} {a0 a b : Files} {x y : Option (List ℕ)} {s : Status} → length (t.entries a) + n ≤ length (t.entries a0) + m → AnswersPart n t desc events a b x y s
+    → AnswersPart m t desc events a0 b x y s
+bounds_since {n} {m} {t} {desc} {events} {a0} {a} {b} grew p = record { k = p.k; text = p.text; whole = p.whole; grew = grew_since n m t desc p.text.whole p.k events a0 a b grew p.grew }
 
 -- so it is where the run ends with another status, and nothing was done since
-pub bounds_instead : {n : ℕ} {t : Telling} {desc : Described} {events : List RunEvent} {a b c : Files} {x y z : Option (List ℕ)} (s0 s : Status) → (s0 ≡ SayFault → ⊥) → (s ≡ Ok → ⊥) → closing_of s0 ≤ closing_of s → (StopsAtLine s → ⊥) → c ≡ b → z ≡ y
-    → BoundsAudit n t desc events a b x y s0 → BoundsAudit n t desc events a c x z s
+pub bounds_instead : {n : ℕ} {t : Telling} {desc : Described} {events : List RunEvent} {a b c : Files} {x y z : Option (List ℕ)} (s0 s : Status) → (s0 ≡ SayFault → ⊥) → (s ≡ Ok → ⊥) → c ≡ b → z ≡ y → AnswersPart n t desc events a b x y s0
+    → AnswersPart n t desc events a c x z s
 unfolding says_same says_uncut
-bounds_instead {n} {t} {desc} {events} {a} {b} {x = x} s0 s unsaid not_ok closing not_line files said bound = record {
-  at_ok = λ is. absurd (not_ok is);
-  at_line = λ at. absurd (not_line at);
-  at_end =
-      let q = bound.at_end in
-      let more : length (t.entries a) + (n + closing_of s0) ≤ length (t.entries a) + (n + closing_of s) = omega (arith, closing) in
-      record {
-        k = q.k;
-        within = q.within;
-        printed = says_same said (says_uncut (λ other cut. unsaid cut) q.printed);
-        grew = subst (λ (f : Files). GrewWithin (n + closing_of s) t desc q.printed.whole q.k events a f) (sym files)
-            (grew_since (n + closing_of s0) (n + closing_of s) t desc q.printed.whole q.k events a a b more q.grew);
-      };
+bounds_instead {n} {t} {desc} {events} {a} s0 s unsaid not_ok files said p = record {
+  k = p.k;
+  text = says_same said (says_uncut (λ other cut. unsaid cut) p.text);
+  whole = λ is. absurd (not_ok is);
+  grew = subst (λ (f : Files). GrewWithin n t desc p.text.whole p.k events a f) (sym files) p.grew;
 }
 
 -- nothing was said, and the files have no more than an opening adds
-pub bounds_opening : {n : ℕ} {t : Telling} {desc : Described} {events : List RunEvent} {a b : Files} {x y : Option (List ℕ)} (s : Status) → (s ≡ Ok → ⊥) → length (t.entries b) ≤ length (t.entries a) + n → y ≡ x → BoundsAudit n t desc events a b x y s
-bounds_opening {events = events} {x = x} {y = y} s not_ok few same = record {
-  at_ok = λ is. absurd (not_ok is);
-  at_line = λ at. omega (arith, few);
-  at_end = record { k = 0; within = omega arith; printed = says_none (s ≡ SayFault) events x y same; grew = inl (omega (arith, few)) };
-}
+pub bounds_opening : {n : ℕ} {t : Telling} {desc : Described} {events : List RunEvent} {a b : Files} {x y : Option (List ℕ)} (s : Status) → (s ≡ Ok → ⊥) → length (t.entries b) ≤ length (t.entries a) + n → y ≡ x → AnswersPart n t desc events a b x y s
+bounds_opening {events = events} {x = x} {y = y} s not_ok few same = record { k = 0; text = says_none (s ≡ SayFault) events x y same; whole = λ is. absurd (not_ok is); grew = inl (omega (arith, few)) }
 
 -- nothing was done
-pub bounds_none : {n : ℕ} {t : Telling} {desc : Described} {events : List RunEvent} {a b : Files} {x y : Option (List ℕ)} (s : Status) → (s ≡ Ok → ⊥) → b ≡ a → y ≡ x → BoundsAudit n t desc events a b x y s
+pub bounds_none : {n : ℕ} {t : Telling} {desc : Described} {events : List RunEvent} {a b : Files} {x y : Option (List ℕ)} (s : Status) → (s ≡ Ok → ⊥) → b ≡ a → y ≡ x → AnswersPart n t desc events a b x y s
 bounds_none {t = t} s not_ok files same = bounds_opening s not_ok (omega (arith, ap (λ (l : Files). length (t.entries l)) files)) same
 
 -- ---- a cut text
 
-pub full_not_say : (f : ℕ) → Block (block.Full f) ≡ Block block.Say → ⊥
+full_not_say : (f : ℕ) → Block (block.Full f) ≡ Block block.Say → ⊥
 full_not_say f is = absurd cc
 
 -- a fault of printing ends with its status
 say_within : (last : ℕ) (fault then : RunFault) → IsWithin last fault then → fault ≡ Block block.Say → run_status then ≡ SayFault
 say_within last fault then (inl within) is = ap run_status (within.0 ∙ is)
 say_within last fault then (inr memory) is = absurd (full_not_say memory.1.0 (sym memory.1.1 ∙ is))
-
--- where the script stopped at a line, so did its run
-pub at_line_of : {X : Type 0} (last : ℕ) (fault then : RunFault) → IsWithin last fault then → (fault ≡ run.Input → X) → (fault ≡ run.Lines → X) → (fault ≡ run.Bytes → X) → (fault ≡ run.Held → X) → StopsAtLine (run_status then) → X
-at_line_of {X} last fault then (inl within) input lines bytes full at = by_fault (subst (λ (f : RunFault). StopsAtLine (run_status f)) within.0 at)
-  where
-    by_fault : StopsAtLine (run_status fault) → X
-    by_fault (inl is) = input (run_input fault is)
-    by_fault (inr (inl is)) = lines (run_lines_is fault is)
-    by_fault (inr (inr (inl is))) = bytes (run_bytes_is fault is)
-    by_fault (inr (inr (inr is))) = full (run_held_is fault is)
-at_line_of last fault then (inr memory) input lines bytes full at = absurd (closes_not Memory refl (subst (λ (f : RunFault). StopsAtLine (run_status f)) memory.0 at))
 
 -- ---- a run over a running database
 
@@ -251,38 +188,28 @@ module _ {S : Type 0} (g : Ghosts S) (d : Described) (r r' : Running S) (t : Tel
     files_took n whole k (inr took) c = inr (record { said = took.said; more = took.more; answered = took.answered }, omega (arith, files_more whole k took c))
 
     -- the script stopped before its end
-    pub failed_bound : (last : ℕ) (fault then : RunFault) → IsWithin last fault then → TookPart (fault ≡ Block block.Say) old new events → (StopsAtLine (run_status then) → TookAll old new events)
-        → BoundsAudit 0 t d events (g.files r.log.site) (g.files r'.log.site) old.said new.said (run_status then)
-    failed_bound last fault then within part took = record {
-      at_ok = λ is. absurd (run_not_ok then is);
-      at_line = λ at. omega (arith, files_all events (took at) all_counted);
-      at_end = record {
-        k = part.k;
-        within = part.within;
-        printed = record { text = λ unsaid. part.text (λ cut. unsaid (say_within last fault then within cut)); whole = part.whole; near = part.near; least = part.least; most = part.most };
-        grew = files_took (0 + closing_of (run_status then)) part.whole part.k part.took (counts part.k);
-      };
+    pub failed_bound : (last : ℕ) (fault then : RunFault) → IsWithin last fault then → TookPart (fault ≡ Block block.Say) old new events → AnswersPart 18 t d events (g.files r.log.site) (g.files r'.log.site) old.said new.said (run_status then)
+    failed_bound last fault then within part = record {
+      k = part.k;
+      text = record { within = part.within; text = λ unsaid. part.text (λ cut. unsaid (say_within last fault then within cut)); whole = part.whole; near = part.near; least = part.least; most = part.most };
+      whole = λ is. absurd (run_not_ok then is);
+      grew = files_took 18 part.whole part.k part.took (counts part.k);
     }
 
     module _ (takes : TakesEvents old.desc events old.effort new.effort) (numbers : new.next ≡ old.next + length (quiets_of events)) where
       -- all events happened, and so many entries the files have then
-      all_bound : (status : Status) (files : Files) (said : Option (List ℕ)) → closing_of status ≡ 18 → Prints old.said said (text_of events) → length (t.entries files) ≤ length (t.entries (g.files r.log.site)) + audit_of d events + 18
-          → BoundsAudit 0 t d events (g.files r.log.site) files old.said said status
-      all_bound status files said closing text few =
+      all_bound : (status : Status) (files : Files) (said : Option (List ℕ)) → Prints old.said said (text_of events) → length (t.entries files) ≤ length (t.entries (g.files r.log.site)) + audit_of d events + 18 → AnswersPart 18 t d events (g.files r.log.site) files old.said said status
+      all_bound status files said text few =
           let all : take (length events) events ≡ events = take_all (length events) events (omega arith) in
           record {
-            at_ok = λ is. omega (arith, few);
-            at_line = λ at. absurd (closes_not status closing at);
-            at_end = record {
-              k = length events;
-              within = omega arith;
-              printed = says_all (status ≡ SayFault) events old.said said text;
-              grew = inl (omega (arith, closing, few, ap (λ (es : List RunEvent). audit_of d es) all));
-            };
+            k = length events;
+            text = says_all (status ≡ SayFault) events old.said said text;
+            whole = λ is. refl;
+            grew = inl (omega (arith, few, ap (λ (es : List RunEvent). audit_of d es) all));
           }
 
       -- the script was carried out, and then the database closed, or not closed
-      pub closed_bound : (status : Status) (files : Files) (said : Option (List ℕ)) → closing_of status ≡ 18 → r'.broken ≡ false → FilesGrew 18 (view_of g r'.log) files → Prints old.said said (text_of events) → BoundsAudit 0 t d events (g.files r.log.site) files old.said said status
-      closed_bound status files said is_closing unbroken few text =
+      pub closed_bound : (status : Status) (files : Files) (said : Option (List ℕ)) → r'.broken ≡ false → FilesGrew 18 (view_of g r'.log) files → Prints old.said said (text_of events) → AnswersPart 18 t d events (g.files r.log.site) files old.said said status
+      closed_bound status files said unbroken few text =
           let closing : length (t.entries files) ≤ length (entries (view_of g r'.log)) + 18 = subst (λ (k : Telling). length (k.entries files) ≤ length (entries (view_of g r'.log)) + 18) told' few in
-          all_bound status files said is_closing text (omega (arith, closing, log_all events unbroken takes (omega (arith, numbers)) all_counted))
+          all_bound status files said text (omega (arith, closing, log_all events unbroken takes (omega (arith, numbers)) all_counted))

@@ -145,12 +145,6 @@ run_of_script run.Memory = tt
 
 -- ---- an end of a closing
 
-pub disk_not_full : DiskFault ≡ Limit (limit.AuditFile 9999) → ⊥
-disk_not_full is = absurd cc
-
-pub memory_not_full : Memory ≡ Limit (limit.AuditFile 9999) → ⊥
-memory_not_full is = absurd cc
-
 pub ok_not_limit : (k : LimitKind) → Ok ≡ Limit k → ⊥
 ok_not_limit k e = absurd cc
 

@@ -1,23 +1,21 @@
 -- A run of an engine over a running database, as a run of a script over its files.
-use Rattle.std.proofs.Common.{◌⊎◌, inl, inr, ℕ, ◌≡◌, ◌<◌, ◌+◌, ◌^◌, ◌∙◌, Bool, true, false, cond, IsTrue, List, [], ◌∷◌, ◌++◌, length, map, Option, Some, None, refl, sym, ap, subst, arith}
+use Rattle.std.proofs.Common.{◌⊎◌, inl, inr, ℕ, ◌≡◌, ◌<◌, ◌+◌, ◌^◌, ◌∙◌, Bool, true, false, cond, IsTrue, List, [], ◌∷◌, map, Option, Some, None, refl, sym, ap, subst, arith}
 use Rattle.dms_base.specs.Causes.{Rose}
 use Rattle.dms_block.specs.Counts.{Faults}
-use Rattle.dms_block.specs.Held.{is_due}
 use Rattle.dms_block.specs.declared.block_fault.BlockFault.{BlockFault}
 use Rattle.dms_block.specs.declared.block_fault.BlockFault.TheVariants as block
 use Rattle.dms_block.specs.Texts.{Prints}
 use Rattle.dms_desc.specs.Shape.{Described}
 use Rattle.dms_feed.specs.Lines.{raw_lines}
-use Rattle.dms_model.specs.Db.{Db, Records}
-use Rattle.dms_block.specs.Content.{Content}
+use Rattle.dms_model.specs.Db.{Db}
 use Rattle.dms_model.specs.Points.{Stop, LeavesPrefix, StopTextIs}
 use Rattle.dms_model.specs.Seen.{Seen}
 use Rattle.dms_model.specs.Session.{end_session, fresh_session}
 use Rattle.dms_moments.specs.Moments.{Runs}
-use Rattle.dms_moments.specs.MomentLaws.{runs_none, runs_on, runs_weaken}
+use Rattle.dms_moments.specs.MomentLaws.{runs_none, runs_on}
 use Rattle.dms_runner.specs.Answers.{answers_text, last_quiet, script_events, script_run}
 use Rattle.dms_runner.specs.Blaming.{HasBlame}
-use Rattle.dms_runner.specs.Events.{CrashesWithin, RunEvent, landmarks_after, pause, quiets_of, syncs_after}
+use Rattle.dms_runner.specs.Events.{IsFullAtEvent, RunEvent, pause, quiets_of}
 use Rattle.dms_runner.specs.declared.run.RunFault.{RunFault}
 use Rattle.dms_runner.specs.declared.run.RunFault.TheVariants as run
 use Rattle.dms_runner.specs.declared.run.RunFault.TheVariants.{Block}
@@ -26,35 +24,26 @@ use Rattle.dms_running.specs.Telling.{Telling}
 use Rattle.dms_running.specs.Standing.{IsWhole}
 use Rattle.dms_running.specs.Points.{DescribedPoint, points_of, next_in}
 use Rattle.dms_site.specs.declared.site.Site.{Ghosts}
-use Rattle.dms_restore.specs.Logging.{Trail, trail_of, telling_of, telling, points, waits}
+use Rattle.dms_restore.specs.Logging.{Trail, trail_of, telling_of, telling, points}
 use Rattle.dms_restore.specs.Views.{view_of}
-use Rattle.dms_store.specs.Lifted.{point_of, records_of, lift_stops}
-use Rattle.dms_store.specs.Spelled.{db_in}
-use Rattle.dms_model.specs.Lacking.{LacksOne}
+use Rattle.dms_store.specs.Lifted.{point_of, lift_stops}
 use Rattle.dms_storeverbs.specs.View.{StandsFor, View}
 use Rattle.dms_wal.specs.Controls.{KeepsPace}
 use Rattle.dms_wal.specs.declared.running.Running.{Running}
 use Rattle.dms_wal.specs.Database.{running_held, said_of}
 use Rattle.dms_wal.proofs.Lifts.{told_same}
-use Rattle.dms_run.proofs.Leaving.{stop_leaves}
 use Rattle.dms_run.specs.Ending.{KeepsLimits}
 use Rattle.dms_run.specs.Files.{RunLeavesFiles}
 use Rattle.dms_run.specs.States.{EndsWith, LivesEndWith}
 use Rattle.dms_run.specs.Stops.{RunLeaves, last_quiet_number}
 use Rattle.dms_status.specs.declared.status.Status.{Status}
-use Rattle.dms_status.specs.declared.status.LimitKind.TheVariants.{AuditFile}
-use Rattle.dms_status.specs.declared.status.Status.TheVariants.{Limit, Ok, Memory}
-use Rattle.dms_runtop.specs.Bound.{BoundsAudit}
-use Rattle.dms_runtop.specs.Landing.{LandmarksBefore, LandmarksAre, LandmarksClosed, script_landmarks}
-use Rattle.dms_runtop.proofs.Landing.{content_here, lands_full}
-use Rattle.dms_runtop.specs.Behind.{TrailLacks}
-use Rattle.dms_block.specs.Landmarks.{AddsNoFurther}
+use Rattle.dms_status.specs.declared.status.Status.TheVariants.{Ok, Memory}
+use Rattle.dms_runtop.specs.Bound.{AnswersPart}
 use Rattle.dms_runtop.specs.Faults.{IsWithin, run_status}
-use Rattle.dms_runtop.proofs.Bounds.{bounds_none, full_not_say}
-use Rattle.dms_runtop.proofs.Endings.{memory_not_full}
-use Rattle.dms_runtop.specs.Over.{BeginsAt, ClosesOver, FilesEndWith, IsControlDue, RunsOver, ScriptRuns, seen_site}
+use Rattle.dms_runtop.proofs.Bounds.{bounds_none}
+use Rattle.dms_runtop.specs.Over.{BeginsAt, ClosesOver, FilesEndWith, RunsOver, ScriptRuns, seen_site}
 use Rattle.dms_runtop.specs.Statuses.{IsOfClosing}
-use Rattle.dms_runtop.proofs.Ran.{Carried, CarriedAll, all_durable, due_moved, moments_under, ends_under, closed_under, moments_below, closing_below, ran_nothing, ran_failed, ran_closed, state_under}
+use Rattle.dms_runtop.proofs.Ran.{Carried, CarriedAll, moments_under, ends_under, closed_under, moments_below, closing_below, ran_nothing, ran_failed, ran_closed}
 
 -- ---- a damaged block
 
@@ -79,12 +68,6 @@ told_text false x y same = refl
 -- there is room for one more number at the end of a script
 pub room_after : (d : Described) (db : Db) (next now : ℕ) (lines : List (List ℕ)) → next + 1000003 < 2 ^ 64 → KeepsLimits d db next lines → now ≡ (end_session (script_run d db next lines).going.session).next → now + 1 < 2 ^ 64
 room_after d db next now lines room keeps is = omega (arith, room, keeps.few, is, next_law d db next lines)
-
--- ---- the records
-
-records_told : (e : Described) (tells : Bool) (c : Content) → IsTrue tells → records_of e tells c ≡ Some (db_in e c).records
-records_told e true c told = refl
-records_told e false c told = absurd cc
 
 -- ---- a fault that isn't another
 
@@ -149,58 +132,11 @@ module _ {S : Type 0} (g : Ghosts S) (d e e' : Described) (r r' : Running S) (sa
         only = closes.only ok b.tells;
       }
 
-  -- what stops within these events leave, told of the blocks
-  abbrev StopsIn : List RunEvent → Type 0
-  StopsIn es = IsTrue g.tells → Runs (lift_stops e (running_held g r).clock) (lift_stops e' (running_held g r').clock) (CrashesWithin (running_held g r).whole entry (map (point_of e) (running_held g r).points) (running_held g r).durable r.next es)
-
-  abbrev DueBehind : List RunEvent → Type 0
-  DueBehind es = is_due r.every (syncs_after r.syncs es) ≡ true
-
-  -- the same told of files
-  abbrev StopsInFiles : List RunEvent → Type 0
-  StopsInFiles es = Runs (g.clock r.log.site) (g.clock r'.log.site) (RunLeavesFiles t d entry ps n db r.next es)
-
-  files_left : (es : List RunEvent) → StopsIn es → StopsInFiles es
-  files_left es stops =
-      let ends : EndsWith (map (point_of e) (running_held g r).points) n db = state_under d e (running_held g r) ps n db same b.points_are b.state in
-      let durable : (running_held g r).durable ≡ length (map (point_of e) (running_held g r).points) = all_durable e (running_held g r) b.durable in
-      moments_of es (runs_weaken (stops b.tells) (λ stop s. stop_leaves (running_held g r).whole entry (map (point_of e) (running_held g r).points) n db r.next es stop ends
-      (subst (λ (k : ℕ). CrashesWithin (running_held g r).whole entry (map (point_of e) (running_held g r).points) k r.next es stop) durable s)))
-
-  due_behind : (es : List RunEvent) → DueBehind es → IsControlDue d es
-  due_behind es is = (λ i. is_due (sym b.every i) (syncs_after (sym b.unused.1 i) es)) ∙ is
-
-  -- their landmarks were added, and no Control behind them
-  abbrev LandsBehind : Bool → List RunEvent → Type 0
-  LandsBehind backs es = AddsNoFurther backs (running_held g r).landmarks (running_held g r').landmarks (landmarks_after r.every r.syncs r.next es)
-
-  -- the same told of files
-  abbrev LacksInFiles : Bool → List RunEvent → Type 0
-  LacksInFiles backs es = LandmarksBefore 0 t d r.next (g.files r.log.site) (g.files r'.log.site) backs es
-
-  lacks_in_files : waits r'.log.end ≡ [] → (backs : Bool) (es : List RunEvent) → LandsBehind backs es → LacksInFiles backs es
-  lacks_in_files emptied = lands_full g d r r' t (told_same begins_trail) (told_same (keeps_trail ∙ begins_trail)) b.nothing b.every b.unused.1 b.tells emptied
-
-  -- the records in the store are those of this database but for one
-  abbrev StandsWithout : Db → Type 0
-  StandsWithout = LacksOne (records_of e' g.tells (running_held g r').content)
-
-  -- the same told of files
-  without_in_files : waits r'.log.end ≡ [] → (x : Db) → StandsWithout x → TrailLacks t d (g.files r'.log.site) x
-  without_in_files emptied x = subst (λ (o : Option Records). LacksOne o x)
-      (records_told e' g.tells (running_held g r').content b.tells ∙ (λ i. Some (db_in (same' i) (content_here g r' t (told_same (keeps_trail ∙ begins_trail)) emptied i)).records))
-
   -- what is changed goes on up to file FILES of the description
-  abbrev at_files : (left' : Option (List ℕ)) (fault : RunFault) → ((f : ℕ) → fault ≡ Block (block.Full f) → waits r'.log.end ≡ []) → Carried r.log.end.limit StopsIn DueBehind LandsBehind StandsWithout d db r.next all left' entry (said_of g r'.log) fault
-      → Carried d.files StopsInFiles (IsControlDue d) LacksInFiles (TrailLacks t d (g.files r'.log.site)) d db r.next all left' entry (said_of g r'.log) fault
-  at_files left' fault emptied c = record {
-    lines = c.lines;
-    events = c.events;
-    front = c.front;
-    are = c.are;
-    part = c.part;
-    answers = c.answers;
-    due = λ f is. due_moved r.log.end.limit d.files f entry (said_of g r'.log) c.events b.limit_is (λ es. files_left (es ++ pause ∷ [])) due_behind (lacks_in_files (emptied f is)) (without_in_files (emptied f is)) (c.due f is);
+  abbrev at_files : (left' : Option (List ℕ)) (fault : RunFault) → Carried r.log.end.limit d db r.next all left' entry (said_of g r'.log) fault → Carried d.files d db r.next all left' entry (said_of g r'.log) fault
+  at_files left' fault c = record {
+    carried = c.carried;
+    due = λ f is. subst (λ (last : ℕ). IsFullAtEvent last f entry (said_of g r'.log) c.carried.events) b.limit_is (c.due f is);
     many_lines = c.many_lines;
     many_bytes = c.many_bytes;
     many_held = c.many_held;
@@ -208,30 +144,25 @@ module _ {S : Type 0} (g : Ghosts S) (d e e' : Described) (r r' : Running S) (sa
   }
 
   -- the script stopped before its end, and the site was given back
-  pub failed_over : (left' : Option (List ℕ)) (fault : RunFault) (status : Status) (site : S) → status ≡ run_status fault → site ≡ r'.log.site → ((f : ℕ) → fault ≡ Block (block.Full f) → waits r'.log.end ≡ []) → (c : Carried r.log.end.limit StopsIn DueBehind LandsBehind StandsWithout d db r.next all left' entry (said_of g r'.log) fault)
-      → Runs (lift_stops e (running_held g r).clock) (lift_stops e' (running_held g r').clock) (RunLeaves (running_held g r).whole entry (map (point_of e) (running_held g r).points) n db r.next c.events)
-      → ((f k : ℕ) → fault ≡ Block (block.Damaged f k) → ⊥) → BoundsAudit 0 t d c.events (g.files r.log.site) (g.files r'.log.site) entry (said_of g r'.log) (run_status fault)
-      → ScriptRuns 0 t d ps n db r.next all (seen_site g r.log.site) (seen_site g site) left' status
-  failed_over left' fault status site status_is site_is emptied c leaves damaged bound =
-      subst (λ (x : Status). ScriptRuns 0 t d ps n db r.next all (seen_site g r.log.site) (seen_site g site) left' x) (sym status_is)
-      (subst (λ (x : S). ScriptRuns 0 t d ps n db r.next all (seen_site g r.log.site) (seen_site g x) left' (run_status fault)) (sym site_is)
-      (ran_failed 0 t d ps n db r.next all (seen_site g r.log.site) (seen_site g r'.log.site) left' fault (at_files left' fault emptied c) (moments_of c.events leaves) damaged bound))
+  pub failed_over : (left' : Option (List ℕ)) (fault : RunFault) (status : Status) (site : S) → status ≡ run_status fault → site ≡ r'.log.site → (c : Carried r.log.end.limit d db r.next all left' entry (said_of g r'.log) fault)
+      → Runs (lift_stops e (running_held g r).clock) (lift_stops e' (running_held g r').clock) (RunLeaves (running_held g r).whole entry (map (point_of e) (running_held g r).points) n db r.next c.carried.events)
+      → ((f k : ℕ) → fault ≡ Block (block.Damaged f k) → ⊥) → AnswersPart 18 t d c.carried.events (g.files r.log.site) (g.files r'.log.site) entry (said_of g r'.log) (run_status fault)
+      → ScriptRuns 18 t d ps n db r.next all (seen_site g r.log.site) (seen_site g site) left' status
+  failed_over left' fault status site status_is site_is c leaves damaged bound =
+      subst (λ (x : Status). ScriptRuns 18 t d ps n db r.next all (seen_site g r.log.site) (seen_site g site) left' x) (sym status_is)
+      (subst (λ (x : S). ScriptRuns 18 t d ps n db r.next all (seen_site g r.log.site) (seen_site g x) left' (run_status fault)) (sym site_is)
+      (ran_failed 18 t d ps n db r.next all (seen_site g r.log.site) (seen_site g r'.log.site) left' fault (at_files left' fault c) (moments_of c.carried.events leaves) damaged bound))
 
   -- the bound of one fault is that of the same one
-  bound_at : (events : List RunEvent) (then fault : RunFault) → then ≡ fault → BoundsAudit 0 t d events (g.files r.log.site) (g.files r'.log.site) entry (said_of g r'.log) (run_status then)
-      → BoundsAudit 0 t d events (g.files r.log.site) (g.files r'.log.site) entry (said_of g r'.log) (run_status fault)
+  bound_at : (events : List RunEvent) (then fault : RunFault) → then ≡ fault → AnswersPart 18 t d events (g.files r.log.site) (g.files r'.log.site) entry (said_of g r'.log) (run_status then)
+      → AnswersPart 18 t d events (g.files r.log.site) (g.files r'.log.site) entry (said_of g r'.log) (run_status fault)
   bound_at events then fault same bound =
-      subst (λ (x : RunFault). BoundsAudit 0 t d events (g.files r.log.site) (g.files r'.log.site) entry (said_of g r'.log) (run_status x)) same bound
+      subst (λ (x : RunFault). AnswersPart 18 t d events (g.files r.log.site) (g.files r'.log.site) entry (said_of g r'.log) (run_status x)) same bound
 
   -- what was carried out at one fault, told of want of memory
-  abbrev carried_short : (left' : Option (List ℕ)) (fault : RunFault) → (fault ≡ Block block.Say → ⊥) → Carried r.log.end.limit StopsIn DueBehind LandsBehind StandsWithout d db r.next all left' entry (said_of g r'.log) fault → Carried r.log.end.limit StopsIn DueBehind LandsBehind StandsWithout d db r.next all left' entry (said_of g r'.log) run.Memory
-  carried_short left' fault unsaid c = record {
-    lines = c.lines;
-    events = c.events;
-    front = c.front;
-    are = c.are;
-    part = c.part;
-    answers = λ other. c.answers unsaid;
+  abbrev carried_short : (left' : Option (List ℕ)) (fault : RunFault) → Carried r.log.end.limit d db r.next all left' entry (said_of g r'.log) fault → Carried r.log.end.limit d db r.next all left' entry (said_of g r'.log) run.Memory
+  carried_short left' fault c = record {
+    carried = c.carried;
     due = λ f is. absurd (memory_not_block (block.Full f) is);
     many_lines = λ is. absurd (memory_not_lines is);
     many_bytes = λ is. absurd (memory_not_bytes is);
@@ -240,40 +171,38 @@ module _ {S : Type 0} (g : Ghosts S) (d e e' : Described) (r r' : Running S) (sa
   }
 
   -- the same, where a full audit at another file counted as want of memory
-  pub within_over : (left' : Option (List ℕ)) (last : ℕ) (fault then : RunFault) (status : Status) (site : S) → IsWithin last fault then → last ≡ r'.log.end.limit → status ≡ run_status then → site ≡ r'.log.site → ((f : ℕ) → fault ≡ Block (block.Full f) → waits r'.log.end ≡ [])
-      → (c : Carried r.log.end.limit StopsIn DueBehind LandsBehind StandsWithout d db r.next all left' entry (said_of g r'.log) fault)
-      → Runs (lift_stops e (running_held g r).clock) (lift_stops e' (running_held g r').clock) (RunLeaves (running_held g r).whole entry (map (point_of e) (running_held g r).points) n db r.next c.events)
-      → ((f k : ℕ) → fault ≡ Block (block.Damaged f k) → ⊥) → BoundsAudit 0 t d c.events (g.files r.log.site) (g.files r'.log.site) entry (said_of g r'.log) (run_status then)
-      → ScriptRuns 0 t d ps n db r.next all (seen_site g r.log.site) (seen_site g site) left' status
-  within_over left' last fault then status site (inl within) last_is status_is site_is emptied c leaves damaged bound =
-      failed_over left' fault status site (status_is ∙ ap run_status within.0) site_is emptied c leaves damaged (bound_at c.events then fault within.0 bound)
-  within_over left' last fault then status site (inr memory) last_is status_is site_is emptied c leaves damaged bound =
-      failed_over left' run.Memory status site (status_is ∙ ap run_status memory.0) site_is (λ f is. absurd (memory_not_block (block.Full f) is)) (carried_short left' fault (λ is. full_not_say memory.1.0 (sym memory.1.1 ∙ is)) c) leaves
-      (λ f k is. memory_not_block (block.Damaged f k) is) (bound_at c.events then run.Memory memory.0 bound)
+  pub within_over : (left' : Option (List ℕ)) (last : ℕ) (fault then : RunFault) (status : Status) (site : S) → IsWithin last fault then → last ≡ r'.log.end.limit → status ≡ run_status then → site ≡ r'.log.site
+      → (c : Carried r.log.end.limit d db r.next all left' entry (said_of g r'.log) fault)
+      → Runs (lift_stops e (running_held g r).clock) (lift_stops e' (running_held g r').clock) (RunLeaves (running_held g r).whole entry (map (point_of e) (running_held g r).points) n db r.next c.carried.events)
+      → ((f k : ℕ) → fault ≡ Block (block.Damaged f k) → ⊥) → AnswersPart 18 t d c.carried.events (g.files r.log.site) (g.files r'.log.site) entry (said_of g r'.log) (run_status then)
+      → ScriptRuns 18 t d ps n db r.next all (seen_site g r.log.site) (seen_site g site) left' status
+  within_over left' last fault then status site (inl within) last_is status_is site_is c leaves damaged bound =
+      failed_over left' fault status site (status_is ∙ ap run_status within.0) site_is c leaves damaged (bound_at c.carried.events then fault within.0 bound)
+  within_over left' last fault then status site (inr memory) last_is status_is site_is c leaves damaged bound =
+      failed_over left' run.Memory status site (status_is ∙ ap run_status memory.0) site_is (carried_short left' fault c) leaves
+      (λ f k is. memory_not_block (block.Damaged f k) is) (bound_at c.carried.events then run.Memory memory.0 bound)
 
   -- the script was carried out, and then the database closed
   pub closed_over : (left' : Option (List ℕ)) (status : Status) (site : S) → (status ≡ Ok) ⊎ IsOfClosing status → ClosesOver g r' status site → (IsTrue g.tells_said → g.said site ≡ g.said r'.log.site)
-      → CarriedAll d db r.next all entry (said_of g r'.log)
+      → CarriedAll d db r.next all
       → Runs (lift_stops e (running_held g r).clock) (lift_stops e' (running_held g r').clock) (RunLeaves (running_held g r).whole entry (map (point_of e) (running_held g r).points) n db r.next script)
       → ((stop : Stop) → LeavesPrefix (running_held g r').whole (running_held g r').durable (map (point_of e') (running_held g r').points) (running_held g r').next stop → StopTextIs (running_held g r').said stop
       → RunLeaves (running_held g r).whole entry (map (point_of e) (running_held g r).points) n db r.next script stop)
       → EndsWith (map (point_of e') (running_held g r').points) (last_quiet_number n (quiets_of script)) (last_quiet db (quiets_of script))
       → Prints entry (said_of g r'.log) (answers_text d db r.next (raw_lines all))
       → KeepsLimits d db r.next (raw_lines all) → r'.next ≡ (end_session (script_run d db r.next (raw_lines all)).going.session).next
-      → BoundsAudit 0 t d script (g.files r.log.site) (g.files site) entry (said_of g r'.log) status → (status ≡ Ok → LandmarksClosed 0 t d r.next (g.files r.log.site) (g.files site) script)
-      → (status ≡ Limit (AuditFile 9999) → LandmarksAre 0 t r.next (g.files r.log.site) (g.files site) (script_landmarks d r.next script))
-      → ScriptRuns 0 t d ps n db r.next all (seen_site g r.log.site) (seen_site g site) left' status
-  closed_over left' status site of closes said carried leaves behind ends prints limits next_is bound lands lacks =
+      → AnswersPart 18 t d script (g.files r.log.site) (g.files site) entry (said_of g r'.log) status
+      → ScriptRuns 18 t d ps n db r.next all (seen_site g r.log.site) (seen_site g site) left' status
+  closed_over left' status site of closes said carried leaves behind ends prints limits next_is bound =
       let text : (seen_site g site).said ≡ said_of g r'.log = told_text g.tells_said (g.said site) (g.said r'.log.site) said in
       let room : r'.next + 1 < 2 ^ 64 = room_after d db r.next r'.next (raw_lines all) b.room limits next_is in
-      ran_closed 0 t d ps n db r.next all (seen_site g r.log.site) (seen_site g site) left' status of
-      (subst (λ (s : Option (List ℕ)). CarriedAll d db r.next all entry s) (sym text) carried)
+      ran_closed 18 t d ps n db r.next all (seen_site g r.log.site) (seen_site g site) left' status of
+      carried
       (runs_on (moments_of script leaves) (closing_of site status closes behind room) (λ x l. l))
       (files_end site status closes (last_quiet_number n (quiets_of script)) (last_quiet db (quiets_of script)) ends (end_session (script_run d db r.next (raw_lines all)).going.session).next next_is)
       (subst (λ (s : Option (List ℕ)). Prints entry s (answers_text d db r.next (raw_lines all))) (sym text) prints)
       limits
-      (subst (λ (s : Option (List ℕ)). BoundsAudit 0 t d script (g.files r.log.site) (g.files site) entry s status) (sym text) bound)
-      lands lacks
+      (subst (λ (s : Option (List ℕ)). AnswersPart 18 t d script (g.files r.log.site) (g.files site) entry s status) (sym text) bound)
 
 -- ---- before the script
 
@@ -284,6 +213,6 @@ fresh_over {St} seen v a b same stands x is = subst (λ (s : St). StandsFor v (f
 -- memory was refused before the first line, and the site was given back
 pub refused_over : {S : Type 0} (g : Ghosts S) (d : Described) (r : Running S) (site : S) (left left' : Option (List ℕ)) → site ≡ r.log.site → RunsOver g r d left left' Memory site
 refused_over {S} g d r site left left' same total first ps n db all b is =
-    subst (λ (x : S). ScriptRuns 0 (telling_of total first) d ps n db r.next all (seen_site g r.log.site) (seen_site g x) left' Memory) (sym same)
-    (ran_nothing 0 (telling_of total first) d ps n db r.next all (seen_site g r.log.site) (seen_site g r.log.site) left' Memory tt memory_not_full
+    subst (λ (x : S). ScriptRuns 18 (telling_of total first) d ps n db r.next all (seen_site g r.log.site) (seen_site g x) left' Memory) (sym same)
+    (ran_nothing 18 (telling_of total first) d ps n db r.next all (seen_site g r.log.site) (seen_site g r.log.site) left' Memory tt
     (runs_none (g.clock r.log.site) (RunLeavesFiles (telling_of total first) d (said_of g r.log) ps n db r.next (pause ∷ []))) refl (bounds_none Memory (λ is. absurd cc) refl refl))

@@ -1,10 +1,8 @@
 -- A run of the files that stand for a state, from the opening on.
-use Rattle.std.proofs.Common.{ℕ, ◌+◌, ◌≤◌, ◌≡◌, ◌∙◌, inl, inr, Bool, IsTrue, List, [], ◌∷◌, ◌++◌, map, Option, Some, None, cond, length, append-nil, refl, sym, ap, subst, arith}
+use Rattle.std.proofs.Common.{ℕ, ◌+◌, ◌≤◌, ◌≡◌, ◌∙◌, inl, inr, IsTrue, List, [], ◌∷◌, ◌++◌, map, Option, Some, None, cond, length, refl, sym, ap, subst, arith}
 use Rattle.std.specs.Prelude.{is_some}
-use Rattle.dms_history.specs.Entries.{Entry}
 use Rattle.dms_desc.specs.Shape.{Described}
 use Rattle.dms_desc_bytes.specs.Spelling.{spelling}
-use Rattle.dms_desc_bytes.specs.WellFormed.{IsWellFormed}
 use Rattle.dms_feed.specs.Lines.{raw_lines}
 use Rattle.dms_runner.specs.Answers.{script_events}
 use Rattle.dms_runner.specs.Events.{RunEvent}
@@ -26,24 +24,21 @@ use Rattle.dms_restore.specs.Logging.{telling_of, telling}
 use Rattle.dms_restore.specs.Views.{view_of}
 use Rattle.dms_wal.specs.Marks.{last_number}
 use Rattle.dms_opening.specs.declared.opened.Opened.{Opened}
-use Rattle.dms_opening.specs.Openings.{IsFullFault, IsNoRefusal, IsOpenable, OpeningGrows, OpensAt, OpensShort, ReopensSince, RunsFrom, opening_entries}
+use Rattle.dms_opening.specs.Openings.{IsNoRefusal, IsOpenable, OpeningGrows, OpensAt, ReopensSince, RunsFrom}
 use Rattle.dms_opening.proofs.Callers.{trail_is_one}
 use Rattle.dms_run.specs.Files.{RunLeavesFiles}
 use Rattle.dms_run.specs.State.{HasNext}
 use Rattle.dms_run.specs.States.{LivesEndWith}
-use Rattle.dms_runlaws.specs.Held.{HoldsLast, NextIsOne, StatesAreHeld}
-use Rattle.dms_runlaws.specs.RunStands.{EndsStand, StopsStand}
-use Rattle.dms_status.specs.declared.status.LimitKind.TheVariants.{AuditFile}
+use Rattle.dms_run.specs.Held.{HoldsLast, NextIsOne, StatesAreHeld}
+use Rattle.dms_run.specs.RunStands.{EndsStand, StopsStand}
 use Rattle.dms_status.specs.declared.status.Status.{Status}
-use Rattle.dms_status.specs.declared.status.Status.TheVariants.{Limit}
 use Rattle.dms_runtop.proofs.Bounds.{bounds_opening}
 use Rattle.dms_runtop.proofs.Refused.{open_ok}
 use Rattle.dms_runtop.specs.Command.{DatabaseState, GrowsOpened, HasNumbersLeft, HoldsState, HoldsTold, NeverRefuses, NeverRefusesState, RunKeepsTrail, RunsAlong, RunsCommand, RunsOpened, EndsInState, StandsOpened, StandsThroughout, StatesHold}
 use Rattle.dms_runtop.specs.Faults.{open_status}
 use Rattle.dms_runtop.specs.Over.{ReachesFiles, ScriptRuns, seen_site}
-use Rattle.dms_runtop.proofs.Endings.{IsUndone, disk_not_full, memory_not_full}
+use Rattle.dms_runtop.proofs.Endings.{IsUndone}
 use Rattle.dms_runtop.proofs.Fronts.{leaves_wide, script_widens}
-use Rattle.dms_runtop.proofs.Landing.{opened_adds}
 use Rattle.dms_runtop.proofs.Grows.{keeps_entered, keeps_opening}
 use Rattle.dms_runtop.proofs.Holding.{trail_of}
 use Rattle.dms_runtop.proofs.Ran.{ran_nothing}
@@ -103,7 +98,7 @@ module _ {S : Type 0} (g : Ghosts S) (old : S) (s : DatabaseState) where
   state_here : (o : Opened S) → OpensAt o.log.end.total o.log.first (g.files old) o.point o.next o.schema.items o.counts.items → HoldsState (g.files old) s → LivesEndWith s.desc (points_of (telling (view_of g o.log)) (g.files old)) s.point s.db
   state_here o opens h = here_now (λ a b. LivesEndWith s.desc (points_of (telling_of a b) (g.files old)) s.point s.db) o opens h h.state
 
-  pub whole_here : (o : Opened S) → OpensAt o.log.end.total o.log.first (g.files old) o.point o.next o.schema.items o.counts.items → HoldsState (g.files old) s → IsWhole (telling_of o.log.end.total o.log.first) (g.files old)
+  whole_here : (o : Opened S) → OpensAt o.log.end.total o.log.first (g.files old) o.point o.next o.schema.items o.counts.items → HoldsState (g.files old) s → IsWhole (telling_of o.log.end.total o.log.first) (g.files old)
   whole_here o opens h = here_now (λ a b. IsWhole (telling_of a b) (g.files old)) o opens h h.whole
 
   -- what `run_opened` needs
@@ -114,9 +109,9 @@ module _ {S : Type 0} (g : Ghosts S) (old : S) (s : DatabaseState) where
   -- the run, from the opening on
   pub runs_entered : NextIsOne → (o : Opened S) → OpensAt o.log.end.total o.log.first (g.files old) o.point o.next o.schema.items o.counts.items
       → (IsWhole (telling_of o.log.end.total o.log.first) (g.files old) → RunsFrom (g.files old) o.point o.next o.schema.items o.counts.items (view_of g o.log)) → ReopensSince g old o.log.site → OpeningGrows g old o.log.site → g.said o.log.site ≡ g.said old
-      → (known : Bool) (left left' : Option (List ℕ)) (status : Status) (new : S) → RunsOpened g o known left left' status new → IsTrue g.tells → IsTrue known
+      → (left left' : Option (List ℕ)) (status : Status) (new : S) → RunsOpened g o left left' status new → IsTrue g.tells
       → HoldsState (g.files old) s → (next : ℕ) → HasNext (g.files old) next → HasNumbersLeft next → (all : List ℕ) → left ≡ Some all → RunsAlong g s next all old new left' status
-  runs_entered one_next o opens runs since grows said known left left' status new ran told knows h next has_next room all is =
+  runs_entered one_next o opens runs since grows said left left' status new ran told h next has_next room all is =
       let files : Files = g.files old in
       let t : Telling = telling_of o.log.end.total o.log.first in
       let ps : List DescribedPoint = points_of t files in
@@ -124,21 +119,17 @@ module _ {S : Type 0} (g : Ghosts S) (old : S) (s : DatabaseState) where
       let state = state_here o opens h in
       let st = stands_opened o opens (runs whole) h state in
       let next_is : next_in t files ≡ next = one_next o.log.end.total o.log.first next files whole has_next in
-      let script : ScriptRuns 0 t s.desc ps s.point s.db next all (seen_site g o.log.site) (seen_site g new) left' status =
-      subst (λ m. ScriptRuns 0 t s.desc ps s.point s.db m all (seen_site g o.log.site) (seen_site g new) left' status) (sym opens.next_is ∙ next_is)
-      (ran told knows st s.point s.db all state (subst HasNumbersLeft (sym next_is ∙ opens.next_is) room) is) in
+      let script : ScriptRuns 18 t s.desc ps s.point s.db next all (seen_site g o.log.site) (seen_site g new) left' status =
+      subst (λ m. ScriptRuns 18 t s.desc ps s.point s.db m all (seen_site g o.log.site) (seen_site g new) left' status) (sym opens.next_is ∙ next_is)
+      (ran told st s.point s.db all state (subst HasNumbersLeft (sym next_is ∙ opens.next_is) room) is) in
       let few : length (t.entries (g.files o.log.site)) ≤ length (t.entries files) + 19 = grows.few o.log.end.total o.log.first opens.trail whole in
-      let from = runs whole in
-      let here : t.entries (g.files o.log.site) ≡ t.entries files ++ opening_entries (history_of (t.entries files)).pending o.point next o.schema.items o.counts.items =
-      subst (λ (m : ℕ). t.entries (g.files o.log.site) ≡ t.entries files ++ opening_entries (history_of (t.entries files)).pending o.point m o.schema.items o.counts.items) (sym opens.next_is ∙ next_is) (sym (append-nil (t.entries (g.files o.log.site))) ∙ ap (λ (l : List Entry). t.entries (g.files o.log.site) ++ l) (sym from.nothing) ∙ from.entries_are) in
       let before = λ (events : List RunEvent). runs_weaken (since o.log.end.total o.log.first opens.trail whole) (reopens_leaves t files (seen_site g old).said s.desc s.point s.db state next next_is events) in
       record {
         total = o.log.end.total;
         first = o.log.first;
         trail = opens.trail;
-        runs = runs_since 0 19 t s.desc ps s.point s.db next all (seen_site g old) (seen_site g o.log.site) (seen_site g new) left' status
-            (ap (λ (l : List ℕ). cond g.tells_said (Some l) None) said) before (omega (arith, few))
-            (opened_adds 18 next (t.entries files) (t.entries (g.files o.log.site)) o.point o.schema.items o.counts.items here) (λ none. absurd none) script;
+        runs = runs_since 18 37 t s.desc ps s.point s.db next all (seen_site g old) (seen_site g o.log.site) (seen_site g new) left' status
+            (ap (λ (l : List ℕ). cond g.tells_said (Some l) None) said) before (omega (arith, few)) script;
       }
 
   -- ---- it wasn't opened
@@ -151,26 +142,22 @@ module _ {S : Type 0} (g : Ghosts S) (old : S) (s : DatabaseState) where
   undone_open fault (inl (inr is)) = subst (λ (f : OpenFault). IsUndone (open_status f)) (sym is) tt
   undone_open fault (inr is) = subst (λ (f : OpenFault). IsUndone (open_status f)) (sym is) refl
 
-  full_open : (fault : OpenFault) → IsNoRefusal fault → open_status fault ≡ Limit (AuditFile 9999) → IsFullFault fault
-  full_open fault (inl (inl is)) full = absurd (disk_not_full (sym (ap open_status is) ∙ full))
-  full_open fault (inl (inr is)) full = absurd (memory_not_full (sym (ap open_status is) ∙ full))
-  full_open fault (inr is) full = is
-
-  pub runs_unopened : NextIsOne → (fault : OpenFault) (new : S) → ((total first : ℕ) → IsOpenable total first (g.files old) → IsNoRefusal fault) → (IsFullFault fault → OpensShort (g.files old) (g.files new)) → OpeningGrows g old new → ReopensSince g old new → g.said new ≡ g.said old → (left' : Option (List ℕ))
+  pub runs_unopened : NextIsOne → (fault : OpenFault) (new : S) → ((total first : ℕ) → IsOpenable total first (g.files old) → IsNoRefusal fault) → OpeningGrows g old new → ReopensSince g old new → g.said new ≡ g.said old → (left' : Option (List ℕ))
       → HoldsState (g.files old) s → (next : ℕ) → HasNext (g.files old) next → (all : List ℕ) → RunsAlong g s next all old new left' (open_status fault)
-  runs_unopened one_next fault new none short grows since said left' h next has_next all =
+  runs_unopened one_next fault new none grows since said left' h next has_next all =
       let files : Files = g.files old in
       let t : Telling = telling_of h.total h.first in
+      let few : length (t.entries (g.files new)) ≤ length (t.entries files) + 19 = grows.few h.total h.first h.trail h.whole in
       record {
         total = h.total;
         first = h.first;
         trail = h.trail;
-        runs = ran_nothing 19 t s.desc (points_of t files) s.point s.db next all (seen_site g old) (seen_site g new) left' (open_status fault)
-            (undone_open fault (none h.total h.first (openable h))) (λ full. short (full_open fault (none h.total h.first (openable h)) full))
+        runs = ran_nothing 37 t s.desc (points_of t files) s.point s.db next all (seen_site g old) (seen_site g new) left' (open_status fault)
+            (undone_open fault (none h.total h.first (openable h)))
             (runs_weaken (since h.total h.first h.trail h.whole)
             (reopens_leaves t files (seen_site g old).said s.desc s.point s.db h.state next (one_next h.total h.first next files h.whole has_next) []))
             (ap (λ (l : List ℕ). cond g.tells_said (Some l) None) said)
-            (bounds_opening (open_status fault) (open_ok fault) (grows.few h.total h.first h.trail h.whole) (ap (λ (l : List ℕ). cond g.tells_said (Some l) None) said));
+            (bounds_opening (open_status fault) (open_ok fault) (omega (arith, few)) (ap (λ (l : List ℕ). cond g.tells_said (Some l) None) said));
       }
 
 -- what stands for a state isn't refused
@@ -181,7 +168,7 @@ refuses_no_state g old hold status never tells s stands refusal =
 
 -- ---- the command, where a state is told
 
-pub some_told : (state : Option DatabaseState) (s : DatabaseState) → state ≡ Some s → IsTrue (is_some state)
+some_told : (state : Option DatabaseState) (s : DatabaseState) → state ≡ Some s → IsTrue (is_some state)
 some_told state s is = subst (λ (o : Option DatabaseState). IsTrue (is_some o)) (sym is) refl
 
 module _ {S : Type 0} (g : Ghosts S) (old : S) (state : Option DatabaseState) where
@@ -196,29 +183,20 @@ module _ {S : Type 0} (g : Ghosts S) (old : S) (state : Option DatabaseState) wh
 
   pub runs_found : StatesHold → NextIsOne → (IsTrue g.tells → HoldsTold state (g.files old)) → (o : Opened S) → (IsTrue g.tells → OpensAt o.log.end.total o.log.first (g.files old) o.point o.next o.schema.items o.counts.items)
       → (IsTrue g.tells → IsWhole (telling_of o.log.end.total o.log.first) (g.files old) → RunsFrom (g.files old) o.point o.next o.schema.items o.counts.items (view_of g o.log)) → (IsTrue g.tells → ReopensSince g old o.log.site) → (IsTrue g.tells → OpeningGrows g old o.log.site)
-      → g.said o.log.site ≡ g.said old → (left left' : Option (List ℕ)) (status : Status) (new : S) → RunsOpened g o (is_some state) left left' status new → RunsCommand g state old new left left' status
-  runs_found hold one_next told o opens runs since grows said left left' status new ran tells s is next has_next room all held =
-      runs_entered g old s one_next o (opens tells) (runs tells) (since tells) (grows tells) said (is_some state) left left' status new ran tells (some_told state s is) (hold (g.files old) s (told tells s is)) next has_next room all held
+      → g.said o.log.site ≡ g.said old → (left left' : Option (List ℕ)) (status : Status) (new : S) → (IsTrue (is_some state) → RunsOpened g o left left' status new) → RunsCommand g state old new left left' status
+  runs_found hold one_next told o opens runs since grows said left left' status new ran tells s is start next has_next room all held =
+      runs_entered g old s one_next o (opens tells) (runs tells) (since tells) (grows tells) said left left' status new (ran (some_told state s is)) tells (hold (g.files old) s (told tells s is)) next has_next room all held
 
-  pub runs_refused : StatesHold → NextIsOne → (IsTrue g.tells → HoldsTold state (g.files old)) → (fault : OpenFault) (new : S) → (IsTrue g.tells → (total first : ℕ) → IsOpenable total first (g.files old) → IsNoRefusal fault) → (IsTrue g.tells → IsFullFault fault → OpensShort (g.files old) (g.files new))
-      → (IsTrue g.tells → OpeningGrows g old new) → (IsTrue g.tells → ReopensSince g old new) → g.said new ≡ g.said old → (left left' : Option (List ℕ)) (status : Status) → status ≡ open_status fault → RunsCommand g state old new left left' status
-  runs_refused hold one_next told fault new none short grows since said left left' status status_is tells s is next has_next room all held =
+  pub runs_refused : StatesHold → NextIsOne → (IsTrue g.tells → HoldsTold state (g.files old)) → (fault : OpenFault) (new : S) → (IsTrue g.tells → (total first : ℕ) → IsOpenable total first (g.files old) → IsNoRefusal fault) → (IsTrue g.tells → OpeningGrows g old new)
+      → (IsTrue g.tells → ReopensSince g old new) → g.said new ≡ g.said old → (left left' : Option (List ℕ)) (status : Status) → status ≡ open_status fault → RunsCommand g state old new left left' status
+  runs_refused hold one_next told fault new none grows since said left left' status status_is tells s is start next has_next room all held =
       subst (λ (x : Status). RunsAlong g s next all old new left' x) (sym status_is)
-      (runs_unopened g old s one_next fault new (none tells) (short tells) (grows tells) (since tells) said left' (hold (g.files old) s (told tells s is)) next has_next all)
-
-  -- the description of what is told is that of the opening
-  pub told_description : StatesHold → (IsTrue g.tells → HoldsTold state (g.files old)) → (o : Opened S) → (IsTrue g.tells → OpensAt o.log.end.total o.log.first (g.files old) o.point o.next o.schema.items o.counts.items)
-      → (IsTrue g.tells → IsWhole (telling_of o.log.end.total o.log.first) (g.files old) → RunsFrom (g.files old) o.point o.next o.schema.items o.counts.items (view_of g o.log)) → (s : DatabaseState) → state ≡ Some s → IsTrue g.tells → IsWellFormed s.desc × (spelling s.desc ≡ o.schema.items)
-  unfolding opened_stands
-  told_description hold told o opens runs s is tells =
-      let h : HoldsState (g.files old) s = hold (g.files old) s (told tells s is) in
-      let st : StandsOpened g o = opened_stands g old s o (opens tells) (runs tells) h in
-      (h.formed, st.spelled)
+      (runs_unopened g old s one_next fault new (none tells) (grows tells) (since tells) said left' (hold (g.files old) s (told tells s is)) next has_next all)
 
   -- and its trail stays
-  pub keeps_found : (o : Opened S) (new : S) → (IsTrue g.tells → OpensAt o.log.end.total o.log.first (g.files old) o.point o.next o.schema.items o.counts.items) → (IsTrue g.tells → OpeningGrows g old o.log.site) → GrowsOpened g o (is_some state) new
+  pub keeps_found : (o : Opened S) (new : S) → (IsTrue g.tells → OpensAt o.log.end.total o.log.first (g.files old) o.point o.next o.schema.items o.counts.items) → (IsTrue g.tells → OpeningGrows g old o.log.site) → (IsTrue (is_some state) → GrowsOpened g o new)
       → RunKeepsTrail g state old new
-  keeps_found o new opens grows grown tells s is = keeps_entered g old new o (is_some state) (opens tells).trail (grows tells) grown tells (some_told state s is)
+  keeps_found o new opens grows grown tells s is = keeps_entered g old new o (opens tells).trail (grows tells) (grown (some_told state s is)) tells
 
   pub keeps_refused : (new : S) → (IsTrue g.tells → OpeningGrows g old new) → RunKeepsTrail g state old new
   keeps_refused new grows tells s is = keeps_opening g old new (grows tells)
@@ -229,10 +207,10 @@ module _ {S : Type 0} (g : Ghosts S) (old : S) (state : Option DatabaseState) wh
   stands_throughout held law told left left' status new ran tells s is start next has_next room all left_is =
       let files : Files = g.files old in
       let h : HoldsLast files s.point s.desc s.db = held files s.point s.desc s.db (told tells s is) in
-      let along : RunsAlong g s next all old new left' status = ran tells s is next has_next room all left_is in
+      let along : RunsAlong g s next all old new left' status = ran tells s is start next has_next room all left_is in
       let one = trail_is_one along.total along.first h.total h.first files along.trail (trail_of h) in
       let each : Runs (g.clock old) (g.clock new) (RunLeavesFiles (telling_of along.total along.first) s.desc (seen_site g old).said (points_of (telling_of along.total along.first) files) s.point s.db next (script_events s.desc s.db next (raw_lines all))) =
-      runs_weaken along.runs.every_moment (leaves_wide (script_widens s.desc s.db next (raw_lines all) along.runs.lines along.runs.events along.runs.are)) in
+      runs_weaken along.runs.every_moment (leaves_wide (script_widens s.desc s.db next (raw_lines all) along.runs.does.carried.lines along.runs.does.carried.events along.runs.does.carried.are)) in
       let here : Runs (g.clock old) (g.clock new) (RunLeavesFiles (telling_of h.total h.first) s.desc (seen_site g old).said (points_of (telling_of h.total h.first) files) s.point s.db next (script_events s.desc s.db next (raw_lines all))) =
       subst (λ k. Runs (g.clock old) (g.clock new) (RunLeavesFiles (telling_of k h.first) s.desc (seen_site g old).said (points_of (telling_of k h.first) files) s.point s.db next (script_events s.desc s.db next (raw_lines all)))) one.0
       (subst (λ k. Runs (g.clock old) (g.clock new) (RunLeavesFiles (telling_of along.total k) s.desc (seen_site g old).said (points_of (telling_of along.total k) files) s.point s.db next (script_events s.desc s.db next (raw_lines all)))) one.1
@@ -242,6 +220,6 @@ module _ {S : Type 0} (g : Ghosts S) (old : S) (state : Option DatabaseState) wh
   -- and so does the end
   pub stands_at_end : EndsStand → (IsTrue g.tells → HoldsTold state (g.files old)) → (left left' : Option (List ℕ)) (status : Status) (new : S) → RunsCommand g state old new left left' status → EndsInState g state old new left status
   stands_at_end law told left left' status new ran tells s is start next has_next room all here ok =
-      let along : RunsAlong g s next all old new left' status = ran tells s is next has_next room all here in
+      let along : RunsAlong g s next all old new left' status = ran tells s is start next has_next room all here in
       let ends : ReachesFiles (telling_of along.total along.first) s.desc s.point s.db next (raw_lines all) (seen_site g new) = along.runs.at_ok ok in
       (law along.total along.first (g.files new) s.desc (told tells s is).at_point.well_formed s.point s.db start next (raw_lines all) ends.whole ends.state ends.next_is, ends.only)

@@ -1,6 +1,6 @@
 -- What a stop within the events of the first lines leaves, told of the whole script.
 use Rattle.std.proofs.Common.{ℕ, ◌≡◌, ◌≤◌, ◌+◌, ◌⊎◌, ◌∙◌, inl, inr, Bool, List, [], ◌∷◌, ◌++◌, length, take, Option, refl, sym, ap, subst, arith, append_assoc}
-use Rattle.std.proofs.lemmas.List.{append-nil, take_all}
+use Rattle.std.proofs.lemmas.List.{append-nil, length-append, take_all}
 use Rattle.dms_desc.specs.Shape.{Described}
 use Rattle.dms_model.specs.Db.{Db}
 use Rattle.dms_model.specs.Points.{Quiet}
@@ -26,7 +26,7 @@ pub record Widens (events wide : List RunEvent) : Type 0 where
 
 pub leaves_wide : {t : Telling} {desc : Described} {entry : Option (List ℕ)} {points : List DescribedPoint} {n : ℕ} {db : Db} {next : ℕ} {events wide : List RunEvent} → Widens events wide
     → (x : Left) → RunLeavesFiles t desc entry points n db next events x → RunLeavesFiles t desc entry points n db next wide x
-leaves_wide w x l = record {
+leaves_wide {events = events} w x l = record {
   made = l.made;
   rest = l.rest ++ w.more;
   front_of = sym (append_assoc l.made l.rest w.more) ∙ ap (λ (q : List Quiet). q ++ w.more) l.front_of ∙ w.quiets;
@@ -36,6 +36,7 @@ leaves_wide w x l = record {
   are = l.are;
   each = l.each;
   next_is = l.next_is;
+  not_risen = omega (arith, l.not_risen, ap length w.quiets, length-append (quiets_of events) w.more);
   text = λ b is. w.text b (length l.made) x.said (l.text b is);
   whole = l.whole;
 }

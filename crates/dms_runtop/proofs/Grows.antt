@@ -1,5 +1,5 @@
 -- The trail of a run stays behind that of entry, at each stop.
-use Rattle.std.proofs.Common.{ℕ, ◌≡◌, ◌∙◌, Bool, false, IsTrue, sym, ap, subst, arith}
+use Rattle.std.proofs.Common.{ℕ, ◌≡◌, Bool, false, IsTrue, sym, subst, arith}
 use Rattle.dms_moments.specs.Moments.{Clock, Steps}
 use Rattle.dms_moments.specs.MomentLaws.{runs_none, steps_weaken}
 use Rattle.dms_opening.specs.declared.opened.Opened.{Opened}
@@ -59,9 +59,9 @@ module _ {S : Type 0} (g : Ghosts S) where
       })
 
   -- behind a database that was opened: before it a call that only looked
-  pub grows_looked : (o : Opened S) (site new : S) (known : Bool) → (IsTrue g.tells → g.files site ≡ g.files o.log.site) → Steps Same (g.clock o.log.site) (g.clock site) → GrowsOpened g (record o { log = record o.log { site = site } }) known new → GrowsOpened g o known new
-  grows_looked o site new known same steps grown told knows =
-      let later = grown told knows in
+  pub grows_looked : (o : Opened S) (site new : S) → (IsTrue g.tells → g.files site ≡ g.files o.log.site) → Steps Same (g.clock o.log.site) (g.clock site) → GrowsOpened g (record o { log = record o.log { site = site } }) new → GrowsOpened g o new
+  grows_looked o site new same steps grown told =
+      let later = grown told in
       let total = o.log.end.total in
       let first = o.log.first in
       record {
@@ -70,9 +70,9 @@ module _ {S : Type 0} (g : Ghosts S) where
       }
 
   -- and behind it
-  pub grows_upto : (o : Opened S) (new later : S) (known : Bool) → (IsTrue g.tells → g.files later ≡ g.files new) → Steps Same (g.clock new) (g.clock later) → GrowsOpened g o known new → GrowsOpened g o known later
-  grows_upto o new later known same steps grown told knows =
-      let before = grown told knows in
+  pub grows_upto : (o : Opened S) (new later : S) → (IsTrue g.tells → g.files later ≡ g.files new) → Steps Same (g.clock new) (g.clock later) → GrowsOpened g o new → GrowsOpened g o later
+  grows_upto o new later same steps grown told =
+      let before = grown told in
       let total = o.log.end.total in
       let first = o.log.first in
       record {
@@ -81,8 +81,8 @@ module _ {S : Type 0} (g : Ghosts S) where
       }
 
   -- nothing was done
-  pub grows_none : (o : Opened S) (new : S) (known : Bool) → (IsTrue g.tells → g.files new ≡ g.files o.log.site) → Steps Same (g.clock o.log.site) (g.clock new) → GrowsOpened g o known new
-  grows_none o new known same steps told knows =
+  pub grows_none : (o : Opened S) (new : S) → (IsTrue g.tells → g.files new ≡ g.files o.log.site) → Steps Same (g.clock o.log.site) (g.clock new) → GrowsOpened g o new
+  grows_none o new same steps told =
       let total = o.log.end.total in
       let first = o.log.first in
       record {
@@ -91,8 +91,8 @@ module _ {S : Type 0} (g : Ghosts S) where
       }
 
   -- the site was given back
-  pub grows_same : (o : Opened S) (new : S) (known : Bool) → new ≡ o.log.site → GrowsOpened g o known new
-  grows_same o new known same told knows = subst (λ x. LogStays (view_of g o.log) (over_site g (view_of g o.log) x)) (sym same) (stays_none (view_of g o.log))
+  pub grows_same : (o : Opened S) (new : S) → new ≡ o.log.site → GrowsOpened g o new
+  grows_same o new same told = subst (λ x. LogStays (view_of g o.log) (over_site g (view_of g o.log) x)) (sym same) (stays_none (view_of g o.log))
 
   -- ---- from the opening on
 
@@ -101,9 +101,9 @@ module _ {S : Type 0} (g : Ghosts S) where
   keeps_opening old new grows = record { kept = grows.kept; left = grows.left }
 
   -- a run behind it
-  pub keeps_entered : (old new : S) (o : Opened S) (known : Bool) → IsTrailFound o.log.end.total o.log.first (g.files old) → OpeningGrows g old o.log.site → GrowsOpened g o known new → IsTrue g.tells → IsTrue known → KeepsTrail g old new
-  keeps_entered old new o known trail grows grown told knows =
-      let then = grown told knows in
+  pub keeps_entered : (old new : S) (o : Opened S) → IsTrailFound o.log.end.total o.log.first (g.files old) → OpeningGrows g old o.log.site → GrowsOpened g o new → IsTrue g.tells → KeepsTrail g old new
+  keeps_entered old new o trail grows grown told =
+      let then = grown told in
       record {
         kept = λ total first found.
             let one = trail_is_one o.log.end.total o.log.first total first (g.files old) trail found in
@@ -113,17 +113,11 @@ module _ {S : Type 0} (g : Ghosts S) where
             left_on total first (g.clock old) (g.clock o.log.site) (g.clock new) (grows.left total first found) (left_at one.0 one.1 then.left);
       }
 
--- over a site whose files are told only where it is known what they stand for
-pub grows_unveiled : {S V : Type 0} (g : Ghosts S) (tells_v : Bool) (files_v : V → Files) (clock_v : V → Clock Left) (of : V → S) (known : Bool) → (IsTrue g.tells → IsTrue known → IsTrue tells_v) → ((v : V) → files_v v ≡ g.files (of v)) → ((v : V) → clock_v v ≡ g.clock (of v))
-    → (o : Opened S) (r : Running V) → of r.log.site ≡ o.log.site → r.log.end.total ≡ o.log.end.total → r.log.first ≡ o.log.first → (v : V) (site : S) → site ≡ of v
-    → (IsTrue tells_v → TrailKept r.log.end.total r.log.first (files_v r.log.site) (files_v v)) → (IsTrue tells_v → Steps (LeavesTrail r.log.end.total r.log.first) (clock_v r.log.site) (clock_v v)) → GrowsOpened g o known site
-grows_unveiled g tells_v files_v clock_v of known tells seen times o r entry total_is first_is v site same kept left told knows =
-    let t = tells told knows in
-    let total = o.log.end.total in
-    let first = o.log.first in
-    let kept' : TrailKept total first (files_v r.log.site) (files_v v) = kept_at total_is first_is (kept t) in
-    let left' : Steps (LeavesTrail total first) (clock_v r.log.site) (clock_v v) = left_at total_is first_is (left t) in
+-- and so its trail grows over the running database that was opened
+pub grows_described : {S : Type 0} (g : Ghosts S) (o : Opened S) (r : Running S) → r.log.site ≡ o.log.site → r.log.end.total ≡ o.log.end.total → r.log.first ≡ o.log.first → (site : S) → GrowsOver g r site → GrowsOpened g o site
+grows_described g o r entry total_is first_is site grown told =
+    let then = grown told in
     record {
-      kept = subst (λ (f : Files). TrailKept total first (g.files o.log.site) f) (seen v ∙ ap g.files (sym same)) (subst (λ (f : Files). TrailKept total first f (files_v v)) (seen r.log.site ∙ ap g.files entry) kept');
-      left = subst (λ (c : Clock Left). Steps (LeavesTrail total first) (g.clock o.log.site) c) (times v ∙ ap g.clock (sym same)) (subst (λ (c : Clock Left). Steps (LeavesTrail total first) c (clock_v v)) (times r.log.site ∙ ap g.clock entry) left');
+      kept = subst (λ x. TrailKept o.log.end.total o.log.first (g.files x) (g.files site)) entry (kept_at total_is first_is then.kept);
+      left = subst (λ x. Steps (LeavesTrail o.log.end.total o.log.first) (g.clock x) (g.clock site)) entry (left_at total_is first_is then.left);
     }

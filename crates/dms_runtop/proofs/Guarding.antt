@@ -25,9 +25,3 @@ refused_counts s a b refused later some c = by (is_disk s)
     by : (s ≡ DiskFault) ⊎ (s ≡ DiskFault → ⊥) → (s ≡ DiskFault) × (b ≡ a)
     by (inl is) = (is, omega (arith, later, some, c.once))
     by (inr not) = absurd (omega (arith, later, some, c.clean not))
-
--- none was refused
-pub free_counts : (P : Type 0) (a b refused : ℕ) → (0 < refused → ⊥) → CountedAt P (a + 0) (b + refused) → CountedAt P a b
-free_counts P a b refused none c =
-    let free : refused ≡ 0 = omega (arith, none) in
-    record { later = omega (arith, free, c.later); failed = λ p. let r = c.failed p in omega (arith, free, r); once = omega (arith, free, c.once); clean = λ other. omega (arith, free, c.clean other) }

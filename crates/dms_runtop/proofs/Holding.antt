@@ -5,7 +5,7 @@ use Rattle.dms_desc_bytes.specs.Spelling.{spelling}
 use Rattle.dms_model.specs.Db.{Db}
 use Rattle.dms_site.specs.Files.{Files}
 use Rattle.dms_opening.specs.Openings.{IsTrailFound}
-use Rattle.dms_runlaws.specs.Held.{HoldsLast, StatesAreHeld}
+use Rattle.dms_run.specs.Held.{HoldsLast, StatesAreHeld}
 use Rattle.dms_runtop.specs.Command.{StatesHold}
 use Rattle.dms_runtop.proofs.Formed.{bytes_fit}
 

@@ -3,13 +3,15 @@ pub mod Opening
 pub mod Counted
 pub mod Fronts
 pub mod Ran
+pub mod Does
+pub mod Taking
 pub mod Formed
 pub mod Serving
 pub mod Opened
 pub mod Since
 pub mod Engine
 pub mod Looked
-pub mod Unveiled
+pub mod Described
 pub mod Holding
 pub mod Entered
 pub mod Refused
@@ -20,8 +22,3 @@ pub mod Fulls
 pub mod Bounds
 pub mod Inputs
 pub mod Grows
-pub mod Adding
-pub mod Partly
-pub mod Landing
-pub mod Filled
-pub mod Naming

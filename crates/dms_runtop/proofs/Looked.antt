@@ -1,5 +1,5 @@
 -- A database that was opened, and a call since that only looked, or that did nothing.
-use Rattle.std.proofs.Common.{ℕ, ◌≡◌, ◌≤◌, ◌∙◌, Bool, IsTrue, List, length, Option, Some, None, cond, refl, sym, ap, subst, arith}
+use Rattle.std.proofs.Common.{ℕ, ◌≡◌, ◌≤◌, ◌∙◌, IsTrue, List, length, Option, Some, None, cond, refl, sym, ap, subst, arith}
 use Rattle.dms_moments.specs.Moments.{Clock, Now, Runs, Steps}
 use Rattle.dms_moments.specs.MomentLaws.{runs_none, steps_weaken}
 use Rattle.dms_moments.specs.SeenLaws.{runs_looking}
@@ -13,16 +13,14 @@ use Rattle.dms_opening.specs.declared.opened.Opened.{Opened}
 use Rattle.dms_opening.specs.Openings.{RunsFrom}
 use Rattle.dms_descfile.specs.declared.fault.FileFault.{FileFault}
 use Rattle.dms_descfile.specs.declared.fault.FileFault.TheVariants as file
-use Rattle.dms_status.specs.declared.status.LimitKind.TheVariants.{AuditFile}
 use Rattle.dms_status.specs.declared.status.Status.{Status}
-use Rattle.dms_status.specs.declared.status.Status.TheVariants.{DiskFault, Limit, Memory}
+use Rattle.dms_status.specs.declared.status.Status.TheVariants.{DiskFault, Memory}
 use Rattle.dms_runtop.specs.Command.{RunsOpened, StandsOpened}
 use Rattle.dms_runtop.proofs.Bounds.{bounds_none}
 use Rattle.dms_runtop.specs.Over.{seen_site}
-use Rattle.dms_runtop.proofs.Endings.{IsUndone, disk_not_full, memory_not_full, undone_ok}
+use Rattle.dms_runtop.proofs.Endings.{IsUndone, undone_ok}
 use Rattle.dms_runtop.proofs.Ran.{ran_nothing}
 use Rattle.dms_runtop.proofs.Since.{runs_since}
-use Rattle.dms_runtop.proofs.Landing.{opened_same}
 
 -- it runs on
 pub looked_from : (files : Files) (point next : ℕ) (schema counts : List ℕ) (v : LogView) (now : Files) (later : Clock Left) → now ≡ v.files → Steps Same v.clock later → RunsFrom files point next schema counts v → RunsFrom files point next schema counts (view v.end v.first now later)
@@ -54,20 +52,19 @@ module _ {S : Type 0} (g : Ghosts S) where
   said_seen a b same = ap (λ (l : List ℕ). cond g.tells_said (Some l) None) same
 
   -- a run behind a call that only looked
-  pub runs_looked : ((s : S) (t : ℕ) (x : Left) → t ≤ (g.clock s).now → Now (g.clock s) x → (g.clock s).left t x) → (o : Opened S) (site new : S) (known : Bool) (left left' : Option (List ℕ)) (status : Status)
+  pub runs_looked : ((s : S) (t : ℕ) (x : Left) → t ≤ (g.clock s).now → Now (g.clock s) x → (g.clock s).left t x) → (o : Opened S) (site new : S) (left left' : Option (List ℕ)) (status : Status)
       → (IsTrue g.tells → g.files site ≡ g.files o.log.site) → g.said site ≡ g.said o.log.site → Steps Same (g.clock o.log.site) (g.clock site)
-      → RunsOpened g (record o { log = record o.log { site = site } }) known left left' status new → RunsOpened g o known left left' status new
-  runs_looked counts o site new known left left' status same said steps ran t k st n db all state room is =
-      runs_since 0 0 (telling (view_of g o.log)) st.desc (points_of (telling (view_of g o.log)) st.files) n db o.next all (seen_site g o.log.site) (seen_site g site) (seen_site g new) left' status
-      (said_seen o.log.site site said) (λ events. runs_looking (counts o.log.site) steps) (omega (arith, ap (λ (f : Files). length ((telling (view_of g o.log)).entries f)) (same t))) (opened_same 0 o.next _ _ (ap (telling (view_of g o.log)).entries (same t)))
-      (λ none. none)
-      (ran t k (stands_looked o site (same t) steps st) n db all state room is)
+      → RunsOpened g (record o { log = record o.log { site = site } }) left left' status new → RunsOpened g o left left' status new
+  runs_looked counts o site new left left' status same said steps ran t st n db all state room is =
+      runs_since 18 18 (telling (view_of g o.log)) st.desc (points_of (telling (view_of g o.log)) st.files) n db o.next all (seen_site g o.log.site) (seen_site g site) (seen_site g new) left' status
+      (said_seen o.log.site site said) (λ events. runs_looking (counts o.log.site) steps) (omega (arith, ap (λ (f : Files). length ((telling (view_of g o.log)).entries f)) (same t)))
+      (ran t (stands_looked o site (same t) steps st) n db all state room is)
 
   -- no line was run
-  pub runs_undone : (o : Opened S) (new : S) (known : Bool) (left left' : Option (List ℕ)) (status : Status) → IsUndone status → (status ≡ Limit (AuditFile 9999) → ⊥) → (IsTrue g.tells → g.files new ≡ g.files o.log.site)
-      → ((P : Left → Type 0) → Runs (g.clock o.log.site) (g.clock new) P) → g.said new ≡ g.said o.log.site → RunsOpened g o known left left' status new
-  runs_undone o new known left left' status undone space files moments said t k st n db all state room is =
-      ran_nothing 0 (telling (view_of g o.log)) st.desc (points_of (telling (view_of g o.log)) st.files) n db o.next all (seen_site g o.log.site) (seen_site g new) left' status undone space
+  pub runs_undone : (o : Opened S) (new : S) (left left' : Option (List ℕ)) (status : Status) → IsUndone status → (IsTrue g.tells → g.files new ≡ g.files o.log.site)
+      → ((P : Left → Type 0) → Runs (g.clock o.log.site) (g.clock new) P) → g.said new ≡ g.said o.log.site → RunsOpened g o left left' status new
+  runs_undone o new left left' status undone files moments said t st n db all state room is =
+      ran_nothing 18 (telling (view_of g o.log)) st.desc (points_of (telling (view_of g o.log)) st.files) n db o.next all (seen_site g o.log.site) (seen_site g new) left' status undone
       (moments _) (said_seen o.log.site new said) (bounds_none status (undone_ok status undone) (files t) (said_seen o.log.site new said))
 
 -- a fault of the description
@@ -75,11 +72,7 @@ pub undone_description : (fault : FileFault) (status : Status) → (fault ≡ fi
 undone_description file.Disk status disk memory = subst IsUndone (sym (disk refl)) tt
 undone_description file.Memory status disk memory = subst IsUndone (sym (memory refl)) tt
 
-pub description_room : (fault : FileFault) (status : Status) → (fault ≡ file.Disk → status ≡ DiskFault) → (fault ≡ file.Memory → status ≡ Memory) → status ≡ Limit (AuditFile 9999) → ⊥
-description_room file.Disk status disk memory full = disk_not_full (sym (disk refl) ∙ full)
-description_room file.Memory status disk memory full = memory_not_full (sym (memory refl) ∙ full)
-
 -- memory was refused before the first line, and the site is the same
-pub runs_left : {S : Type 0} (g : Ghosts S) (o : Opened S) (new : S) (known : Bool) (left left' : Option (List ℕ)) → new ≡ o.log.site → RunsOpened g o known left left' Memory new
-runs_left g o new known left left' same =
-    subst (λ x. RunsOpened g o known left left' Memory x) (sym same) (runs_undone g o o.log.site known left left' Memory tt memory_not_full (λ tells. refl) (λ P. runs_none (g.clock o.log.site) P) refl)
+pub runs_left : {S : Type 0} (g : Ghosts S) (o : Opened S) (new : S) (left left' : Option (List ℕ)) → new ≡ o.log.site → RunsOpened g o left left' Memory new
+runs_left g o new left left' same =
+    subst (λ x. RunsOpened g o left left' Memory x) (sym same) (runs_undone g o o.log.site left left' Memory tt (λ tells. refl) (λ P. runs_none (g.clock o.log.site) P) refl)

@@ -1,23 +1,20 @@
 -- What a run over a store on a running database is of the files below.
-use Rattle.std.proofs.Common.{inl, inr, ◌⊎◌, ℕ, ◌≡◌, ◌<◌, ◌+◌, ◌^◌, ◌∙◌, Bool, true, false, IsTrue, List, [], ◌∷◌, ◌++◌, map, length, take, Option, Some, refl, sym, ap, subst, arith}
+use Rattle.std.proofs.Common.{inl, inr, ◌⊎◌, ℕ, ◌≡◌, ◌<◌, ◌+◌, ◌^◌, ◌∙◌, Bool, true, false, IsTrue, List, [], ◌∷◌, ◌++◌, map, length, Option, Some, refl, sym, ap, subst, arith}
 use Rattle.std.proofs.lemmas.List.{length-map, append-nil}
 use Rattle.std.specs.declared.result.Result.{Result}
 use Rattle.std.specs.declared.result.Result.TheVariants as result
-use Rattle.dms_block.specs.Held.{Held, is_due}
-use Rattle.dms_block.specs.Landmarks.{AddsNoFurther}
-use Rattle.dms_block.specs.Texts.{Prints, PrintsPrefix}
+use Rattle.dms_block.specs.Held.{Held}
+use Rattle.dms_block.specs.Texts.{Prints}
 use Rattle.dms_desc.specs.Shape.{Described, as_described}
 use Rattle.dms_model.specs.Db.{Db}
-use Rattle.dms_model.specs.Lacking.{LacksOne}
 use Rattle.dms_model.specs.Points.{Point, Stop, LeavesPrefix, StopTextIs}
 use Rattle.dms_moments.specs.Moments.{Runs}
 use Rattle.dms_moments.specs.MomentLaws.{runs_weaken}
 use Rattle.dms_block.specs.declared.block_fault.BlockFault.TheVariants as block
-use Rattle.dms_block.specs.declared.block_fault.BlockFault.TheVariants.{Say}
 use Rattle.dms_feed.specs.Lines.{raw_lines}
 use Rattle.dms_runner.specs.Answers.{LineEffect, answers_text, first_state, script_events}
 use Rattle.dms_runner.specs.Blaming.{IsFullRun}
-use Rattle.dms_runner.specs.Events.{CrashesFrom, IsFullAtEvent, IsFullIn, Performs, RunEvent, SaidWhole, TookAll, landmarks_from, pause, syncs_after, text_of}
+use Rattle.dms_runner.specs.Events.{IsFullAtEvent, RunEvent, pause}
 use Rattle.dms_runner.specs.Running.{AreOfFront, KeepsFront}
 use Rattle.dms_runner.specs.Starting.{CarriesOut}
 use Rattle.dms_runner.proofs.Running.{run_none}
@@ -50,11 +47,9 @@ use Rattle.dms_status.specs.declared.status.LimitKind.TheVariants as limits
 use Rattle.dms_status.specs.declared.status.LimitKind.TheVariants.{AuditFile, Lines, Bytes}
 use Rattle.dms_status.specs.declared.status.Status.{Status}
 use Rattle.dms_status.specs.declared.status.Status.TheVariants.{Ok, Limit}
-use Rattle.dms_runtop.specs.Bound.{BoundsAudit, StopsAtLine}
-use Rattle.dms_runtop.specs.Faults.{IsWithin, run_status}
-use Rattle.dms_runtop.specs.Landing.{LandmarksClosed}
-use Rattle.dms_runtop.specs.Over.{CutsScript, LacksAt, IsAtEnds, IsControlDue, ReachesFiles, PassesScript, ScriptRuns, SiteSeen, lacks_at, opening_lacks}
-use Rattle.dms_runtop.proofs.Bounds.{at_line_of}
+use Rattle.dms_runtop.specs.Bound.{AnswersPart}
+use Rattle.dms_runtop.specs.Faults.{run_status}
+use Rattle.dms_runtop.specs.Over.{CarriedOut, CutsScript, IsAtEnds, ReachesFiles, PassesScript, ScriptRuns, SiteSeen}
 use Rattle.dms_runtop.proofs.Counted.{an_error}
 use Rattle.dms_runtop.proofs.Fronts.{leaves_wide, wider}
 use Rattle.dms_runtop.specs.Statuses.{IsOfAuditLimit, IsOfClosing}
@@ -139,43 +134,26 @@ module _ {S : Type 0} (g : Ghosts S) (d : Described) (trail : Trail) (r r' : Run
 
 -- ---- what is printed
 
-pub prints_nothing : (said : Option (List ℕ)) (text : List ℕ) → PrintsPrefix said said text
-prints_nothing said text = λ t is. (0, is ∙ ap (λ (s : List ℕ). Some s) (sym (append-nil t)))
-
 still_prints : (said : Option (List ℕ)) → Prints said said []
 still_prints said = λ t is. is ∙ ap (λ (s : List ℕ). Some s) (sym (append-nil t))
 
-pub said_nothing : (said : Option (List ℕ)) (events : List RunEvent) → SaidWhole said said events
-said_nothing said events = (0, λ t is. is ∙ ap (λ (s : List ℕ). Some s) (sym (append-nil t)))
-
 -- ---- what was carried out
-
--- nothing is lacked
-abbrev no_lack : LacksAt
-no_lack = record { opening = ⊥; closing = λ es. ⊥; within = λ backs es. ⊥; stored = λ db. ⊥ }
 
 -- So much of a script was carried out where the run stopped with this fault, told by the text before it and behind it. What is changed may go on up to
 -- this audit file.
-pub record Carried (last : ℕ) (Stops Due : List RunEvent → Type 0) (Behind : Bool → List RunEvent → Type 0) (Lacks : Db → Type 0) (d : Described) (db : Db) (next : ℕ) (all : List ℕ) (left' : Option (List ℕ)) (said said' : Option (List ℕ)) (fault : RunFault) : Type 0 where
-  pub lines : ℕ
-  pub events : List RunEvent
-  pub front : KeepsFront (raw_lines all) lines
-  pub are : AreOfFront d db next (raw_lines all) lines events
-  pub part : PrintsPrefix said said' (text_of events)
-  pub answers : (fault ≡ Block Say → ⊥) → SaidWhole said said' events
-  pub due : (f : ℕ) → fault ≡ Block (block.Full f) → IsFullAtEvent last f Stops Due Behind Lacks said said' events
-  pub many_lines : fault ≡ run.Lines → PassesScript Lines Stops no_lack d db next (raw_lines all) lines events said said'
-  pub many_bytes : fault ≡ run.Bytes → PassesScript Bytes Stops no_lack d db next (raw_lines all) lines events said said'
-  pub many_held : fault ≡ run.Held → PassesScript limits.Held Stops no_lack d db next (raw_lines all) lines events said said'
-  pub cut : fault ≡ run.Input → CutsScript d db next all left' lines events said said'
+pub record Carried (last : ℕ) (d : Described) (db : Db) (next : ℕ) (all : List ℕ) (left' : Option (List ℕ)) (said said' : Option (List ℕ)) (fault : RunFault) : Type 0 where
+  pub carried : CarriedOut d db next (raw_lines all)
+  pub due : (f : ℕ) → fault ≡ Block (block.Full f) → IsFullAtEvent last f said said' carried.events
+  pub many_lines : fault ≡ run.Lines → PassesScript Lines d db next (raw_lines all) carried.lines carried.events said said'
+  pub many_bytes : fault ≡ run.Bytes → PassesScript Bytes d db next (raw_lines all) carried.lines carried.events said said'
+  pub many_held : fault ≡ run.Held → PassesScript limits.Held d db next (raw_lines all) carried.lines carried.events said said'
+  pub cut : fault ≡ run.Input → CutsScript d db next all left' carried.lines carried.events said said'
 
 -- All of it was.
-pub record CarriedAll (d : Described) (db : Db) (next : ℕ) (all : List ℕ) (said said' : Option (List ℕ)) : Type 0 where
+pub record CarriedAll (d : Described) (db : Db) (next : ℕ) (all : List ℕ) : Type 0 where
   pub lines : ℕ
   pub front : KeepsFront (raw_lines all) lines
   pub are : AreOfFront d db next (raw_lines all) lines (script_events d db next (raw_lines all))
-  pub part : PrintsPrefix said said' (answers_text d db next (raw_lines all))
-  pub answers : SaidWhole said said' (script_events d db next (raw_lines all))
 
 abbrev pub fault_of : RunFault → Result (Unit {0}) RunFault
 fault_of fault = result.Err fault
@@ -187,30 +165,9 @@ pub full_run : (fault : RunFault) (f : ℕ) → fault ≡ Block (block.Full f) �
 full_run fault f is = subst (λ (x : RunFault). IsFullRun (fault_of x) f) (sym is) refl
 
 module _ {St : Type 0} {g : store.Ghosts St} (left' : Option (List ℕ)) (old new : Engine St g) (db : Db) (first : ℕ) (all : List ℕ) where
-  -- what stops within these events leave
-  abbrev pub StopsIn : List RunEvent → Type 0
-  StopsIn es = (engine_view old).tells → Runs (engine_view old).clock (engine_view new).clock (CrashesFrom (engine_view old) es)
-
-  -- a control point follows the sync behind them
-  abbrev pub DueBehind : List RunEvent → Type 0
-  DueBehind es = is_due (engine_view old).pace.every (syncs_after (engine_view old).effort.syncs es) ≡ true
-
-  -- their landmarks were added, and no Control behind them
-  abbrev pub LandsBehind : Bool → List RunEvent → Type 0
-  LandsBehind backs es = AddsNoFurther backs (engine_view old).landmarks (engine_view new).landmarks (landmarks_from (engine_view old) es)
-
-  -- and the records in the store are those of this database but for one
-  abbrev pub StandsWithout : Db → Type 0
-  StandsWithout = LacksOne (engine_view new).records
-
-  abbrev pub carried_of : (fault : RunFault) → CarriesOut (fault_of fault) left' old new db first all → Carried (engine_view old).pace.last StopsIn DueBehind LandsBehind StandsWithout (as_described old.desc) db first all left' (engine_view old).said (engine_view new).said fault
+  abbrev pub carried_of : (fault : RunFault) → CarriesOut (fault_of fault) left' old new db first all → Carried (engine_view old).pace.last (as_described old.desc) db first all left' (engine_view old).said (engine_view new).said fault
   carried_of fault k = record {
-    lines = k.n;
-    events = k.events;
-    front = k.front;
-    are = k.are;
-    part = k.part.text;
-    answers = k.part.said_whole;
+    carried = record { lines = k.n; front = k.front; events = k.events; are = k.are };
     due = λ f is. k.part.due f (full_run fault f is);
     many_lines = λ is. let x = k.lines (an_error fault run.Lines is) in (x.0, x.1.are);
     many_bytes = λ is. let x = k.bytes (an_error fault run.Bytes is) in (x.0, x.1.are);
@@ -218,71 +175,14 @@ module _ {St : Type 0} {g : store.Ghosts St} (left' : Option (List ℕ)) (old ne
     cut = λ is. let x = k.failed (an_error fault run.Input is) in (x.0, x.1.are);
   }
 
-  -- where it stopped at a line, exactly its events took what was taken
-  pub took_at_line : (last : ℕ) (fault then : RunFault) → IsWithin last fault then → (k : CarriesOut (fault_of fault) left' old new db first all) → StopsAtLine (run_status then) → TookAll (engine_view old) (engine_view new) k.events
-  took_at_line last fault then within k =
-      at_line_of last fault then within (λ is. took (k.failed (an_error fault run.Input is)).1.did) (λ is. took (k.lines (an_error fault run.Lines is)).1.did) (λ is. took (k.bytes (an_error fault run.Bytes is)).1.did)
-      (λ is. took (k.full_list (an_error fault run.Held is)).1.did)
-    where
-      took : Performs (engine_view old) (engine_view new) k.events → TookAll (engine_view old) (engine_view new) k.events
-      took did = record { effort = did.effort; next = did.next_high }
-
-  pub carried_all : (x : Unit {0}) → CarriesOut (ok_of x) left' old new db first all → CarriedAll (as_described old.desc) db first all (engine_view old).said (engine_view new).said
-  carried_all x k = record {
-    lines = k.n;
-    front = k.front;
-    are = subst (λ (es : List RunEvent). AreOfFront (as_described old.desc) db first (raw_lines all) k.n es) k.whole k.are;
-    part = subst (λ (es : List RunEvent). PrintsPrefix (engine_view old).said (engine_view new).said (text_of es)) k.whole k.part.text;
-    answers = subst (λ (es : List RunEvent). SaidWhole (engine_view old).said (engine_view new).said es) k.whole (k.part.said_whole (λ cut. cut));
-  }
-
--- ---- what was due, told of other stops
-
-made_moved : {X Y A B C : Type 0} → (X → Y) → (B → C) → X ⊎ (A × B) → Y ⊎ (A × C)
-made_moved stops due (inl x) = inl (stops x)
-made_moved stops due (inr x) = inr (x.0, due x.1)
-
-pub due_moved : {Stops Stops' Due Due' : List RunEvent → Type 0} {Behind Behind' : Bool → List RunEvent → Type 0} {Lacks Lacks' : Db → Type 0} (last last' f : ℕ) (before after : Option (List ℕ)) (events : List RunEvent) → last ≡ last'
-    → ((es : List RunEvent) → Stops (es ++ pause ∷ []) → Stops' (es ++ pause ∷ [])) → ((es : List RunEvent) → Due es → Due' es) → ((backs : Bool) (es : List RunEvent) → Behind backs es → Behind' backs es)
-    → ((x : Db) → Lacks x → Lacks' x) → IsFullAtEvent last f Stops Due Behind Lacks before after events → IsFullAtEvent last' f Stops' Due' Behind' Lacks' before after events
-due_moved last last' f before after events same stops due lands without d = record {
-  k = d.k;
-  at = d.at;
-  is = d.is;
-  full = subst (λ (l : ℕ). IsFullIn l d.at f) same d.full;
-  text = d.text;
-  made = made_moved (stops (take d.k events)) (due (take d.k events)) d.made;
-  landmarks = lands d.at.backs (take d.k events) d.landmarks;
-  lacks = λ x is. without x (d.lacks x is);
-}
-
-ends_moved : (lack lack' : LacksAt) (d : Described) (db : Db) (next : ℕ) (lines : List (List ℕ)) (events : List RunEvent) (before after : Option (List ℕ)) → (lack.opening → lack'.opening) → ((es : List RunEvent) → lack.closing es → lack'.closing es)
-    → IsAtEnds lack d db next lines events before after → IsAtEnds lack' d db next lines events before after
-ends_moved lack lack' d db next lines events before after opening closing (inl at) = inl (at.0, at.1, opening at.2)
-ends_moved lack lack' d db next lines events before after opening closing (inr at) = inr (at.0, at.1, closing events at.2)
-
-pub passes_moved : (Stops Stops' : List RunEvent → Type 0) (lack lack' : LacksAt) (k : LimitKind) (d : Described) (db : Db) (next : ℕ) (lines : List (List ℕ)) (n : ℕ) (events : List RunEvent) (before after : Option (List ℕ))
-    → ((es : List RunEvent) → Stops (es ++ pause ∷ []) → Stops' (es ++ pause ∷ [])) → (lack.opening → lack'.opening) → ((es : List RunEvent) → lack.closing es → lack'.closing es)
-    → ((backs : Bool) (es : List RunEvent) → lack.within backs es → lack'.within backs es) → ((x : Db) → lack.stored x → lack'.stored x)
-    → PassesScript k Stops lack d db next lines n events before after → PassesScript k Stops' lack' d db next lines n events before after
-passes_moved Stops Stops' lack lack' (AuditFile f) d db next lines n events before after stops opening closing going without (inl due) = inl (due_moved d.files d.files f before after events refl stops (λ es is. is) going without due)
-passes_moved Stops Stops' lack lack' (AuditFile f) d db next lines n events before after stops opening closing going without (inr ends) = inr (ends.0, ends_moved lack lack' d db next lines events before after opening closing ends.1)
-passes_moved Stops Stops' lack lack' Lines d db next lines n events before after stops opening closing going without passes = passes
-passes_moved Stops Stops' lack lack' Bytes d db next lines n events before after stops opening closing going without passes = passes
-passes_moved Stops Stops' lack lack' limits.Held d db next lines n events before after stops opening closing going without passes = passes
-
--- the last audit file is 9,999
-of_last : (k : LimitKind) → IsOfAuditLimit k → Limit k ≡ Limit (AuditFile 9999)
-of_last (AuditFile f) last = λ i. Limit (AuditFile (last i))
-of_last Lines last = absurd last
-of_last Bytes last = absurd last
-of_last limits.Held last = absurd last
+  pub carried_all : (x : Unit {0}) → CarriesOut (ok_of x) left' old new db first all → CarriedAll (as_described old.desc) db first all
+  carried_all x k = record { lines = k.n; front = k.front; are = subst (λ (es : List RunEvent). AreOfFront (as_described old.desc) db first (raw_lines all) k.n es) k.whole k.are }
 
 -- ---- a run, by how it ended
 
-module _ (opening : ℕ) (t : Telling) (d : Described) (ps : List DescribedPoint) (n : ℕ) (db : Db) (next : ℕ) (all : List ℕ) (a b : SiteSeen) (left' : Option (List ℕ)) where
-  abbrev Bound : List RunEvent → Status → Type 0
-  Bound events status = BoundsAudit opening t d events a.files b.files a.said b.said status
+module _ (most : ℕ) (t : Telling) (d : Described) (ps : List DescribedPoint) (n : ℕ) (db : Db) (next : ℕ) (all : List ℕ) (a b : SiteSeen) (left' : Option (List ℕ)) where
+  abbrev Part : List RunEvent → Status → Type 0
+  Part events status = AnswersPart most t d events a.files b.files a.said b.said status
 
   abbrev script : List RunEvent
   script = script_events d db next (raw_lines all)
@@ -294,11 +194,8 @@ module _ (opening : ℕ) (t : Telling) (d : Described) (ps : List DescribedPoint
   paused : (events : List RunEvent) → Leaves events → Leaves (events ++ pause ∷ [])
   paused events moments = runs_weaken moments (leaves_wide (wider events (pause ∷ [])))
 
-  abbrev lack : LacksAt
-  lack = lacks_at opening t d next a.files b.files
-
-  of_audit : (lines : ℕ) (events : List RunEvent) (k : LimitKind) → IsOfAuditLimit k → (IsOfAuditLimit k → IsAtEnds lack d db next (raw_lines all) events a.said b.said) → PassesScript k Leaves lack d db next (raw_lines all) lines events a.said b.said
-  of_audit lines events (AuditFile f) is ends = inr (is, ends is)
+  pub of_audit : (lines : ℕ) (events : List RunEvent) (k : LimitKind) → IsOfAuditLimit k → IsAtEnds d db next (raw_lines all) events a.said b.said → PassesScript k d db next (raw_lines all) lines events a.said b.said
+  of_audit lines events (AuditFile f) is ends = inr (is, ends)
   of_audit lines events Lines is ends = absurd is
   of_audit lines events Bytes is ends = absurd is
   of_audit lines events limits.Held is ends = absurd is
@@ -307,77 +204,61 @@ module _ (opening : ℕ) (t : Telling) (d : Described) (ps : List DescribedPoint
   no_lines = record { within = omega arith; few = omega arith; short = omega arith }
 
   -- nothing was done: the status is none of a script
-  pub ran_nothing : (status : Status) → IsUndone status → (status ≡ Limit (AuditFile 9999) → opening_lacks opening a.files b.files) → Leaves (pause ∷ []) → b.said ≡ a.said → Bound [] status → ScriptRuns opening t d ps n db next all a b left' status
-  ran_nothing status undone short moments same bound = record {
-    lines = 0;
-    front = no_lines;
-    events = [];
-    are = inl (sym (ap (λ (e : LineEffect). e.events) (run_none d (first_state db next))));
-    bound = bound;
+  pub ran_nothing : (status : Status) → IsUndone status → Leaves (pause ∷ []) → b.said ≡ a.said → Part [] status → ScriptRuns most t d ps n db next all a b left' status
+  ran_nothing status undone moments same part = record {
+    does = record {
+      carried = record { lines = 0; front = no_lines; events = []; are = inl (sym (ap (λ (e : LineEffect). e.events) (run_none d (first_state db next)))) };
+      whole = λ is. absurd (undone_ok status undone is);
+      answers = λ is. absurd (undone_ok status undone is);
+      part = part;
+      limit = λ k is. of_audit 0 [] k (undone_limit status undone k is) (inl (refl, subst (λ (s : Option (List ℕ)). Prints a.said s []) (sym same) (still_prints a.said)));
+      input_cut = λ is. absurd (undone_input status undone is);
+      undamaged = λ f k is high. undone_damaged status undone f k is high;
+    };
     every_moment = moments;
     at_ok = λ is. absurd (undone_ok status undone is);
-    prints = λ is. absurd (undone_ok status undone is);
-    part = subst (λ (s : Option (List ℕ)). PrintsPrefix a.said s []) (sym same) (prints_nothing a.said []);
-    whole_answers = λ unsaid. subst (λ (s : Option (List ℕ)). SaidWhole a.said s []) (sym same) (said_nothing a.said []);
-    whole = λ is. absurd (undone_ok status undone is);
-    within = λ is. absurd (undone_ok status undone is);
-    landmarks = λ is. absurd (undone_ok status undone is);
-    limit = λ k is. of_audit 0 [] k (undone_limit status undone k is) (λ last. inl (refl, subst (λ (s : Option (List ℕ)). Prints a.said s []) (sym same) (still_prints a.said), short (is ∙ of_last k last)));
-    input_cut = λ is. absurd (undone_input status undone is);
-    undamaged = λ f k is high. undone_damaged status undone f k is high;
   }
 
   -- the script stopped before its end
-  pub ran_failed : (fault : RunFault) (c : Carried d.files Leaves (IsControlDue d) lack.within lack.stored d db next all left' a.said b.said fault) → Leaves c.events
-      → ((f k : ℕ) → fault ≡ Block (block.Damaged f k) → ⊥) → Bound c.events (run_status fault) → ScriptRuns opening t d ps n db next all a b left' (run_status fault)
-  ran_failed fault c moments damaged bound = record {
-    lines = c.lines;
-    front = c.front;
-    events = c.events;
-    are = c.are;
-    bound = bound;
-    every_moment = paused c.events moments;
+  pub ran_failed : (fault : RunFault) (c : Carried d.files d db next all left' a.said b.said fault) → Leaves c.carried.events → ((f k : ℕ) → fault ≡ Block (block.Damaged f k) → ⊥) → Part c.carried.events (run_status fault)
+      → ScriptRuns most t d ps n db next all a b left' (run_status fault)
+  ran_failed fault c moments damaged part = record {
+    does = record {
+      carried = c.carried;
+      whole = λ is. absurd (run_not_ok fault is);
+      answers = λ is. absurd (run_not_ok fault is);
+      part = part;
+      limit = λ k is. passes k is;
+      input_cut = λ is. c.cut (run_input fault is);
+      undamaged = λ f k is high. damaged f k (run_damaged fault f k is);
+    };
+    every_moment = paused c.carried.events moments;
     at_ok = λ is. absurd (run_not_ok fault is);
-    prints = λ is. absurd (run_not_ok fault is);
-    part = c.part;
-    whole_answers = λ unsaid. c.answers (λ is. unsaid (ap run_status is));
-    whole = λ is. absurd (run_not_ok fault is);
-    within = λ is. absurd (run_not_ok fault is);
-    landmarks = λ is. absurd (run_not_ok fault is);
-    limit = λ k is. passes k is;
-    input_cut = λ is. c.cut (run_input fault is);
-    undamaged = λ f k is high. damaged f k (run_damaged fault f k is);
   }
     where
-      passes : (k : LimitKind) → run_status fault ≡ Limit k → PassesScript k Leaves lack d db next (raw_lines all) c.lines c.events a.said b.said
+      passes : (k : LimitKind) → run_status fault ≡ Limit k → PassesScript k d db next (raw_lines all) c.carried.lines c.carried.events a.said b.said
       passes (AuditFile f) is = inl (c.due f (run_full_is fault f is))
       passes Lines is = c.many_lines (run_lines_is fault is)
       passes Bytes is = c.many_bytes (run_bytes_is fault is)
       passes limits.Held is = c.many_held (run_held_is fault is)
 
   -- the script was carried out, and the database closed, or not closed
-  pub ran_closed : (status : Status) → (status ≡ Ok) ⊎ IsOfClosing status → (c : CarriedAll d db next all a.said b.said) → Leaves script
-      → (status ≡ Ok → ReachesFiles t d n db next (raw_lines all) b)
-      → Prints a.said b.said (answers_text d db next (raw_lines all)) → KeepsLimits d db next (raw_lines all) → Bound script status → (status ≡ Ok → LandmarksClosed opening t d next a.files b.files script) → (status ≡ Limit (AuditFile 9999) → lack.closing script) → ScriptRuns opening t d ps n db next all a b left' status
-  ran_closed status of c moments ends prints limits bound lands lacks = record {
-    lines = c.lines;
-    front = c.front;
-    events = script;
-    are = c.are;
-    bound = bound;
+  pub ran_closed : (status : Status) → (status ≡ Ok) ⊎ IsOfClosing status → (c : CarriedAll d db next all) → Leaves script → (status ≡ Ok → ReachesFiles t d n db next (raw_lines all) b) → Prints a.said b.said (answers_text d db next (raw_lines all))
+      → KeepsLimits d db next (raw_lines all) → Part script status → ScriptRuns most t d ps n db next all a b left' status
+  ran_closed status of c moments ends prints keeps part = record {
+    does = record {
+      carried = record { lines = c.lines; front = c.front; events = script; are = c.are };
+      whole = λ is. refl;
+      answers = λ is. record { few = keeps.few; short = keeps.short; room = keeps.room; text = prints };
+      part = part;
+      limit = λ k is. closing_limit status of k is;
+      input_cut = λ is. absurd (closing_input status of is);
+      undamaged = λ f k is high. closing_damaged status of f k is;
+    };
     every_moment = paused script moments;
     at_ok = ends;
-    prints = λ is. prints;
-    part = c.part;
-    whole_answers = λ unsaid. c.answers;
-    whole = λ is. refl;
-    within = λ is. limits;
-    landmarks = lands;
-    limit = λ k is. closing_limit status of lacks k is;
-    input_cut = λ is. absurd (closing_input status of is);
-    undamaged = λ f k is high. closing_damaged status of f k is;
   }
     where
-      closing_limit : (s : Status) → (s ≡ Ok) ⊎ IsOfClosing s → (s ≡ Limit (AuditFile 9999) → lack.closing script) → (k : LimitKind) → s ≡ Limit k → PassesScript k Leaves lack d db next (raw_lines all) c.lines script a.said b.said
-      closing_limit s (inl ok) short k is = absurd (ok_not_limit k (sym ok ∙ is))
-      closing_limit s (inr of) short k is = of_audit c.lines script k (subst IsOfClosing is of) (λ last. inr (refl, prints, short (is ∙ of_last k last)))
+      closing_limit : (s : Status) → (s ≡ Ok) ⊎ IsOfClosing s → (k : LimitKind) → s ≡ Limit k → PassesScript k d db next (raw_lines all) c.lines script a.said b.said
+      closing_limit s (inl ok) k is = absurd (ok_not_limit k (sym ok ∙ is))
+      closing_limit s (inr of) k is = of_audit c.lines script k (subst IsOfClosing is of) (inr (refl, prints))

@@ -1,13 +1,12 @@
 -- What an opening's refusal leaves.
 use Rattle.std.proofs.Common.{ℕ, ◌≡◌, ◌⊎◌, inl, inr, Bool, true, false, cond, refl, sym, ap, subst, arith}
 use Rattle.std.specs.Prelude.{nat_le}
-use Rattle.std.proofs.lemmas.Bool.{cases_eq}
 use Rattle.std.proofs.lemmas.Bool.Decides.{nat_tests}
 use Rattle.dms_audfile.specs.Counting.{CountedAt}
 use Rattle.dms_audfile.specs.declared.fault.AudFault.TheVariants as aud
 use Rattle.dms_opening.specs.declared.choosing.OpenFault.{OpenFault}
 use Rattle.dms_opening.specs.declared.choosing.OpenFault.TheVariants.{Audit, NoSuchPoint, Voided, ByDump}
-use Rattle.dms_opening.specs.Openings.{IsFullFault, MayHaveWritten, IsNoRefusal}
+use Rattle.dms_opening.specs.Openings.{MayHaveWritten, IsNoRefusal}
 use Rattle.dms_status.specs.declared.status.Status.{Status}
 use Rattle.dms_status.specs.declared.status.Status.TheVariants.{Ok, BadWords, SchemaRefused, NoDatabase, Needed, InputFault, Memory, Limit, Damaged, SayFault, DiskFault, Exists}
 use Rattle.dms_runtop.specs.Faults.{open_status}
@@ -125,26 +124,6 @@ open_input (Audit aud.Memory) e = absurd cc
 open_input (NoSuchPoint n) e = absurd cc
 open_input (Voided n) e = absurd cc
 open_input (ByDump d) e = absurd cc
-
--- whether the audit has no room up to file 9,999
-pub full_or_not : (fault : OpenFault) → IsFullFault fault ⊎ (IsFullFault fault → ⊥)
-full_or_not (Audit (aud.Full n)) = elim (cases_eq n 9999) [
-  | inl last ↦ inl (ap (λ k. Audit (aud.Full k)) last)
-  | inr other ↦ inr (λ is. let same : n ≡ 9999 = same_limit n is in other same)
-]
-  where
-    same_limit : (k : ℕ) → Audit (aud.Full k) ≡ Audit (aud.Full 9999) → k ≡ 9999
-    same_limit k is = cc
-full_or_not (Audit aud.NoDatabase) = inr (λ is. absurd cc)
-full_or_not (Audit aud.Disk) = inr (λ is. absurd cc)
-full_or_not (Audit (aud.Missing n)) = inr (λ is. absurd cc)
-full_or_not (Audit (aud.Unsealed n)) = inr (λ is. absurd cc)
-full_or_not (Audit (aud.Foreign n)) = inr (λ is. absurd cc)
-full_or_not (Audit (aud.Damaged f b)) = inr (λ is. absurd cc)
-full_or_not (Audit aud.Memory) = inr (λ is. absurd cc)
-full_or_not (NoSuchPoint n) = inr (λ is. absurd cc)
-full_or_not (Voided n) = inr (λ is. absurd cc)
-full_or_not (ByDump d) = inr (λ is. absurd cc)
 
 pub open_ok : (fault : OpenFault) → open_status fault ≡ Ok → ⊥
 open_ok (Audit aud.NoDatabase) e = absurd cc

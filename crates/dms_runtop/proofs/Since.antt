@@ -3,9 +3,8 @@ use Rattle.std.proofs.Common.{ℕ, ◌≡◌, ◌≤◌, ◌+◌, ◌∙◌, Lis
 use Rattle.std.proofs.lemmas.List.{append-nil}
 use Rattle.std.proofs.lemmas.Option.{same_Some}
 use Rattle.dms_desc.specs.Shape.{Described}
-use Rattle.dms_feed.specs.Lines.{raw_lines}
 use Rattle.dms_model.specs.Db.{Db}
-use Rattle.dms_moments.specs.Moments.{Clock, Runs}
+use Rattle.dms_moments.specs.Moments.{Runs}
 use Rattle.dms_moments.specs.MomentLaws.{runs_on}
 use Rattle.dms_runner.specs.Events.{RunEvent, pause, quiets_of}
 use Rattle.dms_running.specs.Telling.{Telling}
@@ -16,11 +15,8 @@ use Rattle.dms_wal.specs.Marks.{last_number, number_from}
 use Rattle.dms_run.specs.Files.{RunLeavesFiles}
 use Rattle.dms_run.specs.States.{LivesEndWith}
 use Rattle.dms_status.specs.declared.status.Status.{Status}
-use Rattle.dms_runtop.specs.Over.{ScriptRuns, SiteSeen, lacks_at, opening_lacks}
+use Rattle.dms_runtop.specs.Over.{ScriptRuns, SiteSeen}
 use Rattle.dms_runtop.proofs.Bounds.{bounds_since}
-use Rattle.dms_runtop.specs.Landing.{script_landmarks}
-use Rattle.dms_runtop.proofs.Landing.{OpenedSince, closed_since, lacks_since, lands_since}
-use Rattle.dms_runtop.proofs.Ran.{passes_moved}
 
 -- ---- there is a first event
 
@@ -50,6 +46,7 @@ module _ (t : Telling) (files : Files) (said : Option (List ℕ)) (desc : Descri
         are = refl;
         each = tt;
         next_is = omega (arith, next_is, r.not_fallen);
+        not_risen = omega (arith, next_is, r.not_risen);
         text = λ b is. record { before = []; at = f.one; rest = f.rest; all = f.are; printed = 0; said_is = r.text b is ∙ sym (append-nil b); enough = omega arith; few = omega arith };
         whole = r.whole;
       }
@@ -61,30 +58,14 @@ module _ (opening opening0 : ℕ) (t : Telling) (d : Described) (ps : List Descr
   same_said same ran = subst (λ (s : Option (List ℕ)). ScriptRuns opening t d ps n db next all (record { files = a.files; clock = a.clock; said = s }) b left' status) same ran
 
   pub runs_since : a.said ≡ a0.said → ((events : List RunEvent) → Runs a0.clock a.clock (RunLeavesFiles t d a0.said ps n db next (events ++ pause ∷ [])))
-      → length (t.entries a.files) + opening ≤ length (t.entries a0.files) + opening0 → OpenedSince opening opening0 next (t.entries a0.files) (t.entries a.files)
-      → (opening_lacks opening a.files b.files → opening_lacks opening0 a0.files b.files) → ScriptRuns opening t d ps n db next all a b left' status → ScriptRuns opening0 t d ps n db next all a0 b left' status
-  runs_since same before grew since short ran =
+      → length (t.entries a.files) + opening ≤ length (t.entries a0.files) + opening0 → ScriptRuns opening t d ps n db next all a b left' status → ScriptRuns opening0 t d ps n db next all a0 b left' status
+  runs_since same before grew ran =
       let r = same_said same ran in
+      let does = r.does in
       record {
-        lines = r.lines;
-        front = r.front;
-        events = r.events;
-        are = r.are;
-        every_moment = runs_on (before r.events) r.every_moment (λ x l. l);
+        does = record { carried = does.carried; whole = does.whole; answers = does.answers; part = bounds_since grew does.part; limit = does.limit; input_cut = does.input_cut; undamaged = does.undamaged };
+        every_moment = runs_on (before does.carried.events) r.every_moment (λ x l. l);
         at_ok = r.at_ok;
-        prints = r.prints;
-        part = r.part;
-        whole_answers = r.whole_answers;
-        whole = r.whole;
-        within = r.within;
-        limit = λ k is.
-            let Stops : Clock Left → List RunEvent → Type 0 = λ early es. Runs early b.clock (RunLeavesFiles t d a0.said ps n db next es) in
-            passes_moved (Stops a.clock) (Stops a0.clock) (lacks_at opening t d next a.files b.files) (lacks_at opening0 t d next a0.files b.files) k d db next (raw_lines all) r.lines r.events a0.said b.said (λ es later. runs_on (before es) later (λ x l. l))
-            short (λ es. lands_since opening opening0 t next a0.files a.files b.files (script_landmarks d next es) since) (λ backs es. lacks_since opening opening0 t d next a0.files a.files b.files backs es since) (λ x lacks. lacks) (r.limit k is);
-        bound = bounds_since grew r.bound;
-        landmarks = λ is. closed_since opening opening0 t d next a0.files a.files b.files r.events since (r.landmarks is);
-        input_cut = r.input_cut;
-        undamaged = r.undamaged;
       }
 
 -- ---- the last point

@@ -1,10 +1,10 @@
 -- The command `run`: the state that its files stand for at entry, and why it is refused.
-use Rattle.std.specs.Prelude.{ℕ, ◌≡◌, ◌+◌, ◌<◌, ◌^◌, List, Some, IsTrue, Bool, ◌⊎◌}
+use Rattle.std.specs.Prelude.{ℕ, ◌≡◌, ◌+◌, ◌<◌, ◌^◌, List, Some, IsTrue}
 use Rattle.std.specs.declared.option.Option.{Option}
 use Rattle.dms_moments.specs.Moments.{Runs, Steps}
 use Rattle.dms_feed.specs.Lines.{raw_lines}
 use Rattle.dms_runner.specs.Answers.{answers_quiets}
-use Rattle.dms_runlaws.specs.RunStands.{LastStands, RunStands}
+use Rattle.dms_run.specs.RunStands.{LastStands, RunStands}
 use Rattle.dms_scriptlaws.specs.Truths.{IsStart}
 use Rattle.dms_desc.specs.Shape.{Described}
 use Rattle.dms_desc_bytes.specs.Spelling.{spelling}
@@ -23,7 +23,7 @@ use Rattle.dms_run.specs.State.{StateOf, HasNext}
 use Rattle.dms_run.specs.States.{LivesEndWith}
 use Rattle.dms_opening.specs.declared.opened.Opened.{Opened}
 use Rattle.dms_opening.specs.Laws.{LastIsDescribed}
-use Rattle.dms_opening.specs.Openings.{IsTrailFound, IsOpenable, RunsFrom, RefusesFiles, CanOpen, StaysUnopened}
+use Rattle.dms_opening.specs.Openings.{IsTrailFound, IsOpenable, RunsFrom, RefusesFiles, StaysUnopened}
 use Rattle.dms_status.specs.declared.status.Status.{Status}
 use Rattle.dms_status.specs.declared.status.Status.TheVariants.{Ok}
 use Rattle.dms_runtop.specs.Faults.{open_status}
@@ -68,26 +68,31 @@ module _ {S : Type 0} (g : Ghosts S) where
     pub spelled : spelling desc ≡ o.schema.items
 
   -- a run of the script over a database that was opened
-  abbrev pub RunsOpened : Opened S → Bool → Option (List ℕ) → Option (List ℕ) → Status → S → Type 0
-  RunsOpened o known left left' status site =
-      IsTrue g.tells → IsTrue known → (st : StandsOpened o) (n : ℕ) (db : Db) (all : List ℕ) → LivesEndWith st.desc (points_of (telling (view_of g o.log)) st.files) n db → o.next + 1000003 < 2 ^ 64 → left ≡ Some all
-      → ScriptRuns 0 (telling (view_of g o.log)) st.desc (points_of (telling (view_of g o.log)) st.files) n db o.next all (seen_site g o.log.site) (seen_site g site) left' status
+  abbrev pub RunsOpened : Opened S → Option (List ℕ) → Option (List ℕ) → Status → S → Type 0
+  RunsOpened o left left' status site =
+      IsTrue g.tells → (st : StandsOpened o) (n : ℕ) (db : Db) (all : List ℕ) → LivesEndWith st.desc (points_of (telling (view_of g o.log)) st.files) n db → o.next + 1000003 < 2 ^ 64 → left ≡ Some all
+      → ScriptRuns 18 (telling (view_of g o.log)) st.desc (points_of (telling (view_of g o.log)) st.files) n db o.next all (seen_site g o.log.site) (seen_site g site) left' status
 
-  -- where that is known, the trail is the one of the opening and blocks behind it, each of which is in its grammar and holds an entry, now and at each stop
-  abbrev pub GrowsOpened : Opened S → Bool → S → Type 0
-  GrowsOpened o known site = IsTrue g.tells → IsTrue known → LogStays (view_of g o.log) (over_site g (view_of g o.log) site)
+  -- the trail is the one of the opening and blocks behind it, each of which is in its grammar and holds an entry, now and at each stop
+  abbrev pub GrowsOpened : Opened S → S → Type 0
+  GrowsOpened o site = IsTrue g.tells → LogStays (view_of g o.log) (over_site g (view_of g o.log) site)
+
+  -- The one premise of what is said of a script: the files of a site, which are told, hold a database with which a run may begin; this is their next
+  -- number, which leaves room for those of a script; and this is the input.
+  abbrev pub OverDatabase : Option DatabaseState → S → Option (List ℕ) → (DatabaseState → ℕ → List ℕ → Type 0) → Type 0
+  OverDatabase state old left Holds =
+      IsTrue g.tells → (s : DatabaseState) → state ≡ Some s → IsStart s.desc s.db → (next : ℕ) → HasNext (g.files old) next → HasNumbersLeft next → (all : List ℕ) → left ≡ Some all → Holds s next all
 
   -- A run of the script over the database that the files of a site stand for, whose next number is this one, along their trail.
   pub record RunsAlong (s : DatabaseState) (next : ℕ) (all : List ℕ) (old new : S) (left' : Option (List ℕ)) (status : Status) : Type 0 where
     pub total : ℕ
     pub first : ℕ
     pub trail : IsTrailFound total first (g.files old)
-    pub runs : ScriptRuns 19 (telling_of total first) s.desc (points_of (telling_of total first) (g.files old)) s.point s.db next all (seen_site g old) (seen_site g new) left' status
+    pub runs : ScriptRuns 37 (telling_of total first) s.desc (points_of (telling_of total first) (g.files old)) s.point s.db next all (seen_site g old) (seen_site g new) left' status
 
   -- so it is of the state that is told, whatever the status is
   abbrev pub RunsCommand : Option DatabaseState → S → S → Option (List ℕ) → Option (List ℕ) → Status → Type 0
-  RunsCommand state old new left left' status =
-      IsTrue g.tells → (s : DatabaseState) → state ≡ Some s → (next : ℕ) → HasNext (g.files old) next → HasNumbersLeft next → (all : List ℕ) → left ≡ Some all → RunsAlong s next all old new left' status
+  RunsCommand state old new left left' status = OverDatabase state old left (λ s next all. RunsAlong s next all old new left' status)
 
   -- The trail of the files of entry stays: now and at each stop it is the old one, with the same tag, and blocks behind it, each of which is in its
   -- grammar and holds an entry. A stop leaves the audit files before it as they were.
@@ -99,19 +104,17 @@ module _ {S : Type 0} (g : Ghosts S) where
   abbrev pub RunKeepsTrail : Option DatabaseState → S → S → Type 0
   RunKeepsTrail state old new = IsTrue g.tells → (s : DatabaseState) → state ≡ Some s → KeepsTrail old new
 
-  -- Where a run may begin with the database, at every moment a stop leaves files that stand for it or for that of one quiet point, no earlier than the printed
-  -- text tells, and each point up to it has its own state. With that database, too, a run may begin.
+  -- At every moment a stop leaves files that stand for that database or for that of one quiet point, no earlier than the printed text tells, and each
+  -- point up to it has its own state. With that database, too, a run may begin.
   abbrev pub StandsThroughout : Option DatabaseState → S → S → Option (List ℕ) → Type 0
   StandsThroughout state old new left =
-      IsTrue g.tells → (s : DatabaseState) → state ≡ Some s → IsStart s.desc s.db → (next : ℕ) → HasNext (g.files old) next → HasNumbersLeft next → (all : List ℕ) → left ≡ Some all
-      → Runs (g.clock old) (g.clock new) (RunStands (g.files old) s.desc (seen_site g old).said s.point s.db next (answers_quiets s.desc s.db next (raw_lines all)))
+      OverDatabase state old left (λ s next all. Runs (g.clock old) (g.clock new) (RunStands (g.files old) s.desc (seen_site g old).said s.point s.db next (answers_quiets s.desc s.db next (raw_lines all))))
 
   -- And at status 0 the files stand for the database of the last quiet point, or for that of entry, with which a run may begin, too. A stop leaves no
   -- other files.
   abbrev pub EndsInState : Option DatabaseState → S → S → Option (List ℕ) → Status → Type 0
   EndsInState state old new left status =
-      IsTrue g.tells → (s : DatabaseState) → state ≡ Some s → IsStart s.desc s.db → (next : ℕ) → HasNext (g.files old) next → HasNumbersLeft next → (all : List ℕ) → left ≡ Some all → status ≡ Ok
-      → LastStands (g.files new) s.desc s.point s.db next (answers_quiets s.desc s.db next (raw_lines all)) × Only (g.files new) (g.clock new)
+      OverDatabase state old left (λ s next all. status ≡ Ok → LastStands (g.files new) s.desc s.point s.db next (answers_quiets s.desc s.db next (raw_lines all)) × Only (g.files new) (g.clock new))
 
   -- files that hold a database, whose last point is live and described, are refused by nothing
   abbrev pub NeverRefuses : S → Status → Type 0
@@ -137,10 +140,6 @@ module _ {S : Type 0} (g : Ghosts S) where
     pub is : status ≡ open_status fault
     pub why : RefusesFiles (g.files old) fault
     pub stays : StaysUnopened g old new fault
-
-  -- either neither the trail nor a point of it is refused, or nothing was done
-  abbrev pub OpensOrStays : S → S → Status → Type 0
-  OpensOrStays old new status = IsTrue g.tells → CanOpen (g.files old) ⊎ IsUnopened old new status
 
   abbrev pub RefusesRun : S → S → Status → Type 0
   RefusesRun old new status = IsTrue g.tells → IsRefused old new status

@@ -3,14 +3,11 @@ pub mod Faults
 pub mod Statuses
 pub mod Over
 pub mod Describing
+pub mod Bare
 pub mod Command
+pub mod RunDoes
 pub mod Guard
 pub mod GuardLaws
-pub mod Adding
-pub mod Filling
-pub mod Behind
-pub mod Landing
-pub mod Naming
 pub mod Full
 pub mod Bound
 pub mod Inputs

@@ -2,7 +2,7 @@
 
 ghost use Rattle.dms_runtop.specs.Command.{StatesHold};
 
-use dms_runlaws::held_law;
+use dms_run::held_law;
 
 /// Files that stand for a state hold a database that can be opened, whose last live point has that state.
 pub fn states_law()

@@ -6,16 +6,14 @@ mod describing;
 mod ended;
 mod ending;
 mod full;
-mod guard;
 mod laws;
 mod over;
-mod veil;
+mod site;
 
 pub use command::run_command;
 pub use describing::describe;
 pub use ended::Ended;
 pub use ending::{status_of_block, status_of_open, status_of_run};
-pub use guard::Guarded;
 pub use laws::states_law;
 pub use over::run_over;
-pub use veil::{Knows, Veiled};
+pub use site::{Knows, RunSite};

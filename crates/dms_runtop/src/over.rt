@@ -1,29 +1,23 @@
 //! A script over a database that was opened.
 
-ghost use Rattle.std.specs.Prelude.{◌≡◌, ◌⊎◌, [], ℕ, List, Some, IsTrue};
+ghost use Rattle.std.specs.Prelude.{◌≡◌, ◌⊎◌, Some, IsTrue};
 ghost use Rattle.dms_audfile.specs.Counting.{CountedAt};
-ghost use Rattle.dms_audfile.specs.TrailEntries.{trail_entries};
 ghost use Rattle.dms_desc.specs.Shape.{as_described};
 ghost use Rattle.dms_desc_bytes.specs.WellFormed.{IsWellFormed};
 ghost use Rattle.dms_model.specs.Db.{Db};
 ghost use Rattle.dms_model.specs.Session.{fresh_session};
-ghost use Rattle.dms_restore.specs.Logging.{entries};
-ghost use Rattle.dms_restore.specs.Views.{view_of};
-ghost use Rattle.dms_runtop.specs.Inputs.{BlamesInput};
-ghost use Rattle.dms_runtop.specs.Filling.{ClosesBehind, ClosesOrFallsShort};
-ghost use Rattle.dms_runtop.specs.Naming.{AppendsOver};
+ghost use Rattle.dms_runtop.specs.Inputs.{TakesInput};
 ghost use Rattle.dms_runtop.specs.Over.{RunsOver, ClosesOver, GrowsOver};
 ghost use Rattle.dms_runtop.specs.Statuses.{IsOfClosing, IsOfScript};
 ghost use Rattle.dms_store.specs.Lifted.{Serves};
 ghost use Rattle.dms_storeverbs.specs.View.{StandsFor, engine_view, view};
 ghost use Rattle.dms_wal.specs.Database.{running_held};
-ghost use Rattle.dms_wal.specs.Following.{AppendsOldPoints};
 
 use crate::ended::Ended;
 use crate::ending::{fault_within, status_of_block, status_of_run};
 use dms_desc::Description;
 use dms_feed::Feed;
-use dms_run::run_script;
+use dms_runner::run_lines;
 use dms_site::{Site, Source};
 use dms_status::Status;
 use dms_store::BlockStore;
@@ -42,8 +36,6 @@ fn running_under<S: Site>(engine: Engine<BlockStore<Running<S>>>) -> Running<S>
 fn close_over<S: Site>(alloc: Global, running: Running<S>) -> Ended<S>
     requires { (running_held S.Site running).sound }
     ensures closes { ClosesOver S.Site running result.status result.site }
-    ensures appends { IsTrue S.tells → ClosesOrFallsShort result.status → AppendsOldPoints (entries (view_of S.Site running.log)) (trail_entries running.log.end.total running.log.first (S.files result.site)) }
-    ensures closing { IsTrue S.tells → ClosesOrFallsShort result.status → ClosesBehind result.status (view_of S.Site running.log) (S.files result.site) }
     ensures said { IsTrue S.tells_said → S.said result.site ≡ S.said running.log.site }
     ensures statuses { (result.status ≡ Status.Ok) ⊎ IsOfClosing result.status }
     ensures disk { CountedAt (result.status ≡ Status.DiskFault) (S.disk_faults running.log.site) (S.disk_faults result.site) }
@@ -81,18 +73,14 @@ fn run_engine<S: Site, I: Source>(
     requires found { engine.store.found ≡ 0 }
     ensures ran { RunsOver S.Site engine.store.over.below (as_described engine.desc) (I.left source.old) (I.left source.new) result.status result.site }
     ensures grown { GrowsOver S.Site engine.store.over.below result.site }
-    ensures appends { AppendsOver S.Site engine.store.over.below result.status result.site }
-    ensures by_input { BlamesInput (I.left source.old) (I.left source.new) result.status }
-    ensures end { result.status ≡ Status.Ok → (all : List ℕ) → I.left source.old ≡ Some all → I.left source.new ≡ Some [] }
+    ensures takes { TakesInput I.Source source.old source.new result.status }
     ensures statuses { (result.status ≡ Status.Ok) ⊎ IsOfScript result.status }
     ensures disk { CountedAt (result.status ≡ Status.DiskFault) (S.disk_faults engine.store.over.below.log.site) (S.disk_faults result.site) }
     ensures say { CountedAt (result.status ≡ Status.SayFault) (S.say_faults engine.store.over.below.log.site) (S.say_faults result.site) }
-    ensures input { CountedAt (result.status ≡ Status.InputFault) (I.faults source.old) (I.faults source.new) }
     ensures same { S.same_site engine.store.over.below.log.site result.site }
-    ensures same_source { I.same_source source.old source.new }
 {
     let mut feed = Feed::new();
-    match run_script(alloc, &mut engine, &mut feed, source) {
+    match run_lines(alloc, &mut engine, &mut feed, source) {
         Ok(()) => {
             let running = running_under(engine);
             close_over(alloc, running)
@@ -122,15 +110,11 @@ pub fn run_over<S: Site, I: Source>(
     requires mark { IsTrue S.tells → (running_held S.Site running).mark ≡ (running_held S.Site running).content }
     ensures ran { RunsOver S.Site running (as_described desc.now) (I.left source.old) (I.left source.new) result.status result.site }
     ensures grown { GrowsOver S.Site running result.site }
-    ensures appends { AppendsOver S.Site running result.status result.site }
-    ensures by_input { BlamesInput (I.left source.old) (I.left source.new) result.status }
-    ensures end { result.status ≡ Status.Ok → (all : List ℕ) → I.left source.old ≡ Some all → I.left source.new ≡ Some [] }
+    ensures takes { TakesInput I.Source source.old source.new result.status }
     ensures statuses { (result.status ≡ Status.Ok) ⊎ IsOfScript result.status }
     ensures disk { CountedAt (result.status ≡ Status.DiskFault) (S.disk_faults running.log.site) (S.disk_faults result.site) }
     ensures say { CountedAt (result.status ≡ Status.SayFault) (S.say_faults running.log.site) (S.say_faults result.site) }
-    ensures input { CountedAt (result.status ≡ Status.InputFault) (I.faults source.old) (I.faults source.new) }
     ensures same { S.same_site running.log.site result.site }
-    ensures same_source { I.same_source source.old source.new }
 {
     match BlockStore::new(alloc, desc, running) {
         Err((_fault, running)) => Ended {

@@ -1,15 +1,13 @@
 ghost use Rattle.dms_desc.specs.Shape.{shape_of, as_described};
 ghost use Rattle.dms_script.specs.Reads.{LineTakes, LinePasses};
-ghost use Rattle.dms_script.specs.Verbs.{open_at, close_at, first_at, last_at, member_at, path_at, find_at, create_at, store_at, put_at, all_shown_at, get_at, mode_at, begin_at, sync_at, finish_at, abort_at, transaction_at, area_at, verb_at, close_line_at};
+ghost use Rattle.dms_script.specs.Verbs.{open_at, close_at, first_at, last_at, next_at, prior_at, current_at, member_at, onward_at, path_at, find_at, lock_at, modify_at, free_at, record_at, create_at, store_at, put_at, all_shown_at, get_at, mode_at, begin_at, sync_at, finish_at, abort_at, transaction_at, area_at, verb_at, close_line_at};
 
-use crate::expect::{
-    expect_end, expect_equal, expect_sign, expect_word, read_key_item, read_literal, read_structure,
-};
+use crate::expect::{expect_end, expect_sign, expect_word, read_structure};
 use crate::fault::Fault;
-use crate::look::{Wanted, key_item, push_numbers, whole_run};
-use crate::shown::{settings, shown_items};
+use crate::look::{Wanted, push_numbers, whole_run};
+use crate::shown::{key_literals, settings, shown_items};
 use dms_desc::{Description, Structure};
-use dms_model::{ItemNumbers, Literals, Path, Verb};
+use dms_model::{ItemNumbers, Path, Verb};
 use dms_tokens::Cursor;
 
 /// OPEN UPDATE, OPEN INQUIRY
@@ -54,19 +52,61 @@ fn last(cursor: &mut Cursor<'_>, desc: &Description) -> Result<Path, Fault>
     Ok(Path::Last(path.number))
 }
 
-/// x AT item = literal
+/// NEXT x
+#[tactic(auto, unfolding(crate::specs::Verbs::next_at))]
+fn next(cursor: &mut Cursor<'_>, desc: &Description) -> Result<Path, Fault>
+    ensures { LineTakes result cursor.new (next_at (as_described desc.now) cursor.old) }
+{
+    expect_word(cursor, b"NEXT")?;
+    let path = read_structure(cursor, Wanted::Path, desc)?;
+    Ok(Path::Next(path.number))
+}
+
+/// PRIOR x
+#[tactic(auto, unfolding(crate::specs::Verbs::prior_at))]
+fn prior(cursor: &mut Cursor<'_>, desc: &Description) -> Result<Path, Fault>
+    ensures { LineTakes result cursor.new (prior_at (as_described desc.now) cursor.old) }
+{
+    expect_word(cursor, b"PRIOR")?;
+    let path = read_structure(cursor, Wanted::Path, desc)?;
+    Ok(Path::Prior(path.number))
+}
+
+/// CURRENT D
+#[tactic(auto, unfolding(crate::specs::Verbs::current_at))]
+fn current(cursor: &mut Cursor<'_>, desc: &Description) -> Result<Path, Fault>
+    ensures { LineTakes result cursor.new (current_at (as_described desc.now) cursor.old) }
+{
+    expect_word(cursor, b"CURRENT")?;
+    let set = read_structure(cursor, Wanted::DataSet, desc)?;
+    Ok(Path::Current(set.number))
+}
+
+/// x AT item = literal {AND item = literal}
 #[tactic(auto, unfolding(crate::specs::Verbs::member_at))]
 fn member(cursor: &mut Cursor<'_>, desc: &Description) -> Result<Path, Fault>
     ensures { LineTakes result cursor.new (member_at (as_described desc.now) cursor.old) }
 {
     let path = read_structure(cursor, Wanted::Path, desc)?;
     expect_word(cursor, b"AT")?;
-    let kind = read_key_item(cursor, key_item(desc, path))?;
-    expect_equal(cursor)?;
-    let literal = read_literal(cursor, &kind)?;
-    let mut literals = Literals::new(cursor.alloc());
-    literals.push(literal)?;
+    let literals = key_literals(cursor, desc, path)?;
     Ok(Path::At(path.number, literals))
+}
+
+#[tactic(auto, unfolding(crate::specs::Verbs::onward_at))]
+fn onward(cursor: &mut Cursor<'_>, desc: &Description) -> Result<Path, Fault>
+    ensures { LineTakes result cursor.new (onward_at (as_described desc.now) cursor.old) }
+{
+    if cursor.starts_word(b"NEXT") {
+        return next(cursor, desc);
+    }
+    if cursor.starts_word(b"PRIOR") {
+        return prior(cursor, desc);
+    }
+    if cursor.starts_word(b"CURRENT") {
+        return current(cursor, desc);
+    }
+    member(cursor, desc)
 }
 
 #[tactic(auto, unfolding(crate::specs::Verbs::path_at))]
@@ -79,7 +119,7 @@ fn path(cursor: &mut Cursor<'_>, desc: &Description) -> Result<Path, Fault>
     if cursor.starts_word(b"LAST") {
         return last(cursor, desc);
     }
-    member(cursor, desc)
+    onward(cursor, desc)
 }
 
 /// FIND path
@@ -90,6 +130,36 @@ fn find(cursor: &mut Cursor<'_>, desc: &Description) -> Result<Verb, Fault>
     expect_word(cursor, b"FIND")?;
     let path = path(cursor, desc)?;
     Ok(Verb::Find(path))
+}
+
+/// LOCK path
+#[tactic(auto, unfolding(crate::specs::Verbs::lock_at))]
+fn lock(cursor: &mut Cursor<'_>, desc: &Description) -> Result<Verb, Fault>
+    ensures { LineTakes result cursor.new (lock_at (as_described desc.now) cursor.old) }
+{
+    expect_word(cursor, b"LOCK")?;
+    let path = path(cursor, desc)?;
+    Ok(Verb::Lock(path))
+}
+
+/// MODIFY path: it is LOCK.
+#[tactic(auto, unfolding(crate::specs::Verbs::modify_at))]
+fn modify(cursor: &mut Cursor<'_>, desc: &Description) -> Result<Verb, Fault>
+    ensures { LineTakes result cursor.new (modify_at (as_described desc.now) cursor.old) }
+{
+    expect_word(cursor, b"MODIFY")?;
+    let path = path(cursor, desc)?;
+    Ok(Verb::Lock(path))
+}
+
+/// FREE D
+#[tactic(auto, unfolding(crate::specs::Verbs::free_at))]
+fn free(cursor: &mut Cursor<'_>, desc: &Description) -> Result<Verb, Fault>
+    ensures { LineTakes result cursor.new (free_at (as_described desc.now) cursor.old) }
+{
+    expect_word(cursor, b"FREE")?;
+    let set = read_structure(cursor, Wanted::DataSet, desc)?;
+    Ok(Verb::Free(set.number))
 }
 
 /// CREATE D
@@ -237,6 +307,26 @@ fn area(cursor: &mut Cursor<'_>, desc: &Description) -> Result<Verb, Fault>
     transaction(cursor, desc)
 }
 
+/// A verb that finds, locks or frees a record.
+#[tactic(auto, unfolding(crate::specs::Verbs::record_at))]
+fn record(cursor: &mut Cursor<'_>, desc: &Description) -> Result<Verb, Fault>
+    ensures { LineTakes result cursor.new (record_at (as_described desc.now) cursor.old) }
+{
+    if cursor.starts_word(b"FIND") {
+        return find(cursor, desc);
+    }
+    if cursor.starts_word(b"LOCK") {
+        return lock(cursor, desc);
+    }
+    if cursor.starts_word(b"MODIFY") {
+        return modify(cursor, desc);
+    }
+    if cursor.starts_word(b"FREE") {
+        return free(cursor, desc);
+    }
+    area(cursor, desc)
+}
+
 /// A verb. Answers Bad with the place of the first token that isn't allowed, or with 0 where no token is left, and
 /// Memory.
 #[tactic(auto, unfolding(crate::specs::Verbs::verb_at))]
@@ -249,10 +339,7 @@ pub fn verb(cursor: &mut Cursor<'_>, desc: &Description) -> Result<Verb, Fault>
     if cursor.starts_word(b"CLOSE") {
         return close(cursor);
     }
-    if cursor.starts_word(b"FIND") {
-        return find(cursor, desc);
-    }
-    area(cursor, desc)
+    record(cursor, desc)
 }
 
 /// A semicolon or none, and the line's end. Answers Bad with the place of the first token that isn't allowed, or with 0

@@ -1,31 +1,44 @@
 -- Each step of a session whose programs have names leaves such a session, and its reply holds no line feed.
 use Rattle.std.proofs.Common.{◌≡◌, ◌+◌, ◌-◌, ℕ, zero, suc, List, [], ◌∷◌, ◌++◌, Bool, true, false, cond, Some, None, refl, subst, ◌&&◌, ◌||◌, nat_le, length, map, codes}
-use Rattle.std.specs.Prelude.{slice_get, slice_set, is_some, IfSome}
-use Rattle.std.specs.List.{AllByRecursion}
+use Rattle.std.specs.Prelude.{slice_get, slice_set, is_some, not, IfSome}
+use Rattle.std.specs.List.{AllByRecursion, list_any}
 use Rattle.std.specs.declared.option.Option.{Option}
+use Rattle.std.specs.FinMap.{get}
+use Rattle.std.specs.Str.{bytes_eq}
 use Rattle.dms_base.specs.declared.value.Value.{Value}
 use Rattle.dms_base.specs.declared.category.Category.{Category}
-use Rattle.dms_base.specs.declared.category.Category.TheVariants.{LimitError, AuditError, Abort as AbortDue}
+use Rattle.dms_base.specs.declared.category.Category.TheVariants.{Deadlock, LimitError, AuditError, Abort as AbortDue}
+use Rattle.dms_base.specs.Fits.{fits}
 use Rattle.dms_base.specs.Name.{IsName}
 use Rattle.dms_base.specs.Spelling.{text_for}
 use Rattle.dms_desc.specs.declared.structure.Item.{Item}
 use Rattle.dms_desc.specs.Conds.{is_null, or_null, item_of}
+use Rattle.dms_desc.specs.declared.record.Record.{Record}
 use Rattle.dms_desc.specs.Plain.{IsPlain, ArePlain}
 use Rattle.dms_desc.specs.Shape.{Shape, Described}
-use Rattle.dms_model.specs.Programs.{Program, Area, New, Old}
-use Rattle.dms_model.specs.declared.program.Mode.{Mode}
+use Rattle.dms_locks.specs.Locks.{has_lock, no_locks}
+use Rattle.dms_locks.specs.Places.{Place}
+use Rattle.dms_locks.specs.Waits.{closes_circle}
+use Rattle.dms_model.specs.Programs.{Program, Area, New, Old, Wait}
+use Rattle.dms_model.specs.declared.mode.Mode.{Mode}
 use Rattle.dms_model.specs.declared.verb.Verb.{Verb}
-use Rattle.dms_model.specs.declared.verb.Verb.TheVariants.{OpenUpdate, OpenInquiry, Close, Find, Create, Put as PutItems, Get, Store, Begin, End, Abort}
+use Rattle.dms_model.specs.declared.verb.Verb.TheVariants.{OpenUpdate, OpenInquiry, Close, Find, Lock, Free, Create, Put as PutItems, Get, Store, Begin, End, Abort}
 use Rattle.dms_model.specs.declared.verb.Path.{Path}
 use Rattle.dms_model.specs.declared.verb.Setting.{Setting}
 use Rattle.dms_model.specs.declared.reply.Reply.{Reply}
-use Rattle.dms_model.specs.declared.reply.Reply.TheVariants.{Exception}
+use Rattle.dms_model.specs.declared.reply.Reply.TheVariants.{Exception, Waits}
 use Rattle.dms_model.specs.StoreLaws.{AllAnswers, begun_by, keep_by}
 use Rattle.dms_model.specs.declared.put.Put.{Put}
 use Rattle.dms_model.specs.declared.spot.Spot.{Spot}
 use Rattle.dms_model.specs.Db.{Db}
-use Rattle.dms_desc.specs.Lookups.{name_of, structure_of, items_of, set_of}
-use Rattle.dms_model.specs.Session.{Session, Outcome, StoreResult, Refused, Keeps, Filled, Misfit, Values', refuse, succeeds, shows, settle, keep, store_step, after_store, begin_step, after_begin, begin_transaction, begin_refusals, area_answer, area_of, area_refusals, duplicate_of, or_no_area, or_unknown, replies, stored_program, begin_blockers, workers, end_step, after_end, abort_step, find_step, find_for, after_find, found_by, create_step, create_for, owner_for, refuse_unowned, put_step, put_area, after_put, fill_values, item_name, setting_value, get_step, get_area, get_text, more_text, item_text, close_step, open_as, open_step, verb_step, step_at, after_answer, carried_out, step, with_program, with_work, restart_of, someone_works, is_inquiry, opens, changes, path_of, new_program, place_of, activate, leave_transaction, without, idle, backed_out, found_program, let_go, with_lock, missing_from, area_values, open_in}
+use Rattle.dms_desc.specs.Lookups.{name_of, structure_of, items_of}
+use Rattle.dms_model.specs.AtHand.{is_same}
+use Rattle.dms_model.specs.Fitting.{AreFitting}
+use Rattle.dms_model.specs.Seeking.{met_by, sought_from}
+use Rattle.dms_model.specs.FitLaws.{linked_fits, null_fits}
+use Rattle.dms_model.specs.Stores.{linked_from, old_of, values_of}
+use Rattle.dms_model.specs.Valid.{IsValid, OfItems}
+use Rattle.dms_model.specs.Session.{Session, Outcome, StoreResult, Refused, Keeps, Filled, Misfit, Values', refuse, succeeds, shows, settle, keep, store_step, after_store, begin_step, after_begin, begin_transaction, begin_refusals, area_answer, area_of, area_refusals, duplicate_of, or_no_area, or_unknown, replies, stored_program, begin_blockers, blockers, has_some, wait_reply, workers, end_step, after_end, abort_step, find_step, after_find, found_by, found_in, path_of, moves, sought, Sought, Unbased, Missed, Met, lock_step, lock_unless, after_lock, locked_program, free_step, free_for, create_step, create_for, create_area, current_of, owner_for, owner_in, base_of, refuse_unowned, put_step, put_area, after_put, fill_values, item_name, setting_value, get_step, get_area, get_text, more_text, item_text, close_step, open_as, open_step, verb_step, step_at, after_answer, freed_named, programs_after, says_deadlock, carried_out, step, with_area, with_current, with_program, restart_of, someone_works, is_inquiry, opens, changes, new_program, place_of, activate, leave_transaction, without, idle, backed_out, found_program, let_go, missing_from, area_number, area_values, shown_values, open_in}
 use Rattle.dms_model.specs.Traits.{traits}
 use Rattle.dms_model.specs.Areas.{AreaFits, AreasFit}
 use Rattle.dms_laws.proofs.Lists.{all_at, all_set, all_mapped, all_pushed, all_without}
@@ -75,8 +88,23 @@ if_named false x y h k = k
 let_go_named : (p : Program) (set : ℕ) → Named p → Named (let_go p set)
 let_go_named p set h = if_named p.in_transaction p (record p { locks = _ }) h h
 
-with_lock_named : (p : Program) (set n : ℕ) → Named p → Named (with_lock p set n)
-with_lock_named p set n h = if_named _ p (record p { locks = _ }) h h
+current_named : (desc : Described) (set : ℕ) (c : Option ℕ) (p : Program) → Named p → Named (with_current desc set c p)
+unfolding with_current
+current_named desc set c p h = if_named (is_same (current_of p set) c) p _ h h
+
+found_named : (desc : Described) (p : Program) (path : Path) (r : Spot) → Named p → Named (found_program desc p path r)
+unfolding found_program
+found_named desc p path r h =
+    let set = found_in desc path in
+    let now = current_named desc set (Some r.number) p h in
+    let_go_named _ set (if_named (moves path) _ (with_area (with_current desc set (Some r.number) p) set (Some (Old r.rec.values))) now now)
+
+freed_one : (name : List ℕ) (p : Program) → Named p → Named (freed_named name p)
+freed_one name p h = if_named (bytes_eq p.name name) (record p { locks = no_locks }) p h h
+
+answered_names : (b : Bool) (name : List ℕ) (ps : List Program) → AreNamed ps → AreNamed (cond b (map (freed_named name) ps) ps)
+answered_names true name ps h = all_mapped Named (freed_named name) ps (λ x n. freed_one name x n) h
+answered_names false name ps h = h
 
 backed_named : (name : List ℕ) (p : Program) → Named p → Named (backed_out name p)
 unfolding backed_out
@@ -89,6 +117,19 @@ one_more_feed false name names h k = k
 workers_feed : (ps : List Program) → AreNamed ps → AllByRecursion NoFeed (workers ps)
 workers_feed [] h = tt
 workers_feed (p ∷ ps) h = one_more_feed p.in_transaction p.name (workers ps) (name_feed p.name h.0) (workers_feed ps h.1)
+
+blockers_feed : (places : List Place) (name : List ℕ) (ps : List Program) → AreNamed ps → AllByRecursion NoFeed (blockers places name ps)
+blockers_feed places name [] h = tt
+blockers_feed places name (p ∷ ps) h = one_more_feed (not (bytes_eq p.name name) && list_any (has_lock p.locks) places) p.name (blockers places name ps) (name_feed p.name h.0) (blockers_feed places name ps h.1)
+
+-- a program is answered that it waits, or DEADLOCK
+
+clean_if : (b : Bool) (x y : Reply) → IsClean x → IsClean y → IsClean (cond b x y)
+clean_if true x y h k = h
+clean_if false x y h k = k
+
+wait_clean : (ws : List Wait) (name : List ℕ) (who : List (List ℕ)) (set : List ℕ) → AllByRecursion NoFeed who → NoFeed set → IsClean (wait_reply ws name who set)
+wait_clean ws name who set h k = clean_if (closes_circle ws name who) (Exception Deadlock set) (Waits who) k h
 
 -- items have names
 
@@ -155,6 +196,25 @@ get_feed items (n ∷ ns) values h plain =
     feed_on (item_text (slice_get items (n - 1)) (item_of values n)) (more_text items ns values)
     (item_feed items (n - 1) (item_of values n) h (value_plain values (n - 1) plain)) (more_feed items ns values h plain)
 
+-- the name of what isn't there
+
+abbrev SoughtClean : Sought → Type 0
+SoughtClean (Unbased set) = Unit {0}
+SoughtClean (Missed name) = NoFeed name
+SoughtClean (Met r) = Unit {0}
+
+met_clean : (o : Option Spot) (desc : Described) (path : Path) → NoFeed (name_of (structure_of desc (path_of path))) → SoughtClean (met_by o desc path)
+met_clean None desc path h = h
+met_clean (Some r) desc path h = tt
+
+sought_at : (o : Option ℕ) (desc : Described) (db : Db) (p : Program) (path : Path) → NoFeed (name_of (structure_of desc (path_of path))) → SoughtClean (sought_from o desc db p path)
+sought_at None desc db p path h = tt
+sought_at (Some base) desc db p path h = met_clean (found_by desc db p base path) desc path h
+
+sought_clean : (desc : Described) (db : Db) (p : Program) (path : Path) → NoFeed (name_of (structure_of desc (path_of path))) → SoughtClean (sought desc db p path)
+unfolding sought
+sought_clean desc db p path h = sought_at (owner_in p (base_of desc path)) desc db p path h
+
 -- storing
 
 abbrev KeptNamed : StoreResult → Type 0
@@ -190,21 +250,21 @@ module _ (desc : Described) (names : HasNames desc) where
     with_named : (q : Program) → Named q → AreNamed (slice_set s.programs i q)
     with_named q h = all_set Named s.programs i q all h
 
-    kept_named : (db : Db) (set : ℕ) (a : Area) (n : ℕ) → Named (stored_program p set n a)
-    kept_named db set a n = with_lock_named (with_work p set (record { current = Some n; area = Some (Old (area_values a)) })) set n mine
+    kept_named : (db : Db) (set : ℕ) (a : Area) (n : ℕ) → Named (stored_program desc p set n a)
+    kept_named db set a n = current_named desc set (Some n) p mine
 
     area_clean : (a : Area) (answer : Put) (set : ℕ) → AllAnswers IsClean (area_refusals a answer desc p set)
     area_clean a answer set = (shape_feed set, (unknown_or (missing_from 0 (items_of (structure_of desc set)) (area_values a)) (missing_feed 0 (items_of (structure_of desc set)) (area_values a) (set_items set)), (shape_feed set, (shape_feed (duplicate_of answer), (shape_feed set, tt)))))
 
-    begun_clean : (audit : Bool) (who : List (List ℕ)) (o : Option Area) (answer : Put) (set : ℕ) → AllByRecursion NoFeed who → AllAnswers IsClean (begin_refusals audit who o answer desc p set)
-    begun_clean true who o answer set h = (shape_feed set, (h, area_clean (or_no_area o) answer set))
-    begun_clean false who o answer set h = (h, tt)
+    begun_clean : (audit : Bool) (who : List (List ℕ)) (ws : List Wait) (o : Option Area) (answer : Put) (set : ℕ) → AllByRecursion NoFeed who → AllAnswers IsClean (begin_refusals audit who ws o answer desc p set)
+    begun_clean true who ws o answer set h = (shape_feed set, (wait_clean ws p.name who (name_of (structure_of desc set)) h (shape_feed set), area_clean (or_no_area o) answer set))
+    begun_clean false who ws o answer set h = (wait_clean ws p.name who (name_of (structure_of desc set)) h (shape_feed set), tt)
 
     keep_named : (db : Db) (set : ℕ) → KeptNamed (keep desc p db set)
     keep_named db set = keep_by KeptNamed desc p db set (λ a n may. kept_named db set a n) (shape_feed set, area_clean (or_no_area (area_of p set)) (area_answer desc p db set) set)
 
     begun_kept : (audit : Bool) → AllByRecursion NoFeed (begin_blockers s) → KeptNamed (begin_transaction desc p s audit)
-    begun_kept audit h = begun_by KeptNamed desc p s audit (λ is a n may. kept_named s.db (restart_of desc) a n) mine (begun_clean audit (begin_blockers s) (area_of p (restart_of desc)) (area_answer desc p s.db (restart_of desc)) (restart_of desc) h)
+    begun_kept audit h = begun_by KeptNamed desc p s audit (λ is a n may. kept_named s.db (restart_of desc) a n) mine (begun_clean audit (begin_blockers s) s.waits (area_of p (restart_of desc)) (area_answer desc p s.db (restart_of desc)) (restart_of desc) h)
 
     keep_if : (audit : Bool) → KeptNamed (cond audit (keep desc p s.db (restart_of desc)) (Keeps p s.db))
     keep_if audit = kept_if audit (keep desc p s.db (restart_of desc)) (Keeps p s.db) (keep_named s.db (restart_of desc)) mine
@@ -222,21 +282,32 @@ module _ (desc : Described) (names : HasNames desc) where
     end_named (Keeps q db) sync h =
         settled (record s { db = db; programs = slice_set s.programs i (leave_transaction q); pending = s.pending || sync || nat_le desc.syncpoint (one_more s.since); since = one_more s.since }) (with_named (leave_transaction q) h)
 
-    find_named : (r : Option Spot) (x : ℕ) → LeavesNamed (after_find r desc i p s x)
-    find_named None x = refused s _ _ (shape_feed x) all
-    find_named (Some r) x =
-        shown _ [] tt (with_named (activate (found_program p (set_of desc x) r)) (let_go_named (with_work p (set_of desc x) (record { current = Some r.number; area = Some (Old r.rec.values) })) (set_of desc x) mine))
+    find_named : (k : Sought) (path : Path) → SoughtClean k → LeavesNamed (after_find k desc i p s path)
+    find_named (Unbased set) path h = refused s _ _ (shape_feed set) all
+    find_named (Missed name) path h = refused s _ name h all
+    find_named (Met r) path h = shown _ [] tt (with_named (activate (found_program desc p path r)) (found_named desc p path r mine))
+
+    lock_met : (who : List (List ℕ)) (path : Path) (r : Spot) → AllByRecursion NoFeed who → LeavesNamed (lock_unless who desc i p s path r)
+    lock_met who path r h =
+        let name = name_of (structure_of desc (found_in desc path)) in
+        leaves_if (has_some who) _ _ (replied s (wait_reply s.waits p.name who name) (wait_clean s.waits p.name who name h (shape_feed (found_in desc path))) all)
+        (shown _ [] tt (with_named (activate (locked_program desc p path r)) (found_named desc p path r mine)))
+
+    lock_named : (k : Sought) (path : Path) → SoughtClean k → LeavesNamed (after_lock k desc i p s path)
+    lock_named (Unbased set) path h = refused s _ _ (shape_feed set) all
+    lock_named (Missed name) path h = refused s _ name h all
+    lock_named (Met r) path h = let places = (found_in desc path, r.number) ∷ [] in lock_met (blockers places p.name s.programs) path r (blockers_feed places p.name s.programs all)
+
+    free_named : (o : Option ℕ) (set : ℕ) → LeavesNamed (free_for o desc i p s set)
+    free_named None set = refused s _ _ (shape_feed set) all
+    free_named (Some n) set = shown _ [] tt (with_named (activate (let_go p set)) (let_go_named p set mine))
 
     owner_feed : (x : ℕ) → LeavesNamed (refuse_unowned desc s x)
     owner_feed x = refused s _ _ (shape_feed (owner_of (structure_of desc x))) all
 
-    find_for_named : (o : Option ℕ) (path : Path) → LeavesNamed (find_for o desc i p s path)
-    find_for_named None path = owner_feed (path_of path)
-    find_for_named (Some owner) path = find_named (found_by desc s.db owner path) (path_of path)
-
     create_for_named : (o : Option ℕ) (set : ℕ) → LeavesNamed (create_for o desc i p s set)
     create_for_named None set = owner_feed set
-    create_for_named (Some owner) set = shown _ [] tt (with_named _ (let_go_named (with_work p set _) set mine))
+    create_for_named (Some owner) set = shown _ [] tt (with_named (activate (create_area desc p set owner)) (let_go_named _ set (current_named desc set None p mine)))
 
     after_put_named : (f : Filled) (set : ℕ) (a : Area) → FilledClean f → LeavesNamed (after_put f i p s set a)
     after_put_named (Misfit item) set a h = refused s _ item h all
@@ -247,10 +318,26 @@ module _ (desc : Described) (names : HasNames desc) where
     put_area_named (Some a) set settings =
         after_put_named (fill_values (items_of (structure_of desc set)) settings (area_values a)) set a (filled_clean (items_of (structure_of desc set)) settings (area_values a) (set_items set))
 
-    -- values of an area are plain, where its data set is there; else nothing is shown of them
-    area_plain : (shape : Shape) (a : Area) → AreaFits shape (Some a) → ArePlain (area_values a)
-    area_plain shape (New values owner) h = h.1.1.plain
-    area_plain shape (Old values) h = h.plain
+    -- values of an area fit, where its data set is there; else nothing is shown of them
+    area_fitting : (shape : Shape) (a : Area) → AreaFits shape (Some a) → AreFitting shape.items (area_values a)
+    area_fitting shape (New values owner) h = h.1.1
+    area_fitting shape (Old values) h = h
+
+    -- and so do those of a record that stands
+    olds_fit : IsValid desc s.db → (set : ℕ) (shape : Shape) (number : Option ℕ) → structure_of desc set ≡ Some shape
+        → OfItems shape.items (values_of (old_of s.db set number)) (λ item v. fits item.kind v ≡ true) × ArePlain (values_of (old_of s.db set number))
+    olds_fit valid set shape None here = ((λ k item here. null_fits item.kind), tt)
+    olds_fit valid set shape (Some n) here = by (get s.db.records (set, n)) refl
+      where
+        by : (o : Option Record) → get s.db.records (set, n) ≡ o → OfItems shape.items (values_of o) (λ item v. fits item.kind v ≡ true) × ArePlain (values_of o)
+        by None at = ((λ k item here. null_fits item.kind), tt)
+        by (Some r) at = (valid.fit (set, n) r shape at here, valid.plain (set, n) r shape at here)
+
+    shown_plain : IsValid desc s.db → (set : ℕ) (shape : Shape) (a : Area) (number : Option ℕ) → structure_of desc set ≡ Some shape → AreaFits shape (Some a)
+        → ArePlain (linked_from 0 shape.items (values_of (old_of s.db set number)) (area_values a))
+    shown_plain valid set shape a number here h =
+        let olds = olds_fit valid set shape number here in
+        (linked_fits shape.items (values_of (old_of s.db set number)) (area_values a) (area_fitting shape a h) olds.0 olds.1).plain
 
     none_text : (ns : List ℕ) (values : List Value) → NoFeed (more_text [] ns values)
     none_text [] values = tt
@@ -260,13 +347,19 @@ module _ (desc : Described) (names : HasNames desc) where
     none_shown [] values = tt
     none_shown (n ∷ ns) values = none_text ns values
 
-    get_named : (o : Option Area) (set : ℕ) (numbers : List ℕ) → AreasFit desc p → area_of p set ≡ o → LeavesNamed (get_area o desc i p s set numbers)
-    get_named None set numbers fit is = refused s _ _ (shape_feed set) all
-    get_named (Some a) set numbers fit is = shown _ _ (by (structure_of desc set) refl) (with_named (activate p) mine)
+    get_named : (o : Option Area) (set : ℕ) (numbers : List ℕ) → IsValid desc s.db → AreasFit desc p → area_of p set ≡ o → LeavesNamed (get_area o desc i p s set numbers)
+    get_named None set numbers valid fit is = refused s _ _ (shape_feed set) all
+    get_named (Some a) set numbers valid fit is = shown _ _ (by (structure_of desc set) refl) (with_named (activate p) mine)
       where
-        by : (o : Option Shape) → structure_of desc set ≡ o → NoFeed (get_text (items_of o) numbers (area_values a))
-        by None h = none_shown numbers (area_values a)
-        by (Some shape) h = get_feed shape.items numbers (area_values a) (items_named shape.items (names.items set shape h)) (area_plain shape a (subst (AreaFits shape) is (fit set shape h)))
+        number : Option ℕ
+        number = area_number a (current_of p set)
+
+        values : Option Shape → List Value
+        values o = linked_from 0 (items_of o) (values_of (old_of s.db set number)) (area_values a)
+
+        by : (o : Option Shape) → structure_of desc set ≡ o → NoFeed (get_text (items_of o) numbers (values o))
+        by None h = none_shown numbers (values None)
+        by (Some shape) h = get_feed shape.items numbers (values (Some shape)) (items_named shape.items (names.items set shape h)) (shown_plain valid set shape a number h (subst (AreaFits shape) is (fit set shape h)))
 
   awaited_feed : (s : Session) → AreNamed s.programs → AllByRecursion NoFeed (begin_blockers s)
   awaited_feed s all = by s.pending
@@ -277,23 +370,25 @@ module _ (desc : Described) (names : HasNames desc) where
 
   -- every verb
 
-  verb_named : (i : ℕ) (p : Program) (s : Session) (v : Verb) → slice_get s.programs i ≡ Some p → AreNamed s.programs → AreasFit desc p → LeavesNamed (verb_step desc i p s v)
-  unfolding verb_step store_step begin_step end_step abort_step find_step create_step put_step get_step close_step
-  verb_named i p s OpenUpdate at all fit = refused s _ p.name (mine_feed s i p at all) all
-  verb_named i p s OpenInquiry at all fit = refused s _ p.name (mine_feed s i p at all) all
-  verb_named i p s Close at all fit = leaves_if p.in_transaction (refuse s AuditError p.name) (succeeds (record s { programs = without i s.programs })) (refused s _ p.name (mine_feed s i p at all) all) (shown _ [] tt (all_without Named s.programs i all))
-  verb_named i p s (Find path) at all fit = find_for_named s i p at all (owner_for desc p (path_of path)) path
-  verb_named i p s (Create set) at all fit = create_for_named s i p at all (owner_for desc p set) set
-  verb_named i p s (PutItems set settings) at all fit = put_area_named s i p at all (area_of p set) set settings
-  verb_named i p s (Get set items) at all fit = get_named s i p at all (area_of p set) set items fit refl
-  verb_named i p s (Store set) at all fit = leaves_if p.in_transaction (after_store (keep desc p s.db set) i s) (refuse s AuditError p.name) (store_named s i p at all (keep desc p s.db set) (keep_named s i p at all s.db set)) (refused s _ p.name (mine_feed s i p at all) all)
-  verb_named i p s (Begin audit) at all fit =
+  verb_named : (i : ℕ) (p : Program) (s : Session) (v : Verb) → slice_get s.programs i ≡ Some p → AreNamed s.programs → AreasFit desc p → IsValid desc s.db → LeavesNamed (verb_step desc i p s v)
+  unfolding verb_step store_step begin_step end_step abort_step find_step lock_step free_step create_step put_step get_step close_step
+  verb_named i p s OpenUpdate at all fit valid = refused s _ p.name (mine_feed s i p at all) all
+  verb_named i p s OpenInquiry at all fit valid = refused s _ p.name (mine_feed s i p at all) all
+  verb_named i p s Close at all fit valid = leaves_if p.in_transaction (refuse s AuditError p.name) (succeeds (record s { programs = without i s.programs })) (refused s _ p.name (mine_feed s i p at all) all) (shown _ [] tt (all_without Named s.programs i all))
+  verb_named i p s (Find path) at all fit valid = find_named s i p at all (sought desc s.db p path) path (sought_clean desc s.db p path (shape_feed (path_of path)))
+  verb_named i p s (Lock path) at all fit valid = lock_named s i p at all (sought desc s.db p path) path (sought_clean desc s.db p path (shape_feed (path_of path)))
+  verb_named i p s (Free set) at all fit valid = free_named s i p at all (current_of p set) set
+  verb_named i p s (Create set) at all fit valid = create_for_named s i p at all (owner_for desc p set) set
+  verb_named i p s (PutItems set settings) at all fit valid = put_area_named s i p at all (area_of p set) set settings
+  verb_named i p s (Get set items) at all fit valid = get_named s i p at all (area_of p set) set items valid fit refl
+  verb_named i p s (Store set) at all fit valid = leaves_if p.in_transaction (after_store (keep desc p s.db set) i s) (refuse s AuditError p.name) (store_named s i p at all (keep desc p s.db set) (keep_named s i p at all s.db set)) (refused s _ p.name (mine_feed s i p at all) all)
+  verb_named i p s (Begin audit) at all fit valid =
       leaves_if p.in_transaction (refuse s AuditError p.name) (after_begin (begin_transaction desc p s audit) i s) (refused s _ p.name (mine_feed s i p at all) all)
       (begun_named s i p at all (begin_transaction desc p s audit) (begun_kept s i p at all audit (awaited_feed s all)))
-  verb_named i p s (End audit sync) at all fit =
+  verb_named i p s (End audit sync) at all fit valid =
       leaves_if p.in_transaction (after_end (cond audit (keep desc p s.db (restart_of desc)) (Keeps p s.db)) desc i s sync) (refuse s AuditError p.name)
       (end_named s i p at all (cond audit (keep desc p s.db (restart_of desc)) (Keeps p s.db)) sync (keep_if s i p at all audit)) (refused s _ p.name (mine_feed s i p at all) all)
-  verb_named i p s Abort at all fit =
+  verb_named i p s Abort at all fit valid =
       leaves_if p.in_transaction (succeeds (record s { db = s.mark; programs = map (backed_out p.name) s.programs; pending = false; since = 0 })) (refuse s AuditError p.name)
       (shown _ [] tt (all_mapped Named (backed_out p.name) s.programs (λ x n. backed_named p.name x n) all)) (refused s _ p.name (mine_feed s i p at all) all)
 
@@ -310,20 +405,20 @@ open_named : (desc : Described) (s : Session) (name : List ℕ) (v : Verb) → I
 unfolding open_step
 open_named desc s name v named all = open_in_named (traits v).opens desc s name named all
 
-step_at_named : (desc : Described) → HasNames desc → (o : Option Program) (i : ℕ) (s : Session) (name : List ℕ) (v : Verb) → slice_get s.programs i ≡ o → IsName name → AreNamed s.programs → AllByRecursion (AreasFit desc) s.programs
+step_at_named : (desc : Described) → HasNames desc → (o : Option Program) (i : ℕ) (s : Session) (name : List ℕ) (v : Verb) → slice_get s.programs i ≡ o → IsName name → AreNamed s.programs → AllByRecursion (AreasFit desc) s.programs → IsValid desc s.db
     → LeavesNamed (step_at desc o i s name v)
-step_at_named desc names None i s name v at named all fit = open_named desc s name v named all
-step_at_named desc names (Some p) i s name v at named all fit =
+step_at_named desc names None i s name v at named all fit valid = open_named desc s name v named all
+step_at_named desc names (Some p) i s name v at named all fit valid =
     let due : Program = record p { owes_abort = false } in
     leaves_if (opens v) (refuse s _ name) _ (refused s _ name (name_feed name named) all)
     (leaves_if p.owes_abort (record { session = with_program s i due; reply = Exception AbortDue name; sync = None; quiets = [] }) _
     (record { reply = name_feed name named; names = with_named desc names s i p at all due (mine desc names s i p at all) })
-    (leaves_if (is_inquiry p.mode && changes v) (refuse s _ name) _ (refused s _ name (name_feed name named) all) (verb_named desc names i p s v at all (all_at (AreasFit desc) s.programs i p at fit))))
+    (leaves_if (is_inquiry p.mode && changes v) (refuse s _ name) _ (refused s _ name (name_feed name named) all) (verb_named desc names i p s v at all (all_at (AreasFit desc) s.programs i p at fit) valid)))
 
 answered_named : (name : List ℕ) (o : Outcome) → LeavesNamed o → LeavesNamed (after_answer name o)
-answered_named name o h = record { reply = h.reply; names = h.names }
+answered_named name o h = record { reply = h.reply; names = answered_names (says_deadlock o.reply) name o.session.programs h.names }
 
 -- one step
-pub step_named : (desc : Described) → HasNames desc → (s : Session) (name : List ℕ) (v : Verb) → IsName name → AreNamed s.programs → AllByRecursion (AreasFit desc) s.programs → LeavesNamed (step desc s name v)
+pub step_named : (desc : Described) → HasNames desc → (s : Session) (name : List ℕ) (v : Verb) → IsName name → AreNamed s.programs → AllByRecursion (AreasFit desc) s.programs → IsValid desc s.db → LeavesNamed (step desc s name v)
 unfolding step carried_out
-step_named desc names s name v named all fit = answered_named name _ (step_at_named desc names (slice_get s.programs (place_of name s.programs)) (place_of name s.programs) s name v refl named all fit)
+step_named desc names s name v named all fit valid = answered_named name _ (step_at_named desc names (slice_get s.programs (place_of name s.programs)) (place_of name s.programs) s name v refl named all fit valid)

@@ -9,7 +9,7 @@ use Rattle.dms_desc.specs.declared.structure.Item.{Item}
 use Rattle.dms_desc.specs.Shape.{Described}
 use Rattle.dms_model.specs.declared.verb.Setting.{Setting}
 use Rattle.dms_model.specs.declared.verb.Verb.{Verb}
-use Rattle.dms_model.specs.declared.verb.Verb.TheVariants.{OpenUpdate, OpenInquiry, Close, Find, Create, Put, Get, Store, Begin, End, Abort}
+use Rattle.dms_model.specs.declared.verb.Verb.TheVariants.{OpenUpdate, OpenInquiry, Close, Find, Lock, Free, Create, Put, Get, Store, Begin, End, Abort}
 use Rattle.dms_model.specs.Db.{Db, empty_db}
 use Rattle.dms_desc.specs.Lookups.{structure_of, items_of}
 use Rattle.dms_model.specs.Points.{Quiet}
@@ -65,6 +65,8 @@ module _ (desc : Described) (run : IsRunnable desc) where
   names_outer OpenInquiry h = (tt, tt)
   names_outer Close h = (tt, tt)
   names_outer (Find path) h = (tt, tt)
+  names_outer (Lock path) h = (tt, tt)
+  names_outer (Free set) h = (tt, tt)
   names_outer (Create set) h = (outer_of desc run.kinds set h, tt)
   names_outer (Put set settings) h = (outer_of desc run.kinds set h.0, settings_plain (items_of (structure_of desc set)) settings h.1)
   names_outer (Get set items) h = (tt, tt)
@@ -83,12 +85,12 @@ module _ (desc : Described) (run : IsRunnable desc) where
   speaks = record {
     keeps = λ s name verb v k. record {
       sound = (stays_sound desc run.made).keeps s name verb v.outer k.sound;
-      named = (step_named desc run.names s name verb v.named k.named k.sound.areas).names;
+      named = (step_named desc run.names s name verb v.named k.named k.sound.areas k.sound.db).names;
     };
     points = λ s name verb v k.
         let after = (stays_sound desc run.made).keeps s name verb v.outer k.sound in
         start_points desc (step desc s name verb).session.db (record { valid = after.db; flat = after.flat }) (step desc s name verb).quiets (step_points desc s name verb);
-    reply = λ line s name verb v k. reply_none line name (step desc s name verb).reply (name_feed name v.named) (step_named desc run.names s name verb v.named k.named k.sound.areas).reply;
+    reply = λ line s name verb v k. reply_none line name (step desc s name verb).reply (name_feed name v.named) (step_named desc run.names s name verb v.named k.named k.sound.areas k.sound.db).reply;
     bad = bad_none;
     waiting = λ line name verb v. unanswered_none line name (name_feed name v.named);
     spoken = λ raw name verb is. spoken_so (line_of desc raw) name verb (lines_speak_well desc run.order raw) is;

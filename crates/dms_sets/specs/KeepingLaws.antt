@@ -17,7 +17,8 @@ use Rattle.dms_ordlist.specs.ListIn.{list_in}
 use Rattle.dms_ordlist.specs.Seen.{IfList, NoList}
 use Rattle.dms_ordlist.specs.SeenLaws.{causes_err, counts_still}
 use Rattle.dms_sets.specs.Changes.{IfListed, OnlyList, OnlyRoomy}
-use Rattle.dms_sets.specs.Keeping.{Calm, EndsInFault, FileStays, FromBelow, Usable, file_of, list_told, seen_list}
+use Rattle.dms_desc.specs.Files.{file_of}
+use Rattle.dms_sets.specs.Keeping.{Calm, EndsInFault, FileStays, FromBelow, Usable, list_told, seen_list}
 
 -- ---- a list that is told
 

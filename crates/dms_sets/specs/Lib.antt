@@ -18,6 +18,7 @@ pub mod ToldLaws
 pub mod Determined
 pub mod Puts
 pub mod Finds
+pub mod Stated
 pub mod Kept
 pub mod Keeping
 pub mod KeepingLaws

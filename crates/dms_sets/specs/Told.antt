@@ -67,6 +67,10 @@ pub record KeepsSets (desc : Described) (db : Db) (set number : ℕ) (new : Opti
 abbrev pub IfJudged : Described → ℕ → ℕ → Option Record → Option Record → ListsOf → (Db → Type 0) → Type 0
 IfJudged desc set number old new ls P = (db : Db) → ChangeStands desc db set number old new → AreListed desc db ls → P db
 
+-- the lists of all sets after a change answer it, where those before it are of a database
+abbrev pub KeepsListed : Described → ℕ → ℕ → Option Record → Option Record → ListsOf → ListsOf → SetAnswer → Type 0
+KeepsListed desc set number old new before after answer = IfJudged desc set number old new before (λ db. KeepsSets desc db set number new after answer)
+
 -- a set over the data set refuses the new record
 abbrev pub is_refused : Described → Db → ℕ → ℕ → Option Record → Option Record → Shape → Bool
 is_refused desc db set number old new s = is_over s set && refuses (kinds_over desc s) s new (without_in (entry_opt (kinds_over desc s) s number old) (entries_of desc db s))

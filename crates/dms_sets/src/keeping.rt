@@ -1,18 +1,12 @@
-ghost use Rattle.std.specs.Prelude.{◌≡◌};
-ghost use Rattle.dms_sets.specs.Keeping.{Calm, EndsInFault, FromBelow, Usable, file_of, seen_list};
+ghost use Rattle.dms_desc.specs.Files.{file_of};
+ghost use Rattle.dms_sets.specs.Keeping.{Calm, EndsInFault, FromBelow, Usable, seen_list};
 ghost use Rattle.dms_sets.specs.KeepingLaws as laws;
 
 use crate::Lists;
 use dms_base::Bytes;
 use dms_block::{BlockFault, Blocks, Overlay};
+use dms_desc::file_of;
 use std::alloc::Global;
-
-/// The file of a structure.
-fn file_of(structure: u16) -> u32
-    ensures { result ≡ file_of structure }
-{
-    30_000 + u32::from(structure)
-}
 
 /// Ordered lists, each in the file of its structure, as they are seen through an overlay. A file of more than
 /// 1,048,576 blocks is no list.

@@ -3,7 +3,7 @@ ghost use Rattle.std.specs.Option.{option_copied};
 ghost use Rattle.dms_desc.specs.Shape.{shape_of, as_described};
 ghost use Rattle.dms_desc.specs.Lookups.{items_of};
 ghost use Rattle.dms_sets.specs.Changes.{has_number, is_over};
-ghost use Rattle.dms_sets.specs.Told.{IfJudged, KeepsSets, MayEnter, OfStructures};
+ghost use Rattle.dms_sets.specs.Told.{IfJudged, KeepsListed, MayEnter, OfStructures};
 
 use crate::entry::kinds_of;
 use crate::one::change_one;
@@ -39,8 +39,7 @@ pub fn change<L: Lists>(
     requires usable { OfStructures (as_described desc.now) (λ s. is_over s set ≡ true → L.usable lists.old s.number) }
     requires old { MayEnter (as_described desc.now) set (option_copied old) }
     requires new { MayEnter (as_described desc.now) set (option_copied new) }
-    ensures kept { IfOk result (λ a. IfJudged (as_described desc.now) set number (option_copied old.entry) (option_copied new.entry) (L.listed lists.old)
-        (λ db. KeepsSets (as_described desc.now) db set number (option_copied new.entry) (L.listed lists.new) a)) }
+    ensures kept { IfOk result (KeepsListed (as_described desc.now) set number (option_copied old.entry) (option_copied new.entry) (L.listed lists.old) (L.listed lists.new)) }
     ensures usable { OnOk result ((n : ℕ) → L.usable lists.old n → L.usable lists.new n) }
     ensures calm { OnOk result (L.calm (has_number (as_described desc.now).structures set) (3 * length desc.now.structures) lists.old lists.new) }
     ensures fails { IfErr result (λ e. L.fails e (3 * length desc.now.structures) lists.old lists.new) }

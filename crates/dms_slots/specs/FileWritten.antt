@@ -17,7 +17,8 @@ use Rattle.dms_layout.specs.declared.slot.SlotRead.TheVariants.{Free, Used, Bad}
 use Rattle.dms_layout.specs.Slots.{slot_width, slot_bytes, slot_of, SlotFits, AreKinds}
 use Rattle.dms_layout.specs.SlotLaws.{slot_again, slot_long}
 use Rattle.dms_layout.specs.ReadLaws.{used_fits, free_is, free_again, are_zeros}
-use Rattle.dms_slots.specs.SlotBlocks.{file_of, per_block, block_of, place_of, is_slot, are_slots, is_block, slot_chunks, slots_by, slots_in, or_free, slot_at, block_at, slot_put, MayPutSlot}
+use Rattle.dms_desc.specs.Files.{file_of}
+use Rattle.dms_slots.specs.SlotBlocks.{per_block, block_of, place_of, is_slot, are_slots, is_block, slot_chunks, slots_by, slots_in, or_free, slot_at, block_at, slot_put, MayPutSlot}
 use Rattle.dms_slots.specs.SlotBlockLaws.{bad_block, place_bad, slot_there, slot_past, slots_length, some_at, none_at}
 use Rattle.dms_slots.specs.Written.{room, block_written}
 

@@ -5,7 +5,8 @@ use Rattle.dms_block.specs.Content.{Content}
 use Rattle.dms_block.specs.declared.blocks.Blocks.{Ghosts}
 use Rattle.dms_block.specs.declared.overlay.Overlay.{Overlay}
 use Rattle.dms_block.specs.View.{overlay_content, seen_counts, under}
-use Rattle.dms_slots.specs.SlotBlocks.{file_of, slot_put, BadBlock}
+use Rattle.dms_desc.specs.Files.{file_of}
+use Rattle.dms_slots.specs.SlotBlocks.{slot_put, BadBlock}
 
 module _ {B : Type 0} {g : Ghosts B} where
   -- its blocks

@@ -1,19 +1,16 @@
 -- The slots of a data set's file: those of its blocks, one block after another.
-use Rattle.std.specs.Prelude.{ℕ, zero, suc, ◌+◌, ◌-◌, ◌*◌, ◌/◌, ◌%◌, ◌<◌, ◌≤◌, ◌≡◌, ◌≢◌, List, [], ◌∷◌, flat_map, Bool, true, false, ◌&&◌, ◌==◌, Some, None, if◌then◌else◌, IsTrue, length, take, drop, replicate, nat_le, slice_get, slice_index_or}
+use Rattle.std.specs.Prelude.{ℕ, zero, suc, ◌+◌, ◌-◌, ◌*◌, ◌/◌, ◌%◌, ◌<◌, ◌≤◌, ◌≡◌, ◌≢◌, List, [], ◌∷◌, flat_map, Bool, true, false, ◌&&◌, ◌==◌, Some, None, if◌then◌else◌, IsTrue, length, take, drop, replicate, nat_le, slice_get, slice_set, slice_index_or}
 use Rattle.std.specs.declared.option.Option.{Option}
 use Rattle.std.specs.List.{list_all}
 use Rattle.dms_block.specs.Content.{Content, with_block}
 use Rattle.dms_fields.specs.Fields.{lay_bytes}
+use Rattle.dms_desc.specs.Files.{file_of}
 use Rattle.dms_desc.specs.declared.structure.Item.{Item}
 use Rattle.dms_desc.specs.Shape.{Shape}
 use Rattle.dms_layout.specs.declared.slot.Slot.{Slot}
 use Rattle.dms_layout.specs.declared.slot.SlotRead.{SlotRead}
 use Rattle.dms_layout.specs.declared.slot.SlotRead.TheVariants.{Free, Used, Bad}
 use Rattle.dms_layout.specs.Slots.{slot_width, slot_of, is_zero}
-
--- the file of a structure
-abbrev pub file_of : ℕ → ℕ
-file_of number = 30000 + number
 
 -- how many whole slots fit into a block
 abbrev pub per_block : List Item → ℕ
@@ -87,6 +84,11 @@ within most n = if nat_le n most then Some n else None
 abbrev pub BadBlock : Bool → Shape → ℕ → List (List ℕ) → ℕ → ℕ → Type 0
 BadBlock told s file bs f b = (f ≡ file) × (IsTrue told → (b < length bs) × (is_block s (slice_index_or bs b []) ≡ false))
 
+-- What these bytes in the place of a slot make of a block: it is one, and that slot alone is another.
+abbrev pub LaysSlot : Shape → ℕ → List ℕ → List ℕ → Type 0
+LaysSlot s p x block = (is_block s (lay_bytes (p * slot_width s.items) x block) ≡ true)
+    × (slots_in s (lay_bytes (p * slot_width s.items) x block) ≡ slice_set (slots_in s block) p (slot_of s x))
+
 -- the bytes of a block, zeros where there is none yet
 abbrev pub block_or_zeros : Option (List ℕ) → List ℕ
 block_or_zeros None = replicate 1024 0
@@ -98,6 +100,14 @@ block_at bs b = block_or_zeros (slice_get bs b)
 -- the least number whose slot is free, where it isn't above POPULATION
 abbrev pub least_free : Shape → List (List ℕ) → Option ℕ
 least_free s bs = within s.population (before_free (slots_of s bs) + 1)
+
+-- the slot of the record with a number, among all files
+abbrev pub record_slot : Shape → Content → ℕ → SlotRead
+record_slot s c number = slot_at s (c (file_of s.number)) number
+
+-- the slots of all records but one are the same
+abbrev pub OtherSlotsStay : Shape → ℕ → Content → Content → Type 0
+OtherSlotsStay s number old new = (other : ℕ) → 1 ≤ other → other ≢ number → record_slot s new other ≡ record_slot s old other
 
 -- all files, with these bytes in the place of the slot of a record
 abbrev pub slot_put : Shape → ℕ → List ℕ → Content → Content

@@ -1,21 +1,14 @@
-ghost use Rattle.std.specs.Prelude.{◌≡◌, ◌+◌, ◌<◌, ◌≤◌, IfOk, length, slice_get, take, drop};
+ghost use Rattle.std.specs.Prelude.{◌≡◌, ◌<◌, ◌≤◌, IfOk, length, slice_get, take, drop};
 ghost use Rattle.std.specs.List.{list_all};
 ghost use Rattle.dms_desc.specs.Shape.{shape_of};
 ghost use Rattle.dms_layout.specs.Slots.{slot_width, is_zero};
-ghost use Rattle.dms_slots.specs.SlotBlocks.{file_of, per_block, is_slot, is_free, is_block, slot_chunks, slots_in, or_free, before_free};
+ghost use Rattle.dms_slots.specs.SlotBlocks.{per_block, is_slot, is_free, is_block, slot_chunks, slots_in, or_free, before_free};
 
 use dms_base::Memory;
 use dms_block::Block;
 use dms_desc::Structure;
 use dms_layout::{SlotRead, from_slot, slot_width};
 use std::alloc::Global;
-
-/// The file of a structure.
-pub fn file_of(s: &Structure) -> u32
-    ensures { result ≡ file_of s.now.number }
-{
-    30_000 + u32::from(s.number)
-}
 
 /// How many bytes a slot has.
 pub fn width_of(s: &Structure) -> usize

@@ -5,11 +5,12 @@ ghost use Rattle.dms_block.specs.Held.{HasCausesOr};
 ghost use Rattle.dms_block.specs.View.{ReadsOverlay, under};
 ghost use Rattle.std.specs.Prelude.{◌/◌, slice_index_or, []};
 ghost use Rattle.dms_slots.specs.Seen.{blocks_of, count_of, BadAt, BadIn};
-ghost use Rattle.dms_slots.specs.SlotBlocks.{file_of, per_block, block_of, slot_at, slot_opt, slots_in, before_free, within, least_free};
+ghost use Rattle.dms_desc.specs.Files.{file_of};
+ghost use Rattle.dms_slots.specs.SlotBlocks.{per_block, block_of, slot_at, slot_opt, slots_in, before_free, within, least_free};
 
-use crate::cutting::{before_free, file_of, is_block, per_block, slot_in};
+use crate::cutting::{before_free, is_block, per_block, slot_in};
 use dms_block::{BlockFault, BlockId, Blocks, Overlay};
-use dms_desc::Structure;
+use dms_desc::{Structure, file_of};
 use dms_layout::{Slot, SlotRead};
 use std::alloc::Global;
 
@@ -31,7 +32,7 @@ pub fn read_slot<B: Blocks>(
     ensures there { IfOk result (λ o. IfSome o (λ x. block_of s.now.items number < count_of (shape_of s.now) b.old)) }
     ensures causes { HasCausesOr (BadAt (shape_of s.now) (block_of s.now.items number) b.old) result (under b.old) (under b.new) }
 {
-    let file = file_of(s);
+    let file = file_of(s.number);
     let per = per_block(s) as u64;
     let at = (number - 1) / per;
     if u64::from(b.count(file)) <= at {
@@ -61,7 +62,7 @@ fn taken_in<B: Blocks>(
     ensures reads { ReadsOverlay 1 result b.old b.new }
     ensures causes { HasCausesOr (BadAt (shape_of s.now) block b.old) result (under b.old) (under b.new) }
 {
-    let file = file_of(s);
+    let file = file_of(s.number);
     let bytes = b.read(alloc, BlockId { file, block })?;
     if !is_block(alloc, s, &bytes)? {
         return Err(BlockFault::Damaged(file, block));
@@ -96,7 +97,7 @@ pub fn take_least<B: Blocks>(
     ensures causes { HasCausesOr (BadIn (shape_of s.now) b.old) result (under b.old) (under b.new) }
 {
     let per = per_block(s);
-    let count = b.count(file_of(s));
+    let count = b.count(file_of(s.number));
     for i in 0..count {
         let taken = taken_in(b, alloc, s, i)?;
         if taken < per {

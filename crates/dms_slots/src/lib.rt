@@ -8,7 +8,7 @@ mod laws;
 mod tests;
 mod writing;
 
-pub use cutting::{file_of, is_block, per_block};
+pub use cutting::{is_block, per_block};
 pub use finding::{read_slot, take_least};
 pub use laws::{file_law, written_law};
 pub use writing::{free_slot, write_slot};

@@ -1,7 +1,9 @@
-use crate::{file_of, free_slot, per_block, read_slot, take_least, write_slot};
+use crate::{free_slot, per_block, read_slot, take_least, write_slot};
 use dms_base::{ItemKind, Name, Value};
 use dms_block::{BlockId, Blocks, Overlay};
-use dms_desc::{Cond, Groups, Item, Items, KeyParts, Record, Structure, Values, values_fit};
+use dms_desc::{
+    Cond, Groups, Item, Items, KeyParts, Record, Structure, Values, file_of, values_fit,
+};
 use dms_layout::{Slot, slot_width};
 use dms_memblocks::MemBlocks;
 use std::alloc::Global;
@@ -59,7 +61,7 @@ fn put(
     if s.number == 0 || s.number as usize > b.below.files.len() {
         return false;
     }
-    if (number - 1) / per_block(s) as u64 > u64::from(b.count(file_of(s))) {
+    if (number - 1) / per_block(s) as u64 > u64::from(b.count(file_of(s.number))) {
         return false;
     }
     match slot {

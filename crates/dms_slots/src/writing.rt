@@ -7,11 +7,12 @@ ghost use Rattle.dms_block.specs.Content.{raise_count};
 ghost use Rattle.dms_block.specs.Held.{HasCausesOr};
 ghost use Rattle.dms_block.specs.View.{ReadsOverlay, WritesOverlay, overlay_content, seen_counts, under, overlay_changes};
 ghost use Rattle.dms_slots.specs.Seen.{blocks_of, count_of, BadAt, with_slot};
-ghost use Rattle.dms_slots.specs.SlotBlocks.{file_of, block_of, is_block, block_at};
+ghost use Rattle.dms_desc.specs.Files.{file_of};
+ghost use Rattle.dms_slots.specs.SlotBlocks.{block_of, is_block, block_at};
 
-use crate::cutting::{ahead, file_of, is_block, per_block, width_of};
+use crate::cutting::{ahead, is_block, per_block, width_of};
 use dms_block::{Block, BlockFault, BlockId, Blocks, Overlay};
-use dms_desc::Structure;
+use dms_desc::{Structure, file_of};
 use dms_layout::{Slot, to_slot};
 use std::alloc::Global;
 
@@ -45,7 +46,7 @@ fn block_at<B: Blocks>(
     ensures reads { ReadsOverlay 1 result b.old b.new }
     ensures causes { HasCausesOr (BadAt (shape_of s.now) block b.old) result (under b.old) (under b.new) }
 {
-    let file = file_of(s);
+    let file = file_of(s.number);
     if b.count(file) <= block {
         return Ok(blank());
     }
@@ -85,7 +86,7 @@ fn write_bytes<B: Blocks>(
     patch(&mut new, place * width_of(s), bytes);
     b.write(
         BlockId {
-            file: file_of(s),
+            file: file_of(s.number),
             block,
         },
         &new,

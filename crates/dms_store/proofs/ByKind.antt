@@ -25,7 +25,7 @@ use Rattle.dms_model.specs.Fitting.{population_of}
 use Rattle.dms_model.specs.Members.{first_member, first_of, is_after_bound, is_before, is_before_bound, last_member, last_of, members, names, spot_of, spots_of}
 use Rattle.dms_model.specs.Stores.{TellsOf}
 use Rattle.dms_model.specs.Valid.{is_data_set}
-use Rattle.dms_slots.specs.SlotBlocks.{file_of}
+use Rattle.dms_desc.specs.Files.{file_of}
 use Rattle.dms_store.specs.Finding.{BadSlot, number_at, served_at}
 use Rattle.dms_store.specs.Lifted.{IsUsable, db_of}
 use Rattle.dms_store.specs.Listed.{BadPath, most_reads}

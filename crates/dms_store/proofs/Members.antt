@@ -33,7 +33,7 @@ use Rattle.dms_sets.specs.Padded.{entry_width, from_bytes, to_bytes}
 use Rattle.dms_sets.specs.Puts.{all_small}
 use Rattle.dms_sets.specs.Sets.{IsSmall, entries_of, kinds_over}
 use Rattle.dms_sets.specs.Spots.{all_fit}
-use Rattle.dms_slots.specs.SlotBlocks.{file_of}
+use Rattle.dms_desc.specs.Files.{file_of}
 use Rattle.dms_store.specs.Files.{list_at}
 use Rattle.dms_store.specs.Finding.{BadSlot, bad_since, number_at, seen_below}
 use Rattle.dms_store.specs.Lifted.{IsUsable, db_of}

@@ -14,7 +14,8 @@ use Rattle.dms_model.specs.Valid.{is_data_set}
 use Rattle.dms_ordlist.specs.ListIn.{list_in}
 use Rattle.dms_sets.specs.Padded.{entry_width}
 use Rattle.dms_sets.specs.Sets.{entries_of, kinds_over}
-use Rattle.dms_slots.specs.SlotBlocks.{file_of, is_block, slots_of}
+use Rattle.dms_desc.specs.Files.{file_of}
+use Rattle.dms_slots.specs.SlotBlocks.{is_block, slots_of}
 use Rattle.dms_store.specs.Finding.{structure_there}
 use Rattle.dms_store.specs.Lifted.{IsStructureFile}
 use Rattle.dms_store.specs.Spelled.{db_in, file_in, file_spells, files_fit, files_spell, has_none, is_list_of, is_spelled, is_whole, lists_eq, slots_stand}

@@ -1,5 +1,5 @@
 -- What is read of the blocks of a store.
-use Rattle.std.proofs.Common.{◌≡◌, ◌∙◌, ◌+◌, ◌-◌, ◌*◌, ◌<◌, ◌≤◌, ℕ, min, zero, suc, List, [], ◌∷◌, true, false, cond, IfSome, IsTrue, Some, None, refl, sym, ap, subst, length, slice_get, arith}
+use Rattle.std.proofs.Common.{◌≡◌, ◌∙◌, ◌+◌, ◌-◌, ◌*◌, ◌<◌, ◌≤◌, ℕ, min, zero, suc, List, [], ◌∷◌, true, false, cond, IfSome, IsTrue, Some, None, refl, sym, ap, subst, take, length, slice_get, arith}
 use Rattle.std.specs.Prelude.{◌==◌, nat_le, slice_index_or}
 use Rattle.std.specs.declared.result.Result.TheVariants.{Ok}
 use Rattle.std.specs.List.{AllByRecursion}
@@ -20,6 +20,7 @@ use Rattle.std.proofs.lemmas.Bool.{and_parts}
 use Rattle.dms_block.specs.View.{ReadsOverlay, overlay_content, under, overlay_changes}
 use Rattle.dms_block.specs.ViewLaws.{seen_still}
 use Rattle.dms_desc.specs.declared.structure.Item.{Item}
+use Rattle.dms_desc.specs.declared.bound.Bound.{Bound}
 use Rattle.dms_desc.specs.Lookups.{items_of, structure_of}
 use Rattle.dms_desc.specs.Shape.{Shape, Described}
 use Rattle.dms_layout.specs.declared.slot.Slot.{Slot}
@@ -29,8 +30,10 @@ use Rattle.dms_desc.specs.Fitting.{values_fit}
 use Rattle.dms_model.specs.Fitting.{AreFitting, IsNumber, RecordFits, population_of}
 use Rattle.dms_model.specs.Valid.{OfItems, is_data_set}
 use Rattle.dms_slots.specs.Seen.{BadAt, BadIn, blocks_of, count_of}
-use Rattle.dms_slots.specs.SlotBlocks.{file_of, is_block, per_block, slot_at, slot_opt, slots_of}
+use Rattle.dms_desc.specs.Files.{file_of}
+use Rattle.dms_slots.specs.SlotBlocks.{is_block, per_block, slot_at, slot_opt, slots_of}
 use Rattle.dms_store.specs.Rows.{AreNumbered, get_in, rec_in, rec_opt}
+use Rattle.dms_store.specs.Scans.{stop_of}
 use Rattle.dms_store.specs.Serving.{IsServed, IsServedShape}
 use Rattle.dms_store.specs.Spelled.{db_in, file_in}
 use Rattle.dms_model.specs.FitLaws.{lengths_are}
@@ -50,6 +53,10 @@ module _ {B : Type 0} {g : Ghosts B} where
   -- how many slots may have a record: those of the file's blocks, up to POPULATION
   abbrev pub most_slots : Shape → Overlay B g → ℕ
   most_slots s o = min (count_of s o * per_block s.items) s.population
+
+  -- those before a bound
+  abbrev pub slots_before : Shape → Bound → Overlay B g → List SlotRead
+  slots_before s bound o = take (min (stop_of bound (most_slots s o)) (most_slots s o)) (seen_slots s o)
 
   -- the same in the words of a path
   pub causes_in : {T : Type 0} (desc : Described) (set : ℕ) (s : Shape) (o o' : Overlay B g) (r : Result T BlockFault) → structure_of desc set ≡ Some s → HasCausesOr (BadIn s o) r (under o) (under o') → HasCausesOr (BadSlot desc set o) r (under o) (under o')

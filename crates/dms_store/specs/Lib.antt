@@ -24,6 +24,7 @@ pub mod PuttingSteps
 pub mod PuttingMoved
 pub mod PuttingAfter
 pub mod PuttingMany
+pub mod Whole
 pub mod PuttingLaws
 pub mod PuttingOwners
 pub mod Owning
@@ -33,10 +34,8 @@ pub mod PuttingAnswers
 pub mod PuttingOver
 pub mod PuttingCalls
 pub mod PuttingEnters
+pub mod Addressed
 pub mod PuttingJudged
 pub mod PuttingNumbers
 pub mod PuttingPlaced
-pub mod PuttingOne
-pub mod PuttingOneLaws
-pub mod PuttingLacks
 pub mod PuttingStore

@@ -1,5 +1,5 @@
 -- Blocks as a store sees them: each content as the database that it spells.
-use Rattle.std.specs.Prelude.{ℕ, ◌≡◌, ◌≤◌, [], Bool, true, false, IsTrue, IsSome, Some, None, if◌then◌else◌, map}
+use Rattle.std.specs.Prelude.{ℕ, ◌≡◌, ◌≤◌, [], Bool, true, false, IsTrue, IsSome, None, if◌then◌else◌, map}
 use Rattle.std.specs.declared.option.Option.{Option}
 use Rattle.std.specs.Str.{bytes_eq}
 use Rattle.dms_moments.specs.Moments.{Clock, seen_as}
@@ -12,12 +12,12 @@ use Rattle.dms_block.specs.declared.overlay.Overlay.{Overlay}
 use Rattle.dms_desc.specs.Lookups.{structure_of}
 use Rattle.dms_desc.specs.Shape.{Described}
 use Rattle.dms_desc_bytes.specs.Spelling.{spelling}
-use Rattle.dms_model.specs.Db.{Db, Records}
+use Rattle.dms_model.specs.Db.{Db}
 use Rattle.dms_model.specs.Points.{Point, Stop}
 use Rattle.dms_model.specs.Seen.{Effort, Seen}
-use Rattle.dms_slots.specs.SlotBlocks.{file_of}
+use Rattle.dms_desc.specs.Files.{file_of}
 use Rattle.dms_store.specs.Serving.{IsServed}
-use Rattle.dms_store.specs.Spelled.{database_in, db_in}
+use Rattle.dms_store.specs.Spelled.{database_in}
 
 -- the store counts by itself how often it answers that a block is damaged, whoever found it so
 abbrev pub faults_with : Faults → ℕ → Faults
@@ -31,11 +31,6 @@ module _ (desc : Described) where
   abbrev pub db_of : Bool → Content → Option Db
   db_of true c = database_in desc c
   db_of false c = None
-
-  -- the records in the slots of blocks, where these are told, whether they spell a database or not
-  abbrev pub records_of : Bool → Content → Option Records
-  records_of true c = Some (db_in desc c).records
-  records_of false c = None
 
   -- A point has the database that its blocks spell, but only where it stands under the bytes of this description.
   abbrev pub point_of : BlockPoint → Point
@@ -60,12 +55,10 @@ module _ (desc : Described) where
     desc = desc;
     db = db_of h.told h.content;
     mark = db_of h.told h.mark;
-    records = records_of h.told h.content;
     next = h.next;
     said = h.said;
     points = map point_of h.points;
     durable = h.durable;
-    landmarks = h.landmarks;
     here = point_of (here_of h);
     clock = lift_stops h.clock;
     whole = h.whole;
@@ -93,6 +86,10 @@ pub record IsUsable {B : Type 0} {g : Ghosts B} (desc : Described) (o : Overlay 
   pub sound : (under o).sound
   pub none : overlay_changes o ≡ []
   pub serves : Serves desc (under o)
+
+-- the database of the blocks below, where they are told
+abbrev pub db_under : {B : Type 0} {g : Ghosts B} → Described → Overlay B g → Option Db
+db_under desc o = db_of desc (under o).told (under o).content
 
 -- what a store tells, over these blocks
 abbrev pub store_seen : {B : Type 0} {g : Ghosts B} → Described → ℕ → Overlay B g → Seen

@@ -25,9 +25,8 @@ use Rattle.dms_desc_bytes.specs.Spelling.{spelling}
 use Rattle.dms_model.specs.Db.{Db}
 use Rattle.dms_model.specs.Points.{Point, Stop, LeavesPrefix, StopTextIs, StoreLeaves, StoreLeavesText, IsUnder}
 use Rattle.dms_model.specs.Seen as store
-use Rattle.dms_slots.specs.SlotBlocks.{file_of}
-use Rattle.dms_store.specs.Lifted.{IsUsable, Serves, db_of, effort_of, faults_with, here_of, lift_stops, point_of, records_of, seen_of, stop_of, store_seen}
-use Rattle.dms_store.specs.SpelledLaws.{spells}
+use Rattle.dms_desc.specs.Files.{file_of}
+use Rattle.dms_store.specs.Lifted.{IsUsable, Serves, db_of, effort_of, faults_with, here_of, lift_stops, point_of, seen_of, stop_of, store_seen}
 
 -- ---- the database
 
@@ -50,6 +49,7 @@ module _ (desc : Described) where
     within = omega (arith, p.within, length-map points (point_of desc));
     is = ap (map (point_of desc)) p.is ∙ map_take p.count points;
     not_fallen = omega (arith, p.not_fallen, length-map points (point_of desc));
+    not_risen = p.not_risen;
     files = p.whole_files;
   }
 
@@ -131,15 +131,10 @@ module _ (desc : Described) (sound sound' : Type 0) (found found' : ℕ) (pace p
 
 -- ---- what is told hangs together
 
-records_agree : (desc : Described) (told : Bool) (c : Content) (db : Db) → db_of desc told c ≡ Some db → records_of desc told c ≡ Some db.records
-records_agree desc true c db is = ap (λ (d : Db). Some d.records) (spells desc c db is).is
-records_agree desc false c db is = absurd (cc)
-
 pub agrees_lifted : (desc : Described) (sound : Type 0) (found : ℕ) (pace : AuditPace) (a : Held) → a.here.schema ≡ spelling desc → held.BlocksAgree a → store.StoreAgrees (seen_of desc sound found pace a)
 agrees_lifted desc sound found pace a schema agrees = record {
   may_stop = λ tells. let x = agrees.may_stop tells in (stop_of desc x.0, (x.0, x.1, refl));
   number = refl;
-  records = records_agree desc a.told a.content;
   here = here_db desc a.told a.content a.here.blocks a.here.schema schema;
   under = point_under desc (here_of desc a);
   points = λ tells room. points_under desc a.points;

@@ -1,6 +1,8 @@
 -- The members of sets and automatic subsets, and what an entry of their lists stands for.
-use Rattle.std.specs.Prelude.{ℕ, ◌≡◌, ◌<◌, ◌+◌, ◌⊎◌, List, Bool, false, Some, None, if◌then◌else◌}
+use Rattle.std.specs.Prelude.{IfOk, ℕ, ◌≡◌, ◌<◌, ◌+◌, ◌⊎◌, List, Bool, false, Some, None, if◌then◌else◌}
 use Rattle.std.specs.declared.option.Option.{Option}
+use Rattle.std.specs.declared.result.Result.{Result}
+use Rattle.dms_block.specs.declared.block_fault.BlockFault.{BlockFault}
 use Rattle.std.specs.FinMap.{get}
 use Rattle.std.specs.Str.{bytes_eq}
 use Rattle.dms_base.specs.declared.kind.ItemKind.{ItemKind}
@@ -13,18 +15,26 @@ use Rattle.dms_desc.specs.declared.structure.KeyPart.{KeyPart}
 use Rattle.dms_desc.specs.Lookups.{set_of, structure_of}
 use Rattle.dms_desc.specs.Shape.{Shape, Described}
 use Rattle.dms_model.specs.Db.{Db}
-use Rattle.dms_model.specs.Fitting.{population_of}
+use Rattle.dms_model.specs.Fitting.{MayStart, population_of}
+use Rattle.dms_model.specs.Members.{first_member, last_member}
+use Rattle.dms_model.specs.Stores.{Tells}
+use Rattle.dms_model.specs.declared.spot.Spot.{Spot}
 use Rattle.dms_model.specs.Valid.{is_data_set}
 use Rattle.dms_sets.specs.Bounds.{BoundKeyFits}
-use Rattle.dms_sets.specs.Padded.{BoundSmall}
+use Rattle.dms_ordlist.specs.Seen.{IfList}
+use Rattle.dms_sets.specs.Padded.{BoundSmall, entry_width}
 use Rattle.dms_sets.specs.Sets.{entry_of, kinds_over, place_in_entry}
-use Rattle.dms_slots.specs.SlotBlocks.{file_of}
+use Rattle.dms_desc.specs.Files.{file_of}
 use Rattle.dms_store.specs.Finding.{BadSlot}
-use Rattle.dms_store.specs.Lifted.{db_of}
+use Rattle.dms_store.specs.Lifted.{db_of, db_under}
 
 -- the key of a bound fits, and the number behind that of a bound is one of four bytes
 abbrev pub MayLook : List ItemKind → List KeyPart → Bound → Type 0
 MayLook kinds ps bound = BoundKeyFits kinds ps bound × BoundSmall kinds ps bound
+
+-- where that may be looked for, the answer is this of the list of a structure's file
+abbrev pub IfLooked : {B : Type 0} {g : Ghosts B} {T : Type 0} → List ItemKind → List KeyPart → Bound → ℕ → Overlay B g → Result T BlockFault → (T → List (List ℕ) → Type 0) → Type 0
+IfLooked kinds ps bound n o result P = MayLook kinds ps bound → IfOk result (λ x. IfList o (file_of n) (entry_width kinds ps) (P x))
 
 -- these bytes are an entry
 abbrev pub is_entry : Option (List ℕ) → List ℕ → Bool
@@ -40,6 +50,13 @@ module _ {B : Type 0} {g : Ghosts B} where
   abbrev pub BadEntry : Described → Shape → List ℕ → Overlay B g → ℕ → ℕ → Type 0
   BadEntry desc s q o f b = BadSlot desc s.set o f b
       ⊎ ((f ≡ file_of s.number) × (b ≡ 0) × ((d : Db) → db_of desc (under o).told (under o).content ≡ Some d → IsEntryOfRecord desc s d q → ⊥))
+
+  -- Where members may be asked for so, the answer is the first one behind the bound, or the last one before it.
+  abbrev pub FindsFirst : Described → ℕ → ℕ → Bound → Overlay B g → Result (Option Spot) BlockFault → Type 0
+  FindsFirst desc path owner bound o result = MayStart desc path owner bound → Tells (db_under desc o) result (λ d. first_member desc d path owner bound)
+
+  abbrev pub FindsLast : Described → ℕ → ℕ → Bound → Overlay B g → Result (Option Spot) BlockFault → Type 0
+  FindsLast desc path owner bound o result = MayStart desc path owner bound → Tells (db_under desc o) result (λ d. last_member desc d path owner bound)
 
   -- how many blocks a look at the members of a structure reads at most
   abbrev pub most_reads : Described → ℕ → Overlay B g → ℕ

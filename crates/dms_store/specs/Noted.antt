@@ -1,6 +1,5 @@
 -- How a store counts its answers that a block is damaged, and the cause of each fault.
-use Rattle.std.proofs.Common.{◌≡◌, ◌+◌, ◌-◌, ◌<◌, ◌^◌, ℕ, min, Bool, true, false, IsTrue, List, refl, ap, inl, inr, subst, sym, arith}
-use Rattle.std.specs.declared.option.Option.{Option}
+use Rattle.std.proofs.Common.{◌≡◌, ◌+◌, ◌-◌, ◌<◌, ◌^◌, ℕ, min, Bool, true, false, IsTrue, refl, ap, inl, inr, arith}
 use Rattle.std.specs.declared.result.Result.{Result}
 use Rattle.std.specs.declared.result.Result.TheVariants.{Ok, Err}
 use Rattle.dms_block.specs.declared.block_fault.BlockFault.{BlockFault}
@@ -8,7 +7,6 @@ use Rattle.dms_block.specs.declared.block_fault.BlockFault.TheVariants.{Disk, Me
 use Rattle.dms_block.specs.Content.{Content}
 use Rattle.dms_block.specs.Counts.{CausedBy, Faults, Raised, RoseOnce}
 use Rattle.dms_block.specs.Held.{CausedOr, HasCausesOr, Held}
-use Rattle.dms_block.specs.Landmarks.{Landmark, AddsItsLandmarks}
 use Rattle.dms_desc.specs.Shape.{Described}
 use Rattle.dms_model.specs.Db.{Db}
 use Rattle.dms_model.specs.Stores.{TellsOf}
@@ -54,11 +52,6 @@ module _ (a b : Held) (n m : ℕ) (small : n < 2 ^ 64) where
   pub causes_noted : {T : Type 0} (P : ℕ → ℕ → Type 0) (r : Result T BlockFault) → m ≡ noted_by r n → HasCausesOr P r a b → CausedBy r (faults_with a.faults n) (faults_with b.faults m)
   causes_noted P (Ok x) is h = λ i. faults_with (h i) (is i)
   causes_noted P (Err e) is h = caused_noted P e is h
-
--- the landmarks of an answer are those of the noted one
-pub lands_noted : {T : Type 0} {backs : Bool} {r noted : Result T BlockFault} {a b : Option (List Landmark)} {more : List Landmark} → noted ≡ r
-    → AddsItsLandmarks backs r a b more → AddsItsLandmarks backs noted a b more
-lands_noted {backs = backs} {a = a} {b = b} {more = more} same p = subst (λ answer. AddsItsLandmarks backs answer a b more) (sym same) p
 
 -- ---- where a database is told
 

@@ -21,7 +21,8 @@ use Rattle.dms_layout.specs.declared.slot.SlotRead.TheVariants.{Free, Used}
 use Rattle.dms_model.specs.Db.{Db}
 use Rattle.dms_model.specs.Fitting.{is_number}
 use Rattle.dms_model.specs.Valid.{is_data_set}
-use Rattle.dms_slots.specs.SlotBlocks.{block_of, file_of, is_block, slot_at, slot_put}
+use Rattle.dms_desc.specs.Files.{file_of}
+use Rattle.dms_slots.specs.SlotBlocks.{block_of, is_block, slot_at, slot_put}
 use Rattle.dms_slots.specs.Seen.{BadAt, count_of, with_slot}
 use Rattle.dms_store.specs.Files.{all_of}
 use Rattle.dms_store.specs.Finding.{number_at, served_at}
@@ -68,6 +69,11 @@ is_owner s number = is_data_set (Some s) && is_number (Some s) number
 -- of a data set that stands in this one, 0 for none
 abbrev pub IfOwned : ℕ → Type 0 → Type 0
 IfOwned set P = set ≢ 0 → P
+
+-- Where the files stand for a database and these counts, the owner counts one more and they stand for that.
+abbrev pub CountsOwner : {B : Type 0} {g : Ghosts B} → Described → ℕ → ℕ → Overlay B g → Overlay B g → Bool → Type 0
+CountsOwner desc set owner a b done = (db : Db) (own : ℕ → ℕ → ℕ) → IsTrue (under a).told → StandsFiles desc db own (overlay_content a) → IfOwned set (MayCount db own set owner)
+    → (done ≡ true) × StandsFiles desc db (owners_after own set None owner) (overlay_content b)
 
 -- ---- files of slots
 

@@ -1,6 +1,5 @@
 -- What a store on blocks answers where a record is to be stored.
 use Rattle.std.specs.Prelude.{◌≡◌, ℕ, true, IfSome, Some, None, ⊤, is_some}
-use Rattle.dms_model.specs.Spoken.{IsOuter}
 use Rattle.std.specs.declared.option.Option.{Option}
 use Rattle.std.specs.declared.result.Result.{Result}
 use Rattle.std.specs.FinMap.{get}
@@ -13,11 +12,10 @@ use Rattle.dms_desc.specs.declared.record.Record.{Record}
 use Rattle.dms_model.specs.declared.put.Put.{Put}
 use Rattle.dms_model.specs.declared.put.Put.TheVariants.{Stored, Duplicate, Full}
 use Rattle.dms_model.specs.Db.{Db}
-use Rattle.dms_model.specs.Lacking.{LacksOne}
 use Rattle.dms_model.specs.Fitting.{IsStored}
 use Rattle.dms_model.specs.Stores.{put_after, put_answer}
 use Rattle.dms_model.specs.Valid.{owner_stands}
-use Rattle.dms_store.specs.Spelled.{database_in, db_in}
+use Rattle.dms_store.specs.Spelled.{database_in}
 use Rattle.dms_desc_bytes.specs.Finding.{owner_in as owner_of}
 
 -- This record may be stored: where it is a new one its owner's record is there, or it has no owner where its data set is disjoint; and
@@ -41,11 +39,6 @@ AnswersOver desc c d set number rec answer = (db : Db) → database_in desc c �
 abbrev pub Answers : Described → Content → Content → ℕ → Option ℕ → Record → Put → Type 0
 Answers desc c d set number rec answer = (db : Db) → database_in desc c ≡ Some db → MayStore desc db set number rec
     → (answer ≡ put_answer desc db set number rec) × (database_in desc d ≡ Some (put_after answer desc db set rec))
-
--- Where the audit had no room for a record of the outer level, the records in the slots are those of the database with it but for one.
-abbrev pub FullLacks : Described → Content → Content → ℕ → Option ℕ → Record → Result Put BlockFault → Type 0
-FullLacks desc c d set number rec result = (db : Db) → database_in desc c ≡ Some db → IsOuter (structure_of desc set) → MayStore desc db set number rec
-    → IfFull result (λ f. LacksOne (Some (db_in desc d).records) (put_after (put_answer desc db set number rec) desc db set rec))
 
 -- Where the audit had no room, the record was to be stored in the database that the content spells.
 abbrev pub FullStored : Described → Content → ℕ → Option ℕ → Record → Result Put BlockFault → Type 0

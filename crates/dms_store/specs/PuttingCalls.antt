@@ -8,9 +8,8 @@ use Rattle.dms_block.specs.declared.block_fault.BlockFault.TheVariants.{Disk, Me
 use Rattle.dms_block.specs.declared.blocks.Blocks.{Ghosts}
 use Rattle.dms_block.specs.declared.overlay.Overlay.{Overlay}
 use Rattle.dms_block.specs.Faults.{NotFull, Unbroken}
-use Rattle.dms_block.specs.Held.{Alters, HasCauses, HasCausesOr, Looks, Stays}
+use Rattle.dms_block.specs.Held.{Alters, HasCauses, HasCausesOr, Stays}
 use Rattle.dms_block.specs.HeldLaws.{alters_as, alters_more, alters_on, causes_or, causes_or_on, lasts_none, looks_alters, looks_as, looks_err, looks_none, looks_on, same_none}
-use Rattle.dms_block.specs.LandmarkLaws.{lands_err}
 use Rattle.dms_block.specs.View.{ReadsOverlay, WritesOverlay, under, overlay_changes}
 use Rattle.dms_ordlist.specs.SeenLaws.{causes_err}
 use Rattle.dms_sets.specs.Keeping.{Calm}
@@ -83,18 +82,6 @@ module _ {B : Type 0} {g : Ghosts B} where
   pub enters_more : {T : Type 0} (m k : ℕ) (r : Result T BlockFault) (a b : Overlay B g) → m ≤ k → WritesAtMost m r a b → WritesAtMost k r a b
   enters_more m k r a b le p = record { reads = p.reads; writes = record { looks = p.writes.looks; more = omega (arith, p.writes.more, le); same = p.writes.same }; causes = p.causes }
 
-  -- some of what was written is dropped, or stands in another order
-  pub enters_less : {T : Type 0} (m : ℕ) (r : Result T BlockFault) (a b c : Overlay B g) → c.below ≡ b.below → length (overlay_changes c) ≤ length (overlay_changes b) → WritesAtMost m r a b → WritesAtMost m r a c
-  enters_less m r a b c same less p = record {
-    reads = p.reads;
-    writes = record {
-      looks = subst (λ (x : B). Looks p.reads r (under a) (g.held x)) (sym same) p.writes.looks;
-      more = omega (arith, less, p.writes.more);
-      same = subst (λ (x : B). g.same_blocks a.below x) (sym same) p.writes.same;
-    };
-    causes = subst (λ (x : B). HasCausesOr (λ f k. ⊤) r (under a) (g.held x)) (sym same) p.causes;
-  }
-
   -- the causes of a call after it
   pub causes_then : {T U : Type 0} {x : T} (m : ℕ) (r : Result U BlockFault) (a b c : Overlay B g) → WritesAtMost m (Ok x) a b → HasCausesOr (λ f k. ⊥) r (under b) (under c) → HasCausesOr (λ f k. ⊥) r (under a) (under c)
   causes_then m r a b c p causes = causes_or_on (λ f k. ⊥) (λ f k. ⊥) r (under a) (under b) (under c) (λ f k h. h) p.causes p.writes.looks.passes.lasts p.writes.looks.same causes
@@ -154,13 +141,7 @@ module _ {B : Type 0} {g : Ghosts B} where
   pub hands_err : {T U : Type 0} (m : ℕ) (e : BlockFault) (a b : Overlay B g) → HandsDown {T = T} m (Err e) a b → HandsDown {T = U} m (Err e) a b
   hands_err {T = T} {U = U} m e a b h = record {
     reads = h.reads;
-    alters = record {
-      passes = h.alters.passes;
-      stays = unbroken_err T U (Stays (under a) (under b)) e h.alters.stays;
-      memory = λ is. h.alters.memory (memory_err T U e is);
-      uses = h.alters.uses;
-      landmarks = lands_err e h.alters.landmarks;
-    };
+    alters = record { passes = h.alters.passes; stays = unbroken_err T U (Stays (under a) (under b)) e h.alters.stays; memory = λ is. h.alters.memory (memory_err T U e is); uses = h.alters.uses };
     causes = causes_err T U (λ f k. ⊤) (λ f k. ⊤) e (under a) (under b) (λ f k x. x) h.causes;
     same = h.same;
   }

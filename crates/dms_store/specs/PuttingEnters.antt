@@ -39,20 +39,21 @@ use Rattle.dms_sets.specs.Spots.{ValuesFit, key_fits}
 use Rattle.dms_sets.specs.Told.{AreListed, ChangeStands, KeepsSets, MayEnter, OfStructures}
 use Rattle.dms_sets.specs.ToldLaws.{kinds_same, over_kept}
 use Rattle.dms_sets.specs.declared.answer.SetAnswer.TheVariants.{Done, Duplicate}
-use Rattle.dms_slots.specs.SlotBlocks.{block_of, file_of, is_block, slot_at, slot_opt, slot_put}
+use Rattle.dms_desc.specs.Files.{file_of}
+use Rattle.dms_slots.specs.SlotBlocks.{block_of, is_block, slot_at, slot_opt, slot_put}
 use Rattle.dms_store.specs.Finding.{number_at, seen_below, served_at}
 use Rattle.dms_store.specs.Lifted.{IsUsable}
 use Rattle.dms_store.specs.Owning.{AreSlots, slots_changed}
 use Rattle.dms_store.specs.PuttingAfter.{slot_after, slot_links, with_record}
 use Rattle.dms_store.specs.PuttingAnswers.{change_stands, comes, fit_all, none_refused, one_refused}
 use Rattle.dms_store.specs.PuttingLaws.{MayStand, no_kept, not_over, old_is, record_step}
-use Rattle.dms_store.specs.PuttingOver.{AreWhole, are_listed, changed_whole, lists_put}
+use Rattle.dms_store.specs.PuttingOver.{are_listed, lists_put}
 use Rattle.dms_store.specs.PuttingSlots.{SpellsFiles, StandsFiles, spelled_files, structure_here}
 use Rattle.dms_store.specs.PuttingSteps.{SlotChanged, slot_written}
 use Rattle.dms_store.specs.Rows.{rec_opt}
 use Rattle.dms_store.specs.Serving.{IsServed}
 use Rattle.dms_store.specs.SetPaths.{set_at}
-use Rattle.dms_store.specs.Spelled.{is_whole, owned_in, database_in}
+use Rattle.dms_store.specs.Spelled.{owned_in, database_in}
 
 -- What is left where a database was told: the record stands under its number, or a set refuses it.
 abbrev pub IsEntered : Described → Db → ℕ → ℕ → Record → Content → Put → Type 0
@@ -150,7 +151,7 @@ stands_may records s owner h = by (s.owner == 0) h
 pub owned_may : (s : Shape) (owner : ℕ) → s.owner ≢ 0 → may_own s owner ≡ true
 owned_may s owner apart = let off : (s.owner == 0) ≡ false = grind (arith, nat_tests, apart) in ap (λ b. not b || (owner == 0)) off
 
-pub slot_fits : (desc : Described) (set : ℕ) (s : Shape) (x : Slot) (made : Record) → structure_of desc set ≡ Some s → x.rec ≡ made → RecordFits desc set made → may_own s made.owner ≡ true → x.counted < 2 ^ 32 → x.owned < 2 ^ 32 → SlotFits s x
+slot_fits : (desc : Described) (set : ℕ) (s : Shape) (x : Slot) (made : Record) → structure_of desc set ≡ Some s → x.rec ≡ made → RecordFits desc set made → may_own s made.owner ≡ true → x.counted < 2 ^ 32 → x.owned < 2 ^ 32 → SlotFits s x
 slot_fits desc set s x made at same fits own counted owned =
     let f : AreFitting s.items made.values = subst (λ (q : Option Shape). AreFitting (items_of q) made.values) at fits.values in
     record {
@@ -162,7 +163,7 @@ slot_fits desc set s x made at same fits own counted owned =
       plain = subst (λ (r : Record). ArePlain r.values) (sym same) f.plain;
     }
 
-pub counts_small : (s : Shape) (o : Option Slot) (rec : Record) → IfSome o (SlotFits s) → ((slot_after s.items o rec).counted < 2 ^ 32) × ((slot_after s.items o rec).owned < 2 ^ 32)
+counts_small : (s : Shape) (o : Option Slot) (rec : Record) → IfSome o (SlotFits s) → ((slot_after s.items o rec).counted < 2 ^ 32) × ((slot_after s.items o rec).owned < 2 ^ 32)
 counts_small s None rec f = (omega arith, omega arith)
 counts_small s (Some old) rec f = (f.counted, f.owned)
 
@@ -224,15 +225,14 @@ module _ {B : Type 0} {g : Ghosts B} (desc : Described) (served : IsServed desc)
         (slots_changed desc s number (slot_after s.items o rec) (overlay_content b) (slot_put s number (slot_bytes s.items (slot_after s.items o rec)) (overlay_content b)) served here (change (λ none. owned_may s rec.owner apart)) slots_calm)
 
     -- the record stands under its number
-    pub leaves_uncounted : OwnerStands db s o rec → KeepsSets desc db set number (Some made) (seen_list b) Done → overlay_content z ≡ slot_put s number (slot_bytes s.items (slot_after s.items o rec)) (overlay_content b) → AreWhole (overlay_changes z) → (under z).content ≡ (under a).content
+    pub leaves_uncounted : OwnerStands db s o rec → KeepsSets desc db set number (Some made) (seen_list b) Done → overlay_content z ≡ slot_put s number (slot_bytes s.items (slot_after s.items o rec)) (overlay_content b)
         → IsUncounted desc db set number made (overlay_content z) (Stored number)
-    leaves_uncounted owner kept is whole still = (
+    leaves_uncounted owner kept is = (
       refl,
       none_refused (clash_seen desc desc.structures db set (Some number) made) kept.answer_is,
       record_step desc served db (overlay_content a) (overlay_content b) (overlay_content z) set number s o rec spelt_seen may was owner.stands
           (lists_put desc served (with_record db set number made) set n a b told calm (kept.lists refl))
-          (subst (λ (c : Content). SlotChanged s number (slot_after s.items o rec) (overlay_content b) c) (sym is) (change (λ none. stands_may db.records s rec.owner (owner.stands none))))
-          (λ m all. changed_whole (overlay_changes z) (under z).content (file_of m) whole (ap (λ (c : Content). list_all is_whole (c (file_of m))) (still ∙ sym below) ∙ all)),
+          (subst (λ (c : Content). SlotChanged s number (slot_after s.items o rec) (overlay_content b) c) (sym is) (change (λ none. stands_may db.records s rec.owner (owner.stands none)))),
     )
 
   -- or a set refuses it

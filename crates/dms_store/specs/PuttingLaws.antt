@@ -22,7 +22,8 @@ use Rattle.dms_ordlist.specs.ListIn.{list_in}
 use Rattle.dms_sets.specs.Changes.{has_number, is_over}
 use Rattle.dms_sets.specs.Padded.{entry_width}
 use Rattle.dms_sets.specs.Sets.{entries_of, kinds_over}
-use Rattle.dms_slots.specs.SlotBlocks.{block_of, file_of, per_block, slot_at, slot_opt}
+use Rattle.dms_desc.specs.Files.{file_of}
+use Rattle.dms_slots.specs.SlotBlocks.{block_of, per_block, slot_at, slot_opt}
 use Rattle.dms_store.specs.Finding.{number_at, served_at}
 use Rattle.dms_store.specs.PuttingAfter.{after_get, counted_none, counted_still, more, owned_none, owned_still, owner_more, slot_after, slot_links, with_record}
 use Rattle.dms_store.specs.PuttingCounts.{stand_linked}
@@ -33,6 +34,7 @@ use Rattle.dms_store.specs.Serving.{IsServed}
 use Rattle.dms_store.specs.SetPaths.{served_formed}
 use Rattle.dms_store.specs.Spelled.{counted_in, file_in, has_none, is_whole, links_stand, owned_in, database_in}
 use Rattle.dms_store.specs.SpelledLaws.{RecordStands, links_still, spelled_stands}
+use Rattle.dms_store.specs.Whole.{blocks_whole, list_whole}
 use Rattle.dms_desc.specs.Kinds.{is_set_or_automatic}
 use Rattle.dms_desc_bytes.specs.Finding.{owner_in as owner_of}
 
@@ -124,6 +126,29 @@ pub record MayStand (desc : Described) (set number : ℕ) (s : Shape) (rec : Rec
   pub low : 1 ≤ number
   pub most : number ≤ s.population
   pub long : length rec.values ≡ length s.items
+
+-- a record that is put under a number of a data set, and the slot that stood there
+pub record Replaces : Type 0 where
+  pub set : ℕ
+  pub number : ℕ
+  pub shape : Shape
+  pub old : Option Slot
+  pub rec : Record
+
+-- the database with what is stored for it
+abbrev pub db_put : Db → Replaces → Db
+db_put db p = with_record db p.set p.number (with_links_of p.shape.items (rec_opt (slot_opt p.old)) p.rec)
+
+-- A content spells a database, and the record may be put in a disjoint data set. Then the lists of the sets over it were changed, and
+-- then its slot, which keeps its counts.
+pub record PutsFree (desc : Described) (db : Db) (p : Replaces) (c e d : Content) : Type 0 where
+  pub served : IsServed desc
+  pub spelt : database_in desc c ≡ Some db
+  pub may : MayStand desc p.set p.number p.shape p.rec
+  pub free : IsFree p.shape p.rec
+  pub was : slot_at p.shape (file_in c p.shape) p.number ≡ slot_opt p.old
+  pub lists : ListsPut desc (db_put db p) p.set c e
+  pub change : SlotChanged p.shape p.number (slot_after p.shape.items p.old p.rec) e d
 
 module _ (desc : Described) (served : IsServed desc) (db : Db) (c e d : Content) (set number : ℕ) (s : Shape) (o : Option Slot) (rec : Record) (spelt : database_in desc c ≡ Some db) (may : MayStand desc set number s rec)
     (was : slot_at s (file_in c s) number ≡ slot_opt o) where
@@ -274,10 +299,33 @@ module _ (desc : Described) (served : IsServed desc) (db : Db) (c e d : Content)
         by false true is g = omega (arith, ap (λ f. length (d f)) same_file, ap length (file_off n t at is), (lists.kept n t at g).1)
         by false false is g = of_old (ap length (file_off n t at is ∙ file_still desc after set c e n t served lists at g))
 
-    fit_after : ((n : ℕ) → list_all is_whole (c (file_of n)) ≡ true → list_all is_whole (d (file_of n)) ≡ true) → SlotsFit desc d
-    fit_after whole n low high = record {
+    whole_after : (n : ℕ) → 1 ≤ n → n ≤ 200 → (x : Option Shape) → structure_of desc n ≡ x → list_all is_whole (d (file_of n)) ≡ true
+    whole_after n low high None at = ap (list_all is_whole) (gone_still n at) ∙ (files.fit n low high).whole
+    whole_after n low high (Some t) at = by (is_data_set (Some t)) (is_set_or_automatic t) refl refl
+      where
+        number_t : t.number ≡ n
+        number_t = number_at desc n t served at
+
+        here : list_all is_whole (file_in d t) ≡ true → list_all is_whole (d (file_of n)) ≡ true
+        here h = ap (λ m. list_all is_whole (d (file_of m))) (sym number_t) ∙ h
+
+        of_old : file_in d t ≡ file_in c t → list_all is_whole (d (file_of n)) ≡ true
+        of_old h = here (ap (list_all is_whole) h ∙ ap (λ m. list_all is_whole (c (file_of m))) number_t ∙ (files.fit n low high).whole)
+
+        by : (b k : Bool) → is_data_set (Some t) ≡ b → is_set_or_automatic t ≡ k → list_all is_whole (d (file_of n)) ≡ true
+        by true k is g = elim (cases_eq n set) [
+          | inl same ↦ ap (λ m. list_all is_whole (d (file_of m))) (same ∙ sym number_is) ∙ blocks_whole s (d (file_of s.number)) change.blocks
+          | inr apart ↦
+              of_old (change.files (file_of t.number) (λ f. apart (omega (arith, f, number_t, number_is))) ∙ file_still desc after set c e n t served lists at (no_kept t is))
+        ]
+        by false true is g =
+            here (ap (list_all is_whole) (file_off n t at is) ∙ list_whole (entry_width (kinds_over desc t) t.parts) (file_in e t) (entries_of desc after t) (lists.kept n t at g).0)
+        by false false is g = of_old (file_off n t at is ∙ file_still desc after set c e n t served lists at g)
+
+    fit_after : SlotsFit desc d
+    fit_after n low high = record {
       few = by (structure_of desc n) refl;
-      whole = whole n (files.fit n low high).whole;
+      whole = whole_after n low high (structure_of desc n) refl;
       none = λ gone. ap has_none (gone_still n gone) ∙ (files.fit n low high).none gone;
     }
       where
@@ -286,8 +334,8 @@ module _ (desc : Described) (served : IsServed desc) (db : Db) (c e d : Content)
         by (Some t) at = few_after n t low high at
 
     -- The files have the records with that one, and count what each record owned before it.
-    pub record_step : ((n : ℕ) → list_all is_whole (c (file_of n)) ≡ true → list_all is_whole (d (file_of n)) ≡ true) → StandsFiles desc after (owned_in desc db) d
-    record_step whole = record { slots = slots_after; lists = lists_after; fit = fit_after whole; entries = files.entries }
+    pub record_step : StandsFiles desc after (owned_in desc db) d
+    record_step = record { slots = slots_after; lists = lists_after; fit = fit_after; entries = files.entries }
 
   -- a record of a disjoint data set has no owner
   free_held : IsFree s rec → owner_stands db.records s.owner rec.owner ≡ true
@@ -297,5 +345,5 @@ module _ (desc : Described) (served : IsServed desc) (db : Db) (c e d : Content)
       is_unowned n h = grind (arith, nat_tests, h)
 
   -- Where the data set is disjoint the content spells the database with the record.
-  pub put_spells : IsFree s rec → ListsPut desc after set c e → SlotChanged s number (slot_after s.items o rec) e d → ((n : ℕ) → list_all is_whole (c (file_of n)) ≡ true → list_all is_whole (d (file_of n)) ≡ true) → database_in desc d ≡ Some after
-  put_spells free lists change whole = spell_by desc after (owned_in desc db) d served (record_step (λ none. free_held free) lists change whole) (λ t m low. sym (owned_same free t m low))
+  pub put_spells : IsFree s rec → ListsPut desc after set c e → SlotChanged s number (slot_after s.items o rec) e d → database_in desc d ≡ Some after
+  put_spells free lists change = spell_by desc after (owned_in desc db) d served (record_step (λ none. free_held free) lists change) (λ t m low. sym (owned_same free t m low))

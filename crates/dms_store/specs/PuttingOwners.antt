@@ -1,11 +1,11 @@
 -- The slots of owners, after they count the records that they own.
-use Rattle.std.proofs.Common.{◌≡◌, ◌≢◌, ◌∙◌, ◌+◌, ◌-◌, ◌^◌, ◌<◌, ◌≤◌, ℕ, zero, suc, List, [], ◌∷◌, Bool, true, false, cond, Some, None, inl, inr, refl, sym, ap, subst, length, arith}
-use Rattle.std.specs.Prelude.{◌&&◌, ◌==◌, is_some}
+use Rattle.std.proofs.Common.{◌≡◌, ◌≢◌, ◌∙◌, ◌+◌, ◌-◌, ◌^◌, ◌<◌, ◌≤◌, ℕ, zero, suc, Bool, true, false, cond, Some, None, inl, inr, refl, sym, ap, subst, length, arith}
+use Rattle.std.specs.Prelude.{◌==◌, is_some}
 use Rattle.std.specs.List.{list_all}
 use Rattle.std.specs.declared.option.Option.{Option}
 use Rattle.std.specs.FinMap.{get}
 use Rattle.std.specs.Ordering.{eq_by_cmp}
-use Rattle.std.proofs.lemmas.Bool.{cases_eq, and_parts}
+use Rattle.std.proofs.lemmas.Bool.{cases_eq}
 use Rattle.std.proofs.lemmas.Bool.Decides.{nat_tests}
 use Rattle.std.proofs.Math.Nat as nat
 use Rattle.std.proofs.lemmas.Option.{same_Some}
@@ -23,7 +23,8 @@ use Rattle.dms_model.specs.Valid.{is_data_set, owner_stands}
 use Rattle.dms_ordlist.specs.ListIn.{list_in}
 use Rattle.dms_sets.specs.Padded.{entry_width}
 use Rattle.dms_sets.specs.Sets.{kinds_over}
-use Rattle.dms_slots.specs.SlotBlocks.{are_slots, block_of, file_of, is_block, per_block, slot_at, slot_opt, slot_put}
+use Rattle.dms_desc.specs.Files.{file_of}
+use Rattle.dms_slots.specs.SlotBlocks.{block_of, per_block, slot_at, slot_opt, slot_put}
 use Rattle.dms_store.specs.Finding.{number_at, served_at}
 use Rattle.dms_store.specs.PuttingAfter.{owned_moved, owner_more, with_record}
 use Rattle.dms_store.specs.PuttingCounts.{of_opt}
@@ -34,6 +35,7 @@ use Rattle.dms_store.specs.PuttingSlots.{SlotsFit, RecordsStand, ListsSpell, One
 use Rattle.dms_store.specs.PuttingSteps.{SlotChanged, slot_written, step}
 use Rattle.dms_store.specs.Rows.{rec_in, rec_opt}
 use Rattle.dms_store.specs.Serving.{IsServed}
+use Rattle.dms_store.specs.Whole.{blocks_whole}
 use Rattle.dms_store.specs.Spelled.{file_in, has_none, is_whole, owned_in, database_in}
 use Rattle.dms_model.specs.Places.{places_same}
 use Rattle.dms_desc_bytes.specs.Finding.{owner_in as owner_of}
@@ -61,20 +63,6 @@ pub record OwnerSlot (desc : Described) (own : ℕ → ℕ → ℕ) (c : Content
   pub slot : Slot
   pub was : slot_at shape (file_in c shape) m ≡ Used slot
   pub owned : slot.owned ≡ own t m
-
--- ---- blocks of slots are whole
-
-block_whole : (s : Shape) (b : List ℕ) → is_block s b ≡ true → is_whole b ≡ true
-unfolding is_block
-block_whole s b h = (and_parts (length b == 1024) (are_slots s (per_block s.items) b) h).0
-
-blocks_whole : (s : Shape) (bs : List (List ℕ)) → list_all (is_block s) bs ≡ true → list_all is_whole bs ≡ true
-blocks_whole s [] h = refl
-blocks_whole s (b ∷ bs) h =
-    let both = and_parts (is_block s b) (list_all (is_block s) bs) h in
-    let here = block_whole s b both.0 in
-    let rest = blocks_whole s bs both.1 in
-    λ i. here i && rest i
 
 -- ---- one count
 

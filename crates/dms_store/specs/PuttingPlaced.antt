@@ -11,7 +11,7 @@ use Rattle.dms_block.specs.declared.blocks.Blocks.{Ghosts}
 use Rattle.dms_block.specs.declared.overlay.Overlay.{Overlay}
 use Rattle.dms_block.specs.Content.{Content}
 use Rattle.dms_block.specs.Held.{BlocksAgree}
-use Rattle.dms_block.specs.View.{ReadsOverlay, overlay_content, seen_counts, under, overlay_changes}
+use Rattle.dms_block.specs.View.{ReadsOverlay, overlay_content, seen_counts, under}
 use Rattle.dms_block.specs.ViewLaws.{seen_still}
 use Rattle.dms_desc.specs.Lookups.{items_of, structure_of}
 use Rattle.dms_desc.specs.Shape.{Shape, Described}
@@ -31,7 +31,8 @@ use Rattle.dms_sets.specs.Changes.{has_number}
 use Rattle.dms_sets.specs.Keeping.{Calm, seen_list}
 use Rattle.dms_sets.specs.Told.{AreListed, ChangeStands, KeepsSets}
 use Rattle.dms_sets.specs.declared.answer.SetAnswer.TheVariants.{Done, Duplicate}
-use Rattle.dms_slots.specs.SlotBlocks.{block_of, file_of, is_block, slot_at, slot_opt, slot_put}
+use Rattle.dms_desc.specs.Files.{file_of}
+use Rattle.dms_slots.specs.SlotBlocks.{block_of, is_block, slot_at, slot_opt, slot_put}
 use Rattle.dms_slots.specs.Seen.{BadAt, BadIn}
 use Rattle.dms_store.specs.Files.{all_of}
 use Rattle.dms_store.specs.Finding.{record_fits_opt, seen_below, served_at}
@@ -42,7 +43,7 @@ use Rattle.dms_store.specs.PuttingAnswers.{change_stands, fit_all, none_refused,
 use Rattle.dms_store.specs.PuttingEnters.{FindsSlot, IsEntered, IsJudged, IsPlaced, IsUncounted, OwnerStands, are, blocks_good, refusal_leaves, set_off, slots_after, stands, leaves_uncounted}
 use Rattle.dms_store.specs.PuttingLaws.{MayStand}
 use Rattle.dms_store.specs.PuttingNumbers.{none_above}
-use Rattle.dms_store.specs.PuttingOver.{AreWhole, are_listed}
+use Rattle.dms_store.specs.PuttingOver.{are_listed}
 use Rattle.dms_store.specs.PuttingMoved.{owners_after}
 use Rattle.dms_store.specs.PuttingOwners.{MayCount, may_count, owner_opt, spell}
 use Rattle.dms_store.specs.PuttingSlots.{StandsFiles, spelled_files}
@@ -110,11 +111,11 @@ module _ {B : Type 0} {g : Ghosts B} (desc : Described) (a : Overlay B g) (usabl
     pub slots_at : s.owner ≢ 0 → AreSlots desc (overlay_content z)
     slots_at apart = slots_after desc usable.serves.served s s.number number o rec db a p.told agrees usable.none p.spelt may p.was made_fit b z n calm p.slots next apart put_is
 
-    pub uncounted_at : OwnerStands db s o rec → KeepsSets desc db s.number number (Some slot.rec) (seen_list b) Done → AreWhole (overlay_changes z) → (under z).content ≡ (under a).content → IsUncounted desc db s.number number slot.rec (overlay_content z) (Stored number)
-    uncounted_at owner kept whole still =
+    pub uncounted_at : OwnerStands db s o rec → KeepsSets desc db s.number number (Some slot.rec) (seen_list b) Done → IsUncounted desc db s.number number slot.rec (overlay_content z) (Stored number)
+    uncounted_at owner kept =
         subst (λ (r : Record). IsUncounted desc db s.number number r (overlay_content z) (Stored number)) (sym made_is)
         (leaves_uncounted desc usable.serves.served s s.number number o rec db a p.told agrees usable.none p.spelt may p.was made_fit b z n calm p.slots next owner
-        (subst (λ (r : Record). KeepsSets desc db s.number number (Some r) (seen_list b) Done) made_is kept) put_is whole still)
+        (subst (λ (r : Record). KeepsSets desc db s.number number (Some r) (seen_list b) Done) made_is kept) put_is)
 
   pub refused_at : (b : Overlay B g) (k : ℕ) → KeepsSets desc db s.number number (Some slot.rec) (seen_list b) (Duplicate k) → IsUncounted desc db s.number number slot.rec (overlay_content b) (Refused k)
   refused_at b k kept =

@@ -22,7 +22,8 @@ use Rattle.dms_ordlist.specs.ListIn.{list_in}
 use Rattle.dms_sets.specs.Padded.{entry_width}
 use Rattle.dms_sets.specs.Sets.{entries_of, kinds_over}
 use Rattle.dms_slots.specs.FileWritten.{all_good, some_slot}
-use Rattle.dms_slots.specs.SlotBlocks.{file_of, is_block, or_free, per_block, slot_at, slots_of}
+use Rattle.dms_desc.specs.Files.{file_of}
+use Rattle.dms_slots.specs.SlotBlocks.{is_block, or_free, per_block, slot_at, slots_of}
 use Rattle.dms_store.specs.Files.{file_at, list_at, slots_at, both_files}
 use Rattle.dms_store.specs.Finding.{number_at, served_at}
 use Rattle.dms_store.specs.Rows.{get_in, rec_in}

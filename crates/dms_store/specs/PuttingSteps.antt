@@ -16,7 +16,8 @@ use Rattle.dms_layout.specs.declared.slot.SlotRead.TheVariants.{Used}
 use Rattle.dms_model.specs.Db.{Db, Place, place_cmp}
 use Rattle.dms_model.specs.Valid.{is_data_set}
 use Rattle.dms_slots.specs.FileWritten.{all_good, put_blocks, put_other, put_used, used_fine}
-use Rattle.dms_slots.specs.SlotBlocks.{MayPutSlot, block_of, file_of, is_block, slot_at, slot_put}
+use Rattle.dms_desc.specs.Files.{file_of}
+use Rattle.dms_slots.specs.SlotBlocks.{MayPutSlot, block_of, is_block, slot_at, slot_put}
 use Rattle.dms_store.specs.Finding.{number_at, served_at}
 use Rattle.dms_store.specs.PuttingSlots.{FileStands, RecordsStand, SlotStands, other_number, other_set, same_at, some_slots}
 use Rattle.dms_store.specs.Rows.{rec_in, rec_opt}

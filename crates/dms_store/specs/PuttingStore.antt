@@ -1,5 +1,5 @@
 -- What storing a record leaves of a store.
-use Rattle.std.proofs.Common.{◌≡◌, ◌∙◌, ◌+◌, ◌*◌, ◌<◌, ◌≤◌, ◌^◌, ◌-◌, ℕ, List, [], ◌∷◌, Bool, true, false, cond, IsTrue, Some, None, slice_get, map, refl, sym, ap, subst, length, arith}
+use Rattle.std.proofs.Common.{◌≡◌, ◌∙◌, ◌+◌, ◌*◌, ◌<◌, ◌≤◌, ◌^◌, ◌-◌, ℕ, List, [], ◌∷◌, Bool, true, false, cond, IsTrue, Some, None, slice_get, map, refl, ap, length, arith}
 use Rattle.std.specs.Prelude.{◌==◌, ⊤, IfOk, IsErrOf}
 use Rattle.std.specs.declared.option.Option.{Option}
 use Rattle.std.specs.declared.result.Result.{Result}
@@ -11,26 +11,22 @@ use Rattle.dms_block.specs.declared.block_fault.BlockFault.TheVariants.{Disk, Me
 use Rattle.dms_block.specs.declared.blocks.Blocks.{Ghosts}
 use Rattle.dms_block.specs.declared.overlay.Overlay.{Overlay}
 use Rattle.dms_block.specs.Content.{Content}
-use Rattle.dms_block.specs.FaultLaws.{full_weaker}
 use Rattle.dms_block.specs.Faults.{IfFull, Unbroken, Undamaged}
 use Rattle.dms_block.specs.Held.{BlocksAgree, HasCausesOr, Held}
 use Rattle.dms_block.specs.HeldLaws.{unbroken_map}
 use Rattle.dms_block.specs.View.{under, overlay_changes}
-use Rattle.dms_desc.specs.Lookups.{structure_of}
 use Rattle.dms_desc.specs.Shape.{Shape, Described, shape_of}
 use Rattle.dms_desc.specs.declared.structure.Structure.{Structure}
 use Rattle.dms_desc.specs.declared.record.Record.{Record}
 use Rattle.dms_model.specs.declared.put.Put.{Put}
-use Rattle.dms_model.specs.Db.{Db, Records}
+use Rattle.dms_model.specs.Db.{Db}
 use Rattle.dms_model.specs.Fitting.{IsDataSet, IsStored}
-use Rattle.dms_model.specs.Lacking.{LacksOne}
 use Rattle.dms_model.specs.Seen as store
-use Rattle.dms_model.specs.Spoken.{IsOuter}
 use Rattle.dms_model.specs.Stores.{put_after, put_answer}
-use Rattle.dms_store.specs.Lifted.{IsUsable, db_of, records_of, store_seen}
+use Rattle.dms_store.specs.Lifted.{IsUsable, db_of, store_seen}
 use Rattle.dms_store.specs.LiftedLaws.{causes_lifted, db_same, keeps_points_lifted, silent_lifted, usable_on}
 use Rattle.dms_store.specs.Noted.{causes_noted, noted_by}
-use Rattle.dms_store.specs.Putting.{Answers, FullLacks, FullStored, MayStore}
+use Rattle.dms_store.specs.Putting.{Answers, FullStored, MayStore}
 use Rattle.dms_store.specs.PuttingCalls.{HandsDown}
 use Rattle.dms_store.specs.Spelled.{database_in}
 use Rattle.dms_store.specs.Undamaged.{not_set, undamaged_or}
@@ -53,12 +49,6 @@ Stores desc old new set number rec answer = (db : Db) → old ≡ Some db → Ma
 -- where the audit had no room for a record that may be stored, it was to be stored
 abbrev pub FullWhere : Described → Option Db → ℕ → Option ℕ → Record → Result Put BlockFault → Type 0
 FullWhere desc old set number rec result = (db : Db) → old ≡ Some db → MayStore desc db set number rec → IfFull result (λ f. IsStored (put_answer desc db set number rec))
-
--- where the audit had no room for a record that may be stored in a data set of the outer level, the store's records are those of the database with it,
--- but for one of them
-abbrev pub LacksWhere : Described → Option Db → Option Records → ℕ → Option ℕ → Record → Result Put BlockFault → Type 0
-LacksWhere desc old new set number rec result =
-    (db : Db) → old ≡ Some db → IsOuter (structure_of desc set) → MayStore desc db set number rec → IfFull result (λ f. LacksOne new (put_after (put_answer desc db set number rec) desc db set rec))
 
 pub mute_or : {T : Type 0} (P : ℕ → ℕ → Type 0) (r : Result T BlockFault) (a b : Held) → HasCausesOr P r a b → IsErrOf r Say → ⊥
 mute_or P (Ok x) a b h is = absurd (cc)
@@ -116,10 +106,3 @@ module _ {B : Type 0} {g : Ghosts B} (desc : Described) (found found' : ℕ) (o 
 
   pub full_where : (set : ℕ) (number : Option ℕ) (rec : Record) (r : Result Put BlockFault) → (IsTrue (under o).told → FullStored desc (under o).content set number rec r) → FullWhere desc (store_seen desc found o).db set number rec r
   full_where set number rec r stored db is may = let t = told_db desc (under o).told (under o).content db is in stored t.0 db t.1 may
-
-  pub lacks_where : (m : ℕ) (set : ℕ) (number : Option ℕ) (rec : Record) (r : Result Put BlockFault) → HandsDown m r o o' → (IsTrue (under o).told → FullLacks desc (under o).content (under o').content set number rec r)
-      → LacksWhere desc (store_seen desc found o).db (store_seen desc found' o').records set number rec r
-  lacks_where m set number rec r hands lacks db is outer may =
-      let t = told_db desc (under o).told (under o).content db is in
-      let told : (under o').told ≡ true = hands.alters.passes.lasts.told ∙ t.0 in
-      full_weaker r _ _ (λ f one. subst (λ (x : Option Records). LacksOne x (put_after (put_answer desc db set number rec) desc db set rec)) (sym (ap (λ b. records_of desc b (under o').content) told)) one) (lacks t.0 db t.1 outer may)

@@ -20,7 +20,8 @@ use Rattle.dms_desc.specs.Lookups.{structure_of, items_of}
 use Rattle.dms_ordlist.specs.ListIn.{list_in}
 use Rattle.dms_sets.specs.Padded.{entry_width}
 use Rattle.dms_sets.specs.Sets.{entries_of, kinds_over}
-use Rattle.dms_slots.specs.SlotBlocks.{file_of, slots_of, is_block}
+use Rattle.dms_desc.specs.Files.{file_of}
+use Rattle.dms_slots.specs.SlotBlocks.{slots_of, is_block}
 use Rattle.dms_desc.specs.Kinds.{is_set_or_automatic}
 use Rattle.dms_desc_bytes.specs.Finding.{owner_in as owner_of}
 

@@ -35,7 +35,8 @@ use Rattle.dms_sets.specs.Listing.{listing}
 use Rattle.dms_sets.specs.Padded.{entry_width}
 use Rattle.dms_sets.specs.Sets.{entries_of, kinds_over, entry_of}
 use Rattle.dms_sets.specs.Spots.{ValuesFit, RecordHasSpot, RecordsHaveSpots}
-use Rattle.dms_slots.specs.SlotBlocks.{file_of, slots_of, slots_in, slots_by, slot_chunks, is_block, per_block}
+use Rattle.dms_desc.specs.Files.{file_of}
+use Rattle.dms_slots.specs.SlotBlocks.{slots_of, slots_in, slots_by, slot_chunks, is_block, per_block}
 use Rattle.dms_store.specs.Spelled.{rows_from, file_in, rows_in, db_in, counted_in, owned_in, links_stand, slot_stands, slots_stand, is_list_of, has_none, file_spells, files_spell, is_whole, files_fit, is_spelled, some_if, database_in}
 use Rattle.dms_desc.specs.Kinds.{is_set_or_automatic}
 use Rattle.dms_model.specs.Places.{places_same, places_total}
@@ -277,6 +278,10 @@ spells desc c db h = spells_if (is_spelled desc c) desc c db refl h
 files_of : (desc : Described) (c : Content) → is_spelled desc c ≡ true → files_spell desc (db_in desc c) c desc.structures ≡ true
 unfolding is_spelled
 files_of desc c h = (and_parts (files_spell desc (db_in desc c) c desc.structures) (files_fit desc c 200 1) h).0
+
+-- where a content spells a database under a description that is formed
+abbrev pub IfSpells : Described → Content → Db → Type 0 → Type 0
+IfSpells desc c db P = IsFormed desc → database_in desc c ≡ Some db → P
 
 stands_in : (desc : Described) (c : Content) → IsFormed desc → is_spelled desc c ≡ true → (place : Place) (rec : Record) → get (from_entries {R = place_cmp} (rows_in c desc.structures)) place ≡ Some rec → RecordStands desc (db_in desc c) place rec
 stands_in desc c formed h place rec at =

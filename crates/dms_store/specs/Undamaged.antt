@@ -14,7 +14,8 @@ use Rattle.dms_desc.specs.Lookups.{structure_of}
 use Rattle.dms_desc.specs.Shape.{Shape, Described}
 use Rattle.dms_model.specs.Db.{Db}
 use Rattle.dms_model.specs.Valid.{is_data_set}
-use Rattle.dms_slots.specs.SlotBlocks.{file_of, is_block}
+use Rattle.dms_desc.specs.Files.{file_of}
+use Rattle.dms_slots.specs.SlotBlocks.{is_block}
 use Rattle.dms_store.specs.Files.{block_at, whole_at}
 use Rattle.dms_store.specs.Finding.{BadSlot, seen_below}
 use Rattle.dms_store.specs.Lifted.{IsUsable, Serves, db_of}

@@ -9,17 +9,16 @@ ghost use Rattle.dms_model.specs.Stores.{Tells};
 ghost use Rattle.dms_sets.specs.Changes.{entry_in};
 ghost use Rattle.dms_sets.specs.Finds.{spot_by};
 ghost use Rattle.dms_sets.specs.Sets.{kinds_over, number_in};
-ghost use Rattle.dms_store.specs.Lifted.{IsUsable, db_of};
+ghost use Rattle.dms_store.specs.Lifted.{IsUsable, db_under};
 ghost use Rattle.dms_store.specs.Listed.{BadEntry, is_entry};
 ghost use Rattle.dms_desc.specs.Kinds.{is_set_or_automatic};
 
 use crate::getting::get;
 use dms_base::{Bytes, ItemKind, Memory};
 use dms_block::{BlockFault, Blocks, Overlay};
-use dms_desc::{Description, Record, Structure};
+use dms_desc::{Description, Record, Structure, file_of};
 use dms_model::{Spot, key_of};
 use dms_sets::record_entry;
-use dms_slots::file_of;
 use std::alloc::Global;
 
 // The record's number in an entry, which are its last four bytes; 0 where it has fewer.
@@ -74,17 +73,17 @@ pub fn member_at<B: Blocks>(
     requires there { structure_of (as_described desc.now) s.now.number ≡ Some (shape_of s.now) }
     requires kinds { kinds.now ≡ kinds_over (as_described desc.now) (shape_of s.now) }
     requires owner { owner < 2 ^ 32 }
-    ensures found { Tells (db_of (as_described desc.now) (under over.old).told (under over.old).content) result (λ d. spot_by (shape_of s.now) d owner (Some found.now)) }
+    ensures found { Tells (db_under (as_described desc.now) over.old) result (λ d. spot_by (shape_of s.now) d owner (Some found.now)) }
     ensures fits { IfOk result (λ o. IfSome o (SpotFits (as_described desc.now) s.now.number)) }
     ensures reads { ReadsOverlay 1 result over.old over.new }
     ensures causes { HasCausesOr (BadEntry (as_described desc.now) (shape_of s.now) found.now over.old) result (under over.old) (under over.new) }
 {
     let number = number_in(found);
     match get(over, alloc, desc, s.set, number)? {
-        None => Err(BlockFault::Damaged(file_of(s), 0)),
+        None => Err(BlockFault::Damaged(file_of(s.number), 0)),
         Some(rec) => {
             if !is_entry(alloc, s, kinds, number, &rec, found)? {
-                return Err(BlockFault::Damaged(file_of(s), 0));
+                return Err(BlockFault::Damaged(file_of(s.number), 0));
             }
             if owner != rec.owner {
                 return Ok(None);

@@ -8,8 +8,8 @@ ghost use Rattle.dms_model.specs.Fitting.{IsDataSet, SpotFits, population_of};
 ghost use Rattle.dms_model.specs.Members.{first_member, last_member};
 ghost use Rattle.dms_model.specs.Stores.{Tells};
 ghost use Rattle.dms_slots.specs.Seen.{BadIn};
-ghost use Rattle.dms_store.specs.Finding.{BadSlot, most_slots, seen_slots};
-ghost use Rattle.dms_store.specs.Lifted.{IsUsable, db_of};
+ghost use Rattle.dms_store.specs.Finding.{BadSlot, seen_slots, slots_before};
+ghost use Rattle.dms_store.specs.Lifted.{IsUsable, db_under};
 ghost use Rattle.dms_store.specs.Scans.{IsRecordSpot, first_by, last_used, start_of, stop_of};
 
 use crate::scanning::{last_used, next_used, slot_count};
@@ -75,8 +75,7 @@ fn last_in<B: Blocks>(
     requires sound { (under over.old).sound }
     requires few { length s.now.items ≤ 60 }
     requires fits { slot_width s.now.items ≤ 1024 }
-    ensures found { IfOk result (λ o. IsTrue (under over.old).told → o ≡ last_used owner 1
-        (take (min (stop_of to.now (most_slots (shape_of s.now) over.old)) (most_slots (shape_of s.now) over.old)) (seen_slots (shape_of s.now) over.old))) }
+    ensures found { IfOk result (λ o. IsTrue (under over.old).told → o ≡ last_used owner 1 (slots_before (shape_of s.now) to.now over.old)) }
     ensures fits { IfOk result (λ o. IfSome o (IsRecordSpot (shape_of s.now))) }
     ensures reads { ReadsOverlay s.now.population result over.old over.new }
     ensures causes { HasCausesOr (BadIn (shape_of s.now) over.old) result (under over.old) (under over.new) }
@@ -96,7 +95,7 @@ pub fn first_record<B: Blocks>(
 ) -> Result<Option<Spot>, BlockFault>
     requires usable { IsUsable (as_described desc.now) over.old }
     requires path { IsDataSet (as_described desc.now) path }
-    ensures found { Tells (db_of (as_described desc.now) (under over.old).told (under over.old).content) result (λ d. first_member (as_described desc.now) d path owner from.now) }
+    ensures found { Tells (db_under (as_described desc.now) over.old) result (λ d. first_member (as_described desc.now) d path owner from.now) }
     ensures fits { IfOk result (λ o. IfSome o (SpotFits (as_described desc.now) path)) }
     ensures reads { ReadsOverlay (population_of (structure_of (as_described desc.now) path)) result over.old over.new }
     ensures causes { HasCausesOr (BadSlot (as_described desc.now) path over.old) result (under over.old) (under over.new) }
@@ -118,7 +117,7 @@ pub fn last_record<B: Blocks>(
 ) -> Result<Option<Spot>, BlockFault>
     requires usable { IsUsable (as_described desc.now) over.old }
     requires path { IsDataSet (as_described desc.now) path }
-    ensures found { Tells (db_of (as_described desc.now) (under over.old).told (under over.old).content) result (λ d. last_member (as_described desc.now) d path owner to.now) }
+    ensures found { Tells (db_under (as_described desc.now) over.old) result (λ d. last_member (as_described desc.now) d path owner to.now) }
     ensures fits { IfOk result (λ o. IfSome o (SpotFits (as_described desc.now) path)) }
     ensures reads { ReadsOverlay (population_of (structure_of (as_described desc.now) path)) result over.old over.new }
     ensures causes { HasCausesOr (BadSlot (as_described desc.now) path over.old) result (under over.old) (under over.new) }

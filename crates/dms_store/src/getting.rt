@@ -7,7 +7,7 @@ ghost use Rattle.dms_model.specs.Fitting.{IsDataSet, IsNumber, RecordFits, is_nu
 ghost use Rattle.dms_model.specs.Stores.{Tells};
 ghost use Rattle.dms_slots.specs.SlotBlocks.{slot_opt};
 ghost use Rattle.dms_store.specs.Finding.{BadSlot};
-ghost use Rattle.dms_store.specs.Lifted.{IsUsable, db_of};
+ghost use Rattle.dms_store.specs.Lifted.{IsUsable, db_under};
 ghost use Rattle.dms_store.specs.Rows.{rec_opt};
 
 use dms_block::{BlockFault, Blocks, Overlay};
@@ -43,7 +43,7 @@ pub fn get<B: Blocks>(
 ) -> Result<Option<Record>, BlockFault>
     requires usable { IsUsable (as_described desc.now) over.old }
     requires set { IsDataSet (as_described desc.now) set }
-    ensures found { Tells (db_of (as_described desc.now) (under over.old).told (under over.old).content) result (λ d. get d.records (set, number)) }
+    ensures found { Tells (db_under (as_described desc.now) over.old) result (λ d. get d.records (set, number)) }
     ensures fits { IfOk result (λ o. IfSome o (RecordFits (as_described desc.now) set)) }
     ensures number { IfOk result (λ o. IfSome o (λ r. IsNumber (as_described desc.now) set number)) }
     ensures reads { ReadsOverlay 1 result over.old over.new }

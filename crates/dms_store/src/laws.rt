@@ -9,7 +9,7 @@ ghost use Rattle.dms_model.specs.Db.{Db, Place, empty_db};
 ghost use Rattle.dms_sets.specs.Spots.{RecordsHaveSpots};
 ghost use Rattle.dms_store.specs.Serving.{IsServed};
 ghost use Rattle.dms_store.specs.Spelled.{database_in};
-ghost use Rattle.dms_store.specs.SpelledLaws.{IsFormed, AreDisjoint, RecordStands};
+ghost use Rattle.dms_store.specs.SpelledLaws.{IfSpells, IsFormed, AreDisjoint, RecordStands};
 
 /// A law: files without blocks spell the database of no record.
 pub fn empty_law()
@@ -21,9 +21,9 @@ pub fn empty_law()
 /// disjoint it has no embedded record and no entry of a manual subset.
 pub fn spelled_law()
     ensures one { (desc : Described) (c : Content) (a b : Db) → database_in desc c ≡ Some a → database_in desc c ≡ Some b → a ≡ b }
-    ensures records { (desc : Described) (c : Content) (db : Db) → IsFormed desc → database_in desc c ≡ Some db
-        → (place : Place) (rec : Record) → get db.records place ≡ Some rec → RecordStands desc db place rec }
-    ensures fits { (desc : Described) (c : Content) (db : Db) → IsFormed desc → database_in desc c ≡ Some db → RecordsHaveSpots desc db }
+    ensures records { (desc : Described) (c : Content) (db : Db)
+        → IfSpells desc c db ((place : Place) (rec : Record) → get db.records place ≡ Some rec → RecordStands desc db place rec) }
+    ensures fits { (desc : Described) (c : Content) (db : Db) → IfSpells desc c db (RecordsHaveSpots desc db) }
     ensures flat { (desc : Described) (c : Content) (db : Db) → IsFormed desc → AreDisjoint desc → database_in desc c ≡ Some db → IsFlat desc db }
 {}
 

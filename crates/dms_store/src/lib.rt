@@ -1,6 +1,7 @@
 //! What the blocks of structure files spell, and a database that is kept on them.
 #![tactic(auto)]
 
+mod address;
 mod as_store;
 mod bounds;
 mod entries;

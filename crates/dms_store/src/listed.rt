@@ -4,14 +4,13 @@ ghost use Rattle.dms_block.specs.View.{ReadsOverlay, seen_counts, under};
 ghost use Rattle.dms_ordlist.specs.Lists.{first_from, has_entry, last_to};
 ghost use Rattle.dms_ordlist.specs.Seen.{IfList, IsListWidth, NoList};
 ghost use Rattle.dms_sets.specs.Padded.{entry_width, from_bytes, to_bytes};
-ghost use Rattle.dms_slots.specs.SlotBlocks.{file_of};
-ghost use Rattle.dms_store.specs.Listed.{MayLook};
+ghost use Rattle.dms_desc.specs.Files.{file_of};
+ghost use Rattle.dms_store.specs.Listed.{IfLooked};
 
 use crate::bounds::{entry_width, from_bytes, to_bytes};
 use dms_base::{Bytes, ItemKind};
 use dms_block::{BlockFault, Blocks, Overlay};
-use dms_desc::{Bound, Structure};
-use dms_slots::file_of;
+use dms_desc::{Bound, Structure, file_of};
 use std::alloc::Global;
 
 // The first entry of a file's list that isn't below these bytes, where they have the width of its entries.
@@ -76,8 +75,7 @@ pub fn first_entry<B: Blocks>(
     requires sound { (under over.old).sound }
     requires few { length s.now.parts ≤ 16 }
     requires width { entry_width kinds.now s.now.parts ≤ 104 }
-    ensures found { MayLook kinds.now s.now.parts from.now → IfOk result (λ o. IfList over.old (file_of s.now.number) (entry_width kinds.now s.now.parts)
-        (λ xs. o ≡ first_from (from_bytes kinds.now s.now.parts owner from.now) xs)) }
+    ensures found { IfLooked kinds.now s.now.parts from.now s.now.number over.old result (λ o xs. o ≡ first_from (from_bytes kinds.now s.now.parts owner from.now) xs) }
     ensures listed { IfOk result (λ o. IfList over.old (file_of s.now.number) (entry_width kinds.now s.now.parts) (λ xs. IfSome o (λ q. has_entry q xs ≡ true))) }
     ensures there { IfOk result (λ o. IfSome o (λ q. 1 ≤ seen_counts over.old (file_of s.now.number))) }
     ensures reads { ReadsOverlay (1 + seen_counts over.old (file_of s.now.number)) result over.old over.new }
@@ -88,7 +86,7 @@ pub fn first_entry<B: Blocks>(
         None => Ok(None),
         Some(bytes) => {
             let width = entry_width(kinds, parts);
-            first_not_below(over, alloc, file_of(s), width, bytes.as_slice())
+            first_not_below(over, alloc, file_of(s.number), width, bytes.as_slice())
         }
     }
 }
@@ -106,8 +104,7 @@ pub fn last_entry<B: Blocks>(
     requires few { length s.now.parts ≤ 16 }
     requires width { entry_width kinds.now s.now.parts ≤ 104 }
     requires owner { owner < 2 ^ 32 }
-    ensures found { MayLook kinds.now s.now.parts to.now → IfOk result (λ o. IfList over.old (file_of s.now.number) (entry_width kinds.now s.now.parts)
-        (λ xs. o ≡ last_to (to_bytes kinds.now s.now.parts owner to.now) xs)) }
+    ensures found { IfLooked kinds.now s.now.parts to.now s.now.number over.old result (λ o xs. o ≡ last_to (to_bytes kinds.now s.now.parts owner to.now) xs) }
     ensures listed { IfOk result (λ o. IfList over.old (file_of s.now.number) (entry_width kinds.now s.now.parts) (λ xs. IfSome o (λ q. has_entry q xs ≡ true))) }
     ensures there { IfOk result (λ o. IfSome o (λ q. 1 ≤ seen_counts over.old (file_of s.now.number))) }
     ensures reads { ReadsOverlay (1 + seen_counts over.old (file_of s.now.number)) result over.old over.new }
@@ -118,7 +115,7 @@ pub fn last_entry<B: Blocks>(
         None => Ok(None),
         Some(bytes) => {
             let width = entry_width(kinds, parts);
-            last_below(over, alloc, file_of(s), width, bytes.as_slice())
+            last_below(over, alloc, file_of(s.number), width, bytes.as_slice())
         }
     }
 }

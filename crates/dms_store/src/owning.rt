@@ -1,17 +1,14 @@
-ghost use Rattle.std.specs.Prelude.{◌≡◌, ◌≤◌, ℕ, true, None, IfOk, IsTrue, length};
+ghost use Rattle.std.specs.Prelude.{◌≡◌, ◌≤◌, IfOk, IsTrue, length};
 ghost use Rattle.dms_block.specs.Held.{HasCausesOr};
 ghost use Rattle.dms_block.specs.View.{overlay_content, under};
 ghost use Rattle.dms_desc.specs.Shape.{as_described, shape_of};
 ghost use Rattle.dms_layout.specs.Slots.{slot_width};
-ghost use Rattle.dms_model.specs.Db.{Db};
 ghost use Rattle.dms_slots.specs.Seen.{BadAt};
-ghost use Rattle.dms_slots.specs.SlotBlocks.{block_of, file_of};
+ghost use Rattle.dms_desc.specs.Files.{file_of};
+ghost use Rattle.dms_slots.specs.SlotBlocks.{block_of};
 ghost use Rattle.dms_store.specs.Lifted.{Serves};
-ghost use Rattle.dms_store.specs.Owning.{AreSlots, IfOwned, Raises, is_owner};
+ghost use Rattle.dms_store.specs.Owning.{AreSlots, CountsOwner, IfOwned, Raises, is_owner};
 ghost use Rattle.dms_store.specs.PuttingCalls.{WritesAtMost};
-ghost use Rattle.dms_store.specs.PuttingMoved.{owners_after};
-ghost use Rattle.dms_store.specs.PuttingOwners.{MayCount};
-ghost use Rattle.dms_store.specs.PuttingSlots.{StandsFiles};
 
 use dms_block::{BlockFault, Blocks, Overlay};
 use dms_desc::{Description, Structure};
@@ -77,9 +74,7 @@ pub fn count_owner<B: Blocks>(
     requires serves { Serves (as_described desc.now) (under over.old) }
     ensures writes { WritesAtMost 1 result over.old over.new }
     ensures below { IsTrue (under over.old).told → IfOwned set (AreSlots (as_described desc.now) (overlay_content over.old)) → HasCausesOr (λ f b. ⊥) result (under over.old) (under over.new) }
-    ensures counted { IfOk result (λ done. (db : Db) (own : ℕ → ℕ → ℕ) → IsTrue (under over.old).told → StandsFiles (as_described desc.now) db own (overlay_content over.old)
-        → IfOwned set (MayCount db own set owner) → (done ≡ true) × StandsFiles (as_described desc.now) db (owners_after own set None owner) (overlay_content over.new)) }
-    ensures still { set ≡ 0 → overlay_content over.new ≡ overlay_content over.old }
+    ensures counted { IfOk result (CountsOwner (as_described desc.now) set owner over.old over.new) }
 {
     if set == 0 {
         return Ok(true);

@@ -3,13 +3,11 @@ ghost use Rattle.dms_block.specs.Held.{HasCausesOr};
 ghost use Rattle.dms_block.specs.View.{ReadsOverlay, seen_counts, under};
 ghost use Rattle.dms_desc.specs.Lookups.{structure_of};
 ghost use Rattle.dms_desc.specs.Shape.{as_described, shape_of};
-ghost use Rattle.dms_model.specs.Fitting.{IsStructure, MayStart, SpotFits};
-ghost use Rattle.dms_model.specs.Members.{first_member, last_member};
-ghost use Rattle.dms_model.specs.Stores.{Tells};
+ghost use Rattle.dms_model.specs.Fitting.{IsStructure, SpotFits};
 ghost use Rattle.dms_sets.specs.Sets.{kinds_over};
-ghost use Rattle.dms_slots.specs.SlotBlocks.{file_of};
-ghost use Rattle.dms_store.specs.Lifted.{IsUsable, db_of};
-ghost use Rattle.dms_store.specs.Listed.{BadPath, most_reads};
+ghost use Rattle.dms_desc.specs.Files.{file_of};
+ghost use Rattle.dms_store.specs.Lifted.{IsUsable};
+ghost use Rattle.dms_store.specs.Listed.{BadPath, FindsFirst, FindsLast, most_reads};
 ghost use Rattle.dms_desc.specs.Kinds.{is_set_or_automatic};
 
 use crate::entries::member_at;
@@ -46,8 +44,7 @@ fn first_listed<B: Blocks>(
     requires kept { is_set_or_automatic (shape_of s.now) ≡ true }
     requires there { structure_of (as_described desc.now) s.now.number ≡ Some (shape_of s.now) }
     requires owner { owner < 2 ^ 32 }
-    ensures found { MayStart (as_described desc.now) s.now.number owner from.now → Tells (db_of (as_described desc.now) (under over.old).told (under over.old).content) result
-        (λ d. first_member (as_described desc.now) d s.now.number owner from.now) }
+    ensures found { FindsFirst (as_described desc.now) s.now.number owner from.now over.old result }
     ensures fits { IfOk result (λ o. IfSome o (SpotFits (as_described desc.now) s.now.number)) }
     ensures reads { ReadsOverlay (2 + seen_counts over.old (file_of s.now.number)) result over.old over.new }
     ensures causes { HasCausesOr (BadPath (as_described desc.now) s.now.number over.old) result (under over.old) (under over.new) }
@@ -83,8 +80,7 @@ fn last_listed<B: Blocks>(
     requires kept { is_set_or_automatic (shape_of s.now) ≡ true }
     requires there { structure_of (as_described desc.now) s.now.number ≡ Some (shape_of s.now) }
     requires owner { owner < 2 ^ 32 }
-    ensures found { MayStart (as_described desc.now) s.now.number owner to.now → Tells (db_of (as_described desc.now) (under over.old).told (under over.old).content) result
-        (λ d. last_member (as_described desc.now) d s.now.number owner to.now) }
+    ensures found { FindsLast (as_described desc.now) s.now.number owner to.now over.old result }
     ensures fits { IfOk result (λ o. IfSome o (SpotFits (as_described desc.now) s.now.number)) }
     ensures reads { ReadsOverlay (2 + seen_counts over.old (file_of s.now.number)) result over.old over.new }
     ensures causes { HasCausesOr (BadPath (as_described desc.now) s.now.number over.old) result (under over.old) (under over.new) }
@@ -119,8 +115,7 @@ pub fn first_from<B: Blocks>(
     requires usable { IsUsable (as_described desc.now) over.old }
     requires path { IsStructure (as_described desc.now) path }
     requires owner { owner < 2 ^ 32 }
-    ensures found { MayStart (as_described desc.now) path owner from.now → Tells (db_of (as_described desc.now) (under over.old).told (under over.old).content) result
-        (λ d. first_member (as_described desc.now) d path owner from.now) }
+    ensures found { FindsFirst (as_described desc.now) path owner from.now over.old result }
     ensures fits { IfOk result (λ o. IfSome o (SpotFits (as_described desc.now) path)) }
     ensures reads { ReadsOverlay (most_reads (as_described desc.now) path over.old) result over.old over.new }
     ensures causes { HasCausesOr (BadPath (as_described desc.now) path over.old) result (under over.old) (under over.new) }
@@ -151,8 +146,7 @@ pub fn last_to<B: Blocks>(
     requires usable { IsUsable (as_described desc.now) over.old }
     requires path { IsStructure (as_described desc.now) path }
     requires owner { owner < 2 ^ 32 }
-    ensures found { MayStart (as_described desc.now) path owner to.now → Tells (db_of (as_described desc.now) (under over.old).told (under over.old).content) result
-        (λ d. last_member (as_described desc.now) d path owner to.now) }
+    ensures found { FindsLast (as_described desc.now) path owner to.now over.old result }
     ensures fits { IfOk result (λ o. IfSome o (SpotFits (as_described desc.now) path)) }
     ensures reads { ReadsOverlay (most_reads (as_described desc.now) path over.old) result over.old over.new }
     ensures causes { HasCausesOr (BadPath (as_described desc.now) path over.old) result (under over.old) (under over.new) }

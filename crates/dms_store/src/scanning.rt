@@ -9,10 +9,10 @@ ghost use Rattle.dms_store.specs.Finding.{most_slots, seen_slots};
 ghost use Rattle.dms_store.specs.Scans.{IsRecordSpot, first_used, last_used, owned_spot};
 
 use dms_block::{BlockFault, Blocks, Overlay};
-use dms_desc::{Structure, Values};
+use dms_desc::{Structure, Values, file_of};
 use dms_layout::Slot;
 use dms_model::Spot;
-use dms_slots::{file_of, per_block, read_slot};
+use dms_slots::{per_block, read_slot};
 use std::alloc::Global;
 
 /// How many slots of a data set's file may have a record: those that there are, up to POPULATION.
@@ -20,7 +20,7 @@ pub fn slot_count<B: Blocks>(over: &Overlay<B>, s: &Structure) -> u64
     requires few { length s.now.items ≤ 60 }
     ensures { result ≡ most_slots (shape_of s.now) over.now }
 {
-    let slots = u64::from(over.count(file_of(s))) * per_block(s) as u64;
+    let slots = u64::from(over.count(file_of(s.number))) * per_block(s) as u64;
     slots.min(u64::from(s.population))
 }
 

@@ -1,7 +1,6 @@
-ghost use Rattle.std.specs.Prelude.{◌≡◌, ◌<◌, ◌+◌, ◌^◌, ◌++◌, [], ◌∷◌, Some, IfOk, IfSome, IfErr, OnOk, IsErrOf, IsOkUnless, ◌*◌, length, false, true};
+ghost use Rattle.std.specs.Prelude.{◌≡◌, ◌<◌, ◌+◌, ◌^◌, ◌++◌, [], ◌∷◌, Some, IfOk, IfSome, IfErr, OnOk, IsErrOf, IsOkUnless, ◌*◌, length, true};
 ghost use Rattle.dms_block.specs.Faults.{IfFull, Undamaged};
-ghost use Rattle.dms_block.specs.Held.{is_due, sync_landmarks};
-ghost use Rattle.dms_block.specs.Landmarks.{back_landmarks, AddsItsLandmarks};
+ghost use Rattle.dms_block.specs.Held.{is_due};
 ghost use Rattle.dms_block.specs.Texts.{Prints};
 ghost use Rattle.dms_desc.specs.Shape.{as_described};
 ghost use Rattle.dms_model.specs.Db.{Db};
@@ -12,7 +11,7 @@ ghost use Rattle.dms_model.specs.Seen.{GoesBack, HasStoreCauses, IfPointsTold, I
 ghost use Rattle.dms_store.specs.Lifted.{IsUsable, Serves};
 ghost use Rattle.dms_model.specs.Stores.{Tells};
 ghost use Rattle.dms_store.specs.Looked.{Looked};
-ghost use Rattle.dms_store.specs.PuttingStore.{ChangesAtMost, FullWhere, LacksWhere, Stores};
+ghost use Rattle.dms_store.specs.PuttingStore.{ChangesAtMost, FullWhere, Stores};
 ghost use Rattle.dms_store.specs.Storing.{seen_by};
 ghost use Rattle.std.specs.FinMap.{get};
 
@@ -72,7 +71,6 @@ impl<B: Blocks> BlockStore<B> {
         ensures found { Tells (seen_by self.old).db result (λ d. get d.records (set, number)) }
         ensures fits { IfOk result (λ o. IfSome o (RecordFits (as_described self.old.desc) set)) }
         ensures looked { Looked result (seen_by self.old) (seen_by self.new) }
-        ensures landmarks { AddsItsLandmarks false result (seen_by self.old).landmarks (seen_by self.new).landmarks [] }
         ensures same { B.same_blocks self.old.over.below self.new.over.below }
     {
         let found = getting::get(&mut self.over, alloc, &self.desc, set, number);
@@ -96,7 +94,6 @@ impl<B: Blocks> BlockStore<B> {
         ensures found { MayStart (as_described self.old.desc) path owner from.now → Tells (seen_by self.old).db result (λ d. first_member (as_described self.old.desc) d path owner from.now) }
         ensures fits { IfOk result (λ o. IfSome o (SpotFits (as_described self.old.desc) path)) }
         ensures looked { Looked result (seen_by self.old) (seen_by self.new) }
-        ensures landmarks { AddsItsLandmarks false result (seen_by self.old).landmarks (seen_by self.new).landmarks [] }
         ensures same { B.same_blocks self.old.over.below self.new.over.below }
     {
         let found = paths::first_from(&mut self.over, alloc, &self.desc, path, owner, from);
@@ -120,14 +117,14 @@ impl<B: Blocks> BlockStore<B> {
         ensures found { MayStart (as_described self.old.desc) path owner to.now → Tells (seen_by self.old).db result (λ d. last_member (as_described self.old.desc) d path owner to.now) }
         ensures fits { IfOk result (λ o. IfSome o (SpotFits (as_described self.old.desc) path)) }
         ensures looked { Looked result (seen_by self.old) (seen_by self.new) }
-        ensures landmarks { AddsItsLandmarks false result (seen_by self.old).landmarks (seen_by self.new).landmarks [] }
         ensures same { B.same_blocks self.old.over.below self.new.over.below }
     {
         let found = paths::last_to(&mut self.over, alloc, &self.desc, path, owner, to);
         note(&mut self.found, found)
     }
 
-    /// Makes a quiet point, and answers its number. Takes no memory. Where the next number is 2^64 - 1 it stays so.
+    /// Makes a quiet point, and answers its number. Takes no memory: it answers Memory exactly where the next number is 2^64 - 1,
+    /// which no point may have.
     /// Where the audit has no room no stop leaves the new point.
     pub fn quiet(&mut self) -> Result<u64, BlockFault>
         requires { IsUsable (as_described self.old.desc) self.old.over }
@@ -136,8 +133,8 @@ impl<B: Blocks> BlockStore<B> {
         ensures made { OnOk result (QuietMade (seen_by self.old) (seen_by self.new)) }
         ensures mute { IsMute (seen_by self.old) (seen_by self.new) }
         ensures leaves { let s = seen_by self.old in IfPointsTold s (StoreLeaves s.whole s.clock (seen_by self.new).clock s.durable (s.points ++ s.here ∷ []) (s.next + 1) s.said) }
-        ensures memory { IsErrOf result BlockFault.Memory → ⊥ }
-        ensures landmarks { AddsItsLandmarks false result (seen_by self.old).landmarks (seen_by self.new).landmarks [] }
+        ensures numbered { OnOk result ((seen_by self.old).next + 1 < 2 ^ 64) }
+        ensures memory { (seen_by self.old).next + 1 < 2 ^ 64 → IsErrOf result BlockFault.Memory → ⊥ }
         ensures same { B.same_blocks self.old.over.below self.new.over.below }
         ensures effort { (seen_by self.new).effort ≡ (seen_by self.old).effort }
         ensures undamaged { (d : Db) → (seen_by self.old).db ≡ Some d → Undamaged result }
@@ -156,7 +153,6 @@ impl<B: Blocks> BlockStore<B> {
         ensures made { OnOk result (PointsDurable (seen_by self.old) (seen_by self.new)) }
         ensures memory { IsErrOf result BlockFault.Memory → ⊥ }
         ensures silent { IsSilent (seen_by self.old) (seen_by self.new) }
-        ensures landmarks { let s = seen_by self.old in AddsItsLandmarks false result s.landmarks (seen_by self.new).landmarks (sync_landmarks s.pace.every s.effort.syncs s.next) }
         ensures same { B.same_blocks self.old.over.below self.new.over.below }
         ensures effort { Syncs result (seen_by self.old).effort (seen_by self.new).effort }
         ensures undamaged { (d : Db) → (seen_by self.old).db ≡ Some d → Undamaged result }
@@ -176,7 +172,6 @@ impl<B: Blocks> BlockStore<B> {
         ensures db { OnOk result ((seen_by self.new).db ≡ (seen_by self.old).mark) }
         ensures keeps { OnOk result (KeepsPoints (seen_by self.old) (seen_by self.new)) }
         ensures silent { IsSilent (seen_by self.old) (seen_by self.new) }
-        ensures landmarks { AddsItsLandmarks true result (seen_by self.old).landmarks (seen_by self.new).landmarks (back_landmarks (seen_by self.old).next) }
         ensures same { B.same_blocks self.old.over.below self.new.over.below }
         ensures effort { GoesBack result (seen_by self.old).effort (seen_by self.new).effort }
         ensures undamaged { (d : Db) → (seen_by self.old).db ≡ Some d → Undamaged result }
@@ -195,7 +190,6 @@ impl<B: Blocks> BlockStore<B> {
         ensures part { SaysPart (seen_by self.old) (seen_by self.new) bytes.now }
         ensures keeps { OnOk result (Keeps (seen_by self.old) (seen_by self.new)) }
         ensures fault { IsOkUnless result BlockFault.Say }
-        ensures landmarks { AddsItsLandmarks false result (seen_by self.old).landmarks (seen_by self.new).landmarks [] }
         ensures same { B.same_blocks self.old.over.below self.new.over.below }
         ensures effort { (seen_by self.new).effort ≡ (seen_by self.old).effort }
         ensures causes { HasStoreCauses result (seen_by self.old) (seen_by self.new) }
@@ -205,8 +199,7 @@ impl<B: Blocks> BlockStore<B> {
 
     /// Stores a new record of a data set under the least free number, with null links, which its owner counts from then
     /// on; or replaces all items but the links of the record with this number, which keeps its owner. It does so where
-    /// that record stands, and the owner of a new one. Where the audit has no room for a record of the outer level, the
-    /// records are those of the database with it but for one.
+    /// that record stands, and the owner of a new one.
     pub fn put(
         &mut self,
         alloc: Global,
@@ -223,9 +216,7 @@ impl<B: Blocks> BlockStore<B> {
         ensures put { IfOk result (Stores (as_described self.old.desc) (seen_by self.old).db (seen_by self.new).db set number rec.now) }
         ensures full { IfFull result (λ f. f ≡ (seen_by self.old).pace.last) }
         ensures stored { FullWhere (as_described self.old.desc) (seen_by self.old).db set number rec.now result }
-        ensures lacks { LacksWhere (as_described self.old.desc) (seen_by self.old).db (seen_by self.new).records set number rec.now result }
         ensures changed { ChangesAtMost (64 * length (as_described self.old.desc).structures) result (seen_by self.old) (seen_by self.new) }
-        ensures landmarks { AddsItsLandmarks false result (seen_by self.old).landmarks (seen_by self.new).landmarks [] }
         ensures same { B.same_blocks self.old.over.below self.new.over.below }
     {
         let stored = putting::put(&mut self.over, alloc, &self.desc, set, number, rec);

@@ -7,7 +7,7 @@ use Rattle.dms_model.specs.Programs.{Program, Wait}
 use Rattle.dms_model.specs.declared.reply.Answer.{Answer}
 use Rattle.dms_model.specs.Db.{Db}
 use Rattle.dms_model.specs.Seen.{Seen, StoreAgrees, IsSilent, StaysDurable}
-use Rattle.std.specs.Prelude.{IsErr, IfOk}
+use Rattle.std.specs.Prelude.{IsErr, IsErrAnd, IfOk}
 use Rattle.std.specs.declared.result.Result.{Result}
 use Rattle.std.specs.declared.result.Result.TheVariants.{Ok, Err}
 use Rattle.std.proofs.lemmas.Result.{IfOk-weaker}
@@ -15,13 +15,13 @@ use Rattle.std.proofs.lemmas.Bool.{false≢true}
 use Rattle.dms_block.specs.declared.block_fault.BlockFault.{BlockFault}
 use Rattle.dms_block.specs.Faults.{Undamaged}
 use Rattle.dms_model.specs.Points.{StopFiles, Point, Quiet, Stop, LeavesPrefix, StopTextIs, told_point, known_point, StoreLeaves, PointsStayDurable}
-use Rattle.dms_model.specs.Session.{Session, Outcome, after_answer, settle, someone_works}
+use Rattle.dms_model.specs.Session.{Session, Outcome, after_answer, programs_after, settle, someone_works, waits_after}
 use Rattle.dms_storeverbs.specs.Apart.{Alone}
 use Rattle.dms_storeverbs.specs.View.{View, StandsFor, MatchesOutcome, PerformsCall, Room, view_of, LeavesQuiets, MakesPoints}
 
--- fewer points are durable, and the number was no higher
-pub lower : {V W : StopFiles → Type 0} {a b m n : ℕ} {ps : List Point} {stop : Stop} → ((files : StopFiles) → V files → W files) → a ≤ b → m ≤ n → LeavesPrefix V b ps n stop → LeavesPrefix W a ps m stop
-lower {stop = stop} whole low fell front = record { count = front.count; enough = omega (arith, low, front.enough); within = front.within; is = front.is; not_fallen = omega (arith, fell, front.not_fallen); files = whole stop.files front.files }
+-- fewer points are durable, and the next number is the same
+pub lower : {V W : StopFiles → Type 0} {a b m n : ℕ} {ps : List Point} {stop : Stop} → ((files : StopFiles) → V files → W files) → a ≤ b → m ≡ n → LeavesPrefix V b ps n stop → LeavesPrefix W a ps m stop
+lower {stop = stop} whole low same front = record { count = front.count; enough = omega (arith, low, front.enough); within = front.within; is = front.is; not_fallen = omega (arith, same, front.not_fallen); not_risen = omega (arith, same, front.not_risen); files = whole stop.files front.files }
 
 -- nothing of a call's quiet points was made yet
 pub stays : {W : StopFiles → Type 0} {durable next : ℕ} {points : List Point} {stop : Stop} (quiets : List Quiet) → LeavesPrefix W durable points next stop → LeavesQuiets W durable points next quiets stop
@@ -69,8 +69,8 @@ module _ (here : Point) (q : Quiet) (same : told_point here ≡ known_point q) (
   pub quieted : {a b : Clock Stop} → StoreLeaves W a b durable (points ++ here ∷ []) (next + 1) said → Runs a b (λ stop. LeavesQuiets W durable points next quiets stop × StopTextIs said stop)
   quieted run = runs_weaken run (λ x p. (subst (λ (qs : List Quiet). LeavesQuiets W durable points next qs x) (sym is) (one here q same p.0), p.1))
 
-  pub synced : {V : StopFiles → Type 0} {a b c : Clock Stop} {durable' next' : ℕ} {points' : List Point} {said' : Option (List ℕ)} → ((files : StopFiles) → V files → W files) → StoreLeaves W a b durable (points ++ here ∷ []) (next + 1) said → (points' ≡ points ++ here ∷ []) × (durable ≤ durable') → next + 1 ≤ next' → said' ≡ said → StoreLeaves V b c durable' points' next' said' → Runs a c (λ stop. LeavesQuiets W durable points next quiets stop × StopTextIs said stop)
-  synced {V} {durable' = durable'} {next' = next'} whole first grown more text last = runs_on (quieted first) (runs_weaken last (λ x p. (subst (λ (qs : List Quiet). LeavesQuiets W durable points next qs x) (sym is) (one here q same (lower whole grown.1 more (subst (λ (ps : List Point). LeavesPrefix V durable' ps next' x) grown.0 p.0))), λ t e. p.1 t (text ∙ e)))) (λ x p. p)
+  pub synced : {V : StopFiles → Type 0} {a b c : Clock Stop} {durable' next' : ℕ} {points' : List Point} {said' : Option (List ℕ)} → ((files : StopFiles) → V files → W files) → StoreLeaves W a b durable (points ++ here ∷ []) (next + 1) said → (points' ≡ points ++ here ∷ []) × (durable ≤ durable') → next' ≡ next + 1 → said' ≡ said → StoreLeaves V b c durable' points' next' said' → Runs a c (λ stop. LeavesQuiets W durable points next quiets stop × StopTextIs said stop)
+  synced {V} {durable' = durable'} {next' = next'} whole first grown more text last = runs_on (quieted first) (runs_weaken last (λ x p. (subst (λ (qs : List Quiet). LeavesQuiets W durable points next qs x) (sym is) (one here q same (lower whole grown.1 (sym more) (subst (λ (ps : List Point). LeavesPrefix V durable' ps next' x) grown.0 p.0))), λ t e. p.1 t (text ∙ e)))) (λ x p. p)
 
 if_same : (b : Bool) (x y : Outcome) (qs : List Quiet) → x.quiets ≡ qs → y.quiets ≡ qs → (cond b x y).quiets ≡ qs
 if_same true x y qs ex ey = ex
@@ -137,3 +137,31 @@ then_did {o} {old = old} {result = result} whole silent points s next room tells
 -- a call whose program wasn't answered in the end
 pub unanswered_did : {o : Outcome} {old new : Seen} {then now : View} {before result : Result Answer BlockFault} (name : List ℕ) → IsErr result → Undamaged result → PerformsCall o old new then before → PerformsCall (after_answer name o) old new now result
 unanswered_did {result = result} name err undamaged did = record { answers = if_err result _ err; made = λ t. if_err result _ err; undamaged = undamaged; leaves = did.leaves }
+
+-- one whose program was answered
+pub answered_did : {o : Outcome} {old new : Seen} {db mark : Option Db} {next since : ℕ} {programs ps : List Program} {pending : Bool} {waits ws : List Wait} {answer : Answer} (name : List ℕ)
+    → PerformsCall o old new (view_of db mark next programs pending since waits) (Ok answer) → ps ≡ programs_after name answer.reply programs → ws ≡ waits_after name answer.reply waits
+    → PerformsCall (after_answer name o) old new (view_of db mark next ps pending since ws) (Ok answer)
+answered_did name did ps_is ws_is = record {
+  answers = record {
+    reply = did.answers.reply;
+    sync = did.answers.sync;
+    session = record {
+      db = did.answers.session.db;
+      mark = did.answers.session.mark;
+      next = did.answers.session.next;
+      programs = ps_is ∙ (λ j. programs_after name (did.answers.reply j) (did.answers.session.programs j));
+      pending = did.answers.session.pending;
+      since = did.answers.session.since;
+      waits = ws_is ∙ (λ j. waits_after name (did.answers.reply j) (did.answers.session.waits j));
+    };
+  };
+  made = did.made;
+  undamaged = did.undamaged;
+  leaves = did.leaves;
+}
+
+-- a fault that is known is no damage
+pub same_undamaged : {U : Type 0} (r : Result U BlockFault) (e : BlockFault) → IsErrAnd r (λ f. f ≡ e) → Undamaged {T = U} (Err e) → Undamaged r
+same_undamaged (Ok v) e same h = tt
+same_undamaged {U = U} (Err f) e same h = subst (λ (z : BlockFault). Undamaged {T = U} (Err z)) (sym same) h

@@ -1,41 +1,25 @@
-ghost use Rattle.std.specs.Prelude.{◌≡◌, ◌-◌, Some, None, OnErr, OnOk, IfOk, slice_get, ◌&&◌, not, is_some};
-ghost use Rattle.std.specs.List.{list_any};
+ghost use Rattle.std.specs.Prelude.{◌≡◌, ◌<◌, ◌≤◌, ◌^◌, Some, None, OnErr, OnOk, IfOk, slice_get, ◌&&◌, not, is_some, length, if◌then◌else◌};
 ghost use Rattle.std.specs.Option.{option_copied};
 ghost use Rattle.dms_desc.specs.Conds.{is_null, or_null};
-ghost use Rattle.dms_desc.specs.declared.structure.Item.{Item};
-ghost use Rattle.dms_model.specs.Session.{work_of, or_none, is_lock, holds, let_go, with_work, with_lock, found_program, area_values, area_owner, area_number, is_free, record_of, leave_transaction, activate, enter_transaction, missing_from, owner_for, area_of, current_of};
+ghost use Rattle.dms_model.specs.Session.{activate, area_of, area_owner, area_values, current_of, enter_transaction, found_in, found_program, holds, is_free, leave_transaction, let_go, locked_program, missing_from, moves, owner_for, path_of, record_of, with_area, with_position};
 ghost use Rattle.dms_desc.specs.Shape.{as_described};
 ghost use Rattle.dms_model.specs.Programs.{Area, New, Old};
-ghost use Rattle.dms_storeverbs.specs.Storing.{with_stored};
+ghost use Rattle.dms_storeverbs.specs.Storing.{with_copy, with_created, with_stored};
 
-use crate::schema::owner_of;
 use dms_base::{Memory, Name, Value};
-use dms_desc::{Description, Item, Record, Values};
-use dms_model::{Area, AreaKind, Lock, Program, Spot, Work};
+use dms_desc::{Bound, Description, Item, Record, Values};
+use dms_findverbs::{found_in, moves, owner_in, path_of};
+use dms_model::{Path, Spot};
+use dms_paths::{
+    Area, AreaKind, Program, let_go, lock, owner_of, set_area, set_current, set_position,
+};
 use std::alloc::Global;
-
-/// The place of a data set among the works of a program.
-fn place_of(set: u16) -> usize
-    ensures { result ≡ set - 1 }
-{
-    (set as usize).saturating_sub(1)
-}
-
-/// What a program has at hand of a data set.
-fn work_at(program: &Program, set: u16) -> Option<&Work>
-    ensures { or_none (option_copied result) ≡ work_of program.now set }
-{
-    program.works.as_slice().get(place_of(set))
-}
 
 /// A program's area of a data set.
 pub fn area_at(program: &Program, set: u16) -> Option<&Area>
     ensures { option_copied result ≡ area_of program.now set }
 {
-    match work_at(program, set) {
-        None => None,
-        Some(work) => work.area.as_ref(),
-    }
+    program.paths.area(set)
 }
 
 /// Whether a program that is to store a data set's area has none.
@@ -49,22 +33,15 @@ pub fn lacks(program: &Program, set: u16, audit: bool) -> bool
 pub fn current_at(program: &Program, set: u16) -> Option<u64>
     ensures { result ≡ current_of program.now set }
 {
-    match work_at(program, set) {
-        None => None,
-        Some(work) => work.current,
-    }
+    program.paths.current(set)
 }
 
-/// The number of the record that owns what a program finds or makes in a structure, 0 where the structure stands in no data set; none
-/// where the program has no current record of that data set.
+/// The number of the record that owns what a program finds or makes in a structure, 0 where the structure stands in no
+/// data set; none where the program has no current record of that data set.
 pub fn owner_for(desc: &Description, program: &Program, x: u16) -> Option<u64>
     ensures { result ≡ owner_for (as_described desc.now) program.now x }
 {
-    let to = owner_of(desc, x);
-    if to == 0 {
-        return Some(0);
-    }
-    current_at(program, to)
+    owner_in(program, owner_of(desc, x))
 }
 
 /// The area of a record that is to be stored, with the number of its owner's record.
@@ -82,26 +59,6 @@ pub fn old_area(values: Values) -> Area
 {
     Area {
         kind: AreaKind::Old(values),
-    }
-}
-
-/// The values of an area.
-pub fn area_values(area: &Area) -> &[Value]
-    ensures { result.now ≡ area_values area.now }
-{
-    match &area.kind {
-        AreaKind::New(values, _) => values.as_slice(),
-        AreaKind::Old(values) => values.as_slice(),
-    }
-}
-
-/// The number of the record that an area replaces.
-pub fn area_number(area: &Area, current: Option<u64>) -> Option<u64>
-    ensures { result ≡ area_number area.now current }
-{
-    match &area.kind {
-        AreaKind::New(_, _) => None,
-        AreaKind::Old(_) => current,
     }
 }
 
@@ -135,22 +92,13 @@ pub fn record_of(alloc: Global, area: &Area) -> Result<Record, Memory>
     })
 }
 
-/// Whether a record is among these locks.
-fn is_locked(locks: &[Lock], set: u16, number: u64) -> bool
-    ensures { result ≡ list_any (is_lock set number) locks.now }
-{
-    locks
-        .iter()
-        .any(|lock| lock.set == set && lock.number == number)
-}
-
 /// Whether a program holds a record locked.
 fn holds(program: &Program, set: u16, number: Option<u64>) -> bool
     ensures { result ≡ holds program.now set number }
 {
     match number {
         None => false,
-        Some(number) => is_locked(program.locks.as_slice(), set, number),
+        Some(number) => program.locks.has(set, number),
     }
 }
 
@@ -185,82 +133,109 @@ pub fn missing(items: &[Item], values: &[Value]) -> Option<Name>
     None
 }
 
-/// Frees the program's lock on a data set, outside transaction state.
-fn let_go(program: &mut Program, set: u16)
-    ensures { program.new ≡ let_go program.old set }
+/// The position of a path is that of a found member, where the path moves it.
+fn note_position(program: &mut Program, path: &Path, position: Bound)
+    ensures { program.new ≡ (if moves path.now then with_position program.old (path_of path.now) position else program.old) }
 {
-    if !program.in_transaction {
-        program.locks.free(set);
+    if moves(path) {
+        set_position(program, path_of(path), position);
     }
 }
 
-/// A found record becomes current, and the area a copy of it.
-pub fn find(program: &mut Program, set: u16, spot: Spot)
-    ensures { program.new ≡ activate (found_program program.old set spot) }
+/// A record is current, and the area a copy of it.
+fn note_current(program: &mut Program, desc: &Description, set: u16, number: u64, values: Values)
+    requires set { 1 ≤ set }
+    requires few { length desc.now.structures < 2 ^ 16 }
+    ensures { program.new ≡ with_copy (as_described desc.now) program.old set number values }
 {
-    let work = Work {
-        current: Some(spot.number),
-        area: Some(old_area(spot.rec.values)),
-    };
-    program.works.set(place_of(set), work);
+    set_current(program, desc, set, Some(number));
+    set_area(program, set, Some(old_area(values)));
+}
+
+/// What a path found becomes current, and the area a copy of it.
+#[tactic(auto, unfolding(dms_model::specs::Session::found_program))]
+fn take_found(program: &mut Program, desc: &Description, path: &Path, spot: Spot)
+    requires set { 1 ≤ found_in (as_described desc.now) path.now }
+    requires few { length desc.now.structures < 2 ^ 16 }
+    ensures { program.new ≡ found_program (as_described desc.now) program.old path.now spot }
+{
+    let set = found_in(desc, path);
+    let number = spot.number;
+    note_current(program, desc, set, number, spot.rec.values);
+    note_position(program, path, Bound::At(spot.key, number));
+    let_go(program, set);
+}
+
+/// FIND: what a path found becomes current, and the area a copy of it.
+pub fn find(program: &mut Program, desc: &Description, path: &Path, spot: Spot)
+    requires set { 1 ≤ found_in (as_described desc.now) path.now }
+    requires few { length desc.now.structures < 2 ^ 16 }
+    ensures { program.new ≡ activate (found_program (as_described desc.now) program.old path.now spot) }
+{
+    take_found(program, desc, path, spot);
+    program.active = true;
+}
+
+/// LOCK: as FIND, and the record is locked. After `Memory` it isn't.
+pub fn lock_found(
+    program: &mut Program,
+    desc: &Description,
+    path: &Path,
+    spot: Spot,
+) -> Result<(), Memory>
+    requires set { 1 ≤ found_in (as_described desc.now) path.now }
+    requires few { length desc.now.structures < 2 ^ 16 }
+    ensures ok { OnOk result (program.new ≡ activate (locked_program (as_described desc.now) program.old path.now spot)) }
+    ensures err { OnErr result (program.new ≡ activate (found_program (as_described desc.now) program.old path.now spot)) }
+{
+    let number = spot.number;
+    find(program, desc, path, spot);
+    lock(program, found_in(desc, path), number)
+}
+
+/// FREE: outside transaction state the locks on a data set are freed.
+pub fn free(program: &mut Program, set: u16)
+    ensures { program.new ≡ activate (let_go program.old set) }
+{
     let_go(program, set);
     program.active = true;
 }
 
 /// No record is current, and the area is a new one, of a record with this owner.
-pub fn create(program: &mut Program, set: u16, values: Values, owner: u64)
-    ensures { program.new ≡ activate (let_go (with_work program.old set (record { current = None; area = Some (New values owner) })) set) }
+pub fn create(program: &mut Program, desc: &Description, set: u16, values: Values, owner: u64)
+    requires set { 1 ≤ set }
+    requires few { length desc.now.structures < 2 ^ 16 }
+    ensures { program.new ≡ activate (with_created (as_described desc.now) program.old set owner values) }
 {
-    let work = Work {
-        current: None,
-        area: Some(new_area(values, owner)),
-    };
-    program.works.set(place_of(set), work);
+    set_current(program, desc, set, None);
+    set_area(program, set, Some(new_area(values, owner)));
     let_go(program, set);
     program.active = true;
 }
 
 /// The area of a data set changes, and the current record stays.
 pub fn put(program: &mut Program, set: u16, area: Area)
-    ensures { program.new ≡ activate (with_work program.old set (record { current = current_of program.old set; area = Some area })) }
+    ensures { program.new ≡ activate (with_area program.old set (Some area)) }
 {
-    let work = Work {
-        current: current_at(program, set),
-        area: Some(area),
-    };
-    program.works.set(place_of(set), work);
+    set_area(program, set, Some(area));
     program.active = true;
 }
 
-/// The record is locked for the program. After `Memory` the program is as it was.
-fn lock(program: &mut Program, set: u16, number: u64) -> Result<(), Memory>
-    ensures ok { OnOk result (program.new ≡ with_lock program.old set number) }
-    ensures err { OnErr result (program.new ≡ program.old) }
-{
-    if is_locked(program.locks.as_slice(), set, number) {
-        return Ok(());
-    }
-    program.locks.push(Lock { set, number })
-}
-
-/// A record was stored under a number: it is current and locked, and the area a copy of it. After `Memory` the program is as
-/// it was.
+/// A record was stored under a number: it is current and locked, and the area a copy of it. After `Memory` it isn't locked.
 pub fn note_stored(
     program: &mut Program,
+    desc: &Description,
     set: u16,
     number: u64,
     values: Values,
 ) -> Result<(), Memory>
-    ensures ok { OnOk result (program.new ≡ with_stored program.old set number values) }
-    ensures err { OnErr result (program.new ≡ program.old) }
+    requires set { 1 ≤ set }
+    requires few { length desc.now.structures < 2 ^ 16 }
+    ensures ok { OnOk result (program.new ≡ with_stored (as_described desc.now) program.old set number values) }
+    ensures err { OnErr result (program.new ≡ with_copy (as_described desc.now) program.old set number values) }
 {
-    lock(program, set, number)?;
-    let work = Work {
-        current: Some(number),
-        area: Some(old_area(values)),
-    };
-    program.works.set(place_of(set), work);
-    Ok(())
+    note_current(program, desc, set, number, values);
+    lock(program, set, number)
 }
 
 /// A verb of the program was carried out.

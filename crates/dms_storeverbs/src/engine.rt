@@ -1,11 +1,10 @@
-ghost use Rattle.std.specs.Prelude.{◌≡◌, true, false, Some, IfOk, OnOk, IsErrOf, IsOkUnless, IfErr, [], if◌then◌else◌};
+ghost use Rattle.std.specs.Prelude.{◌≡◌, true, false, Some, IfOk, OnOk, IsErrOf, IsOkUnless, IfErr};
 ghost use Rattle.dms_desc.specs.Shape.{as_described};
 ghost use Rattle.dms_desc_bytes.specs.WellFormed.{IsWellFormed};
 ghost use Rattle.dms_model.specs.Areas.{ProgramsFit};
 ghost use Rattle.dms_model.specs.Db.{Db};
 ghost use Rattle.dms_model.specs.DescribedCode.{described_set};
 ghost use Rattle.dms_model.specs.Props.{IsWellFormed-prop, ProgramsFit-prop};
-ghost use Rattle.dms_block.specs.Landmarks.{back_landmarks, AddsItsLandmarks};
 ghost use Rattle.dms_block.specs.Faults.{IfFull, NotFull, Undamaged};
 ghost use Rattle.dms_block.specs.Texts.{Prints};
 ghost use Rattle.dms_model.specs.Seen.{GoesBack, IsSilent, Keeps, SaysPart, StaysDurable};
@@ -15,7 +14,9 @@ use crate::programs;
 use dms_base::Memory;
 use dms_block::BlockFault;
 use dms_desc::Description;
-use dms_model::{Program, Store, WaitList};
+use dms_locks::WaitList;
+use dms_model::Store;
+use dms_paths::Program;
 use std::alloc::Global;
 
 /// The machine of verbs over a store: what programs ask of a database, one verb after another. What they have at hand fits
@@ -23,6 +24,7 @@ use std::alloc::Global;
 pub struct Engine<St: Store> {
     /// What the store is kept under.
     pub desc: Description,
+    /// What keeps the database.
     pub store: St,
     /// The open programs, in the order of their opening.
     pub programs: Vec<Program>,
@@ -40,7 +42,8 @@ pub struct Engine<St: Store> {
 impl<St: Store> Engine<St> {
     ghost use Rattle.dms_storeverbs.specs.View.{EngineLasts, SameSession, StandsFor, engine_view, view};
 
-    /// An engine without programs over a store, under a description that a schema can have. After `Memory` the store is as it was.
+    /// An engine without programs over a store, under a description that a schema can have. After `Memory` the store is as
+    /// it was.
     pub fn new(alloc: Global, desc: &Description, store: St) -> Result<Engine<St>, (Memory, St)>
         requires sound { (St.seen store).sound }
         requires desc { (St.seen store).desc ≡ as_described desc.now }
@@ -65,8 +68,8 @@ impl<St: Store> Engine<St> {
     }
 
     /// Goes back to the last quiet point where a program is in transaction state.
-    /// Answers the store's fault, which is never Say, not Damaged where the store holds a database, and Full only of file 9,999, where a
-    /// program is in transaction state.
+    /// Answers the store's fault, which is never Say, not Damaged where the store holds a database, and Full only of file
+    /// 9,999, where a program is in transaction state.
     pub fn end(&mut self, alloc: Global) -> Result<(), BlockFault>
         requires sound { (engine_view self.old).sound }
         ensures ended { OnOk result ((s : Session) → StandsFor (view self.old) s → StandsFor (view self.new) (end_session s)) }
@@ -78,7 +81,6 @@ impl<St: Store> Engine<St> {
         ensures file { IfFull result (λ f. f ≡ 9999) }
         ensures silent { IsSilent (engine_view self.old) (engine_view self.new) }
         ensures mute_fault { IsErrOf result BlockFault.Say → ⊥ }
-        ensures landmarks { let e = engine_view self.old in AddsItsLandmarks true result e.landmarks (engine_view self.new).landmarks (if someone_works self.old.programs.items then back_landmarks e.next else []) }
         ensures lasts { EngineLasts result self.old self.new }
     {
         if !programs::someone_works(self.programs.as_slice()) {
@@ -102,7 +104,6 @@ impl<St: Store> Engine<St> {
         ensures since { self.new.since ≡ self.old.since }
         ensures waits { self.new.waits ≡ self.old.waits }
         ensures fault { IsOkUnless result BlockFault.Say }
-        ensures landmarks { AddsItsLandmarks false result (engine_view self.old).landmarks (engine_view self.new).landmarks [] }
         ensures lasts { EngineLasts result self.old self.new }
     {
         self.store.say(bytes)

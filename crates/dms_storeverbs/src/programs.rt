@@ -1,12 +1,13 @@
-ghost use Rattle.std.specs.Prelude.{◌≡◌, false, ◌≤◌, length, map, replicate, IfOk, [], if◌then◌else◌, ◌||◌, nat_le};
+ghost use Rattle.std.specs.Prelude.{◌≡◌, false, ◌≤◌, length, map, IfOk, IsOk, OnOk, [], if◌then◌else◌, ◌||◌, nat_le};
 ghost use Rattle.dms_desc.specs.Shape.{as_described};
-ghost use Rattle.dms_model.specs.Session.{place_of, someone_works, workers, idle, backed_out, no_work, new_program};
-ghost use Rattle.dms_storeverbs.specs.Keeping.{Awaits};
+ghost use Rattle.dms_model.specs.Session.{place_of, someone_works, workers, idle, backed_out, freed_named, is_waits, new_program, programs_after, says_deadlock, waits_after};
 ghost use Rattle.dms_block.specs.Held.{one_more};
 
-use dms_base::{Memory, Name, Names};
+use dms_base::{Category, Memory, Name, Names};
 use dms_desc::Description;
-use dms_model::{Locks, Mode, Program, Work, Works};
+use dms_locks::{Locks, WaitList};
+use dms_model::{Mode, Reply};
+use dms_paths::{Paths, Program};
 use std::alloc::Global;
 
 /// The place of a program, or how many there are.
@@ -78,22 +79,14 @@ pub fn workers(alloc: Global, programs: &[Program]) -> Result<Names, Memory>
 }
 
 /// For whom a BEGIN-TRANSACTION waits: while a syncpoint is pending for the programs in transaction state,
-/// where there are any, and else for nobody. Answers Err where memory is refused.
-pub fn begin_blockers(
-    alloc: Global,
-    pending: bool,
-    programs: &[Program],
-) -> Result<Option<Names>, Memory>
-    ensures { IfOk result (λ names. Awaits names (if pending then workers programs.now else [])) }
+/// and else for nobody. Answers Err where memory is refused.
+pub fn begin_blockers(alloc: Global, pending: bool, programs: &[Program]) -> Result<Names, Memory>
+    ensures { IfOk result (λ names. names ≡ (if pending then workers programs.now else [])) }
 {
     if !pending {
-        return Ok(None);
+        return Ok(Names::new(alloc));
     }
-    let names = workers(alloc, programs)?;
-    if names.as_slice().is_empty() {
-        return Ok(None);
-    }
-    Ok(Some(names))
+    workers(alloc, programs)
 }
 
 /// One more transaction. The count stands still at its type's end.
@@ -136,7 +129,7 @@ fn back_out_one(program: &mut Program, name: &Name)
         if !program.name.is(name) {
             program.owes_abort = true;
         }
-        program.works.forget();
+        program.paths.forget();
         program.locks.free_all();
     }
 }
@@ -150,18 +143,65 @@ pub fn back_out(programs: &mut [Program], name: &Name)
     }
 }
 
-/// Nothing at hand of so many data sets.
-fn no_works(alloc: Global, count: usize) -> Result<Works, Memory>
-    ensures { IfOk result (λ works. works ≡ replicate count no_work) }
+/// A program of this name loses its locks.
+fn free_one(program: &mut Program, name: &Name)
+    ensures { program.new ≡ freed_named name.now program.old }
 {
-    let mut works = Works::new(alloc);
-    for _set in 0..count {
-        works.push(Work {
-            current: None,
-            area: None,
-        })?;
+    if program.name.is(name) {
+        program.locks.free_all();
     }
-    Ok(works)
+}
+
+/// The programs of this name lose their locks.
+fn free_named(programs: &mut [Program], name: &Name)
+    ensures { programs.new ≡ map (freed_named name.now) programs.old }
+{
+    for program in programs.iter_mut() {
+        free_one(program, name);
+    }
+}
+
+/// Whether a reply is DEADLOCK.
+fn says_deadlock(reply: &Reply) -> bool
+    ensures { result ≡ says_deadlock reply.now }
+{
+    match reply {
+        Reply::Done(_) => false,
+        Reply::Exception(category, _) => matches!(category, Category::Deadlock),
+        Reply::Waits(_) => false,
+    }
+}
+
+/// DEADLOCK frees all locks of the program that asked.
+pub fn free_if(programs: &mut [Program], name: &Name, reply: &Reply)
+    ensures { programs.new ≡ programs_after name.now reply.now programs.old }
+{
+    if says_deadlock(reply) {
+        free_named(programs, name);
+    }
+}
+
+/// An answer ends the wait of the program that asked, or begins one. After `Memory` its wait is gone.
+pub fn note_answer(
+    alloc: Global,
+    waits: &mut WaitList,
+    name: &Name,
+    reply: &Reply,
+) -> Result<(), Memory>
+    ensures ok { OnOk result (waits.new ≡ waits_after name.now reply.now waits.old) }
+    ensures memory { is_waits reply.now ≡ false → IsOk result }
+{
+    match reply {
+        Reply::Done(_) => {
+            waits.end(name);
+            Ok(())
+        }
+        Reply::Exception(_, _) => {
+            waits.end(name);
+            Ok(())
+        }
+        Reply::Waits(who) => waits.begin(alloc, name, who),
+    }
 }
 
 /// A program that opened the database now.
@@ -173,14 +213,14 @@ pub fn new_program(
 ) -> Result<Program, Memory>
     ensures { IfOk result (λ p. p ≡ new_program (as_described desc.now) name.now mode) }
 {
-    let works = no_works(alloc, desc.structures.as_slice().len())?;
+    let paths = Paths::new(alloc, desc.structures.as_slice().len())?;
     Ok(Program {
         name: *name,
         mode,
         in_transaction: false,
         owes_abort: false,
         active: true,
-        works,
+        paths,
         locks: Locks::new(alloc),
     })
 }

@@ -1,4 +1,4 @@
-ghost use Rattle.std.specs.Prelude.{◌≡◌, ◌≤◌, ◌<◌, true, false, Some, None, IfOk, OnOk, IsErrOf, slice_get, length, []};
+ghost use Rattle.std.specs.Prelude.{◌≡◌, ◌^◌, ◌+◌, ◌≤◌, ◌<◌, true, false, Some, None, IfOk, OnOk, IsErrOf, slice_get, length};
 ghost use Rattle.dms_desc.specs.Lookups.{structure_of};
 ghost use Rattle.dms_desc.specs.Shape.{as_described};
 ghost use Rattle.dms_model.specs.Programs.{Program};
@@ -6,20 +6,20 @@ ghost use Rattle.dms_model.specs.Seen.{IsMute, IsSilent, Spends, StaysDurable};
 ghost use Rattle.dms_model.specs.Session.{Session, keep, restart_of, settle, store_step, begin_step, end_step, abort_step, is_waits};
 ghost use Rattle.dms_model.specs.Spoken.{IsOuter};
 ghost use Rattle.dms_model.specs.declared.verb.Verb.{Verb};
-ghost use Rattle.dms_block.specs.Landmarks.{AddsItsLandmarks};
 ghost use Rattle.dms_block.specs.Faults.{IfFull, NotFull, Undamaged};
 ghost use Rattle.dms_model.specs.Db.{Db};
-ghost use Rattle.dms_storeverbs.specs.Costs.{Costs, limit_if, VerbLandmarks};
-ghost use Rattle.dms_storeverbs.specs.Keeping.{FullWhereKept, LacksKept, WasKept, kept_if};
-ghost use Rattle.dms_storeverbs.specs.Rooms.{FullFor, FullForQuiet, LacksRecord, NoPointWhere};
+ghost use Rattle.dms_storeverbs.specs.Costs.{Costs, limit_if};
+ghost use Rattle.dms_storeverbs.specs.Keeping.{FullWhereKept, WasKept, kept_if};
+ghost use Rattle.dms_storeverbs.specs.Rooms.{FullFor, FullForQuiet, NoPointWhere};
 ghost use Rattle.dms_storeverbs.specs.View.{Does, DoesWhere, EngineLasts, MayStep, Room, engine_view, view};
 
-use crate::refusal::{Refusal, refuse, succeed};
+use crate::refusal::{Refusal, refuse, succeed, wait_for};
 use crate::schema::restart_of;
 use crate::storing::{JudgedRecord, judge_record};
 use crate::{Engine, areas, programs};
 use dms_base::{Bytes, Category};
 use dms_block::BlockFault;
+use dms_locks::Verdict;
 use dms_model::{Answer, Put, Reply, Store};
 use std::alloc::Global;
 
@@ -39,8 +39,6 @@ impl<St: Store> Engine<St> {
         ensures mute_fault { IsErrOf result BlockFault.Say → ⊥ }
         ensures file { IfFull result (λ f. f ≡ (engine_view self.old).pace.last) }
         ensures full { FullWhereKept i (λ p db. keep (as_described self.old.desc) p db set) self.old.programs.items (view self.old) result }
-        ensures lacks { LacksKept i (λ p db. keep (as_described self.old.desc) p db set) self.old.programs.items (view self.old) (engine_view self.new).records result }
-        ensures landmarks { AddsItsLandmarks false result (engine_view self.old).landmarks (engine_view self.new).landmarks [] }
         ensures lasts { EngineLasts result self.old self.new }
     {
         let (number, rec) = match judge_record(alloc, &self.desc, &self.programs[i], set)? {
@@ -49,7 +47,7 @@ impl<St: Store> Engine<St> {
         };
         match self.store.put(alloc, set, number, &rec)? {
             Put::Stored(number) => {
-                areas::note_stored(&mut self.programs[i], set, number, rec.values)?;
+                areas::note_stored(&mut self.programs[i], &self.desc, set, number, rec.values)?;
                 Ok(None)
             }
             Put::Duplicate(other) => Ok(Some(Refusal {
@@ -84,9 +82,7 @@ impl<St: Store> Engine<St> {
         ensures mute_fault { IsErrOf result BlockFault.Say → ⊥ }
         ensures file { IfFull result (λ f. f ≡ (engine_view self.old).pace.last) }
         ensures full { FullWhereKept i (kept_if audit (as_described self.old.desc)) self.old.programs.items (view self.old) result }
-        ensures lacks { LacksKept i (kept_if audit (as_described self.old.desc)) self.old.programs.items (view self.old) (engine_view self.new).records result }
         ensures none { audit ≡ false → NotFull result }
-        ensures landmarks { AddsItsLandmarks false result (engine_view self.old).landmarks (engine_view self.new).landmarks [] }
         ensures lasts { EngineLasts result self.old self.new }
     {
         if !audit {
@@ -104,13 +100,12 @@ impl<St: Store> Engine<St> {
         ensures step { DoesWhere (λ s. Room s.next) self.old self.new result (λ s. settle s) }
         ensures mute { IsMute (engine_view self.old) (engine_view self.new) }
         ensures costs { Costs (limit_if false (engine_view self.old).desc) false result (engine_view self.old).effort (engine_view self.new).effort }
-        ensures no_memory { IsErrOf result BlockFault.Memory → ⊥ }
+        ensures no_memory { (engine_view self.old).next + 1 < 2 ^ 64 → IsErrOf result BlockFault.Memory → ⊥ }
         ensures no_wait { IfOk result (λ a. is_waits a.reply ≡ false) }
         ensures mute_fault { IsErrOf result BlockFault.Say → ⊥ }
         ensures file { IfFull result (λ f. f ≡ (engine_view self.old).pace.last) }
         ensures full { FullForQuiet self.old result }
         ensures no_point { NoPointWhere (λ s. Room s.next) self.old self.new result (λ s. settle s) }
-        ensures landmarks { VerbLandmarks false result (engine_view self.old) (engine_view self.new) }
         ensures lasts { EngineLasts result self.old self.new }
     {
         if programs::someone_works(self.programs.as_slice()) {
@@ -144,8 +139,6 @@ impl<St: Store> Engine<St> {
         ensures file { IfFull result (λ f. f ≡ (engine_view self.old).pace.last) }
         ensures full { (p : Program) → slice_get self.old.programs.items i ≡ Some p → FullFor self.old result (Verb.Store set) (λ s. store_step (as_described self.old.desc) i p s set) }
         ensures no_point { (p : Program) → slice_get self.old.programs.items i ≡ Some p → NoPointWhere MayStep self.old self.new result (λ s. store_step (as_described self.old.desc) i p s set) }
-        ensures lacks { (p : Program) → slice_get self.old.programs.items i ≡ Some p → LacksRecord self.old self.new result (Verb.Store set) (λ s. store_step (as_described self.old.desc) i p s set) }
-        ensures landmarks { VerbLandmarks false result (engine_view self.old) (engine_view self.new) }
         ensures lasts { EngineLasts result self.old self.new }
     {
         if !programs::works(&self.programs[i]) {
@@ -180,8 +173,6 @@ impl<St: Store> Engine<St> {
         ensures file { IfFull result (λ f. f ≡ (engine_view self.old).pace.last) }
         ensures full { (p : Program) → slice_get self.old.programs.items i ≡ Some p → FullFor self.old result (Verb.Begin audit) (λ s. begin_step (as_described self.old.desc) i p s audit) }
         ensures no_point { (p : Program) → slice_get self.old.programs.items i ≡ Some p → NoPointWhere MayStep self.old self.new result (λ s. begin_step (as_described self.old.desc) i p s audit) }
-        ensures lacks { (p : Program) → slice_get self.old.programs.items i ≡ Some p → LacksRecord self.old self.new result (Verb.Begin audit) (λ s. begin_step (as_described self.old.desc) i p s audit) }
-        ensures landmarks { VerbLandmarks false result (engine_view self.old) (engine_view self.new) }
         ensures lasts { EngineLasts result self.old self.new }
     {
         if programs::works(&self.programs[i]) {
@@ -194,12 +185,14 @@ impl<St: Store> Engine<St> {
         if areas::lacks(&self.programs[i], restart, audit) {
             return Ok(refuse(Category::NoRecord, self.desc.name_of(restart)));
         }
-        let awaited = programs::begin_blockers(alloc, self.pending, self.programs.as_slice())?;
-        if let Some(names) = awaited {
-            return Ok(Answer {
-                reply: Reply::Waits(names),
-                sync: None,
-            });
+        let name = programs::program_name(&self.programs[i]);
+        let who = programs::begin_blockers(alloc, self.pending, self.programs.as_slice())?;
+        match self.waits.verdict(alloc, &name, who.as_slice())? {
+            Verdict::Deadlocks => {
+                return Ok(refuse(Category::Deadlock, self.desc.name_of(restart)));
+            }
+            Verdict::Waits => return Ok(wait_for(who)),
+            Verdict::Goes => {}
         }
         if let Some(refusal) = self.keep_restart(alloc, i, audit)? {
             return Ok(refuse(refusal.category, refusal.name));
@@ -223,14 +216,12 @@ impl<St: Store> Engine<St> {
         ensures step { (p : Program) → slice_get self.old.programs.items i ≡ Some p → Does self.old self.new result (λ s. end_step (as_described self.old.desc) i p s audit sync) }
         ensures mute { IsMute (engine_view self.old) (engine_view self.new) }
         ensures costs { Costs (limit_if audit (engine_view self.old).desc) false result (engine_view self.old).effort (engine_view self.new).effort }
-        ensures no_memory { audit ≡ false → IsErrOf result BlockFault.Memory → ⊥ }
+        ensures no_memory { audit ≡ false → (engine_view self.old).next + 1 < 2 ^ 64 → IsErrOf result BlockFault.Memory → ⊥ }
         ensures no_wait { IfOk result (λ a. is_waits a.reply ≡ false) }
         ensures mute_fault { IsErrOf result BlockFault.Say → ⊥ }
         ensures file { IfFull result (λ f. f ≡ (engine_view self.old).pace.last) }
         ensures full { (p : Program) → slice_get self.old.programs.items i ≡ Some p → FullFor self.old result (Verb.End audit sync) (λ s. end_step (as_described self.old.desc) i p s audit sync) }
         ensures no_point { (p : Program) → slice_get self.old.programs.items i ≡ Some p → NoPointWhere MayStep self.old self.new result (λ s. end_step (as_described self.old.desc) i p s audit sync) }
-        ensures lacks { (p : Program) → slice_get self.old.programs.items i ≡ Some p → LacksRecord self.old self.new result (Verb.End audit sync) (λ s. end_step (as_described self.old.desc) i p s audit sync) }
-        ensures landmarks { VerbLandmarks false result (engine_view self.old) (engine_view self.new) }
         ensures lasts { EngineLasts result self.old self.new }
     {
         if !programs::works(&self.programs[i]) {
@@ -260,7 +251,6 @@ impl<St: Store> Engine<St> {
         ensures file { IfFull result (λ f. f ≡ 9999) }
         ensures full { (p : Program) → slice_get self.old.programs.items i ≡ Some p → FullFor self.old result Verb.Abort (λ s. abort_step i p s) }
         ensures no_point { (p : Program) → slice_get self.old.programs.items i ≡ Some p → NoPointWhere MayStep self.old self.new result (λ s. abort_step i p s) }
-        ensures landmarks { VerbLandmarks true result (engine_view self.old) (engine_view self.new) }
         ensures lasts { EngineLasts result self.old self.new }
     {
         let name = programs::program_name(&self.programs[i]);

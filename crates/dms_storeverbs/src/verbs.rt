@@ -1,44 +1,40 @@
-ghost use Rattle.std.specs.Prelude.{◌≡◌, ◌≤◌, ◌<◌, ◌+◌, ◌^◌, true, false, Some, None, IfOk, IfSome, OnOk, IsErrOf, slice_get, length, []};
+ghost use Rattle.std.specs.Prelude.{◌≡◌, ◌^◌, ◌+◌, ◌≤◌, ◌<◌, true, false, Some, None, IfOk, OnOk, IsErrOf, slice_get, length};
 ghost use Rattle.dms_desc.specs.Shape.{as_described};
 ghost use Rattle.dms_model.specs.Programs.{Program};
 ghost use Rattle.dms_model.specs.Db.{Db};
 ghost use Rattle.dms_model.specs.BackOut.{asks_back_out};
-ghost use Rattle.dms_model.specs.Fitting.{IsStructure, SpotFits};
 ghost use Rattle.dms_model.specs.Seen.{IsMute, IsSilent, StaysDurable};
-ghost use Rattle.dms_desc.specs.Lookups.{parts_of, set_of, items_of};
-ghost use Rattle.dms_model.specs.declared.verb.Path.TheVariants.{At};
-ghost use Rattle.dms_model.specs.Session.{Session, find_step, found_by, path_of, verb_step, carried_out, step, is_waits};
+ghost use Rattle.dms_desc.specs.Lookups.{structure_of};
+ghost use Rattle.dms_findverbs.specs.Seeks.{MetFits, SoughtIs};
+ghost use Rattle.dms_findverbs.specs.Shows.{shown_of};
+ghost use Rattle.dms_model.specs.Spoken.{IsOuter};
+ghost use Rattle.dms_model.specs.Session.{Session, find_step, get_step, lock_step, sought, verb_step, carried_out, step, is_waits};
 ghost use Rattle.dms_model.specs.Verbs.{IsPathOf, IsVerbOf};
-ghost use Rattle.dms_block.specs.Landmarks.{AddsItsLandmarks};
 ghost use Rattle.dms_block.specs.Faults.{IfFull, NotFull, Undamaged};
-ghost use Rattle.dms_storeverbs.specs.Costs.{Costs, block_limit, changes, full_file, takes_none, VerbLandmarks};
-ghost use Rattle.dms_storeverbs.specs.Rooms.{FullFor, LacksRecord, NoPointWhere};
+ghost use Rattle.dms_storeverbs.specs.Costs.{Costs, block_limit, changes, full_file, takes_none};
+ghost use Rattle.dms_storeverbs.specs.Rooms.{FullFor, NoPointWhere};
 ghost use Rattle.dms_storeverbs.specs.View.{Does, EngineLasts, MayStep, SameSession, engine_view};
 
-use crate::keys::{agreeing, key_values};
-use crate::refusal::{refuse, succeed};
-use crate::schema::owner_of;
+use crate::filling::get_text;
+use crate::refusal::{refuse, succeed, wait_for};
 use crate::{Engine, apart, areas, programs};
-use dms_base::{Category, Literal, Name};
+use dms_base::{Category, Name};
 use dms_block::BlockFault;
-use dms_model::{Answer, Bound, Path, Spot, Store, Verb, see_all_plain};
+use dms_findverbs::{Seeking, found_in, seek, shown};
+use dms_locks::Verdict;
+use dms_model::{Answer, ItemNumbers, Path, Reply, Store, Values, Verb};
+use dms_paths::blockers;
 use std::alloc::Global;
 
 impl<St: Store> Engine<St> {
-    /// The first member of a path, for an owner, whose first key items these literals spell.
-    #[tactic(auto, unfolding(dms_model::specs::Session::found_by))]
-    fn found_at(
-        &mut self,
-        alloc: Global,
-        x: u16,
-        owner: u64,
-        literals: &[Literal],
-    ) -> Result<Option<Spot>, BlockFault>
+    /// What a path names for a program.
+    #[tactic(auto, using(std::proofs::lemmas::Option::gets))]
+    fn seek(&mut self, alloc: Global, i: usize, path: &Path) -> Result<Seeking, BlockFault>
+        requires path { IsPathOf (as_described self.old.desc) path.now }
+        requires place { i < length self.old.programs.items }
         requires sound { (engine_view self.old).sound }
-        requires owner { owner + 1 < 2 ^ 32 }
-        requires path { IsStructure (as_described self.old.desc) x }
-        ensures fits { IfOk result (λ o. IfSome o (SpotFits (as_described self.old.desc) x)) }
-        ensures found { IfOk result (λ r. (d : Db) → (engine_view self.old).db ≡ Some d → r ≡ found_by (as_described self.old.desc) d owner (At x literals.now)) }
+        ensures sought { IfOk result (λ k. (p : Program) → slice_get self.old.programs.items i ≡ Some p → (d : Db) → (engine_view self.old).db ≡ Some d → SoughtIs k (as_described self.old.desc) (sought (as_described self.old.desc) d p path.now)) }
+        ensures fits { IfOk result (λ k. MetFits k (as_described self.old.desc) path.now) }
         ensures stands { OnOk result (SameSession self.old self.new) }
         ensures programs { self.new.programs.items ≡ self.old.programs.items }
         ensures points { OnOk result (StaysDurable (engine_view self.old) (engine_view self.new)) }
@@ -47,34 +43,18 @@ impl<St: Store> Engine<St> {
         ensures effort { (engine_view self.new).effort ≡ (engine_view self.old).effort }
         ensures mute_fault { IsErrOf result BlockFault.Say → ⊥ }
         ensures room { NotFull result }
-        ensures landmarks { AddsItsLandmarks false result (engine_view self.old).landmarks (engine_view self.new).landmarks [] }
         ensures lasts { EngineLasts result self.old self.new }
     {
-        let items = self.desc.items_of(self.desc.set_of(x));
-        let Some(values) = key_values(alloc, self.desc.parts_of(x), items, literals)? else {
-            return Ok(None);
-        };
-        see_all_plain(values.as_slice());
-        let key = values.copy(alloc)?;
-        let spot = self
-            .store
-            .first_from(alloc, x, owner, &Bound::From(values))?;
-        Ok(agreeing(self.desc.parts_of(x), key.as_slice(), spot))
+        seek(alloc, &mut self.store, &self.desc, &self.programs[i], path)
     }
 
-    /// The member that a path names, among those of an owner.
-    #[tactic(auto, using(std::proofs::lemmas::Option::gets), unfolding(dms_model::specs::Session::found_by))]
-    fn find_spot(
-        &mut self,
-        alloc: Global,
-        owner: u64,
-        path: &Path,
-    ) -> Result<Option<Spot>, BlockFault>
+    /// The values of a program's area of a data set as GET shows them.
+    #[tactic(auto, using(std::proofs::lemmas::Option::gets))]
+    fn show(&mut self, alloc: Global, i: usize, set: u16) -> Result<Option<Values>, BlockFault>
+        requires outer { IsOuter (structure_of (as_described self.old.desc) set) }
+        requires place { i < length self.old.programs.items }
         requires sound { (engine_view self.old).sound }
-        requires owner { owner + 1 < 2 ^ 32 }
-        requires path { IsPathOf (as_described self.old.desc) path.now }
-        ensures fits { IfOk result (λ o. IfSome o (SpotFits (as_described self.old.desc) (path_of path.now))) }
-        ensures found { IfOk result (λ r. (d : Db) → (engine_view self.old).db ≡ Some d → r ≡ found_by (as_described self.old.desc) d owner path.now) }
+        ensures shown { IfOk result (λ o. (p : Program) → slice_get self.old.programs.items i ≡ Some p → (d : Db) → (engine_view self.old).db ≡ Some d → o ≡ shown_of (as_described self.old.desc) d p set) }
         ensures stands { OnOk result (SameSession self.old self.new) }
         ensures programs { self.new.programs.items ≡ self.old.programs.items }
         ensures points { OnOk result (StaysDurable (engine_view self.old) (engine_view self.new)) }
@@ -83,14 +63,9 @@ impl<St: Store> Engine<St> {
         ensures effort { (engine_view self.new).effort ≡ (engine_view self.old).effort }
         ensures mute_fault { IsErrOf result BlockFault.Say → ⊥ }
         ensures room { NotFull result }
-        ensures landmarks { AddsItsLandmarks false result (engine_view self.old).landmarks (engine_view self.new).landmarks [] }
         ensures lasts { EngineLasts result self.old self.new }
     {
-        match path {
-            Path::First(x) => self.store.first_from(alloc, *x, owner, &Bound::Start),
-            Path::Last(x) => self.store.last_to(alloc, *x, owner, &Bound::End),
-            Path::At(x, literals) => self.found_at(alloc, *x, owner, literals.as_slice()),
-        }
+        shown(alloc, &mut self.store, &self.desc, &self.programs[i], set)
     }
 
     /// FIND.
@@ -104,21 +79,81 @@ impl<St: Store> Engine<St> {
         ensures costs { Costs 0 false result (engine_view self.old).effort (engine_view self.new).effort }
         ensures mute_fault { IsErrOf result BlockFault.Say → ⊥ }
         ensures room { NotFull result }
-        ensures landmarks { VerbLandmarks false result (engine_view self.old) (engine_view self.new) }
         ensures lasts { EngineLasts result self.old self.new }
     {
-        let x = apart::path_of(path);
-        let name = self.desc.name_of(x);
-        let set = self.desc.set_of(x);
-        let Some(owner) = areas::owner_for(&self.desc, &self.programs[i], x) else {
-            let owned = self.desc.name_of(owner_of(&self.desc, x));
-            return Ok(refuse(Category::NoRecord, owned));
+        let spot = match self.seek(alloc, i, path)? {
+            Seeking::Missed(category, name) => return Ok(refuse(category, name)),
+            Seeking::Met(spot) => spot,
         };
-        let Some(spot) = self.find_spot(alloc, owner, path)? else {
-            return Ok(refuse(Category::NotFound, name));
-        };
-        areas::find(&mut self.programs[i], set, spot);
+        areas::find(&mut self.programs[i], &self.desc, path, spot);
         Ok(succeed(alloc))
+    }
+
+    /// LOCK and MODIFY.
+    #[tactic(auto, using(std::proofs::lemmas::Option::gets), unfolding(dms_model::specs::Session::lock_step))]
+    fn lock(&mut self, alloc: Global, i: usize, path: &Path) -> Result<Answer, BlockFault>
+        requires path { IsPathOf (as_described self.old.desc) path.now }
+        requires place { i < length self.old.programs.items }
+        requires sound { (engine_view self.old).sound }
+        ensures step { (p : Program) → slice_get self.old.programs.items i ≡ Some p → Does self.old self.new result (λ s. lock_step (as_described self.old.desc) i p s path.now) }
+        ensures mute { IsMute (engine_view self.old) (engine_view self.new) }
+        ensures costs { Costs 0 false result (engine_view self.old).effort (engine_view self.new).effort }
+        ensures mute_fault { IsErrOf result BlockFault.Say → ⊥ }
+        ensures room { NotFull result }
+        ensures lasts { EngineLasts result self.old self.new }
+    {
+        let spot = match self.seek(alloc, i, path)? {
+            Seeking::Missed(category, name) => return Ok(refuse(category, name)),
+            Seeking::Met(spot) => spot,
+        };
+        let set = found_in(&self.desc, path);
+        let name = programs::program_name(&self.programs[i]);
+        let places = [(set, spot.number)];
+        let who = blockers(alloc, &places, &name, self.programs.as_slice())?;
+        match self.waits.verdict(alloc, &name, who.as_slice())? {
+            Verdict::Deadlocks => {
+                return Ok(refuse(Category::Deadlock, self.desc.name_of(set)));
+            }
+            Verdict::Waits => return Ok(wait_for(who)),
+            Verdict::Goes => {}
+        }
+        areas::lock_found(&mut self.programs[i], &self.desc, path, spot)?;
+        Ok(succeed(alloc))
+    }
+
+    /// GET.
+    #[tactic(auto, using(std::proofs::lemmas::Option::gets), unfolding(dms_model::specs::Session::get_step))]
+    fn get(
+        &mut self,
+        alloc: Global,
+        i: usize,
+        set: u16,
+        numbers: &ItemNumbers,
+    ) -> Result<Answer, BlockFault>
+        requires outer { IsOuter (structure_of (as_described self.old.desc) set) }
+        requires place { i < length self.old.programs.items }
+        requires sound { (engine_view self.old).sound }
+        ensures step { (p : Program) → slice_get self.old.programs.items i ≡ Some p → Does self.old self.new result (λ s. get_step (as_described self.old.desc) i p s set numbers.now) }
+        ensures mute { IsMute (engine_view self.old) (engine_view self.new) }
+        ensures costs { Costs 0 false result (engine_view self.old).effort (engine_view self.new).effort }
+        ensures mute_fault { IsErrOf result BlockFault.Say → ⊥ }
+        ensures room { NotFull result }
+        ensures lasts { EngineLasts result self.old self.new }
+    {
+        let Some(values) = self.show(alloc, i, set)? else {
+            return Ok(refuse(Category::NoRecord, self.desc.name_of(set)));
+        };
+        let text = get_text(
+            alloc,
+            self.desc.items_of(set),
+            values.as_slice(),
+            numbers.as_slice(),
+        )?;
+        areas::carry(&mut self.programs[i]);
+        Ok(Answer {
+            reply: Reply::Done(text),
+            sync: None,
+        })
     }
 
     /// The verb of an open program that owes no ABORT and may do it.
@@ -130,7 +165,7 @@ impl<St: Store> Engine<St> {
         ensures step { (p : Program) → slice_get self.old.programs.items i ≡ Some p → Does self.old self.new result (λ s. verb_step (as_described self.old.desc) i p s verb.now) }
         ensures mute { IsMute (engine_view self.old) (engine_view self.new) }
         ensures costs { Costs (block_limit (engine_view self.old).desc verb.now) (asks_back_out verb.now) result (engine_view self.old).effort (engine_view self.new).effort }
-        ensures no_memory { takes_none verb.now ≡ true → IsErrOf result BlockFault.Memory → ⊥ }
+        ensures no_memory { takes_none verb.now ≡ true → (engine_view self.old).next + 1 < 2 ^ 64 → IsErrOf result BlockFault.Memory → ⊥ }
         ensures no_wait { takes_none verb.now ≡ true → IfOk result (λ a. is_waits a.reply ≡ false) }
         ensures idle { IfOk result (λ a. is_waits a.reply ≡ true → (engine_view self.new).effort.spent ≤ (engine_view self.old).effort.spent) }
         ensures mute_fault { IsErrOf result BlockFault.Say → ⊥ }
@@ -138,8 +173,6 @@ impl<St: Store> Engine<St> {
         ensures file { IfFull result (λ f. f ≡ full_file verb.now (engine_view self.old).pace.last) }
         ensures full { (p : Program) → slice_get self.old.programs.items i ≡ Some p → FullFor self.old result verb.now (λ s. verb_step (as_described self.old.desc) i p s verb.now) }
         ensures no_point { (p : Program) → slice_get self.old.programs.items i ≡ Some p → NoPointWhere MayStep self.old self.new result (λ s. verb_step (as_described self.old.desc) i p s verb.now) }
-        ensures lacks { (p : Program) → slice_get self.old.programs.items i ≡ Some p → LacksRecord self.old self.new result verb.now (λ s. verb_step (as_described self.old.desc) i p s verb.now) }
-        ensures landmarks { VerbLandmarks (asks_back_out verb.now) result (engine_view self.old) (engine_view self.new) }
         ensures lasts { EngineLasts result self.old self.new }
     {
         match verb {
@@ -151,6 +184,8 @@ impl<St: Store> Engine<St> {
             }
             Verb::Close => Ok(apart::close(alloc, &mut self.programs, i)?),
             Verb::Find(path) => self.find(alloc, i, path),
+            Verb::Lock(path) => self.lock(alloc, i, path),
+            Verb::Free(set) => Ok(apart::free(alloc, &self.desc, &mut self.programs, i, *set)),
             Verb::Create(set) => Ok(apart::create(alloc, &self.desc, &mut self.programs, i, *set)?),
             Verb::Put(set, settings) => Ok(apart::put(
                 alloc,
@@ -160,14 +195,7 @@ impl<St: Store> Engine<St> {
                 *set,
                 settings,
             )?),
-            Verb::Get(set, numbers) => Ok(apart::get(
-                alloc,
-                &self.desc,
-                &mut self.programs,
-                i,
-                *set,
-                numbers,
-            )?),
+            Verb::Get(set, numbers) => self.get(alloc, i, *set, numbers),
             Verb::Store(set) => self.store(alloc, i, *set),
             Verb::Begin(audit) => self.begin(alloc, i, *audit),
             Verb::End(audit, sync) => self.end_transaction(alloc, i, *audit, *sync),
@@ -188,7 +216,7 @@ impl<St: Store> Engine<St> {
         ensures step { Does self.old self.new result (λ s. carried_out (as_described self.old.desc) s program.now verb.now) }
         ensures mute { IsMute (engine_view self.old) (engine_view self.new) }
         ensures costs { Costs (block_limit (engine_view self.old).desc verb.now) (asks_back_out verb.now) result (engine_view self.old).effort (engine_view self.new).effort }
-        ensures no_memory { takes_none verb.now ≡ true → IsErrOf result BlockFault.Memory → ⊥ }
+        ensures no_memory { takes_none verb.now ≡ true → (engine_view self.old).next + 1 < 2 ^ 64 → IsErrOf result BlockFault.Memory → ⊥ }
         ensures no_wait { takes_none verb.now ≡ true → IfOk result (λ a. is_waits a.reply ≡ false) }
         ensures idle { IfOk result (λ a. is_waits a.reply ≡ true → (engine_view self.new).effort.spent ≤ (engine_view self.old).effort.spent) }
         ensures mute_fault { IsErrOf result BlockFault.Say → ⊥ }
@@ -196,8 +224,6 @@ impl<St: Store> Engine<St> {
         ensures file { IfFull result (λ f. f ≡ full_file verb.now (engine_view self.old).pace.last) }
         ensures full { FullFor self.old result verb.now (λ s. carried_out (as_described self.old.desc) s program.now verb.now) }
         ensures no_point { NoPointWhere MayStep self.old self.new result (λ s. carried_out (as_described self.old.desc) s program.now verb.now) }
-        ensures lacks { LacksRecord self.old self.new result verb.now (λ s. carried_out (as_described self.old.desc) s program.now verb.now) }
-        ensures landmarks { VerbLandmarks (asks_back_out verb.now) result (engine_view self.old) (engine_view self.new) }
         ensures lasts { EngineLasts result self.old self.new }
     {
         let i = programs::place_of(self.programs.as_slice(), program);
@@ -210,11 +236,11 @@ impl<St: Store> Engine<St> {
         self.verb(alloc, i, verb)
     }
 
-    /// One step of a program: its verb, one that a line can spell, is carried out, and its answer ends its wait or begins one.
-    /// Answers the store's fault, which is never Say, and Full for STORE, BEGIN, END and ABORT alone; and Memory where memory is refused. Where
-    /// the store holds a database, Full comes only of a verb that would be done and store a record or make a quiet point, or of such an ABORT.
-    /// No stop then leaves the verb's quiet point, unless a control point was due at the sync of its syncpoint; and of a verb that stores
-    /// a record and makes none, the records in the store are those of the database with it but for one.
+    /// One step of a program: its verb, one that a line can spell, is carried out, and its answer ends its wait or begins
+    /// one; DEADLOCK frees its locks. Answers the store's fault, which is never Say, and Full for STORE, BEGIN, END and
+    /// ABORT alone; and Memory where memory is refused. Where the store holds a database, Full comes only of a verb that
+    /// would be done and store a record or make a quiet point, or of such an ABORT. No stop then leaves the verb's quiet
+    /// point, unless a control point was due at the sync of its syncpoint.
     #[tactic(auto, using(std::proofs::lemmas::Option::gets), unfolding(dms_model::specs::Session::step))]
     pub fn call(&mut self, alloc: Global, program: &Name, verb: &Verb) -> Result<Answer, BlockFault>
         requires verb { IsVerbOf (as_described self.old.desc) verb.now }
@@ -222,19 +248,18 @@ impl<St: Store> Engine<St> {
         ensures step { Does self.old self.new result (λ s. step (as_described self.old.desc) s program.now verb.now) }
         ensures mute { IsMute (engine_view self.old) (engine_view self.new) }
         ensures costs { Costs (block_limit (engine_view self.old).desc verb.now) (asks_back_out verb.now) result (engine_view self.old).effort (engine_view self.new).effort }
-        ensures no_memory { takes_none verb.now ≡ true → IsErrOf result BlockFault.Memory → ⊥ }
+        ensures no_memory { takes_none verb.now ≡ true → (engine_view self.old).next + 1 < 2 ^ 64 → IsErrOf result BlockFault.Memory → ⊥ }
         ensures idle { IfOk result (λ a. is_waits a.reply ≡ true → (engine_view self.new).effort.spent ≤ (engine_view self.old).effort.spent) }
         ensures mute_fault { IsErrOf result BlockFault.Say → ⊥ }
         ensures room { changes verb.now ≡ false → NotFull result }
         ensures file { IfFull result (λ f. f ≡ full_file verb.now (engine_view self.old).pace.last) }
         ensures full { FullFor self.old result verb.now (λ s. step (as_described self.old.desc) s program.now verb.now) }
         ensures no_point { NoPointWhere MayStep self.old self.new result (λ s. step (as_described self.old.desc) s program.now verb.now) }
-        ensures lacks { LacksRecord self.old self.new result verb.now (λ s. step (as_described self.old.desc) s program.now verb.now) }
-        ensures landmarks { VerbLandmarks (asks_back_out verb.now) result (engine_view self.old) (engine_view self.new) }
         ensures lasts { EngineLasts result self.old self.new }
     {
         let answer = self.carry_out(alloc, program, verb)?;
-        self.waits.answer(alloc, program, &answer.reply)?;
+        programs::free_if(self.programs.as_mut_slice(), program, &answer.reply);
+        programs::note_answer(alloc, &mut self.waits, program, &answer.reply)?;
         Ok(answer)
     }
 }

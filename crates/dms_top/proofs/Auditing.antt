@@ -13,10 +13,11 @@ use Rattle.dms_audprint.specs.AuditText.{HasTrail}
 use Rattle.dms_audprint.specs.Printing.{PrintsSome, IsLate, RefusesAudit}
 use Rattle.dms_audprint.specs.declared.fault.PrintFault.{PrintFault}
 use Rattle.dms_audprint.specs.declared.fault.PrintFault.TheVariants.{Audit, Say}
-use Rattle.dms_status.specs.declared.status.Status.TheVariants.{Ok, SayFault, DiskFault}
+use Rattle.dms_status.specs.declared.status.Status.{Status}
+use Rattle.dms_status.specs.declared.status.Status.TheVariants.{Ok, BadWords, SchemaRefused, NoDatabase, Needed, InputFault, Memory, Limit, Damaged, SayFault, DiskFault, Exists}
 use Rattle.dms_top.specs.Auditing.{IsOfPrinting, JudgesTrail, audit_status}
 use Rattle.dms_audfile.specs.Counting.{CountedAt}
-use Rattle.dms_top.specs.Words.{ComesUnsaid}
+use Rattle.dms_top.specs.Words.{ComesUnsaid, IsUntouched}
 
 module _ {T : Type 0} where
   pub of_printing : (r : Result T PrintFault) → IsOfPrinting (audit_status r)
@@ -97,6 +98,21 @@ module _ {T : Type 0} where
 
   pub of_say : (r : Result T PrintFault) → IsErrOf r Say → audit_status r ≡ SayFault
   of_say r is = ap (λ (q : Result T PrintFault). audit_status q) is
+
+-- none of its statuses comes before a call on the site
+pub print_untouched : (s : Status) → IsOfPrinting s → IsUntouched s → ⊥
+print_untouched Ok of is = is
+print_untouched BadWords of is = of
+print_untouched (SchemaRefused f) of is = of
+print_untouched NoDatabase of is = is
+print_untouched (Needed n) of is = is
+print_untouched InputFault of is = is
+print_untouched Memory of is = is
+print_untouched (Limit l) of is = is
+print_untouched (Damaged f b) of is = is
+print_untouched SayFault of is = is
+print_untouched DiskFault of is = is
+print_untouched Exists of is = is
 
 -- a count of a call below, by the status that it is told as
 pub counted_as : (P Q : Type 0) (a b : ℕ) → (Q → P) → (P → Q) → counting.CountedAt P a b → CountedAt Q a b

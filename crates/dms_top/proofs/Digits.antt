@@ -128,3 +128,9 @@ same_tag o a b one two = one_of (one ∙ two)
   where
     one_of : Some a ≡ Some b → a ≡ b
     one_of e = cc
+
+pub no_tag : (o : Option ℕ) (tag : ℕ) → None ≡ o → o ≡ Some tag → ⊥
+no_tag o tag none says = not_some (none ∙ says)
+  where
+    not_some : None ≡ Some tag → ⊥
+    not_some e = absurd cc

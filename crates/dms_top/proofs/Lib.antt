@@ -1,5 +1,6 @@
 pub mod Auditing
 pub mod Carried
+pub mod Compiling
 pub mod Counting
 pub mod Creating
 pub mod Cutting
@@ -9,6 +10,7 @@ pub mod Printing
 pub mod Sealed
 pub mod Stands
 pub mod Taken
+pub mod Trying
 pub mod Words
 pub mod WholeInput
 mod Running

@@ -1,5 +1,5 @@
 -- What a site that tells its text has printed.
-use Rattle.std.proofs.Common.{◌≡◌, ◌++◌, ◌∙◌, ap, sym, subst, refl, arith, inl, Bool, true, false, Option, List, [], ℕ, length, take, Ok, Err, Result, IsOk, OnOk}
+use Rattle.std.proofs.Common.{◌≡◌, ◌++◌, ◌∙◌, ap, sym, subst, refl, arith, inl, Bool, true, false, Option, List, [], ℕ, length, length-take, take, Ok, Err, Result, IsOk, OnOk}
 use Rattle.std.proofs.lemmas.List.{append-nil}
 use Rattle.std.proofs.lemmas.Option.{same_Some}
 use Rattle.dms_desc.specs.Shape.{Described}
@@ -10,11 +10,12 @@ use Rattle.dms_storeverbs.specs.View.{View, StandsFor}
 use Rattle.dms_plain.specs.Told.{text_if}
 use Rattle.dms_runner.specs.Answers.{answers_text, lines_run, script_events, script_run}
 use Rattle.dms_runner.specs.Events.{RunEvent, SaidWhole, text_of}
-use Rattle.dms_runner.specs.Running.{AnswersWhole, bytes_of}
+use Rattle.dms_runner.specs.Running.{AnswersWhole, PassesBytes, PassesLines, PassesWaiting, TakesLines, bytes_of}
 use Rattle.dms_status.specs.declared.status.SchemaFault.{SchemaFault}
 use Rattle.dms_status.specs.declared.status.Status.{Status}
 use Rattle.dms_status.specs.declared.status.LimitKind.{LimitKind}
-use Rattle.dms_top.specs.Answering.{Printed, PrintedFront, PrintedPrefix, PrintedWhole, WithinLimits, PassesLimit, judged_events, judged_text}
+use Rattle.dms_top.specs.Answering.{Printed, PrintedFront, PrintedPart, PrintedPrefix, PrintedWhole, judged_events}
+use Rattle.dms_top.specs.TryLimits.{PassesLimit, TooManyBytes, TooManyHeld, TooManyLines, WithinLimits}
 
 -- a text that is told
 pub told_prints : (b : Bool) (before after text : List ℕ) → b ≡ true → Prints (text_if b before) (text_if b after) text → Printed before after text
@@ -28,28 +29,31 @@ told_front false before after text is prints = absurd (cc)
 pub limits_kept : (d : Described) (lines : List (List ℕ)) (before after : Option (List ℕ)) → AnswersWhole d empty_db 1 lines before after → WithinLimits d lines
 limits_kept d lines before after a = record { few = a.few; short = a.short; room = a.room }
 
+-- the same of the lines that were taken
+pub within_front : (d : Described) (lines : List (List ℕ)) (n : ℕ) (before after : Option (List ℕ)) → TakesLines d empty_db 1 lines n before after → WithinLimits d (take n lines)
+within_front d lines n before after t = record { few = omega (arith, length-take n lines, t.within, t.few); short = t.short; room = t.room }
+
+pub too_many_lines : (d : Described) (lines : List (List ℕ)) (before after : Option (List ℕ)) → PassesLines d empty_db 1 lines before after → TooManyLines d lines
+too_many_lines d lines before after p = (p.0, within_front d lines 1000000 before after p.1)
+
+pub too_many_bytes : (d : Described) (lines : List (List ℕ)) (before after : Option (List ℕ)) → PassesBytes d empty_db 1 lines before after → TooManyBytes d lines
+too_many_bytes d lines before after p = record { n = p.n; before = within_front d lines p.n before after p.took; few = p.few; over = p.over }
+
+pub too_many_held : (d : Described) (lines : List (List ℕ)) (before after : Option (List ℕ)) → PassesWaiting d empty_db 1 lines before after → TooManyHeld d lines
+too_many_held d lines before after p = record { n = p.n; before = within_front d lines p.n before after p.took; few = p.few; short = p.short; full = p.full }
+
 pub nothing_printed : (before after text : List ℕ) → after ≡ before → PrintedPrefix before after text
 nothing_printed before after text same = (0, same ∙ sym (append-nil before))
-
--- the text of an accepted schema's script
-pub text_accepted : (j : Result Described SchemaFault) (d : Described) (lines : List (List ℕ)) → j ≡ Ok d → judged_text j lines ≡ answers_text d empty_db 1 lines
-text_accepted j d lines is = ap (λ (x : Result Described SchemaFault). judged_text x lines) is
 
 pub stands_at : (v : View) (n m : ℕ) → n ≡ m → StandsFor v (fresh_session empty_db n) → StandsFor v (fresh_session empty_db m)
 stands_at v n m same stands = subst (λ (k : ℕ). StandsFor v (fresh_session empty_db k)) same stands
 
 -- the same texts
-pub front_moved : (before after text before' after' text' : List ℕ) → after ≡ after' → before ≡ before' → text ≡ text' → PrintedPrefix before' after' text' → PrintedPrefix before after text
-front_moved before after text before' after' text' a b t p = (p.0, a ∙ p.1 ∙ ap (λ (x : List ℕ). x ++ take p.0 text') (sym b) ∙ ap (λ (x : List ℕ). before ++ take p.0 x) (sym t))
-
 pub printed_moved : (before after text before' after' text' : List ℕ) → after ≡ after' → before ≡ before' → text ≡ text' → Printed before' after' text' → Printed before after text
 printed_moved before after text before' after' text' a b t p = a ∙ p ∙ ap (λ (x : List ℕ). x ++ text') (sym b) ∙ ap (λ (x : List ℕ). before ++ x) (sym t)
 
-pub passes_moved : (k : LimitKind) (d d' : Described) (lines : List (List ℕ)) (b : Bool) (before after before' after' : List ℕ) → after ≡ after' → before ≡ before' → d ≡ d'
-    → PassesLimit k d' lines (text_if b before') (text_if b after') → PassesLimit k d lines (text_if b before) (text_if b after)
-passes_moved k d d' lines b before after before' after' a o e p =
-    subst (λ (x : List ℕ). PassesLimit k d lines (text_if b before) (text_if b x)) (sym a)
-    (subst (λ (x : List ℕ). PassesLimit k d lines (text_if b x) (text_if b after')) (sym o) (subst (λ (x : Described). PassesLimit k x lines (text_if b before') (text_if b after')) (sym e) p))
+pub passes_described : (k : LimitKind) (d d' : Described) (lines : List (List ℕ)) → d ≡ d' → PassesLimit k d' lines → PassesLimit k d lines
+passes_described k d d' lines e p = subst (λ (x : Described). PassesLimit k x lines) (sym e) p
 
 pub within_moved : (d d' : Described) (lines : List (List ℕ)) → d ≡ d' → WithinLimits d' lines → WithinLimits d lines
 within_moved d d' lines e w = subst (λ (x : Described). WithinLimits x lines) (sym e) w
@@ -71,8 +75,8 @@ same_description j d e first then_ = ap (or_that d) (sym then_ ∙ first)
 pub within_lines : (d : Described) (lines lines' : List (List ℕ)) → lines' ≡ lines → WithinLimits d lines' → WithinLimits d lines
 within_lines d lines lines' e w = subst (λ (x : List (List ℕ)). WithinLimits d x) e w
 
-pub passes_lines : (k : LimitKind) (d : Described) (lines lines' : List (List ℕ)) (before after : Option (List ℕ)) → lines' ≡ lines → PassesLimit k d lines' before after → PassesLimit k d lines before after
-passes_lines k d lines lines' before after e p = subst (λ (x : List (List ℕ)). PassesLimit k d x before after) e p
+pub passes_lines : (k : LimitKind) (d : Described) (lines lines' : List (List ℕ)) → lines' ≡ lines → PassesLimit k d lines' → PassesLimit k d lines
+passes_lines k d lines lines' e p = subst (λ (x : List (List ℕ)). PassesLimit k d x) e p
 
 pub not_refused : (j : Result Described SchemaFault) (d : Described) (e : SchemaFault) → j ≡ Ok d → j ≡ Err e → ⊥
 not_refused (Ok x) d e p q = absurd (cc)
@@ -86,10 +90,13 @@ told_whole b before after events is whole = (whole.0, told_prints b before after
 pub nothing_whole : (before after : List ℕ) (events : List RunEvent) → after ≡ before → PrintedWhole before after events
 nothing_whole before after events same = (0, same ∙ sym (append-nil before))
 
-pub whole_moved : (before after before' after' : List ℕ) (events events' : List RunEvent) → after ≡ after' → before ≡ before' → events ≡ events' → PrintedWhole before' after' events' → PrintedWhole before after events
-whole_moved before after before' after' events events' a b e p =
-    subst (λ (x : List ℕ). PrintedWhole before x events) (sym a)
-    (subst (λ (x : List ℕ). PrintedWhole x after' events) (sym b) (subst (λ (x : List RunEvent). PrintedWhole before' after' x) (sym e) p))
+pub nothing_part : (status : Status) (before after : List ℕ) (events : List RunEvent) → after ≡ before → PrintedPart status before after events
+nothing_part status before after events same = record { text = nothing_printed before after (text_of events) same; whole = λ printed. nothing_whole before after events same }
+
+pub part_moved : (status : Status) (before after before' after' : List ℕ) (events events' : List RunEvent) → after ≡ after' → before ≡ before' → events ≡ events' → PrintedPart status before' after' events' → PrintedPart status before after events
+part_moved status before after before' after' events events' a b e p =
+    subst (λ (x : List ℕ). PrintedPart status before x events) (sym a)
+    (subst (λ (x : List ℕ). PrintedPart status x after' events) (sym b) (subst (λ (x : List RunEvent). PrintedPart status before' after' x) (sym e) p))
 
 pub events_accepted : (j : Result Described SchemaFault) (d : Described) (lines : List (List ℕ)) → j ≡ Ok d → judged_events j lines ≡ script_events d empty_db 1 lines
 events_accepted j d lines is = ap (λ (x : Result Described SchemaFault). judged_events x lines) is
@@ -102,8 +109,7 @@ front_none status d lines before after same = record {
   events = (script_run d empty_db 1 (take 0 lines)).events;
   front = record { within = omega arith; few = omega arith; short = omega arith };
   are = inl refl;
-  text = nothing_printed before after _ same;
-  whole = λ printed. nothing_whole before after _ same;
+  part = nothing_part status before after _ same;
 }
 
 pub printed_front : (status : Status) (d d' : Described) (lines lines' : List (List ℕ)) (before after before' after' : List ℕ) → after ≡ after' → before ≡ before' → d ≡ d' → lines ≡ lines'

@@ -56,3 +56,21 @@ print_no_run ws one two = apart (ap first_byte (sym one ∙ two))
   where
     apart : ◌≡◌ {A = ℕ} 112 114 → ⊥
     apart e = absurd (omega (arith, e))
+
+pub try_no_compile : (ws : List (List ℕ)) → ws ≡ codes "try" ∷ [] → ws ≡ codes "compile" ∷ [] → ⊥
+try_no_compile ws one two = apart (ap first_byte (sym one ∙ two))
+  where
+    apart : ◌≡◌ {A = ℕ} 116 99 → ⊥
+    apart e = absurd (omega (arith, e))
+
+pub try_no_print : (ws : List (List ℕ)) → ws ≡ codes "try" ∷ [] → ws ≡ codes "print" ∷ codes "audit" ∷ [] → ⊥
+try_no_print ws one two = apart (ap first_byte (sym one ∙ two))
+  where
+    apart : ◌≡◌ {A = ℕ} 116 112 → ⊥
+    apart e = absurd (omega (arith, e))
+
+pub compile_no_print : (ws : List (List ℕ)) → ws ≡ codes "compile" ∷ [] → ws ≡ codes "print" ∷ codes "audit" ∷ [] → ⊥
+compile_no_print ws one two = apart (ap first_byte (sym one ∙ two))
+  where
+    apart : ◌≡◌ {A = ℕ} 99 112 → ⊥
+    apart e = absurd (omega (arith, e))

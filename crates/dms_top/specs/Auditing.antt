@@ -1,18 +1,21 @@
--- The command `print audit`.
-use Rattle.std.specs.Prelude.{⊤}
+-- The command `print audit`: its statuses, and its promises.
+use Rattle.std.specs.Prelude.{◌≡◌, ⊤, IsTrue}
 use Rattle.std.specs.declared.result.Result.{Result}
 use Rattle.std.specs.declared.result.Result.TheVariants as result
+use Rattle.dms_plain.specs.Speaking.{OnlySpeaks}
+use Rattle.dms_site.specs.declared.site.Site.{Ghosts}
 use Rattle.dms_site.specs.Files.{Files}
 use Rattle.dms_audfile.specs.AuditTrail.{TrailIs}
 use Rattle.dms_audfile.specs.Scanning.{no_database, unsealed, missing, damaged, foreign}
 use Rattle.dms_audfile.specs.declared.fault.AudFault.TheVariants as fault
-use Rattle.dms_audprint.specs.AuditText.{HasTrail}
+use Rattle.dms_audprint.specs.AuditText.{HasTrail, PrintsAudit, PrintsPart}
 use Rattle.dms_audprint.specs.declared.fault.PrintFault.{PrintFault}
 use Rattle.dms_audprint.specs.declared.fault.PrintFault.TheVariants.{Audit, Say}
 use Rattle.dms_status.specs.declared.status.NeedFault.{NeedFault}
 use Rattle.dms_status.specs.declared.status.NeedFault.TheVariants.{NoDescription, AuditMissing, AuditUnsealed, AuditForeign, NoSuchPoint, Voided, DumpPending}
 use Rattle.dms_status.specs.declared.status.Status.{Status}
 use Rattle.dms_status.specs.declared.status.Status.TheVariants.{Ok, BadWords, SchemaRefused, NoDatabase, Needed, InputFault, Memory, Limit, Damaged, SayFault, DiskFault, Exists}
+use Rattle.dms_top.specs.Words.{ComesUnsaid}
 
 -- the need of an audit file
 abbrev pub IsOfAudit : NeedFault → Type 0
@@ -76,3 +79,20 @@ audit_status (result.Err (Audit (fault.Damaged f b))) = Damaged f b
 audit_status (result.Err (Audit (fault.Foreign k))) = Needed (AuditForeign k)
 audit_status (result.Err (Audit fault.Memory)) = Memory
 audit_status (result.Err Say) = SayFault
+
+-- What `print audit` promises of a site before and after it, and of the status.
+pub record AuditDoes {S : Type 0} (g : Ghosts S) (old new : S) (status : Status) : Type 0 where
+  -- only the statuses 0, 3, 4 for an audit file, 5, 7, 9 and 10 come
+  pub statuses : IsOfPrinting status
+  -- at status 0 exactly a line for each entry of the trail was printed
+  pub prints : status ≡ Ok → IsTrue g.tells → IsTrue g.tells_said → PrintsAudit (g.files old) (g.said old) (g.said new)
+  -- at every status a prefix of these lines was printed, or nothing
+  pub part : IsTrue g.tells → IsTrue g.tells_said → PrintsPart (g.files old) (g.said old) (g.said new)
+  -- at the statuses 3, 4 and 9 nothing was printed
+  pub silent : IsTrue g.tells → ComesUnsaid status → g.said new ≡ g.said old
+  -- at status 0 the files hold a trail; those three come only as its first refusal, in the order of scanning
+  pub refused : IsTrue g.tells → JudgesTrail (g.files old) status
+  -- the files stay
+  pub files : IsTrue g.tells → g.files new ≡ g.files old
+  -- a stop at each moment leaves what a stop at entry could leave, with more text or none
+  pub only_speaks : OnlySpeaks (g.clock old) (g.clock new)

@@ -1,4 +1,3 @@
-pub mod SiteText
 pub mod Answering
 pub mod Auditing
 pub mod Compiling
@@ -9,4 +8,6 @@ pub mod Premises
 pub mod Schema
 pub mod State
 pub mod Taking
+pub mod Trying
+pub mod TryLimits
 pub mod Words

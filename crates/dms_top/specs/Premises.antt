@@ -1,5 +1,5 @@
 -- What the clauses of the commands are said of: the words of the command, the input, and the counts of failures.
-use Rattle.std.specs.Prelude.{ℕ, ◌≡◌, ◌⊎◌, List, Some, map}
+use Rattle.std.specs.Prelude.{ℕ, ◌≡◌, List, Some, map}
 use Rattle.std.specs.String.{string_bytes}
 use Rattle.std.specs.declared.string.String.{String}
 use Rattle.std.specs.declared.alloc.Global.{Global}
@@ -12,7 +12,7 @@ use Rattle.dms_site.specs.Files.{Files}
 use Rattle.dms_status.specs.declared.status.SchemaFault.{SchemaFault}
 use Rattle.dms_top.specs.Judging.{judge_schema}
 use Rattle.dms_top.specs.Schema.{schema_text}
-use Rattle.dms_top.specs.Words.{IsTry, IsCompile, IsPrintAudit, IsRun, initialize_tag}
+use Rattle.dms_top.specs.Words.{IsTry, IsCompile, IsPrintAudit, IsReading, IsRun, initialize_tag}
 
 -- it holds where the words are those of `try`
 abbrev pub OnTry : List (String Global) → Type 0 → Type 0
@@ -40,7 +40,11 @@ OnInitialize words P = (tag : ℕ) → initialize_tag (map string_bytes words) �
 
 -- it holds where the words are those of a command that reads its input
 abbrev pub OnReading : List (String Global) → Type 0 → Type 0
-OnReading words P = (IsTry (map string_bytes words) ⊎ (IsCompile (map string_bytes words) ⊎ IsRun (map string_bytes words))) → P
+OnReading words P = IsReading (map string_bytes words) → P
+
+-- it holds where they are not: of `initialize`, of `print audit`, and of no command
+abbrev pub OnUnread : List (String Global) → Type 0 → Type 0
+OnUnread words P = (IsReading (map string_bytes words) → ⊥) → P
 
 -- it holds of all the bytes of the input, where the input tells them
 abbrev pub OfInput : Option (List ℕ) → (List ℕ → Type 0) → Type 0

@@ -22,6 +22,10 @@ IsPrintAudit words = words ≡ codes "print" ∷ codes "audit" ∷ []
 abbrev pub IsRun : List (List ℕ) → Type 0
 IsRun words = words ≡ codes "run" ∷ []
 
+-- the words of a command that reads its input
+abbrev pub IsReading : List (List ℕ) → Type 0
+IsReading words = IsTry words ⊎ (IsCompile words ⊎ IsRun words)
+
 -- plain digits alone
 abbrev pub are_digits : List ℕ → Bool
 are_digits [] = true

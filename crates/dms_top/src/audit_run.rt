@@ -1,11 +1,9 @@
 //! `print audit`.
 
-ghost use Rattle.std.specs.Prelude.{◌≡◌, ◌↔◌, map, string_bytes, IsTrue};
-ghost use Rattle.dms_plain.specs.Speaking.{OnlySpeaks};
-ghost use Rattle.dms_audprint.specs.AuditText.{PrintsAudit, PrintsPart};
-ghost use Rattle.dms_top.specs.Auditing.{IsOfPrinting, JudgesTrail, audit_status};
+ghost use Rattle.std.specs.Prelude.{◌≡◌, ◌≢◌, ◌↔◌, map, string_bytes, IsTrue};
+ghost use Rattle.dms_top.specs.Auditing.{AuditDoes, audit_status};
 ghost use Rattle.dms_audfile.specs.Counting.{CountedAt};
-ghost use Rattle.dms_top.specs.Words.{IsPrintAudit, ComesUnsaid};
+ghost use Rattle.dms_top.specs.Words.{IsPrintAudit, IsUntouched};
 
 use dms_audfile::AudFault;
 use dms_audprint::{PrintFault, print_audit};
@@ -46,16 +44,13 @@ fn status_of(printed: Result<(), PrintFault>) -> Status
 
 /// `print audit`: prints a line for each sealed entry of the audit trail, in order. It changes no file.
 pub fn print_trail<S: Site>(alloc: Global, site: &mut S) -> Status
-    ensures statuses { IsOfPrinting result }
-    ensures prints { result ≡ Status.Ok → IsTrue S.tells → IsTrue S.tells_said → PrintsAudit (S.files site.old) (S.said site.old) (S.said site.new) }
-    ensures part { IsTrue S.tells → IsTrue S.tells_said → PrintsPart (S.files site.old) (S.said site.old) (S.said site.new) }
-    ensures silent { IsTrue S.tells → ComesUnsaid result → S.said site.new ≡ S.said site.old }
-    ensures refused { IsTrue S.tells → JudgesTrail (S.files site.old) result }
-    ensures files { IsTrue S.tells → S.files site.new ≡ S.files site.old }
-    ensures only_speaks { OnlySpeaks (S.clock site.old) (S.clock site.new) }
-    ensures same_site { S.same_site site.old site.new }
+    ensures does { AuditDoes S.Site site.old site.new result }
+    ensures words { result ≢ Status.BadWords }
+    ensures untouched { IsUntouched result → site.new ≡ site.old }
     ensures disk { CountedAt (result ≡ Status.DiskFault) (S.disk_faults site.old) (S.disk_faults site.new) }
     ensures say { CountedAt (result ≡ Status.SayFault) (S.say_faults site.old) (S.say_faults site.new) }
+    ensures input { result ≢ Status.InputFault }
+    ensures same_site { S.same_site site.old site.new }
 {
     let printed = print_audit(alloc, site);
     status_of(printed)

@@ -1,15 +1,12 @@
-ghost use Rattle.std.specs.Prelude.{◌≡◌, ◌≢◌, ◌≤◌, [], ℕ, Some, Ok, Err, IfOk, IsOk, IsTrue, length};
+ghost use Rattle.std.specs.Prelude.{◌≡◌, ◌≢◌, ◌≤◌, [], ℕ, Some, IfOk, IsTrue, length};
 ghost use Rattle.dms_desc.specs.Shape.{Described, as_described};
 ghost use Rattle.dms_desc_bytes.specs.Spelling.{spelling};
 ghost use Rattle.dms_descfile.specs.DescriptionFile.{sealed_file, IsSealed, IsUnsealed};
 ghost use Rattle.dms_descfile.specs.Becoming.{Creates};
 ghost use Rattle.dms_moments.specs.Moments.{Steps};
 ghost use Rattle.dms_site.specs.Files.{Same, Only};
-ghost use Rattle.dms_status.specs.declared.status.LimitKind.{LimitKind as Kind};
-ghost use Rattle.dms_status.specs.declared.status.SchemaFault.{SchemaFault as Refusal};
-ghost use Rattle.dms_top.specs.Compiling.{compiled_text, SaysLine, IsSpoken, IsBefore, IsOfFile, CreatesSome, SaysSealed, SiteAndTextStay};
-ghost use Rattle.dms_top.specs.Judging.{judge_schema};
-ghost use Rattle.dms_top.specs.Premises.{OfInput, OfSchema, OfSealed, OfNoSchema};
+ghost use Rattle.dms_top.specs.Compiling.{compiled_text, CompileDoes, SaysLine, IsSpoken, IsBefore, IsOfFile, SaysSealed, SiteAndTextStay};
+ghost use Rattle.dms_top.specs.Premises.{OfInput, OfSealed};
 ghost use Rattle.dms_audfile.specs.Counting.{CountedAt};
 ghost use Rattle.dms_top.specs.Words.{IsOfCompile, IsPast, IsUntouched};
 
@@ -102,35 +99,16 @@ fn create<S: Site>(alloc: Global, site: &mut S, desc: &Description) -> Status
 /// Answers SchemaRefused by the text's first fault, then Exists where the description file is a sealed description
 /// already; no file is changed by then.
 pub fn compile_input<S: Site, I: Source>(alloc: Global, site: &mut S, input: &mut I) -> Status
-    ensures statuses { IsOfCompile result }
+    ensures does { CompileDoes S.Site I.Source site.old site.new input.old result }
     ensures words { result ≢ Status.BadWords }
-    ensures limit { (k : Kind) → result ≢ Status.Limit k }
-    ensures untouched { IsUntouched result → site.new ≡ site.old }
-    ensures input_fault { result ≡ Status.InputFault → site.new ≡ site.old }
-    ensures refused_text { OfNoSchema (I.left input.old) (site.new ≡ site.old) }
-    ensures refused { (f : Refusal) → result ≡ Status.SchemaRefused f → OfInput (I.left input.old) (λ all. judge_schema all ≡ Err f) }
-    ensures accepted { IsPast result → OfInput (I.left input.old) (λ all. IsOk (judge_schema all)) }
     ensures end { IsPast result → OfInput (I.left input.old) (λ all. I.left input.new ≡ Some []) }
-    ensures exists { result ≡ Status.Exists → IsTrue S.tells → (d : Described) × IsSealed (S.files site.old 1) d }
-    ensures unsealed { IsSpoken result → IsTrue S.tells → IsUnsealed (S.files site.old 1) }
-    ensures sealed { IsSpoken result → IsTrue S.tells → OfSchema (I.left input.old) (λ d. S.files site.new 1 ≡ sealed_file d) }
-    ensures is_sealed { IsSpoken result → IsTrue S.tells → OfSchema (I.left input.old) (λ d. IsSealed (S.files site.new 1) d) }
-    ensures others { IsTrue S.tells → (g : ℕ) → g ≢ 1 → S.files site.new g ≡ S.files site.old g }
+    ensures untouched { IsUntouched result → site.new ≡ site.old }
     ensures before { IsBefore result → IsTrue S.tells → S.files site.new ≡ S.files site.old }
-    ensures stays { IsBefore result → Steps Same (S.clock site.old) (S.clock site.new) }
-    ensures says { IsTrue S.tells_said → OfSchema (I.left input.old) (λ d. SaysLine result (compiled_text (length d.structures)) (S.said site.old) (S.said site.new)) }
-    ensures silent { IsTrue S.tells_said → (IsSpoken result → ⊥) → S.said site.new ≡ S.said site.old }
-    ensures creates { IsTrue S.tells → OfSchema (I.left input.old) (λ d. Creates (sealed_file d) (S.files site.old) (S.clock site.old) (S.clock site.new)) }
-    ensures creates_some { IsTrue S.tells → CreatesSome (S.files site.old) (S.clock site.old) (S.clock site.new) }
-    ensures stable { IsSpoken result → IsTrue S.tells → Only (S.files site.new) (S.clock site.new) }
-    ensures says_sealed { IsTrue S.tells → OfSchema (I.left input.old) (λ d. SaysSealed (sealed_file d) (S.clock site.old) (S.clock site.new)) }
-    ensures kept { IsTrue S.tells → OfSealed (S.files site.old) (λ d. SiteAndTextStay S.Site site.old site.new) }
-    ensures sealed_some { IsSpoken result → IsTrue S.tells → (d : Described) × IsSealed (S.files site.new 1) d }
-    ensures same_site { S.same_site site.old site.new }
-    ensures same_source { I.same_source input.old input.new }
     ensures disk { CountedAt (result ≡ Status.DiskFault) (S.disk_faults site.old) (S.disk_faults site.new) }
     ensures say { CountedAt (result ≡ Status.SayFault) (S.say_faults site.old) (S.say_faults site.new) }
     ensures input { CountedAt (result ≡ Status.InputFault) (I.faults input.old) (I.faults input.new) }
+    ensures same_site { S.same_site site.old site.new }
+    ensures same_source { I.same_source input.old input.new }
 {
     let text = match whole_text(alloc, input) {
         Ok(text) => text,

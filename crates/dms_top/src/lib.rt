@@ -8,8 +8,6 @@ mod judge;
 pub mod laws;
 mod schema;
 mod tags;
-#[cfg(test)]
-mod tests;
 mod top;
 mod try_run;
 mod whole;

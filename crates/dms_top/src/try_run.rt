@@ -5,11 +5,11 @@ ghost use Rattle.dms_feed.specs.Feeds.{Remains};
 ghost use Rattle.dms_feed.specs.Lines.{raw_lines};
 ghost use Rattle.dms_plain.specs.Speaking.{OnlySpeaks};
 ghost use Rattle.dms_runner.specs.Blaming.{CutRun};
-ghost use Rattle.dms_top.specs.Answering.{InputPasses, LinesCut, Printed, PrintedFront, PrintedPrefix, PrintedWholeLines, WithinLimits, lines_text};
+ghost use Rattle.dms_top.specs.Answering.{Printed, PrintedFront, PrintedPart, lines_events, lines_text};
 ghost use Rattle.dms_status.specs.declared.status.LimitKind.{LimitKind as Kind};
 ghost use Rattle.dms_top.specs.Premises.{OfRest};
 ghost use Rattle.dms_audfile.specs.Counting.{CountedAt};
-ghost use Rattle.dms_top.specs.SiteText.{text_told};
+ghost use Rattle.dms_top.specs.TryLimits.{CutLines, PassesLimit, WithinLimits};
 ghost use Rattle.dms_top.specs.Words.{IsOfTry, ComesUnsaid};
 ghost use Rattle.dms_status.specs.declared.status.SchemaFault.{SchemaFault as Refusal};
 
@@ -88,12 +88,11 @@ pub fn try_lines<S: Site, I: Source>(
     ensures schema { (f : Refusal) → result ≢ Status.SchemaRefused f }
     ensures end { result ≡ Status.Ok → OfRest feed.old (I.left source.old) (λ all. Remains feed.new (I.left source.new) []) }
     ensures answers { result ≡ Status.Ok → IsTrue S.tells_said → OfRest feed.old (I.left source.old) (λ all. Printed (S.said site.old) (S.said site.new) (lines_text (as_described desc.now) all)) }
-    ensures within { result ≡ Status.Ok → OfRest feed.old (I.left source.old) (λ all. WithinLimits (as_described desc.now) (raw_lines all)) }
-    ensures part { IsTrue S.tells_said → OfRest feed.old (I.left source.old) (λ all. PrintedPrefix (S.said site.old) (S.said site.new) (lines_text (as_described desc.now) all)) }
-    ensures whole_answers { result ≡ Status.Memory → IsTrue S.tells_said → OfRest feed.old (I.left source.old) (PrintedWholeLines (S.said site.old) (S.said site.new) (as_described desc.now)) }
+    ensures part { IsTrue S.tells_said → OfRest feed.old (I.left source.old) (λ all. PrintedPart result (S.said site.old) (S.said site.new) (lines_events (as_described desc.now) all)) }
     ensures front { IsTrue S.tells_said → OfRest feed.old (I.left source.old) (λ all. PrintedFront result (as_described desc.now) (raw_lines all) (S.said site.old) (S.said site.new)) }
-    ensures limit { (k : Kind) → result ≡ Status.Limit k → OfRest feed.old (I.left source.old) (InputPasses k (as_described desc.now) (text_told S.Site site.old) (text_told S.Site site.new)) }
-    ensures input_cut { result ≡ Status.InputFault → OfRest feed.old (I.left source.old) (LinesCut (as_described desc.now) (I.left source.new) (text_told S.Site site.old) (text_told S.Site site.new)) }
+    ensures within { result ≡ Status.Ok → OfRest feed.old (I.left source.old) (λ all. WithinLimits (as_described desc.now) (raw_lines all)) }
+    ensures limit { (k : Kind) → result ≡ Status.Limit k → OfRest feed.old (I.left source.old) (λ all. PassesLimit k (as_described desc.now) (raw_lines all)) }
+    ensures input_cut { result ≡ Status.InputFault → OfRest feed.old (I.left source.old) (λ all. CutLines (as_described desc.now) all (I.left source.new)) }
     ensures input { CountedAt (result ≡ Status.InputFault) (I.faults source.old) (I.faults source.new) }
     ensures disk { CountedAt (result ≡ Status.DiskFault) (S.disk_faults site.old) (S.disk_faults site.new) }
     ensures say { CountedAt (result ≡ Status.SayFault) (S.say_faults site.old) (S.say_faults site.new) }

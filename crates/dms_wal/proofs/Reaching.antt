@@ -1,5 +1,5 @@
 -- A database whose audit may go on up to another file, and how it is closed.
-use Rattle.std.proofs.Common.{ℕ, ◌≤◌, ◌<◌, ◌≡◌, ◌⊎◌, inl, inr, IsTrue, map, List, [], ◌∷◌, ◌++◌, length, Some, None, sym, ◌∙◌, ap, subst, drop, take}
+use Rattle.std.proofs.Common.{ℕ, ◌≤◌, ◌<◌, ◌≡◌, ◌⊎◌, inl, inr, IsTrue, map, List, [], ◌∷◌, ◌++◌, length, sym, ◌∙◌, ap, subst, drop, take}
 use Rattle.dms_moments.specs.Moments.{Clock, Now}
 use Rattle.dms_site.specs.declared.site.Site.{Ghosts}
 use Rattle.dms_site.specs.Files.{Files, Left}
@@ -18,10 +18,11 @@ use Rattle.dms_restore.specs.Counts.{file_counts}
 use Rattle.dms_history.proofs.Order.{append_none}
 use Rattle.dms_audfile.specs.declared.audit_end.AuditEnd.{AuditEnd}
 use Rattle.dms_audfile.specs.Blocks.{block_entries}
+use Rattle.dms_audfile.specs.Gates.{blocks_from}
 use Rattle.dms_audfile.specs.Unsealed.{block_with}
-use Rattle.dms_audfile.specs.TrailEntries.{entries_of}
+use Rattle.dms_audfile.specs.TrailEntries.{entries_in, entries_of}
 use Rattle.dms_audfile.specs.Sealing.{IsWrittenUpTo}
-use Rattle.dms_audfile.specs.Ends.{unsealed_bytes, EndsAt}
+use Rattle.dms_audfile.specs.Ends.{unsealed_bytes, full_blocks, EndsAt}
 use Rattle.dms_running.specs.Telling.{Telling}
 use Rattle.dms_running.specs.Running.{State, IsRunning, entries_now, content_now, points_now, next_now, durable_now, here_now}
 use Rattle.dms_running.specs.Frames.{FramesHold}
@@ -34,9 +35,7 @@ use Rattle.dms_restore.proofs.Logs as lemmas
 use Rattle.dms_restore.proofs.Logs.{ReadsNow}
 use Rattle.dms_restore.proofs.Endings.{all_points, all_next}
 use Rattle.dms_pool.specs.declared.pool.Pool.{Pool}
-use Rattle.std.specs.Prelude.{if◌then◌else◌}
 use Rattle.dms_wal.specs.declared.running.Running.{Running}
-use Rattle.dms_wal.specs.Landmarks.{landmarks_in}
 use Rattle.dms_wal.specs.Closing.{entries_control, FilesStand, LeavesUntil}
 use Rattle.dms_wal.specs.Controls.{MakesControl}
 use Rattle.dms_wal.specs.Database.{running_held, GoesWith, IsRunningUsable, frames_of}
@@ -52,7 +51,9 @@ pub record EndsAlike (a b : AuditEnd) : Type 0 where
   pub tag : b.tag ≡ a.tag
   pub count : b.count ≡ a.count
   pub used : b.used ≡ a.used
+  pub full : b.full ≡ a.full
   pub block : b.block.items ≡ a.block.items
+  pub group : b.group.items ≡ a.group.items
 
 module _ (a b : AuditEnd) (r : EndsAlike a b) (first : ℕ) (files : Files) (clock : Clock Left) where
   abbrev pub old : LogView
@@ -64,9 +65,12 @@ module _ (a b : AuditEnd) (r : EndsAlike a b) (first : ℕ) (files : Files) (clo
   unsealed_same : unsealed_bytes b ≡ unsealed_bytes a
   unsealed_same = λ i. take (r.used i) (drop 2 (r.block i))
 
+  full_same : full_blocks b ≡ full_blocks a
+  full_same = λ i. blocks_from (r.full i) 0 (r.group i)
+
   pub waits_same : waits b ≡ waits a
   unfolding waits
-  waits_same = ap (λ (l : List ℕ). entries_of (block_entries (block_with l))) unsealed_same
+  waits_same = λ i. entries_in (full_same i) ++ entries_of (block_entries (block_with (unsealed_same i)))
 
   pub state_same : state new ≡ state old
   state_same = λ i. record { waiting = waits_same i; files = files; clock = clock }
@@ -80,7 +84,15 @@ module _ (a b : AuditEnd) (r : EndsAlike a b) (first : ℕ) (files : Files) (clo
     writes = subst (λ n. IsWrittenUpTo n b.tag first b.file b.count files) (sym r.total) (subst (λ n. IsWrittenUpTo a.total n first b.file b.count files) (sym r.tag)
         (subst (λ n. IsWrittenUpTo a.total a.tag first n b.count files) (sym r.file) (subst (λ n. IsWrittenUpTo a.total a.tag first a.file n files) (sym r.count) e.writes)));
     settled = λ g from to x now. e.settled g from (subst (λ n. g ≤ n) r.file to) x now;
-    bytes = unsealed_same ∙ e.bytes;
+    waits = record {
+      before = e.waits.before;
+      last = e.waits.last;
+      are = e.waits.are;
+      full = full_same ∙ e.waits.full;
+      filled = e.waits.filled;
+      bytes = unsealed_same ∙ e.waits.bytes;
+      kind = e.waits.kind;
+    };
     kind = e.kind;
   })
 
@@ -145,7 +157,6 @@ held_alike g r e alike =
       mark = last_blocks (λ f. []) (points_now (sym t i) (sym s i));
       points = map block_point (points_now (sym t i) (sym s i));
       durable = durable_now (sym t i) (sym s i);
-      landmarks = if g.tells then Some (landmarks_in (entries_now (sym t i) (sym s i))) else None;
       here = point_under schema (here_now (sym t i) (sym s i));
       clock = lift_clock (sym t i) clock;
     }

@@ -1,4 +1,5 @@
 use Rattle.dms_history.proofs.Order.{rolls_back, last_points, last_lives, next_stays, next_steps, used_once, numbers_change, numbers_quiet, numbers_begin, numbers_control, numbers_first, true_dump_serves}
+use Rattle.dms_history.proofs.Copied.{copied_dump_serves}
 use Rattle.dms_history.proofs.laws.keeps_numbers.Goals as goal
 
 pub returns : goal.returns
@@ -15,4 +16,5 @@ returns c = record {
   control = numbers_control;
   first = numbers_first;
   dump = true_dump_serves;
+  copied = copied_dump_serves;
 }

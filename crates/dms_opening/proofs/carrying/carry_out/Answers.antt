@@ -1,18 +1,15 @@
-use Rattle.std.proofs.Common.{◌∙◌, [], List, sym, subst, arith}
+use Rattle.std.proofs.Common.{◌∙◌, [], sym, subst, arith}
 use Rattle.dms_moments.specs.Moments.{Runs}
 use Rattle.dms_restore.specs.GrowLaws.{log_grows_more}
 use Rattle.dms_restore.specs.Logging.{LogView, telling, telling_of}
-use Rattle.dms_restore.specs.Table.{IsTable}
-use Rattle.dms_restore.specs.declared.told.Told.{Told}
 use Rattle.dms_restore.specs.Views.{view_of}
 use Rattle.dms_restore.proofs.Backed.{silent_on}
 use Rattle.dms_restore.proofs.CountBytes.{counts_entry}
 use Rattle.dms_wal.specs.Closing.{IsFullTrail}
-use Rattle.dms_opening.specs.Carrying.{PlanShort}
 use Rattle.dms_opening.specs.Openings.{Reopens, text_of}
 use Rattle.dms_opening.proofs.Rooms.{as_limit, full_by}
 use Rattle.dms_opening.proofs.Sealings.{grows_sealed, grows_site}
-use Rattle.dms_opening.proofs.Carries.{BeginsWhole, count_table, may_open, begins_plan, begins_whole, begin_short, ends_short, leaves_on, reopens_all, written_at, may_end, runs_from, bytes_are}
+use Rattle.dms_opening.proofs.Carries.{BeginsWhole, plan_audit, count_table, may_open, begins_whole, leaves_on, reopens_all, written_at, may_end, runs_from, bytes_are}
 use Rattle.dms_opening.proofs.carrying.carry_out.Goals as goal
 
 pub go_on-requires-clause-control : goal.go_on-requires-clause-control
@@ -66,7 +63,7 @@ returns-clause-only g c tells s =
     let r = c.in-Ok.ensures in
     written_at _ _ (r.kind.2 ∙ c.requires.limit)
     (c.in-Err-go_on.ensures.only s.plans.chooses.restore tells
-    (subst (λ (l : List Told). IsTable s.plans.chooses.restore.entries s.plans.chooses.restore.point (g.S.Site.files c.in-Ok.begun.log.site) l) (sym c.deref-2.ensures.value) (s.plans.table_is _ (r.grown tells s.start).stays.kept.grown)))
+    (plan_audit _ _ _ c.args.planned.plan s.plans (g.S.Site.files c.in-Ok.begun.log.site) _ c.deref-2.ensures.value (r.grown tells s.start).stays.kept.grown))
 
 pub returns-in-Err-clause-full : goal.returns-in-Err-clause-full
 returns-in-Err-clause-full g c tells s full =
@@ -81,33 +78,11 @@ returns-clause-full g c tells s full =
     let r = c.in-Ok.ensures in
     let n = c.in-Err-go_on.ensures in
     let p = s.plans.chooses.restore in
-    let table = subst (λ (l : List Told). IsTable p.entries p.point (g.S.Site.files c.in-Ok.begun.log.site) l) (sym c.deref-2.ensures.value) (s.plans.table_is _ (r.grown tells s.start).stays.kept.grown) in
+    let table = plan_audit _ _ _ c.args.planned.plan s.plans (g.S.Site.files c.in-Ok.begun.log.site) _ c.deref-2.ensures.value (r.grown tells s.start).stays.kept.grown in
     let limit = r.kind.2 ∙ c.requires.limit in
     let is = as_limit _ _ limit full in
     subst (λ site. IsFullTrail a (g.S.Site.files site)) (sym c.site_of-in-Err-go_on.ensures)
     (full_by a _ _ limit (n.kind_then.0 ∙ r.kind.0) (n.kind_then.3 ∙ r.kind.3) (n.full p tells table is).1 (n.ends p tells table (r.starts tells s.start) is))
-
-pub returns-in-Err-clause-short : goal.returns-in-Err-clause-short
-returns-in-Err-clause-short g c tells s full =
-    let a : LogView = view_of g.S.Site c.args.planned.log in
-    let plan = c.args.planned.plan in
-    let r = c.in-Err.ensures in
-    subst (λ site. PlanShort a plan (g.S.Site.files site)) (sym c.site_of.ensures)
-    (begin_short a plan s _ r.begins (r.short (as_limit _ _ c.requires.limit full) tells s.start))
-
-pub returns-clause-short : goal.returns-clause-short
-returns-clause-short g c tells s full =
-    let a : LogView = view_of g.S.Site c.args.planned.log in
-    let b : LogView = view_of g.S.Site c.in-Ok.begun.log in
-    let plan = c.args.planned.plan in
-    let r = c.in-Ok.ensures in
-    let p = s.plans.chooses.restore in
-    let grown = (r.grown tells s.start).stays.kept.grown in
-    let table = subst (λ (l : List Told). IsTable p.entries p.point (g.S.Site.files c.in-Ok.begun.log.site) l) (sym c.deref-2.ensures.value) (s.plans.table_is _ grown) in
-    let is = as_limit _ _ (r.kind.2 ∙ c.requires.limit) full in
-    subst (λ site. PlanShort a plan (g.S.Site.files site)) (sym c.site_of-in-Err-go_on.ensures)
-    (ends_short a b plan (begins_plan a b plan s r.kind.0 r.kind.3 grown (r.sealed tells s.start)) c.requires.ready _ (bytes_are _ _ _ c.deref.ensures.value c.count_bytes-used.ensures.bytes) _ _ c.deref-3.ensures.value
-    (c.in-Err-go_on.ensures.short p tells table (r.starts tells s.start) is))
 
 pub returns-in-Err-clause-grown_then : goal.returns-in-Err-clause-grown_then
 returns-in-Err-clause-grown_then g c tells s =
@@ -119,7 +94,7 @@ returns-in-Ok-go_on-clause-grown g c tells s =
     let r = c.in-Ok.ensures in
     let p = s.plans.chooses.restore in
     let grown = r.grown tells s.start in
-    let table = subst (λ (l : List Told). IsTable p.entries p.point (g.S.Site.files c.in-Ok.begun.log.site) l) (sym c.deref-2.ensures.value) (s.plans.table_is _ grown.stays.kept.grown) in
+    let table = plan_audit _ _ _ c.args.planned.plan s.plans (g.S.Site.files c.in-Ok.begun.log.site) _ c.deref-2.ensures.value grown.stays.kept.grown in
     grows_sealed 1 18 (view_of g.S.Site c.args.planned.log) (view_of g.S.Site c.in-Ok.begun.log) (view_of g.S.Site c.in-Ok-go_on.log) r.kind.0 r.kind.3 (r.starts tells s.start) grown
     (c.in-Ok-go_on.ensures.grown p tells table (r.starts tells s.start))
 
@@ -129,7 +104,7 @@ returns-clause-grown_then g c tells s =
     let r = c.in-Ok.ensures in
     let p = s.plans.chooses.restore in
     let grown = r.grown tells s.start in
-    let table = subst (λ (l : List Told). IsTable p.entries p.point (g.S.Site.files c.in-Ok.begun.log.site) l) (sym c.deref-2.ensures.value) (s.plans.table_is _ grown.stays.kept.grown) in
+    let table = plan_audit _ _ _ c.args.planned.plan s.plans (g.S.Site.files c.in-Ok.begun.log.site) _ c.deref-2.ensures.value grown.stays.kept.grown in
     grows_site g.S.Site 19 a c.in-Err-go_on.log _ c.site_of-in-Err-go_on.ensures
     (grows_sealed 1 18 a (view_of g.S.Site c.in-Ok.begun.log) (view_of g.S.Site c.in-Err-go_on.log) r.kind.0 r.kind.3 (r.starts tells s.start) grown
     (c.in-Err-go_on.ensures.grown_then p tells table (r.starts tells s.start)))

@@ -8,7 +8,7 @@ use Rattle.dms_restore.proofs.Trails.{first_low}
 use Rattle.dms_restore.proofs.Results.{one_if_ok, one_if_err}
 use Rattle.dms_restore.proofs.Backed.{silent_on}
 use Rattle.dms_opening.proofs.GoneOn.{each_on, ends_by, opened}
-use Rattle.dms_opening.proofs.Sealings.{ends_sealed, grows_ended, grows_sealed, short_as}
+use Rattle.dms_opening.proofs.Sealings.{ends_sealed, grows_ended, grows_sealed, sealed_as}
 use Rattle.dms_opening.proofs.Faults.{disk_no_full}
 use Rattle.dms_opening.proofs.going_on.go_on.Goals as goal
 
@@ -16,9 +16,9 @@ pub returns-in-Ok-clause-opened : goal.returns-in-Ok-clause-opened
 returns-in-Ok-clause-opened g c = one_if_ok c.finish.result c.finish.ensures.ended (λ l ended p tells m.
     let a : LogView = view c.args.begun.log.end c.args.begun.log.first (g.S.Site.files c.args.begun.log.site) (g.S.Site.clock c.args.begun.log.site) in
     let r = c.in-Ok.ensures in
-    opened p a _ c.args.table.now c.args.point c.args.next c.args.counts.now m (r.begun p tells m.begun m.table_is) (r.restored p tells m.begun m.table_is) (r.keeps p tells m.begun m.table_is)
+    opened p a _ c.args.runs.now c.args.table.now c.args.point c.args.next c.args.counts.now m (r.begun p tells m.begun m.plan_is) (r.restored p tells m.begun m.plan_is) (r.keeps p tells m.begun m.plan_is)
     ((λ i. trail_entries (r.kind.0 i).total (r.kind.1 i) (g.S.Site.files c.in-Ok.restored.log.site)) ∙ r.entries tells (first_low _ a.first [] _ _ (ends_sealed p a m.begun))) _ _
-    (ended p tells (ends_by p a _ c.args.table.now c.args.point c.args.next c.args.counts.now m (r.begun p tells m.begun m.table_is) (r.restored p tells m.begun m.table_is) (r.keeps p tells m.begun m.table_is))))
+    (ended p tells (ends_by p a _ c.args.runs.now c.args.table.now c.args.point c.args.next c.args.counts.now m (r.begun p tells m.begun m.plan_is) (r.restored p tells m.begun m.plan_is) (r.keeps p tells m.begun m.plan_is))))
 
 pub returns-in-Ok-clause-moments : goal.returns-in-Ok-clause-moments
 returns-in-Ok-clause-moments g c = one_if_ok c.finish.result c.finish.ensures.moments (λ l leaves p tells m.
@@ -26,9 +26,9 @@ returns-in-Ok-clause-moments g c = one_if_ok c.finish.result c.finish.ensures.mo
     let log = c.in-Ok.restored.log in
     let b : LogView = view log.end log.first (g.S.Site.files log.site) (g.S.Site.clock log.site) in
     let r = c.in-Ok.ensures in
-    let keeps = r.keeps p tells m.begun m.table_is in
-    each_on a b _ (λ i. telling_of (r.kind.0 i).total (r.kind.1 i)) keeps.points_same keeps.next_same (r.moments p tells m.begun m.table_is)
-    (leaves p tells (ends_by p a b c.args.table.now c.args.point c.args.next c.args.counts.now m (r.begun p tells m.begun m.table_is) (r.restored p tells m.begun m.table_is) keeps)))
+    let keeps = r.keeps p tells m.begun m.plan_is in
+    each_on a b _ (λ i. telling_of (r.kind.0 i).total (r.kind.1 i)) keeps.points_same keeps.next_same (r.moments p tells m.begun m.plan_is)
+    (leaves p tells (ends_by p a b c.args.runs.now c.args.table.now c.args.point c.args.next c.args.counts.now m (r.begun p tells m.begun m.plan_is) (r.restored p tells m.begun m.plan_is) keeps)))
 
 pub returns-in-Ok-clause-stopped : goal.returns-in-Ok-clause-stopped
 returns-in-Ok-clause-stopped g c = one_if_err c.finish.result c.finish.ensures.stopped (λ e leaves p tells m.
@@ -36,12 +36,12 @@ returns-in-Ok-clause-stopped g c = one_if_err c.finish.result c.finish.ensures.s
     let log = c.in-Ok.restored.log in
     let b : LogView = view log.end log.first (g.S.Site.files log.site) (g.S.Site.clock log.site) in
     let r = c.in-Ok.ensures in
-    let keeps = r.keeps p tells m.begun m.table_is in
-    each_on a b _ (λ i. telling_of (r.kind.0 i).total (r.kind.1 i)) keeps.points_same keeps.next_same (r.moments p tells m.begun m.table_is)
-    (leaves p tells (ends_by p a b c.args.table.now c.args.point c.args.next c.args.counts.now m (r.begun p tells m.begun m.table_is) (r.restored p tells m.begun m.table_is) keeps)))
+    let keeps = r.keeps p tells m.begun m.plan_is in
+    each_on a b _ (λ i. telling_of (r.kind.0 i).total (r.kind.1 i)) keeps.points_same keeps.next_same (r.moments p tells m.begun m.plan_is)
+    (leaves p tells (ends_by p a b c.args.runs.now c.args.table.now c.args.point c.args.next c.args.counts.now m (r.begun p tells m.begun m.plan_is) (r.restored p tells m.begun m.plan_is) keeps)))
 
 pub returns-in-Err-clause-stopped : goal.returns-in-Err-clause-stopped
-returns-in-Err-clause-stopped g c p tells m = c.in-Err.ensures.stopped p tells m.begun m.table_is
+returns-in-Err-clause-stopped g c p tells m = c.in-Err.ensures.stopped p tells m.begun m.plan_is
 
 pub returns-in-Err-clause-only : goal.returns-in-Err-clause-only
 returns-in-Err-clause-only g c p tells table = inl (c.in-Err.ensures.only p tells table)
@@ -62,7 +62,7 @@ returns-in-Ok-clause-silent g c = one_if_ok c.finish.result c.finish.ensures.sil
     let log = c.in-Ok.restored.log in
     let b : LogView = view log.end log.first (g.S.Site.files log.site) (g.S.Site.clock log.site) in
     let r = c.in-Ok.ensures in
-    silent_on _ _ _ (r.silent p tells m.table_is) (still p tells (ends_by p a b c.args.table.now c.args.point c.args.next c.args.counts.now m (r.begun p tells m.begun m.table_is) (r.restored p tells m.begun m.table_is) (r.keeps p tells m.begun m.table_is))))
+    silent_on _ _ _ (r.silent p tells m.plan_is) (still p tells (ends_by p a b c.args.runs.now c.args.table.now c.args.point c.args.next c.args.counts.now m (r.begun p tells m.begun m.plan_is) (r.restored p tells m.begun m.plan_is) (r.keeps p tells m.begun m.plan_is))))
 
 pub returns-in-Ok-clause-silent_then : goal.returns-in-Ok-clause-silent_then
 returns-in-Ok-clause-silent_then g c = one_if_err c.finish.result c.finish.ensures.silent_then (λ e still p tells m.
@@ -70,10 +70,10 @@ returns-in-Ok-clause-silent_then g c = one_if_err c.finish.result c.finish.ensur
     let log = c.in-Ok.restored.log in
     let b : LogView = view log.end log.first (g.S.Site.files log.site) (g.S.Site.clock log.site) in
     let r = c.in-Ok.ensures in
-    silent_on _ _ _ (r.silent p tells m.table_is) (still p tells (ends_by p a b c.args.table.now c.args.point c.args.next c.args.counts.now m (r.begun p tells m.begun m.table_is) (r.restored p tells m.begun m.table_is) (r.keeps p tells m.begun m.table_is))))
+    silent_on _ _ _ (r.silent p tells m.plan_is) (still p tells (ends_by p a b c.args.runs.now c.args.table.now c.args.point c.args.next c.args.counts.now m (r.begun p tells m.begun m.plan_is) (r.restored p tells m.begun m.plan_is) (r.keeps p tells m.begun m.plan_is))))
 
 pub returns-in-Err-clause-silent_then : goal.returns-in-Err-clause-silent_then
-returns-in-Err-clause-silent_then g c p tells m = c.in-Err.ensures.silent_then p tells m.table_is
+returns-in-Err-clause-silent_then g c p tells m = c.in-Err.ensures.silent_then p tells m.plan_is
 
 pub returns-in-Ok-clause-ends : goal.returns-in-Ok-clause-ends
 returns-in-Ok-clause-ends g c = one_if_err c.finish.result c.finish.ensures.ends (λ e ends p tells table sealed is.
@@ -92,16 +92,16 @@ returns-in-Ok-clause-kind_then g c = one_if_err c.finish.result c.finish.ensures
 pub returns-in-Err-clause-kind_then : goal.returns-in-Err-clause-kind_then
 returns-in-Err-clause-kind_then g c = let was = c.in-Err.ensures.kind_then in (λ i. (was.0 i).total, λ i. (was.0 i).tag, λ i. (was.0 i).limit, was.1)
 
-pub returns-in-Ok-clause-short : goal.returns-in-Ok-clause-short
-returns-in-Ok-clause-short g c = one_if_err c.finish.result c.finish.ensures.short (λ e short p tells table sealed is.
-    let was = c.args.begun.log in
+pub returns-in-Ok-clause-part : goal.returns-in-Ok-clause-part
+returns-in-Ok-clause-part g c = one_if_err c.finish.result c.finish.ensures.part (λ e part p tells m is.
+    let a : LogView = view c.args.begun.log.end c.args.begun.log.first (g.S.Site.files c.args.begun.log.site) (g.S.Site.clock c.args.begun.log.site) in
+    let log = c.in-Ok.restored.log in
+    let b : LogView = view log.end log.first (g.S.Site.files log.site) (g.S.Site.clock log.site) in
     let r = c.in-Ok.ensures in
-    let limit : c.in-Ok.restored.log.end.limit ≡ was.end.limit = λ i. (r.kind.0 i).limit in
-    short_as (view_of g.S.Site was) (view_of g.S.Site c.in-Ok.restored.log) _ _ (λ i. (r.kind.0 i).total) r.kind.1 (r.entries tells (first_low was.end was.first [] _ _ sealed))
-    (short (is ∙ ap (λ k. Full k) (sym limit)) tells (r.stays p tells table sealed)))
+    sealed_as a b (view e.1.end e.1.first (g.S.Site.files e.1.site) (g.S.Site.clock e.1.site)) _ (λ i. (r.kind.0 i).total) r.kind.1 (r.entries tells (first_low _ a.first [] _ _ (ends_sealed p a m.begun))) (part tells (r.stays p tells m.plan_is (ends_sealed p a m.begun))))
 
-pub returns-in-Err-clause-short : goal.returns-in-Err-clause-short
-returns-in-Err-clause-short g c p tells table sealed is = absurd (disk_no_full (c.in-Err.ensures.only p tells table) is)
+pub returns-in-Err-clause-part : goal.returns-in-Err-clause-part
+returns-in-Err-clause-part g c p tells m is = absurd (disk_no_full (c.in-Err.ensures.only p tells m.plan_is) is)
 
 pub returns-in-Ok-clause-grown : goal.returns-in-Ok-clause-grown
 returns-in-Ok-clause-grown g c = one_if_ok c.finish.result c.finish.ensures.grown (λ l grown p tells table sealed.

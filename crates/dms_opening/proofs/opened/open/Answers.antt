@@ -1,6 +1,6 @@
 use Rattle.std.proofs.Common.{inl, inr}
 use Rattle.dms_restore.proofs.Results.{one_if_ok, two_if_ok, three_if_ok, one_if_err}
-use Rattle.dms_opening.proofs.Opens.{may_refuse, can_open, opens_short, opens_at, runs_at, is_planned, whole_at, since, since_none, counted_on}
+use Rattle.dms_opening.proofs.Opens.{may_refuse, can_open, opens_at, runs_at, is_planned, whole_at, since, since_none, counted_on}
 use Rattle.dms_opening.proofs.Complete.{refuses_none}
 use Rattle.dms_opening.proofs.Growths.{grows_none, grows_by}
 use Rattle.dms_opening.proofs.opened.open.Goals as goal
@@ -64,14 +64,6 @@ returns-in-Ok-clause-full g c = one_if_err c.carry_out.result c.carry_out.ensure
 
 pub returns-in-Err-clause-full : goal.returns-in-Err-clause-full
 returns-in-Err-clause-full g c tells is = absurd (c.in-Err.ensures.room tells is)
-
-pub returns-in-Ok-clause-short : goal.returns-in-Ok-clause-short
-returns-in-Ok-clause-short g c = one_if_err c.carry_out.result c.carry_out.ensures.short (λ e short tells is.
-    let l = c.in-Ok.ensures in
-    opens_short _ c.in-Ok.planned (l.trail tells) (l.plans tells) l.named _ _ (l.files tells) (short tells (is_planned g.S.Site c.args.found.site c.in-Ok.planned (l.files tells) (l.starts tells) (l.plans tells)) is))
-
-pub returns-in-Err-clause-short : goal.returns-in-Err-clause-short
-returns-in-Err-clause-short g c tells is = absurd (c.in-Err.ensures.room tells is)
 
 pub returns-in-Ok-clause-grows : goal.returns-in-Ok-clause-grows
 returns-in-Ok-clause-grows g c = one_if_ok c.carry_out.result c.carry_out.ensures.grown (λ o grown tells.

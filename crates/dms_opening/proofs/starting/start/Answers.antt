@@ -13,22 +13,22 @@ use Rattle.dms_opening.proofs.starting.start.Goals as goal
 pub returns-then-begins-clause-begun : goal.returns-then-begins-clause-begun
 returns-then-begins-clause-begun g c = one_if_ok c.begin.result c.begin.ensures.begun (λ b begun p tells s.
     let v : LogView = view c.args.log.end c.args.log.first (g.S.Site.files c.args.log.site) (g.S.Site.clock c.args.log.site) in
-    begun_new v c.args.begins c.args.point p s c.if-begins.true _ (begun tells (may_run v c.args.begins c.args.point p s c.if-begins.true) (last_found v c.args.begins c.args.point p s c.if-begins.true)))
+    begun_new v c.args.begins c.args.point p s c.if-begins.true _ (begun tells tt (may_run v c.args.begins c.args.point p s c.if-begins.true) (last_found v c.args.begins c.args.point p s c.if-begins.true)))
 
 pub returns-then-begins-clause-keeps : goal.returns-then-begins-clause-keeps
 returns-then-begins-clause-keeps g c = one_if_ok c.begin.result c.begin.ensures.keeps (λ b keeps p tells s.
     let v : LogView = view c.args.log.end c.args.log.first (g.S.Site.files c.args.log.site) (g.S.Site.clock c.args.log.site) in
-    keeps_new v c.args.begins c.args.point p s c.if-begins.true _ (keeps tells (may_run v c.args.begins c.args.point p s c.if-begins.true) (last_found v c.args.begins c.args.point p s c.if-begins.true)))
+    keeps_new v c.args.begins c.args.point p s c.if-begins.true _ (keeps tells tt (may_run v c.args.begins c.args.point p s c.if-begins.true) (last_found v c.args.begins c.args.point p s c.if-begins.true)))
 
 pub returns-then-begins-clause-moments : goal.returns-then-begins-clause-moments
 returns-then-begins-clause-moments g c = one_if_ok c.begin.result c.begin.ensures.moments (λ b leaves p tells s.
     let v : LogView = view c.args.log.end c.args.log.first (g.S.Site.files c.args.log.site) (g.S.Site.clock c.args.log.site) in
-    leaves_new v c.args.begins c.args.point p s _ (leaves tells (may_run v c.args.begins c.args.point p s c.if-begins.true) (last_found v c.args.begins c.args.point p s c.if-begins.true)))
+    leaves_new v c.args.begins c.args.point p s _ (leaves tells tt (may_run v c.args.begins c.args.point p s c.if-begins.true) (last_found v c.args.begins c.args.point p s c.if-begins.true)))
 
 pub returns-then-begins-clause-stopped : goal.returns-then-begins-clause-stopped
 returns-then-begins-clause-stopped g c = one_if_err c.begin.result c.begin.ensures.stopped (λ e leaves p tells s.
     let v : LogView = view c.args.log.end c.args.log.first (g.S.Site.files c.args.log.site) (g.S.Site.clock c.args.log.site) in
-    leaves_new v c.args.begins c.args.point p s _ (leaves tells (may_run v c.args.begins c.args.point p s c.if-begins.true) (last_found v c.args.begins c.args.point p s c.if-begins.true)))
+    leaves_new v c.args.begins c.args.point p s _ (leaves tells tt (may_run v c.args.begins c.args.point p s c.if-begins.true) (last_found v c.args.begins c.args.point p s c.if-begins.true)))
 
 pub returns-else-begins-clause-begun : goal.returns-else-begins-clause-begun
 returns-else-begins-clause-begun g c p tells s =
@@ -70,9 +70,6 @@ returns-then-begins-clause-ends g c = c.begin.ensures.ends
 
 pub returns-then-begins-clause-part : goal.returns-then-begins-clause-part
 returns-then-begins-clause-part g c = c.begin.ensures.part
-
-pub returns-then-begins-clause-short : goal.returns-then-begins-clause-short
-returns-then-begins-clause-short g c = c.begin.ensures.short
 
 pub returns-then-begins-clause-grown : goal.returns-then-begins-clause-grown
 returns-then-begins-clause-grown g c = one_if_ok c.begin.result c.begin.ensures.grows (λ b grows tells start. grows tells (starts_takes _ start))

@@ -12,23 +12,24 @@ use Rattle.dms_runner.proofs.Exclusive.{line_more}
 use Rattle.dms_runner.proofs.Happening.{part_none}
 use Rattle.dms_runner.proofs.LineVerbs.{line_verb}
 use Rattle.dms_runner.proofs.Lining.{goes_empty, line_is}
+use Rattle.dms_runner.specs.Firsts.{lines_of}
 use Rattle.dms_runner.proofs.lines.take_line.Goals as goal
 
 pub returns-in-Empty-clause-lined : goal.returns-in-Empty-clause-lined
 returns-in-Empty-clause-lined g c = λ now whole raw stands same line may.
     let e : line_step (as_described c.args.engine.now.desc) now whole ≡ line_effect (as_described c.args.engine.now.desc) (one_line_more now) Empty = line_is (as_described c.args.engine.now.desc) now whole c.args.raw.now c.line_text.result.now Empty raw c.line_text.ensures (sym c.in-Empty.is ∙ c.in_ok-read_line.ensures ∙ ap (λ (d : Description). line_of (as_described d) c.line_text.result.now) c.description.ensures) in
-    subst (λ (l : LineEffect). MatchesLine l true (view c.args.engine.now) c.args.waiting.now.items (engine_view c.args.engine.now) (engine_view c.args.engine.now)) (sym e) (goes_empty (one_line_more now) _ _ _ stands (sym same))
+    subst (λ (l : LineEffect). MatchesLine l true (view c.args.engine.now) (lines_of c.args.waiting.now) (engine_view c.args.engine.now) (engine_view c.args.engine.now)) (sym e) (goes_empty (one_line_more now) _ _ _ stands (sym same))
 
 pub returns-in-Empty-clause-part : goal.returns-in-Empty-clause-part
 returns-in-Empty-clause-part g c = λ now whole raw stands same line may. part_none (λ n none. none) _ _
 
 pub returns-in-Bad-clause-lined : goal.returns-in-Bad-clause-lined
 returns-in-Bad-clause-lined g c = then_ok c.bad_line.result
-    (λ on. (now : RunState) → StandsFor (view c.args.engine.now) now.session → now.waiting ≡ c.args.waiting.now.items → now.line ≡ c.args.line → MayTakeLine now → MatchesLine (line_effect (as_described c.args.engine.now.desc) now (Bad c.in-Bad.place)) on (view c.bad_line.new.engine) c.bad_line.new.waiting.items (engine_view c.args.engine.now) (engine_view c.bad_line.new.engine))
-    (λ on. (now : RunState) (whole : List ℕ) → c.args.raw.now ≡ take 2003 whole → StandsFor (view c.args.engine.now) now.session → now.waiting ≡ c.args.waiting.now.items → now.line + 1 ≡ c.args.line → MayTakeLine now → MatchesLine (line_step (as_described c.args.engine.now.desc) now whole) on (view c.bad_line.new.engine) c.bad_line.new.waiting.items (engine_view c.args.engine.now) (engine_view c.bad_line.new.engine))
+    (λ on. (now : RunState) → StandsFor (view c.args.engine.now) now.session → now.waiting ≡ (lines_of c.args.waiting.now) → now.line ≡ c.args.line → MayTakeLine now → MatchesLine (line_effect (as_described c.args.engine.now.desc) now (Bad c.in-Bad.place)) on (view c.bad_line.new.engine) (lines_of c.bad_line.new.waiting) (engine_view c.args.engine.now) (engine_view c.bad_line.new.engine))
+    (λ on. (now : RunState) (whole : List ℕ) → c.args.raw.now ≡ take 2003 whole → StandsFor (view c.args.engine.now) now.session → now.waiting ≡ (lines_of c.args.waiting.now) → now.line + 1 ≡ c.args.line → MayTakeLine now → MatchesLine (line_step (as_described c.args.engine.now.desc) now whole) on (view c.bad_line.new.engine) (lines_of c.bad_line.new.waiting) (engine_view c.args.engine.now) (engine_view c.bad_line.new.engine))
     (λ on lined now whole raw stands same line may.
     let e : line_step (as_described c.args.engine.now.desc) now whole ≡ line_effect (as_described c.args.engine.now.desc) (one_line_more now) (Bad c.in-Bad.place) = line_is (as_described c.args.engine.now.desc) now whole c.args.raw.now c.line_text.result.now (Bad c.in-Bad.place) raw c.line_text.ensures (sym c.in-Bad.is ∙ c.in_ok-read_line.ensures ∙ ap (λ (d : Description). line_of (as_described d) c.line_text.result.now) c.description.ensures) in
-    subst (λ (l : LineEffect). MatchesLine l on (view c.bad_line.new.engine) c.bad_line.new.waiting.items (engine_view c.args.engine.now) (engine_view c.bad_line.new.engine)) (sym e) (lined (one_line_more now) stands same line (line_more may)))
+    subst (λ (l : LineEffect). MatchesLine l on (view c.bad_line.new.engine) (lines_of c.bad_line.new.waiting) (engine_view c.args.engine.now) (engine_view c.bad_line.new.engine)) (sym e) (lined (one_line_more now) stands same line (line_more may)))
     c.bad_line.ensures.lined
 
 pub returns-in-Bad-clause-part : goal.returns-in-Bad-clause-part
@@ -43,11 +44,11 @@ spoken_line-requires-clause-verb g c =
 
 pub returns-in-Verb-clause-lined : goal.returns-in-Verb-clause-lined
 returns-in-Verb-clause-lined g c = then_ok c.spoken_line.result
-    (λ on. (now : RunState) → StandsFor (view c.args.engine.now) now.session → now.waiting ≡ c.args.waiting.now.items → now.line ≡ c.args.line → MayTakeLine now → MatchesLine (line_effect (as_described c.args.engine.now.desc) now (Spoken c.in-Verb.name c.in-Verb.verb)) on (view c.spoken_line.new.engine) c.spoken_line.new.waiting.items (engine_view c.args.engine.now) (engine_view c.spoken_line.new.engine))
-    (λ on. (now : RunState) (whole : List ℕ) → c.args.raw.now ≡ take 2003 whole → StandsFor (view c.args.engine.now) now.session → now.waiting ≡ c.args.waiting.now.items → now.line + 1 ≡ c.args.line → MayTakeLine now → MatchesLine (line_step (as_described c.args.engine.now.desc) now whole) on (view c.spoken_line.new.engine) c.spoken_line.new.waiting.items (engine_view c.args.engine.now) (engine_view c.spoken_line.new.engine))
+    (λ on. (now : RunState) → StandsFor (view c.args.engine.now) now.session → now.waiting ≡ (lines_of c.args.waiting.now) → now.line ≡ c.args.line → MayTakeLine now → MatchesLine (line_effect (as_described c.args.engine.now.desc) now (Spoken c.in-Verb.name c.in-Verb.verb)) on (view c.spoken_line.new.engine) (lines_of c.spoken_line.new.waiting) (engine_view c.args.engine.now) (engine_view c.spoken_line.new.engine))
+    (λ on. (now : RunState) (whole : List ℕ) → c.args.raw.now ≡ take 2003 whole → StandsFor (view c.args.engine.now) now.session → now.waiting ≡ (lines_of c.args.waiting.now) → now.line + 1 ≡ c.args.line → MayTakeLine now → MatchesLine (line_step (as_described c.args.engine.now.desc) now whole) on (view c.spoken_line.new.engine) (lines_of c.spoken_line.new.waiting) (engine_view c.args.engine.now) (engine_view c.spoken_line.new.engine))
     (λ on lined now whole raw stands same line may.
     let e : line_step (as_described c.args.engine.now.desc) now whole ≡ line_effect (as_described c.args.engine.now.desc) (one_line_more now) (Spoken c.in-Verb.name c.in-Verb.verb) = line_is (as_described c.args.engine.now.desc) now whole c.args.raw.now c.line_text.result.now (Spoken c.in-Verb.name c.in-Verb.verb) raw c.line_text.ensures (sym c.in-Verb.is ∙ c.in_ok-read_line.ensures ∙ ap (λ (d : Description). line_of (as_described d) c.line_text.result.now) c.description.ensures) in
-    subst (λ (l : LineEffect). MatchesLine l on (view c.spoken_line.new.engine) c.spoken_line.new.waiting.items (engine_view c.args.engine.now) (engine_view c.spoken_line.new.engine)) (sym e) (lined (one_line_more now) stands same line (line_more may)))
+    subst (λ (l : LineEffect). MatchesLine l on (view c.spoken_line.new.engine) (lines_of c.spoken_line.new.waiting) (engine_view c.args.engine.now) (engine_view c.spoken_line.new.engine)) (sym e) (lined (one_line_more now) stands same line (line_more may)))
     c.spoken_line.ensures.lined
 
 pub returns-in-Verb-clause-part : goal.returns-in-Verb-clause-part

@@ -45,7 +45,7 @@ loop-line-preserved g c = record {
       let text : c.as_slice.result.now ≡ line_text c.line-item.result = c.as_slice.ensures ∙ c.in_ok-text.ensures in
       let room' : (engine_view c.loop-line.engine).next + 1 < 2 ^ 64 = omega (arith, c.loop-line.invariant.next, room) in
       ran_as _ _ _ _ (sym (unanswered_more c.args.waiting.now c.loop-line.line-index c.line-item.result c.loop-line-test.true (sym c.line-item.is)))
-      (ran_on _ _ _ _ _ (c.loop-line.invariant.ran room) (ran_says _ _ _ _ text c.say.ensures.lasts.causes.tells c.say.ensures.lasts.causes.whole c.say.ensures.lasts.causes.desc c.say.ensures.lasts.causes.pace c.say.ensures.effort (undamaged_by _ (engine_view c.say.new.self) c.say.result c.say.ensures.undamaged c.say.ensures.lasts.causes.cause) c.in_ok-say.ensures.text c.say.ensures.part c.in_ok-say.ensures.keeps c.in_ok-say.ensures.landmarks.done room'));
+      (ran_on _ _ _ _ _ (c.loop-line.invariant.ran room) (ran_says _ _ _ _ text c.say.ensures.lasts.causes.tells c.say.ensures.lasts.causes.whole c.say.ensures.lasts.causes.desc c.say.ensures.lasts.causes.pace c.say.ensures.effort (undamaged_by _ (engine_view c.say.new.self) c.say.result c.say.ensures.undamaged c.say.ensures.lasts.causes.cause) c.in_ok-say.ensures.text c.say.ensures.part c.in_ok-say.ensures.keeps room'));
 }
 
 pub returns-clause-ran : goal.returns-clause-ran

@@ -1,6 +1,6 @@
 use Rattle.dms_runner.proofs.Blames.{none_lasts, run_on_lasts, no_fault}
 use Rattle.dms_storeverbs.proofs.Lasting.{lasts_none}
-use Rattle.std.proofs.Common.{◌<◌, ◌∙◌, ap, refl, sym, subst, Vec, Global, List, arith}
+use Rattle.std.proofs.Common.{◌<◌, ◌∙◌, ap, refl, sym, subst, List, arith}
 use Rattle.dms_desc.specs.Shape.{as_described}
 use Rattle.dms_storeverbs.specs.declared.engine.Engine.{Engine}
 use Rattle.dms_storeverbs.specs.View.{engine_view, view}
@@ -8,15 +8,18 @@ use Rattle.dms_runner.specs.declared.waiting.WaitingLine.{WaitingLine}
 use Rattle.dms_runner.specs.Answers.{first_state}
 use Rattle.dms_runner.specs.Starting.{TakesAll}
 use Rattle.dms_runner.proofs.Always.{fault_as, then_on}
-use Rattle.dms_runner.proofs.Verbs.{verbs_in, verbs_under}
+use Rattle.dms_runner.specs.declared.waiting.WaitingLines.{WaitingLines}
+use Rattle.dms_runner.specs.Waiting.{AreVerbs}
+use Rattle.dms_runner.proofs.Verbs.{held_under}
 use Rattle.dms_runner.proofs.Running.{RunsLines, read_start, read_on, read_ended, read_fits, read_last, read_lines, read_bytes, read_breaks, runs_start}
 use Rattle.dms_runner.proofs.Stopping.{at_next, stops_at, stops_behind, takes_last, takes_on, takes_whole}
+use Rattle.dms_runner.specs.Firsts.{lines_of}
 use Rattle.dms_runner.proofs.run.take_lines.Goals as goal
 
 pub loop-line-init : goal.loop-line-init
 loop-line-init g c = record {
   lasts = lasts_none g.met.St.Store.same_again _ c.requires.sound;
-  verbs = verbs_in (as_described c.args.engine.now.desc) (sym c.requires.none) tt;
+  verbs = record { verbs = subst (AreVerbs (as_described c.args.engine.now.desc)) (sym c.requires.none) tt; firsts = c.requires.held };
   taken = refl;
   same_source = g.met.I.Source.same_again _;
   small = omega arith;
@@ -27,7 +30,7 @@ loop-line-init g c = record {
 }
 
 pub one_line-requires-clause-verbs : goal.one_line-requires-clause-verbs
-one_line-requires-clause-verbs g c = verbs_under _ (ap as_described (sym c.loop-line.invariant.lasts.description)) c.loop-line.invariant.verbs
+one_line-requires-clause-verbs g c = held_under _ (ap as_described (sym c.loop-line.invariant.lasts.description)) c.loop-line.invariant.verbs
 
 pub loop-line-preserved : goal.loop-line-preserved
 loop-line-preserved g c =
@@ -37,7 +40,7 @@ loop-line-preserved g c =
     let end = (rw c.in-Ok-Ended.field-0-is at c.in-Ok-Ended.ensures.ended) refl in
     record {
       lasts = run_on_lasts g.met.St.Store.same_then c.loop-line.invariant.lasts c.in-Ok-Ended.ensures.lasts;
-      verbs = verbs_under _ (ap as_described c.loop-line.invariant.lasts.description) c.in-Ok-Ended.ensures.verbs;
+      verbs = held_under _ (ap as_described c.loop-line.invariant.lasts.description) c.in-Ok-Ended.ensures.verbs;
       taken = c.in-Ok-Ended.ensures.clean (no_fault _ _) ∙ c.loop-line.invariant.taken;
       same_source = g.met.I.Source.same_then _ _ _ c.loop-line.invariant.same_source c.one_line.ensures.same_source;
       small = omega (arith, c.loop-line.invariant.small, c.one_line.ensures.room);
@@ -132,8 +135,8 @@ pub returns-in-Ok-Nothing-clause-all : goal.returns-in-Ok-Nothing-clause-all
 returns-in-Ok-Nothing-clause-all g c = λ db first all stands small remains.
     let none = (rw c.in-Ok-Nothing.field-0-is at c.in-Ok-Nothing.ensures.none) refl in
     let r = c.loop-line.invariant.runs db first all stands small remains in
-    subst (λ (held : Vec WaitingLine Global). TakesAll c.args.engine.now c.one_line.new.engine held.items db first all) (sym none.1)
-    (subst (λ (e : Engine g.row.St.Denot g.St.Store). TakesAll c.args.engine.now e c.loop-line.waiting.items db first all) (sym none.0)
+    subst (λ (held : WaitingLines). TakesAll c.args.engine.now c.one_line.new.engine (lines_of held) db first all) (sym none.1)
+    (subst (λ (e : Engine g.row.St.Denot g.St.Store). TakesAll c.args.engine.now e (lines_of c.loop-line.waiting) db first all) (sym none.0)
     (takes_whole c.args.engine.now c.loop-line.engine db first all _ _ _ _ _ r c.loop-line.invariant.few (none.2 r.read.rest r.read.remains).0 small))
 
 pub returns-in-Ok-Nothing-clause-fits : goal.returns-in-Ok-Nothing-clause-fits

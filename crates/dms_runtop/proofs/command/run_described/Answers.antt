@@ -1,18 +1,14 @@
 use Rattle.std.proofs.Common.{◌≤◌, ◌<◌, ◌∙◌, ℕ, length, refl, sym, ap, subst}
 use Rattle.std.specs.Global.{Vec}
 use Rattle.dms_desc.specs.Shape.{as_described}
-use Rattle.dms_status.specs.declared.status.Status.{Status}
 use Rattle.dms_status.specs.declared.status.Status.TheVariants.{Memory}
 use Rattle.dms_wal.specs.Marks.{IsDescription}
-use Rattle.dms_runtop.specs.Both.{first_of, second_of, both_of}
-use Rattle.dms_runtop.specs.Inputs.{BlamesInput}
+use Rattle.dms_runtop.proofs.Described.{files_under, runs_described}
 use Rattle.dms_runtop.proofs.Formed.{bytes_fit, files_of, frames_of}
-use Rattle.dms_runtop.proofs.Grows.{grows_same, grows_unveiled}
-use Rattle.dms_runtop.proofs.Inputs.{blames_undone}
+use Rattle.dms_runtop.proofs.Grows.{grows_described, grows_same}
 use Rattle.dms_runtop.proofs.Looked.{runs_left}
 use Rattle.dms_runtop.proofs.Serving.{counts_each, serves_by}
-use Rattle.dms_runtop.proofs.Unveiled.{files_under, runs_unveiled, same_end}
-use Rattle.dms_runtop.proofs.Naming.{memory_names, unveiled_names}
+use Rattle.dms_runtop.proofs.Taking.{takes_none}
 use Rattle.dms_runtop.proofs.command.run_described.Goals as goal
 
 pub into_running-requires-clause-frames : goal.into_running-requires-clause-frames
@@ -30,8 +26,7 @@ into_running-requires-clause-described g c = subst IsDescription (sym c.in-Some.
 
 pub run_over-requires-clause-sound : goal.run_over-requires-clause-sound
 run_over-requires-clause-sound g c =
-    c.in-Ok.ensures.usable (λ tells. files_under g.S.Site c.spelling_law.ensures c.args.opened (as_described c.args.desc.now) c.requires.formed c.requires.under _ c.in-Some.ensures
-    (c.requires.known (first_of g.S.Site.tells g.K.Knows.known tells) (second_of g.S.Site.tells g.K.Knows.known tells)))
+    c.in-Ok.ensures.usable (λ tells. files_under g.S.Site c.spelling_law.ensures c.args.opened (as_described c.args.desc.now) c.requires.formed c.requires.under _ c.in-Some.ensures (c.requires.known tells))
 
 pub run_over-requires-clause-serves : goal.run_over-requires-clause-serves
 run_over-requires-clause-serves g c =
@@ -45,48 +40,32 @@ run_over-requires-clause-serves g c =
 
 pub run_over-requires-clause-mark : goal.run_over-requires-clause-mark
 run_over-requires-clause-mark g c = λ tells.
-    let st = files_under g.S.Site c.spelling_law.ensures c.args.opened (as_described c.args.desc.now) c.requires.formed c.requires.under _ c.in-Some.ensures
-    (c.requires.known (first_of g.S.Site.tells g.K.Knows.known tells) (second_of g.S.Site.tells g.K.Knows.known tells)) in
+    let st = files_under g.S.Site c.spelling_law.ensures c.args.opened (as_described c.args.desc.now) c.requires.formed c.requires.under _ c.in-Some.ensures (c.requires.known tells) in
     sym (c.in-Ok.ensures.tells st.0 st.1).content_is
 
 pub returns-in-Ok-clause-ran : goal.returns-in-Ok-clause-ran
 returns-in-Ok-clause-ran g c =
-    same_end g.S.Site c.args.opened g.K.Knows.known _ _ _ _ _ _ c.unveil.ensures.0 c.unveil.ensures.1
-    (runs_unveiled g.S.Site _ (λ v. v.site) g.K.Knows.known (both_of g.S.Site.tells g.K.Knows.known) (λ v. refl) c.spelling_law.ensures c.args.opened (as_described c.args.desc.now) c.requires.formed c.requires.under
-    _ c.in-Some.ensures c.in-Ok.running (ap (λ v. v.site) c.in-Ok.ensures.log.0) c.in-Ok.ensures.log.2 c.in-Ok.ensures.log.1 c.in-Ok.ensures.kept.2 (c.in-Ok.ensures.log.3 ∙ c.from-3.ensures) c.in-Ok.ensures.tells (c.in-Ok.ensures.kept.4 ∙ c.from-2.ensures) (c.in-Ok.ensures.kept.7, c.in-Ok.ensures.kept.6, c.in-Ok.ensures.kept.8, c.in-Ok.ensures.kept.9) c.in-Ok.ensures.nothing c.run_over.result.site _ _ c.run_over.result.status c.run_over.ensures.ran)
+    runs_described g.S.Site c.spelling_law.ensures c.args.opened (as_described c.args.desc.now) c.requires.formed c.requires.under _ c.in-Some.ensures c.in-Ok.running c.in-Ok.ensures.log.0 c.in-Ok.ensures.log.2 c.in-Ok.ensures.log.1
+    c.in-Ok.ensures.kept.2 (c.in-Ok.ensures.log.3 ∙ c.from-3.ensures) c.in-Ok.ensures.tells (c.in-Ok.ensures.kept.4 ∙ c.from-2.ensures) (c.in-Ok.ensures.kept.7, c.in-Ok.ensures.kept.6, c.in-Ok.ensures.kept.8) c.in-Ok.ensures.nothing
+    c.run_over.result.site _ _ c.run_over.result.status c.run_over.ensures.ran
 
 pub returns-clause-ran : goal.returns-clause-ran
-returns-clause-ran g c =
-    same_end g.S.Site c.args.opened g.K.Knows.known _ _ _ _ _ _ c.unveil-in-Err.ensures.0 c.unveil-in-Err.ensures.1
-    (runs_left g.S.Site c.args.opened _ g.K.Knows.known _ _ (ap (λ v. v.site) c.in-Err.ensures.site))
+returns-clause-ran g c = runs_left g.S.Site c.args.opened _ _ _ c.in-Err.ensures.site
 
 pub returns-in_default-clause-ran : goal.returns-in_default-clause-ran
-returns-in_default-clause-ran g c = runs_left g.S.Site c.args.opened c.site_of.result g.K.Knows.known _ _ c.site_of.ensures
+returns-in_default-clause-ran g c = runs_left g.S.Site c.args.opened c.site_of.result _ _ c.site_of.ensures
 
 pub returns-in-Ok-clause-grown : goal.returns-in-Ok-clause-grown
-returns-in-Ok-clause-grown g c =
-    grows_unveiled g.S.Site _ _ _ (λ v. v.site) g.K.Knows.known (both_of g.S.Site.tells g.K.Knows.known) (λ v. refl) (λ v. refl) c.args.opened c.in-Ok.running (ap (λ v. v.site) c.in-Ok.ensures.log.0) c.in-Ok.ensures.log.2 c.in-Ok.ensures.log.1
-    c.run_over.result.site _ c.unveil.ensures.1 (λ tells. (c.run_over.ensures.grown tells).kept) (λ tells. (c.run_over.ensures.grown tells).left)
+returns-in-Ok-clause-grown g c = grows_described g.S.Site c.args.opened c.in-Ok.running c.in-Ok.ensures.log.0 c.in-Ok.ensures.log.2 c.in-Ok.ensures.log.1 c.run_over.result.site c.run_over.ensures.grown
 
 pub returns-clause-grown : goal.returns-clause-grown
-returns-clause-grown g c = grows_same g.S.Site c.args.opened _ g.K.Knows.known (c.unveil-in-Err.ensures.1 ∙ ap (λ v. v.site) c.in-Err.ensures.site)
+returns-clause-grown g c = grows_same g.S.Site c.args.opened _ c.in-Err.ensures.site
 
 pub returns-in_default-clause-grown : goal.returns-in_default-clause-grown
-returns-in_default-clause-grown g c = grows_same g.S.Site c.args.opened c.site_of.result g.K.Knows.known c.site_of.ensures
+returns-in_default-clause-grown g c = grows_same g.S.Site c.args.opened c.site_of.result c.site_of.ensures
 
-pub returns-in_default-clause-by_input : goal.returns-in_default-clause-by_input
-returns-in_default-clause-by_input g c = blames_undone Memory tt
+pub returns-in_default-clause-takes : goal.returns-in_default-clause-takes
+returns-in_default-clause-takes g c = takes_none g.I.Source g.met.I.Source.same_again c.args.source.now Memory tt
 
-pub returns-clause-by_input : goal.returns-clause-by_input
-returns-clause-by_input g c = subst (λ (x : Status). BlamesInput (g.I.Source.left c.args.source.now) (g.I.Source.left c.args.source.now) x) (sym c.unveil-in-Err.ensures.0) (blames_undone Memory tt)
-
-pub returns-in-Ok-clause-appends : goal.returns-in-Ok-clause-appends
-returns-in-Ok-clause-appends g c =
-    unveiled_names g.S.Site (as_described c.args.desc.now).files (λ v. v.site) g.K.Knows.known _ (both_of g.S.Site.tells g.K.Knows.known) c.args.opened c.in-Ok.running (ap (λ v. v.site) c.in-Ok.ensures.log.0) c.run_over.result.site _ _ _ refl refl
-    (ap (λ v. g.S.Site.disk_faults v.site) c.in-Ok.ensures.log.0) c.in-Ok.ensures.log.2 c.in-Ok.ensures.log.1 (c.in-Ok.ensures.log.3 ∙ c.from-3.ensures) c.in-Ok.ensures.nothing c.in-Ok.ensures.used _ _ c.run_over.result.status c.unveil.ensures.1 c.unveil.ensures.0 c.run_over.ensures.appends
-
-pub returns-clause-appends : goal.returns-clause-appends
-returns-clause-appends g c = memory_names g.S.Site (as_described c.args.desc.now).files c.args.opened g.K.Knows.known _ _ c.unveil-in-Err.ensures.0
-
-pub returns-in_default-clause-appends : goal.returns-in_default-clause-appends
-returns-in_default-clause-appends g c = memory_names g.S.Site (as_described c.args.desc.now).files c.args.opened g.K.Knows.known _ Memory refl
+pub returns-clause-takes : goal.returns-clause-takes
+returns-clause-takes g c = takes_none g.I.Source g.met.I.Source.same_again c.args.source.now Memory tt

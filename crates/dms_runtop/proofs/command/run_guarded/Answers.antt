@@ -1,17 +1,17 @@
-use Rattle.std.proofs.Common.{◌<◌, ◌⊎◌, refl, sym, subst, arith}
-use Rattle.dms_limit.specs.Behind.{AddsNoneBehind}
+use Rattle.std.proofs.Common.{◌<◌, sym, subst}
 use Rattle.dms_status.specs.declared.status.Status.TheVariants.{Memory}
-use Rattle.dms_runtop.proofs.Inputs.{blames_undone}
-use Rattle.dms_opening.specs.Openings.{CanOpen}
-use Rattle.dms_runtop.specs.Command.{IsUnopened, RunKeepsTrail, RunsCommand}
-use Rattle.dms_runtop.proofs.Opening.{opens_below, unopened_memory}
+use Rattle.dms_runtop.specs.Command.{RunKeepsTrail, RunsCommand}
+use Rattle.dms_runtop.specs.RunDoes.{Opens}
+use Rattle.dms_runtop.specs.Statuses.{IsRefusal}
 use Rattle.dms_runtop.proofs.Guarding.{refused_counts}
 use Rattle.dms_runtop.proofs.Instead.{command_instead, refused_place}
-use Rattle.dms_audfile.specs.TrailEntries.{trail_entries}
-use Rattle.dms_runtop.specs.Filling.{MayHaveOpening}
-use Rattle.dms_runtop.specs.Naming.{Appends}
-use Rattle.dms_runtop.proofs.Naming.{memory_told}
+use Rattle.dms_runtop.proofs.Opening.{unopened_memory}
+use Rattle.dms_runtop.proofs.Taking.{takes_refused}
 use Rattle.dms_runtop.proofs.command.run_guarded.Goals as goal
+
+pub returns-clause-ran : goal.returns-clause-ran
+returns-clause-ran g c =
+    subst (λ x. RunsCommand g.S.Site g.state c.args.site x.site (g.I.Source.left c.args.source.now) (g.I.Source.left c.run_found-ended.new.source) c.run_found-ended.result.status) (sym c.into_site-site.ensures) c.run_found-ended.ensures.ran
 
 pub returns-then-refused-gt0-clause-ran : goal.returns-then-refused-gt0-clause-ran
 returns-then-refused-gt0-clause-ran g c =
@@ -19,44 +19,34 @@ returns-then-refused-gt0-clause-ran g c =
     let counted = refused_counts c.run_found-ended.result.status (g.S.Site.disk_faults c.args.site) (g.S.Site.disk_faults c.run_found-ended.result.site.site) c.run_found-ended.result.site.refused ended.same.counted
     (subst (λ x. 0 < x.refused) c.into_site-site.ensures c.if-refused-gt0.true) ended.disk in
     command_instead g.S.Site g.state c.args.site c.into_site-site.result.site _ _ c.run_found-ended.result.status (refused_place c.run_found-ended.result.status counted.0)
-    (subst (λ x. RunsCommand g.S.Site g.state c.args.site x.site (g.I.Source.left c.args.source.now) (g.I.Source.left c.run_found-ended.new.source) c.run_found-ended.result.status) (sym c.into_site-site.ensures)
-    (λ tells s is next has room all held. let r = ended.ran tells s is next has room all held in record { total = r.total; first = r.first; trail = r.trail; runs = r.runs }))
-
-pub returns-clause-ran : goal.returns-clause-ran
-returns-clause-ran g c =
-    subst (λ x. RunsCommand g.S.Site g.state c.args.site x.site (g.I.Source.left c.args.source.now) (g.I.Source.left c.run_found-ended.new.source) c.run_found-ended.result.status) (sym c.into_site-site.ensures)
-    (λ tells s is next has room all held. let r = c.run_found-ended.ensures.ran tells s is next has room all held in record { total = r.total; first = r.first; trail = r.trail; runs = r.runs })
-
-pub returns-then-refused-gt0-clause-trail : goal.returns-then-refused-gt0-clause-trail
-returns-then-refused-gt0-clause-trail g c =
-    subst (λ x. RunKeepsTrail g.S.Site g.state c.args.site x.site) (sym c.into_site-site.ensures) (λ tells s is. let k = c.run_found-ended.ensures.trail tells s is in record { kept = k.kept; left = k.left })
+    (subst (λ x. RunsCommand g.S.Site g.state c.args.site x.site (g.I.Source.left c.args.source.now) (g.I.Source.left c.run_found-ended.new.source) c.run_found-ended.result.status) (sym c.into_site-site.ensures) ended.ran)
 
 pub returns-clause-trail : goal.returns-clause-trail
-returns-clause-trail g c = subst (λ x. RunKeepsTrail g.S.Site g.state c.args.site x.site) (sym c.into_site-site.ensures) (λ tells s is. let k = c.run_found-ended.ensures.trail tells s is in record { kept = k.kept; left = k.left })
+returns-clause-trail g c = subst (λ x. RunKeepsTrail g.S.Site g.state c.args.site x.site) (sym c.into_site-site.ensures) c.run_found-ended.ensures.trail
+
+pub returns-then-refused-gt0-clause-trail : goal.returns-then-refused-gt0-clause-trail
+returns-then-refused-gt0-clause-trail g c = subst (λ x. RunKeepsTrail g.S.Site g.state c.args.site x.site) (sym c.into_site-site.ensures) c.run_found-ended.ensures.trail
 
 pub returns-clause-opens : goal.returns-clause-opens
-returns-clause-opens g c tells =
-    subst (λ x. CanOpen (g.S.Site.files c.args.site) ⊎ IsUnopened g.S.Site c.args.site x.site c.run_found-ended.result.status) (sym c.into_site-site.ensures)
-    (opens_below g.S.Site c.args.site c.run_found-ended.result.site.site refl refl (λ s. s) c.run_found-ended.result.status (c.run_found-ended.ensures.opens tells))
+returns-clause-opens g c =
+    subst (λ x. Opens g.S.Site g.I.Source c.args.site x.site c.args.source.now c.run_found-ended.new.source c.run_found-ended.result.status) (sym c.into_site-site.ensures) c.run_found-ended.ensures.opens
 
 pub returns-then-refused-gt0-clause-opens : goal.returns-then-refused-gt0-clause-opens
-returns-then-refused-gt0-clause-opens g c tells =
-    unopened_memory g.S.Site c.args.site c.into_site-site.result.site c.run_found-ended.result.status
-    (subst (λ x. CanOpen (g.S.Site.files c.args.site) ⊎ IsUnopened g.S.Site c.args.site x.site c.run_found-ended.result.status) (sym c.into_site-site.ensures)
-    (opens_below g.S.Site c.args.site c.run_found-ended.result.site.site refl refl (λ s. s) c.run_found-ended.result.status (c.run_found-ended.ensures.opens tells)))
+returns-then-refused-gt0-clause-opens g c =
+    let e = c.run_found-ended in
+    let o = subst (λ x. Opens g.S.Site g.I.Source c.args.site x.site c.args.source.now e.new.source e.result.status) (sym c.into_site-site.ensures) e.ensures.opens in
+    let none : IsRefusal Memory → ⊥ = λ is. is in
+    record {
+      opens = λ tells. unopened_memory g.S.Site c.args.site c.into_site-site.result.site e.result.status (o.opens tells);
+      refused = λ is. absurd (none is);
+      untaken = λ is. absurd (none is);
+      complete = λ tells total first openable is. none is;
+      complete_state = λ tells s stands is. none is;
+    }
 
-pub returns-then-refused-gt0-clause-by_input : goal.returns-then-refused-gt0-clause-by_input
-returns-then-refused-gt0-clause-by_input g c = blames_undone Memory tt
-
-pub returns-clause-adds : goal.returns-clause-adds
-returns-clause-adds g c = λ s is tells room disk memory.
-    subst (λ x. AddsNoneBehind s.desc.files (g.S.Site.files c.args.site) (g.S.Site.files x.site)) (sym c.into_site-site.ensures) (c.run_found-ended.ensures.adds s is tells (omega (arith, room)) disk memory)
-
-pub returns-clause-appends : goal.returns-clause-appends
-returns-clause-appends g c = λ tells s is ends total first found.
-    let old = trail_entries total first (g.S.Site.files c.args.site) in
-    subst (λ x. Appends s.desc.files total first (MayHaveOpening c.run_found-ended.result.status old) old (g.S.Site.files x.site) c.run_found-ended.result.status) (sym c.into_site-site.ensures)
-    (c.run_found-ended.ensures.appends tells s is (record { room = omega (arith, ends.room); not_disk = ends.not_disk; not_memory = ends.not_memory }) total first found)
-
-pub returns-then-refused-gt0-clause-appends : goal.returns-then-refused-gt0-clause-appends
-returns-then-refused-gt0-clause-appends g c = memory_told g.S.Site c.args.site g.state Memory c.into_site-site.result.site refl
+pub returns-then-refused-gt0-clause-takes : goal.returns-then-refused-gt0-clause-takes
+returns-then-refused-gt0-clause-takes g c =
+    let ended = c.run_found-ended.ensures in
+    let counted = refused_counts c.run_found-ended.result.status (g.S.Site.disk_faults c.args.site) (g.S.Site.disk_faults c.run_found-ended.result.site.site) c.run_found-ended.result.site.refused ended.same.counted
+    (subst (λ x. 0 < x.refused) c.into_site-site.ensures c.if-refused-gt0.true) ended.disk in
+    takes_refused g.I.Source c.args.source.now c.run_found-ended.new.source c.run_found-ended.result.status counted.0 ended.takes

@@ -1,4 +1,4 @@
-use Rattle.std.proofs.Common.{◌∙◌, refl, subst}
+use Rattle.std.proofs.Common.{◌∙◌, subst}
 use Rattle.dms_desc.specs.Shape.{Described, as_described}
 use Rattle.dms_store.specs.Storing.{seen_by}
 use Rattle.dms_storeverbs.specs.View.{view}
@@ -6,10 +6,8 @@ use Rattle.dms_wal.specs.declared.running.Running.{Running}
 use Rattle.dms_runtop.specs.Over.{GrowsOver, RunsOver}
 use Rattle.dms_runtop.proofs.Engine.{fresh_over, refused_over}
 use Rattle.dms_runtop.proofs.Grows.{grows_left}
-use Rattle.dms_runtop.proofs.Inputs.{blames_undone}
+use Rattle.dms_runtop.proofs.Taking.{takes_none}
 use Rattle.dms_status.specs.declared.status.Status.TheVariants.{Memory}
-use Rattle.dms_runtop.specs.Naming.{AppendsOver}
-use Rattle.dms_runtop.proofs.Naming.{same_names}
 use Rattle.dms_runtop.proofs.over.run_over.Goals as goal
 
 pub run_engine-requires-clause-fresh : goal.run_engine-requires-clause-fresh
@@ -43,18 +41,8 @@ pub returns-in-Ok-new-clause-grown : goal.returns-in-Ok-new-clause-grown
 returns-in-Ok-new-clause-grown g c =
     subst (λ (x : Running g.row.S.Denot). GrowsOver g.S.Site x c.run_engine.result.site) ((λ i. (c.in-Ok-new.ensures.store i).over.below) ∙ c.in-Ok.ensures.below) c.run_engine.ensures.grown
 
-pub returns-in-Err-clause-by_input : goal.returns-in-Err-clause-by_input
-returns-in-Err-clause-by_input g c = blames_undone Memory tt
+pub returns-in-Err-clause-takes : goal.returns-in-Err-clause-takes
+returns-in-Err-clause-takes g c = takes_none g.I.Source g.met.I.Source.same_again c.args.source.now Memory tt
 
-pub returns-in-Err-new-clause-by_input : goal.returns-in-Err-new-clause-by_input
-returns-in-Err-new-clause-by_input g c = blames_undone Memory tt
-
-pub returns-in-Ok-new-clause-appends : goal.returns-in-Ok-new-clause-appends
-returns-in-Ok-new-clause-appends g c =
-    subst (λ (x : Running g.row.S.Denot). AppendsOver g.S.Site x c.run_engine.result.status c.run_engine.result.site) ((λ i. (c.in-Ok-new.ensures.store i).over.below) ∙ c.in-Ok.ensures.below) c.run_engine.ensures.appends
-
-pub returns-in-Err-clause-appends : goal.returns-in-Err-clause-appends
-returns-in-Err-clause-appends g c = same_names g.S.Site c.args.running c.into_site.result Memory refl
-
-pub returns-in-Err-new-clause-appends : goal.returns-in-Err-new-clause-appends
-returns-in-Err-new-clause-appends g c = same_names g.S.Site c.args.running c.into_site-in-Err-new.result Memory refl
+pub returns-in-Err-new-clause-takes : goal.returns-in-Err-new-clause-takes
+returns-in-Err-new-clause-takes g c = takes_none g.I.Source g.met.I.Source.same_again c.args.source.now Memory tt

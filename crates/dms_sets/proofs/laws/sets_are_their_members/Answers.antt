@@ -16,4 +16,4 @@ pub returns-clause-shaped : goal.returns-clause-shaped
 returns-clause-shaped c desc db s named fits = entries_shaped desc db s (all_fit desc db s named.items fits)
 
 pub returns-clause-only : goal.returns-clause-only
-returns-clause-only c desc db s xs auto named fits = entries_determined desc db s xs auto (all_fit desc db s named.items fits)
+returns-clause-only c desc db s xs auto named fits is = entries_determined desc db s xs auto (all_fit desc db s named.items fits) is.rises is.entries is.members

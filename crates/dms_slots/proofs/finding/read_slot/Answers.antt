@@ -3,7 +3,8 @@ use Rattle.std.proofs.Math.Nat as nat
 use Rattle.dms_desc.specs.Shape.{shape_of}
 use Rattle.dms_block.specs.Changing.{grown_is}
 use Rattle.dms_block.specs.View.{overlay_content, seen_counts, under, overlay_changes}
-use Rattle.dms_slots.specs.SlotBlocks.{file_of, is_block}
+use Rattle.dms_desc.specs.Files.{file_of}
+use Rattle.dms_slots.specs.SlotBlocks.{is_block}
 use Rattle.dms_slots.specs.SlotBlockLaws.{read_there, slot_past, bad_block, used_there}
 use Rattle.dms_slots.proofs.finding.read_slot.Goals as goal
 

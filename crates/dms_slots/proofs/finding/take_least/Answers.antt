@@ -4,7 +4,8 @@ use Rattle.dms_block.specs.Changing.{grown_is}
 use Rattle.dms_block.specs.Content.{Content, apply_changes}
 use Rattle.dms_block.specs.HeldLaws.{looks_as, looks_on, told_after}
 use Rattle.dms_block.specs.View.{overlay_content, seen_counts, under, overlay_changes}
-use Rattle.dms_slots.specs.SlotBlocks.{file_of, slots_in, before_free, within}
+use Rattle.dms_desc.specs.Files.{file_of}
+use Rattle.dms_slots.specs.SlotBlocks.{slots_in, before_free, within}
 use Rattle.dms_slots.specs.SlotBlockLaws.{least_on, least_here, least_behind, place_low, some_weaker}
 use Rattle.dms_slots.proofs.finding.take_least.Goals as goal
 

@@ -1,5 +1,5 @@
 use Rattle.dms_block.specs.ContentLaws.{in_others}
-use Rattle.dms_slots.specs.SlotBlocks.{file_of}
+use Rattle.dms_desc.specs.Files.{file_of}
 use Rattle.dms_slots.specs.FileWritten.{put_used, put_free, put_other}
 use Rattle.dms_slots.proofs.laws.file_law.Goals as goal
 

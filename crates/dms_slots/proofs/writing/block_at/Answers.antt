@@ -1,7 +1,7 @@
 use Rattle.std.proofs.Common.{◌<◌, ◌∙◌, ℕ, [], length, sym, ap, arith, get_or}
 use Rattle.dms_block.specs.Changing.{grown_is}
 use Rattle.dms_block.specs.View.{overlay_content, seen_counts, under, overlay_changes}
-use Rattle.dms_slots.specs.SlotBlocks.{file_of}
+use Rattle.dms_desc.specs.Files.{file_of}
 use Rattle.dms_slots.specs.SlotBlockLaws.{none_at, some_at}
 use Rattle.dms_slots.proofs.writing.block_at.Goals as goal
 

@@ -4,7 +4,8 @@ use Rattle.dms_fields.specs.Fields.{lay_bytes}
 use Rattle.dms_layout.specs.Slots.{slot_width}
 use Rattle.dms_block.specs.Content.{with_block}
 use Rattle.dms_block.specs.View.{overlay_content}
-use Rattle.dms_slots.specs.SlotBlocks.{file_of, block_of, place_of, block_at}
+use Rattle.dms_desc.specs.Files.{file_of}
+use Rattle.dms_slots.specs.SlotBlocks.{block_of, place_of, block_at}
 use Rattle.dms_slots.specs.SlotBlockLaws.{zeros_cut}
 use Rattle.dms_slots.proofs.writing.free_slot.Goals as goal
 

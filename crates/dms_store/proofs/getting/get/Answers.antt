@@ -11,7 +11,8 @@ use Rattle.dms_layout.specs.declared.slot.Slot.{Slot}
 use Rattle.dms_model.specs.Fitting.{RecordFits, is_number}
 use Rattle.dms_ordlist.specs.SeenLaws.{causes_err}
 use Rattle.dms_slots.specs.Seen.{BadAt}
-use Rattle.dms_slots.specs.SlotBlocks.{block_of, file_of, slot_at}
+use Rattle.dms_desc.specs.Files.{file_of}
+use Rattle.dms_slots.specs.SlotBlocks.{block_of, slot_at}
 use Rattle.dms_store.specs.Finding.{BadSlot, bad_slot, got, low_number, record_fits_opt, seen_below, served_at, set_if}
 use Rattle.dms_store.specs.Noted.{tells_if}
 use Rattle.dms_store.specs.Undamaged.{not_set}

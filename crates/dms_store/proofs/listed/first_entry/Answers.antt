@@ -3,7 +3,7 @@ use Rattle.dms_desc.specs.declared.structure.KeyPart.{KeyPart}
 use Rattle.dms_ordlist.specs.Lists.{first_from}
 use Rattle.dms_ordlist.specs.Seen.{IfList}
 use Rattle.dms_sets.specs.Padded.{BoundSmall, entry_width, from_bytes}
-use Rattle.dms_slots.specs.SlotBlocks.{file_of}
+use Rattle.dms_desc.specs.Files.{file_of}
 use Rattle.dms_store.proofs.Looking.{from_long}
 use Rattle.dms_store.proofs.listed.first_entry.Goals as goal
 

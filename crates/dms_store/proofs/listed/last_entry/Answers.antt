@@ -3,7 +3,7 @@ use Rattle.dms_desc.specs.declared.structure.KeyPart.{KeyPart}
 use Rattle.dms_ordlist.specs.Lists.{last_to}
 use Rattle.dms_ordlist.specs.Seen.{IfList}
 use Rattle.dms_sets.specs.Padded.{entry_width, to_bytes}
-use Rattle.dms_slots.specs.SlotBlocks.{file_of}
+use Rattle.dms_desc.specs.Files.{file_of}
 use Rattle.dms_store.proofs.Looking.{to_long}
 use Rattle.dms_store.proofs.listed.last_entry.Goals as goal
 

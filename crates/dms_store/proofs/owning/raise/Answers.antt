@@ -7,7 +7,8 @@ use Rattle.dms_layout.specs.declared.slot.Slot.{Slot}
 use Rattle.dms_layout.specs.declared.slot.SlotRead.TheVariants.{Used}
 use Rattle.dms_ordlist.specs.SeenLaws.{causes_err, causes_since, counts_still}
 use Rattle.dms_slots.specs.Seen.{BadAt, count_of}
-use Rattle.dms_slots.specs.SlotBlocks.{block_of, file_of, slot_at, slot_opt}
+use Rattle.dms_desc.specs.Files.{file_of}
+use Rattle.dms_slots.specs.SlotBlocks.{block_of, slot_at, slot_opt}
 use Rattle.dms_store.specs.Finding.{bad_since}
 use Rattle.dms_store.specs.Owning.{raised_is, stuck_full, stuck_none}
 use Rattle.dms_store.specs.PuttingCalls.{enters_as, enters_err, enters_on, enters_put, enters_read, enters_reads}

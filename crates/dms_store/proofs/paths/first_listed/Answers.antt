@@ -11,7 +11,7 @@ use Rattle.dms_ordlist.specs.SeenLaws.{causes_err}
 use Rattle.dms_sets.specs.Finds.{spot_by}
 use Rattle.dms_sets.specs.Padded.{entry_width, from_bytes}
 use Rattle.dms_sets.specs.Sets.{kinds_over}
-use Rattle.dms_slots.specs.SlotBlocks.{file_of}
+use Rattle.dms_desc.specs.Files.{file_of}
 use Rattle.dms_store.specs.Lifted.{db_of}
 use Rattle.dms_store.specs.LiftedLaws.{db_same}
 use Rattle.dms_store.specs.Listed.{BadPath, MayLook}

@@ -2,4 +2,4 @@ use Rattle.dms_store.specs.PuttingLaws.{put_spells}
 use Rattle.dms_store.proofs.putting.put_law.Goals as goal
 
 pub returns : goal.returns
-returns c desc db content lists left set number s o rec served spelt may free was put change whole = put_spells desc served db content lists left set number s o rec spelt may was free put change whole
+returns c desc db p content lists left is = put_spells desc is.served db content lists left p.set p.number p.shape p.old p.rec is.spelt is.may is.was is.free is.lists is.change

@@ -1,4 +1,4 @@
-use Rattle.std.proofs.Common.{ℕ, ◌∙◌, ◌+◌, ◌≤◌, IfSome, Option, ap, subst, sym}
+use Rattle.std.proofs.Common.{ℕ, ◌∙◌, ◌≤◌, IfSome, Option, ap, subst, sym}
 use Rattle.std.specs.declared.option.Option.TheVariants.{None}
 use Rattle.std.proofs.lemmas.Result.{IfOk-weaker}
 use Rattle.dms_block.specs.Content.{Content}
@@ -6,20 +6,15 @@ use Rattle.dms_block.specs.HeldLaws.{causes_or_on}
 use Rattle.dms_block.specs.View.{overlay_content, under}
 use Rattle.dms_desc.specs.Shape.{as_described, shape_of}
 use Rattle.dms_model.specs.declared.put.Put.{Put}
-use Rattle.dms_model.specs.Stores.{with_links_of}
 use Rattle.dms_ordlist.specs.SeenLaws.{causes_err}
 use Rattle.dms_slots.specs.Seen.{BadIn, count_of}
-use Rattle.dms_slots.specs.SlotBlocks.{block_of, file_of, least_free}
+use Rattle.dms_desc.specs.Files.{file_of}
+use Rattle.dms_slots.specs.SlotBlocks.{block_of, least_free}
 use Rattle.dms_store.specs.Finding.{seen_below}
 use Rattle.dms_store.specs.PuttingCalls.{enters_on}
 use Rattle.dms_store.specs.PuttingJudged.{owner_new, new_answers, none_answers}
 use Rattle.dms_store.specs.PuttingNumbers.{free_new}
 use Rattle.dms_store.specs.PuttingPlaced.{found_on, none_bad, spelt_on, told_on}
-use Rattle.dms_desc_bytes.specs.Finding.{owner_in as owner_of}
-use Rattle.dms_store.specs.PuttingOne.{StoresOne}
-use Rattle.dms_store.specs.PuttingOneLaws.{judged_one}
-use Rattle.dms_block.specs.View.{overlay_changes}
-use Rattle.dms_desc.specs.Shape.{Shape}
 use Rattle.dms_store.proofs.putting.put_new.Goals as goal
 
 pub returns-in-Err-clause-below : goal.returns-in-Err-clause-below
@@ -74,27 +69,3 @@ returns-in-Ok-Some-clause-answers g c =
     let place = subst (λ (o : Option ℕ). IfSome o (λ k. (1 ≤ k) × (k ≤ s.population) × (block_of s.items k ≤ count_of s a))) c.in-Ok-Some.field-0-is c.in-Ok-Some.ensures.place in
     new_answers desc c.requires.usable.serves.served db (under a).content (overlay_content c.store_at.new.over) s.number s c.args.rec.now spelt c.requires.at c.requires.set c.requires.new n p place.0 least
     (h db found (owner_new desc db s.number s c.args.rec.now c.requires.at may))) c.store_at.ensures.entered
-
-pub returns-in-Ok-None-clause-one : goal.returns-in-Ok-None-clause-one
-returns-in-Ok-None-clause-one g c =
-    IfOk-weaker c.judge.result _ _ (λ p h told db spelt outer.
-    let desc = as_described c.args.desc.now in
-    let s = shape_of c.args.s.now in
-    let a = c.args.over.now in
-    let b = c.take_least.new.b in
-    judged_one desc db s.number (s.population + 1) c.args.rec.now (with_links_of s.items None c.args.rec.now) (overlay_changes c.judge.new.over) (under a).content (overlay_content c.judge.new.over) p
-    (h db (told_on desc a b c.requires.usable db told spelt c.in-Ok-None.ensures.reads) (spelt_on desc a b c.requires.usable db told spelt c.in-Ok-None.ensures.reads))) c.judge.ensures.judged
-
-pub returns-in-Ok-Some-clause-one : goal.returns-in-Ok-Some-clause-one
-returns-in-Ok-Some-clause-one g c =
-    IfOk-weaker c.store_at.result _ _ (λ p h told db spelt outer.
-    let desc = as_described c.args.desc.now in
-    let s = shape_of c.args.s.now in
-    let a = c.args.over.now in
-    let b = c.take_least.new.b in
-    let reads = c.in-Ok-Some.ensures.reads in
-    let n = c.in-Ok-Some.number in
-    let least = sym c.in-Ok-Some.field-0-is ∙ c.in-Ok-Some.ensures.least told ∙ ap (λ (x : Content). least_free s (x (file_of s.number))) (seen_below a c.requires.usable.none) in
-    let found = found_on desc a b c.requires.usable db told spelt reads s n None (free_new desc c.requires.usable.serves.served db (under a).content s.number s spelt c.requires.at c.requires.set n least) in
-    subst (λ (x : Content). StoresOne desc db s.number c.args.rec.now (overlay_changes c.store_at.new.over) x (overlay_content c.store_at.new.over) p) (reads.looks.same.content told)
-    (h db found (ap (λ (o : Option Shape). owner_of o) (sym c.requires.at) ∙ outer.disjoint))) c.store_at.ensures.one

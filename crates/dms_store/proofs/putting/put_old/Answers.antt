@@ -9,30 +9,27 @@ use Rattle.dms_layout.specs.declared.slot.Slot.{Slot}
 use Rattle.dms_model.specs.declared.put.Put.{Put}
 use Rattle.dms_ordlist.specs.SeenLaws.{causes_err}
 use Rattle.dms_slots.specs.Seen.{BadAt}
-use Rattle.dms_slots.specs.SlotBlocks.{block_of, file_of, slot_at, slot_opt}
+use Rattle.dms_desc.specs.Files.{file_of}
+use Rattle.dms_slots.specs.SlotBlocks.{block_of, slot_at, slot_opt}
 use Rattle.dms_store.specs.Finding.{seen_below}
 use Rattle.dms_store.specs.PuttingCalls.{enters_on}
 use Rattle.dms_store.specs.PuttingJudged.{gone_answers, old_answers, owner_old}
 use Rattle.dms_store.specs.PuttingPlaced.{few_numbers, found_on, none_bad}
-use Rattle.dms_block.specs.View.{overlay_changes}
-use Rattle.dms_desc.specs.Shape.{Shape}
-use Rattle.dms_desc_bytes.specs.Finding.{owner_in as owner_of}
-use Rattle.dms_store.specs.PuttingOne.{StoresOne}
 use Rattle.dms_store.proofs.putting.put_old.Goals as goal
 
 pub returns-in-Err-clause-below : goal.returns-in-Err-clause-below
 returns-in-Err-clause-below g c db told spelt =
-    let s = shape_of c.args.s.now in
+    let s = shape_of c.args.at.now.set.now in
     let a = c.args.over.now in
-    causes_err (Option Slot) Put (BadAt s (block_of s.items c.args.number) a) (λ f k. ⊥) c.in-Err.e (under a) (under c.read_slot.new.b)
-    (λ f k bad. none_bad (as_described c.args.desc.now) a s db c.requires.usable c.requires.at c.requires.set told spelt f k bad.0) c.in-Err.ensures.causes
+    causes_err (Option Slot) Put (BadAt s (block_of s.items c.args.at.now.number) a) (λ f k. ⊥) c.in-Err.e (under a) (under c.read_slot.new.b)
+    (λ f k bad. none_bad (as_described c.args.at.now.desc.now) a s db c.requires.usable c.requires.at c.requires.set told spelt f k bad.0) c.in-Err.ensures.causes
 
 pub returns-in-Ok-None-clause-answers : goal.returns-in-Ok-None-clause-answers
 returns-in-Ok-None-clause-answers g c told db spelt may =
-    let s = shape_of c.args.s.now in
+    let s = shape_of c.args.at.now.set.now in
     let a = c.args.over.now in
-    let was = ap (λ (x : Content). slot_at s (x (file_of s.number)) c.args.number) (sym (seen_below a c.requires.usable.none)) ∙ c.in-Ok-None.ensures.slot told ∙ ap slot_opt c.in-Ok-None.field-0-is in
-    absurd (gone_answers (as_described c.args.desc.now) c.requires.usable.serves.served db (under a).content (under a).content s.number s c.args.rec.now spelt c.requires.at c.requires.set c.requires.new c.args.number c.requires.low was may.named)
+    let was = ap (λ (x : Content). slot_at s (x (file_of s.number)) c.args.at.now.number) (sym (seen_below a c.requires.usable.none)) ∙ c.in-Ok-None.ensures.slot told ∙ ap slot_opt c.in-Ok-None.field-0-is in
+    absurd (gone_answers (as_described c.args.at.now.desc.now) c.requires.usable.serves.served db (under a).content (under a).content s.number s c.args.rec.now spelt c.requires.at c.requires.set c.requires.new c.args.at.now.number c.requires.low was may.named)
 
 pub returns-in-Ok-Some-clause-enters : goal.returns-in-Ok-Some-clause-enters
 returns-in-Ok-Some-clause-enters g c =
@@ -40,40 +37,27 @@ returns-in-Ok-Some-clause-enters g c =
 
 pub returns-in-Ok-Some-clause-below : goal.returns-in-Ok-Some-clause-below
 returns-in-Ok-Some-clause-below g c db told spelt =
-    let desc = as_described c.args.desc.now in
-    let s = shape_of c.args.s.now in
+    let desc = as_described c.args.at.now.desc.now in
+    let s = shape_of c.args.at.now.set.now in
     let a = c.args.over.now in
     let b = c.read_slot.new.b in
     let reads = c.in-Ok-Some.ensures.reads in
-    let was = ap (λ (x : Content). slot_at s (x (file_of s.number)) c.args.number) (sym (seen_below a c.requires.usable.none)) ∙ c.in-Ok-Some.ensures.slot told ∙ ap slot_opt c.in-Ok-Some.field-0-is in
+    let was = ap (λ (x : Content). slot_at s (x (file_of s.number)) c.args.at.now.number) (sym (seen_below a c.requires.usable.none)) ∙ c.in-Ok-Some.ensures.slot told ∙ ap slot_opt c.in-Ok-Some.field-0-is in
     causes_or_on (λ f k. ⊥) (λ f k. ⊥) c.store_at.result (under a) (under b) (under c.store_at.new.over) (λ f k h. h) c.in-Ok-Some.ensures.causes reads.looks.passes.lasts reads.looks.same
-    (c.store_at.ensures.below db (found_on desc a b c.requires.usable db told spelt reads s c.args.number (Some c.in-Ok-Some.old) was))
+    (c.store_at.ensures.below db (found_on desc a b c.requires.usable db told spelt reads s c.args.at.now.number (Some c.in-Ok-Some.old) was))
 
 pub returns-in-Ok-Some-clause-answers : goal.returns-in-Ok-Some-clause-answers
 returns-in-Ok-Some-clause-answers g c =
     IfOk-weaker c.store_at.result _ _ (λ p h told db spelt may.
-    let desc = as_described c.args.desc.now in
-    let s = shape_of c.args.s.now in
+    let desc = as_described c.args.at.now.desc.now in
+    let s = shape_of c.args.at.now.set.now in
     let a = c.args.over.now in
     let b = c.read_slot.new.b in
     let reads = c.in-Ok-Some.ensures.reads in
-    let was = ap (λ (x : Content). slot_at s (x (file_of s.number)) c.args.number) (sym (seen_below a c.requires.usable.none)) ∙ c.in-Ok-Some.ensures.slot told ∙ ap slot_opt c.in-Ok-Some.field-0-is in
+    let was = ap (λ (x : Content). slot_at s (x (file_of s.number)) c.args.at.now.number) (sym (seen_below a c.requires.usable.none)) ∙ c.in-Ok-Some.ensures.slot told ∙ ap slot_opt c.in-Ok-Some.field-0-is in
     let fits = subst (λ (o : Option Slot). IfSome o (SlotFits s)) c.in-Ok-Some.field-0-is c.in-Ok-Some.ensures.fits in
-    let few = few_numbers desc s.number c.args.number s c.requires.usable.serves.served c.requires.at c.requires.most in
-    let small : c.args.number < 2 ^ 32 = omega (arith, few) in
-    let found = found_on desc a b c.requires.usable db told spelt reads s c.args.number (Some c.in-Ok-Some.old) was in
-    old_answers desc c.requires.usable.serves.served db (under a).content (overlay_content c.store_at.new.over) s.number s c.args.rec.now spelt c.requires.at c.requires.set c.requires.new c.args.number c.in-Ok-Some.old p c.requires.low small was fits
+    let few = few_numbers desc s.number c.args.at.now.number s c.requires.usable.serves.served c.requires.at c.requires.most in
+    let small : c.args.at.now.number < 2 ^ 32 = omega (arith, few) in
+    let found = found_on desc a b c.requires.usable db told spelt reads s c.args.at.now.number (Some c.in-Ok-Some.old) was in
+    old_answers desc c.requires.usable.serves.served db (under a).content (overlay_content c.store_at.new.over) s.number s c.args.rec.now spelt c.requires.at c.requires.set c.requires.new c.args.at.now.number c.in-Ok-Some.old p c.requires.low small was fits
     (h db found (owner_old db s c.in-Ok-Some.old c.args.rec.now))) c.store_at.ensures.entered
-
-pub returns-in-Ok-Some-clause-one : goal.returns-in-Ok-Some-clause-one
-returns-in-Ok-Some-clause-one g c =
-    IfOk-weaker c.store_at.result _ _ (λ p h told db spelt outer.
-    let desc = as_described c.args.desc.now in
-    let s = shape_of c.args.s.now in
-    let a = c.args.over.now in
-    let b = c.read_slot.new.b in
-    let reads = c.in-Ok-Some.ensures.reads in
-    let was = ap (λ (x : Content). slot_at s (x (file_of s.number)) c.args.number) (sym (seen_below a c.requires.usable.none)) ∙ c.in-Ok-Some.ensures.slot told ∙ ap slot_opt c.in-Ok-Some.field-0-is in
-    let found = found_on desc a b c.requires.usable db told spelt reads s c.args.number (Some c.in-Ok-Some.old) was in
-    subst (λ (x : Content). StoresOne desc db s.number c.args.rec.now (overlay_changes c.store_at.new.over) x (overlay_content c.store_at.new.over) p) (reads.looks.same.content told)
-    (h db found (ap (λ (o : Option Shape). owner_of o) (sym c.requires.at) ∙ outer.disjoint))) c.store_at.ensures.one

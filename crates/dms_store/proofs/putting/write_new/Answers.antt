@@ -1,4 +1,4 @@
-use Rattle.std.proofs.Common.{◌+◌, ◌*◌, Bool, IsTrue, length, refl, subst, sym, arith}
+use Rattle.std.proofs.Common.{◌+◌, ◌*◌, Bool, IsTrue, length, refl, subst, arith}
 use Rattle.std.specs.declared.option.Option.TheVariants.{None}
 use Rattle.std.specs.declared.result.Result.TheVariants.{Ok, Err}
 use Rattle.dms_block.specs.View.{overlay_content, under}
@@ -13,13 +13,11 @@ use Rattle.dms_store.specs.PuttingCalls.{causes_then, enters_as, enters_err, ent
 use Rattle.dms_store.specs.PuttingEnters.{IfStored, IsUncounted}
 use Rattle.dms_store.specs.PuttingPlaced.{counted_at, may_count_at}
 use Rattle.dms_store.specs.Spelled.{owned_in}
-use Rattle.dms_block.specs.Content.{Content}
-use Rattle.dms_store.specs.PuttingOne.{ChangesSet, IfStoredAs}
 use Rattle.dms_store.proofs.putting.write_new.Goals as goal
 
 pub returns-in-Err-clause-enters : goal.returns-in-Err-clause-enters
 returns-in-Err-clause-enters g c =
-    let n = 9 * length c.args.desc.now.structures in
+    let n = 9 * length c.args.at.now.desc.now.structures in
     enters_more (n + 1) (n + 2) (Err c.in-Err.e) c.args.over.now c.write_at.new.over (omega arith) c.in-Err.ensures.enters
 
 pub count_owner-requires-clause-sound : goal.count_owner-requires-clause-sound
@@ -27,29 +25,29 @@ count_owner-requires-clause-sound g c = c.in-Ok-Stored.ensures.enters.writes.loo
 
 pub count_owner-requires-clause-serves : goal.count_owner-requires-clause-serves
 count_owner-requires-clause-serves g c =
-    serves_on (as_described c.args.desc.now) (under c.args.over.now) (under c.write_at.new.over) c.in-Ok-Stored.ensures.enters.writes.looks.passes.lasts c.requires.usable.serves
+    serves_on (as_described c.args.at.now.desc.now) (under c.args.over.now) (under c.write_at.new.over) c.in-Ok-Stored.ensures.enters.writes.looks.passes.lasts c.requires.place.usable.serves
 
 pub returns-in-Ok-Duplicate-clause-enters : goal.returns-in-Ok-Duplicate-clause-enters
 returns-in-Ok-Duplicate-clause-enters g c =
-    let n = 9 * length c.args.desc.now.structures in
+    let n = 9 * length c.args.at.now.desc.now.structures in
     enters_more (n + 1) (n + 2) (Ok (Duplicate c.in-Ok-Duplicate.set)) c.args.over.now c.write_at.new.over (omega arith) (enters_as (n + 1) _ c.args.over.now c.write_at.new.over c.in-Ok-Duplicate.ensures.enters)
 
 pub returns-in-Ok-Full-clause-enters : goal.returns-in-Ok-Full-clause-enters
 returns-in-Ok-Full-clause-enters g c =
-    let n = 9 * length c.args.desc.now.structures in
+    let n = 9 * length c.args.at.now.desc.now.structures in
     enters_more (n + 1) (n + 2) (Ok Full) c.args.over.now c.write_at.new.over (omega arith) (enters_as (n + 1) _ c.args.over.now c.write_at.new.over c.in-Ok-Full.ensures.enters)
 
 pub returns-in-Err-count_owner-clause-enters : goal.returns-in-Err-count_owner-clause-enters
 returns-in-Err-count_owner-clause-enters g c =
-    let n = 9 * length c.args.desc.now.structures in
+    let n = 9 * length c.args.at.now.desc.now.structures in
     enters_err {T = Bool} (n + 2) c.in-Err-count_owner.e c.args.over.now c.count_owner.new.over
     (enters_then (n + 1) 1 (n + 2) (Err c.in-Err-count_owner.e) c.args.over.now c.write_at.new.over c.count_owner.new.over g.met.B.Blocks.same_then (omega arith) c.in-Ok-Stored.ensures.enters c.in-Err-count_owner.ensures.writes)
 
 pub returns-in-Err-count_owner-clause-below : goal.returns-in-Err-count_owner-clause-below
 returns-in-Err-count_owner-clause-below g c db o rec p =
-    let desc = as_described c.args.desc.now in
-    let s = shape_of c.args.s.now in
-    let n = 9 * length c.args.desc.now.structures in
+    let desc = as_described c.args.at.now.desc.now in
+    let s = shape_of c.args.at.now.set.now in
+    let n = 9 * length c.args.at.now.desc.now.structures in
     let y = c.write_at.new.over in
     let enters = c.in-Ok-Stored.ensures.enters in
     let told : IsTrue (under y).told = enters_told (n + 1) c.args.over.now y enters p.told in
@@ -59,48 +57,40 @@ returns-in-Err-count_owner-clause-below g c db o rec p =
 
 pub returns-in-Ok-false-clause-enters : goal.returns-in-Ok-false-clause-enters
 returns-in-Ok-false-clause-enters g c =
-    let n = 9 * length c.args.desc.now.structures in
+    let n = 9 * length c.args.at.now.desc.now.structures in
     enters_as (n + 2) _ c.args.over.now c.count_owner.new.over
     (enters_then (n + 1) 1 (n + 2) (Ok c.in-Ok-false.field-0) c.args.over.now c.write_at.new.over c.count_owner.new.over g.met.B.Blocks.same_then (omega arith) c.in-Ok-Stored.ensures.enters c.in-Ok-false.ensures.writes)
 
 pub returns-in-Ok-false-clause-entered : goal.returns-in-Ok-false-clause-entered
 returns-in-Ok-false-clause-entered g c db o rec p owner =
-    let desc = as_described c.args.desc.now in
-    let s = shape_of c.args.s.now in
-    let n = 9 * length c.args.desc.now.structures in
+    let desc = as_described c.args.at.now.desc.now in
+    let s = shape_of c.args.at.now.set.now in
+    let n = 9 * length c.args.at.now.desc.now.structures in
     let a = c.args.over.now in
     let y = c.write_at.new.over in
-    let agrees = g.met.B.Blocks.agrees a.below c.requires.usable.sound in
+    let agrees = g.met.B.Blocks.agrees a.below c.requires.place.usable.sound in
     let told : IsTrue (under y).told = enters_told (n + 1) a y c.in-Ok-Stored.ensures.enters p.told in
-    let u = subst (λ (q : Put). IsUncounted desc db s.number c.args.number c.args.slot.now.rec (overlay_content y) q) c.in-Ok-Stored.field-0-is (c.in-Ok-Stored.ensures.entered db o rec p owner) in
-    let may = may_count_at desc a c.requires.usable agrees s c.args.number c.requires.at c.requires.set c.requires.low c.requires.most c.args.slot.now c.requires.new None db o rec p refl owner in
-    let done = (c.in-Ok-false.ensures.counted (with_record db s.number c.args.number c.args.slot.now.rec) (owned_in desc db) told u.2 (λ apart. may)).0 in
+    let u = subst (λ (q : Put). IsUncounted desc db s.number c.args.at.now.number c.args.slot.now.rec (overlay_content y) q) c.in-Ok-Stored.field-0-is (c.in-Ok-Stored.ensures.entered db o rec p owner) in
+    let may = may_count_at desc a c.requires.place.usable agrees s c.args.at.now.number c.requires.place.there c.requires.place.set c.requires.place.low c.requires.place.most c.args.slot.now c.requires.new None db o rec p refl owner in
+    let done = (c.in-Ok-false.ensures.counted (with_record db s.number c.args.at.now.number c.args.slot.now.rec) (owned_in desc db) told u.2 (λ apart. may)).0 in
     absurd (cc (done, c.in-Ok-false.field-0-test))
 
 pub returns-in-Ok-true-clause-enters : goal.returns-in-Ok-true-clause-enters
 returns-in-Ok-true-clause-enters g c =
-    let n = 9 * length c.args.desc.now.structures in
+    let n = 9 * length c.args.at.now.desc.now.structures in
     enters_as (n + 2) _ c.args.over.now c.count_owner.new.over
     (enters_then (n + 1) 1 (n + 2) (Ok c.in-Ok-true.field-0) c.args.over.now c.write_at.new.over c.count_owner.new.over g.met.B.Blocks.same_then (omega arith) c.in-Ok-Stored.ensures.enters c.in-Ok-true.ensures.writes)
 
 pub returns-in-Ok-true-clause-entered : goal.returns-in-Ok-true-clause-entered
 returns-in-Ok-true-clause-entered g c db o rec p owner =
-    let desc = as_described c.args.desc.now in
-    let s = shape_of c.args.s.now in
-    let n = 9 * length c.args.desc.now.structures in
+    let desc = as_described c.args.at.now.desc.now in
+    let s = shape_of c.args.at.now.set.now in
+    let n = 9 * length c.args.at.now.desc.now.structures in
     let a = c.args.over.now in
     let y = c.write_at.new.over in
-    let agrees = g.met.B.Blocks.agrees a.below c.requires.usable.sound in
+    let agrees = g.met.B.Blocks.agrees a.below c.requires.place.usable.sound in
     let told : IsTrue (under y).told = enters_told (n + 1) a y c.in-Ok-Stored.ensures.enters p.told in
-    let u = subst (λ (q : Put). IsUncounted desc db s.number c.args.number c.args.slot.now.rec (overlay_content y) q) c.in-Ok-Stored.field-0-is (c.in-Ok-Stored.ensures.entered db o rec p owner) in
-    let may = may_count_at desc a c.requires.usable agrees s c.args.number c.requires.at c.requires.set c.requires.low c.requires.most c.args.slot.now c.requires.new None db o rec p refl owner in
-    let counted = (c.in-Ok-true.ensures.counted (with_record db s.number c.args.number c.args.slot.now.rec) (owned_in desc db) told u.2 (λ apart. may)).1 in
-    (u.0, u.1, counted_at desc a c.requires.usable agrees s c.args.number c.requires.at c.requires.set c.requires.low c.requires.most c.args.slot.now c.requires.new None db o rec p refl owner (overlay_content c.count_owner.new.over) counted)
-
-pub returns-in-Ok-true-clause-one : goal.returns-in-Ok-true-clause-one
-returns-in-Ok-true-clause-one g c disjoint told =
-    let a = c.args.over.now in
-    let desc = as_described c.args.desc.now in
-    let set = c.args.s.now.number in
-    let h = subst (λ (q : Put). IfStoredAs c.args.number q (ChangesSet desc set (overlay_content a) (overlay_content c.write_at.new.over))) c.in-Ok-Stored.field-0-is (c.in-Ok-Stored.ensures.one told) in
-    (h.0, subst (λ (x : Content). ChangesSet desc set (overlay_content a) x) (sym (c.in-Ok-true.ensures.still disjoint)) h.1)
+    let u = subst (λ (q : Put). IsUncounted desc db s.number c.args.at.now.number c.args.slot.now.rec (overlay_content y) q) c.in-Ok-Stored.field-0-is (c.in-Ok-Stored.ensures.entered db o rec p owner) in
+    let may = may_count_at desc a c.requires.place.usable agrees s c.args.at.now.number c.requires.place.there c.requires.place.set c.requires.place.low c.requires.place.most c.args.slot.now c.requires.new None db o rec p refl owner in
+    let counted = (c.in-Ok-true.ensures.counted (with_record db s.number c.args.at.now.number c.args.slot.now.rec) (owned_in desc db) told u.2 (λ apart. may)).1 in
+    (u.0, u.1, counted_at desc a c.requires.place.usable agrees s c.args.at.now.number c.requires.place.there c.requires.place.set c.requires.place.low c.requires.place.most c.args.slot.now c.requires.new None db o rec p refl owner (overlay_content c.count_owner.new.over) counted)

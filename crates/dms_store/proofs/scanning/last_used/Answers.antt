@@ -7,7 +7,8 @@ use Rattle.dms_desc.specs.Shape.{shape_of}
 use Rattle.dms_model.specs.declared.spot.Spot.{Spot}
 use Rattle.dms_ordlist.specs.SeenLaws.{causes_since}
 use Rattle.dms_slots.specs.Seen.{BadIn}
-use Rattle.dms_slots.specs.SlotBlocks.{file_of, per_block, slot_at, slots_of}
+use Rattle.dms_desc.specs.Files.{file_of}
+use Rattle.dms_slots.specs.SlotBlocks.{per_block, slot_at, slots_of}
 use Rattle.dms_store.specs.Finding.{bad_since}
 use Rattle.dms_store.specs.Scans.{last_used, owned_spot}
 use Rattle.dms_store.specs.ScanSteps.{last_found, last_free}

@@ -2,7 +2,8 @@ use Rattle.std.proofs.Common.{◌≡◌, ◌-◌, ℕ, take, Ok}
 use Rattle.std.specs.Prelude.{IsTrue}
 use Rattle.dms_block.specs.View.{ReadsOverlay, overlay_content, under}
 use Rattle.dms_desc.specs.Shape.{shape_of}
-use Rattle.dms_slots.specs.SlotBlocks.{file_of, slots_of}
+use Rattle.dms_desc.specs.Files.{file_of}
+use Rattle.dms_slots.specs.SlotBlocks.{slots_of}
 use Rattle.dms_store.specs.Scans.{last_used}
 use Rattle.dms_store.proofs.scanning.last_used.Given as goal
 

@@ -5,12 +5,11 @@ use Rattle.dms_desc.specs.Shape.{Described, as_described}
 use Rattle.dms_feed.specs.Lines.{raw_lines}
 use Rattle.dms_model.specs.Db.{empty_db}
 use Rattle.dms_runner.specs.Answers.{answers_text, script_events}
-use Rattle.dms_top.specs.Answering.{PassesLimit}
-use Rattle.dms_top.proofs.Printing.{told_front, told_prints, told_whole, whole_moved, limits_kept, stands_at, front_moved, printed_moved, front_none, printed_front, passes_moved, within_moved, on_ok}
+use Rattle.dms_top.specs.TryLimits.{PassesLimit}
+use Rattle.dms_top.proofs.Printing.{told_front, told_prints, told_whole, limits_kept, stands_at, nothing_part, part_moved, printed_moved, front_none, printed_front, passes_described, too_many_bytes, too_many_held, too_many_lines, within_moved, on_ok}
 use Rattle.dms_top.proofs.Counting.{say_counted, counted_moved}
 use Rattle.dms_top.proofs.Carried.{whole_part}
-use Rattle.dms_top.proofs.Cutting.{cut_moved}
-use Rattle.dms_plain.specs.Told.{text_if}
+use Rattle.dms_top.proofs.Cutting.{cut_lines, cut_lines_described}
 use Rattle.dms_feed.specs.Feeds.{Remains}
 use Rattle.dms_status.specs.declared.status.Status.TheVariants.{Limit}
 use Rattle.dms_status.specs.declared.status.LimitKind.{LimitKind}
@@ -20,13 +19,17 @@ use Rattle.dms_top.proofs.try_run.try_lines.Goals as goal
 
 pub returns-in-Ok-new-clause-part : goal.returns-in-Ok-new-clause-part
 returns-in-Ok-new-clause-part g c = λ tells all remains.
-    let p = (whole_part _ _ _ _ empty_db 1 all (c.run_lines-ran.ensures.carried empty_db 1 all (stands_at _ _ 1 c.in-Ok.ensures.starts.next_is (c.in-Ok-new.ensures.stands empty_db c.in-Ok.ensures.starts.db_is)) (omega arith) remains)).text in
-    front_moved _ _ _ _ (g.S.Site.said c.run_lines-ran.new.engine.store.site.now) (answers_text (as_described c.in-Ok-new.engine.desc) empty_db 1 (raw_lines all)) (search rules) (search rules) (ap (λ (d : Described). answers_text d empty_db 1 (raw_lines all)) (sym c.in-Ok-new.ensures.described)) (told_front g.S.Site.tells_said _ _ _ tells p)
+    let p = whole_part _ _ _ _ empty_db 1 all (c.run_lines-ran.ensures.carried empty_db 1 all (stands_at _ _ 1 c.in-Ok.ensures.starts.next_is (c.in-Ok-new.ensures.stands empty_db c.in-Ok.ensures.starts.db_is)) (omega arith) remains) in
+    part_moved _ _ _ (g.S.Site.said c.in-Ok-new.engine.store.site.now) (g.S.Site.said c.run_lines-ran.new.engine.store.site.now) _ (script_events (as_described c.in-Ok-new.engine.desc) empty_db 1 (raw_lines all)) (search rules) (search rules) (ap (λ (d : Described). script_events d empty_db 1 (raw_lines all)) (sym c.in-Ok-new.ensures.described)) (record {
+      text = told_front g.S.Site.tells_said _ _ _ tells p.text;
+      whole = λ printed. told_whole g.S.Site.tells_said _ _ _ tells (p.said_whole (λ cut. printed (c.status_after.ensures.cut cut)));
+    })
 
-pub returns-in-Ok-new-clause-whole_answers : goal.returns-in-Ok-new-clause-whole_answers
-returns-in-Ok-new-clause-whole_answers g c = λ is tells all remains.
-    let p = (whole_part _ _ _ _ empty_db 1 all (c.run_lines-ran.ensures.carried empty_db 1 all (stands_at _ _ 1 c.in-Ok.ensures.starts.next_is (c.in-Ok-new.ensures.stands empty_db c.in-Ok.ensures.starts.db_is)) (omega arith) remains)).said_whole (c.status_after.ensures.memory is) in
-    whole_moved _ _ _ (g.S.Site.said c.run_lines-ran.new.engine.store.site.now) _ (script_events (as_described c.in-Ok-new.engine.desc) empty_db 1 (raw_lines all)) (search rules) (search rules) (ap (λ (d : Described). script_events d empty_db 1 (raw_lines all)) (sym c.in-Ok-new.ensures.described)) (told_whole g.S.Site.tells_said _ _ _ tells p)
+pub returns-in-Err-clause-part : goal.returns-in-Err-clause-part
+returns-in-Err-clause-part g c = λ tells all remains. nothing_part _ _ _ _ (search rules)
+
+pub returns-in-Err-new-clause-part : goal.returns-in-Err-new-clause-part
+returns-in-Err-new-clause-part g c = λ tells all remains. nothing_part _ _ _ _ (search rules)
 
 pub returns-in-Ok-new-clause-front : goal.returns-in-Ok-new-clause-front
 returns-in-Ok-new-clause-front g c = λ tells all remains.
@@ -36,8 +39,10 @@ returns-in-Ok-new-clause-front g c = λ tells all remains.
       events = k.events;
       front = k.front;
       are = k.are;
-      text = told_front g.S.Site.tells_said _ _ _ tells k.part.text;
-      whole = λ printed. told_whole g.S.Site.tells_said _ _ _ tells (k.part.said_whole (λ cut. printed (c.status_after.ensures.cut cut)));
+      part = record {
+        text = told_front g.S.Site.tells_said _ _ _ tells k.part.text;
+        whole = λ printed. told_whole g.S.Site.tells_said _ _ _ tells (k.part.said_whole (λ cut. printed (c.status_after.ensures.cut cut)));
+      };
     })
 
 pub returns-in-Err-clause-front : goal.returns-in-Err-clause-front
@@ -57,19 +62,20 @@ returns-in-Ok-new-clause-within g c = λ ok all remains.
 
 pub returns-in-Ok-new-clause-input_cut : goal.returns-in-Ok-new-clause-input_cut
 returns-in-Ok-new-clause-input_cut g c = λ is all remains.
-    cut_moved _ (as_described c.in-Ok-new.engine.desc) all _ _ g.S.Site.tells_said _ _ (g.S.Site.said c.in-Ok-new.engine.store.site.now) (g.S.Site.said c.run_lines-ran.new.engine.store.site.now) refl (search rules) (search rules) (sym c.in-Ok-new.ensures.described)
-    ((c.run_lines-ran.ensures.carried empty_db 1 all (stands_at _ _ 1 c.in-Ok.ensures.starts.next_is (c.in-Ok-new.ensures.stands empty_db c.in-Ok.ensures.starts.db_is)) (omega arith) remains).failed (c.status_after.ensures.input is)).0
+    cut_lines_described _ (as_described c.in-Ok-new.engine.desc) all _ (sym c.in-Ok-new.ensures.described)
+    (cut_lines _ all _ _ _ ((c.run_lines-ran.ensures.carried empty_db 1 all (stands_at _ _ 1 c.in-Ok.ensures.starts.next_is (c.in-Ok-new.ensures.stands empty_db c.in-Ok.ensures.starts.db_is)) (omega arith) remains).failed (c.status_after.ensures.input is)).0)
 
 pub returns-in-Ok-new-clause-limit : goal.returns-in-Ok-new-clause-limit
-returns-in-Ok-new-clause-limit g c = λ k is all remains.
-    passes_moved k _ (as_described c.in-Ok-new.engine.desc) _ g.S.Site.tells_said _ _ (g.S.Site.said c.in-Ok-new.engine.store.site.now) (g.S.Site.said c.run_lines-ran.new.engine.store.site.now) (search rules) (search rules) (sym c.in-Ok-new.ensures.described) (passes g c k is all remains)
+returns-in-Ok-new-clause-limit g c = λ k is all remains. passes_described k _ (as_described c.in-Ok-new.engine.desc) _ (sym c.in-Ok-new.ensures.described) (passes g c k is all remains)
   where
-    passes : (g : Over) (c : goal.After-status_after g) (k : LimitKind) → c.status_after.result ≡ Limit k → (all : List ℕ) → Remains c.args.feed.now (g.I.Source.left c.args.source.now) all
-        → PassesLimit k (as_described c.in-Ok-new.engine.desc) (raw_lines all) (text_if g.S.Site.tells_said (g.S.Site.said c.in-Ok-new.engine.store.site.now)) (text_if g.S.Site.tells_said (g.S.Site.said c.run_lines-ran.new.engine.store.site.now))
+    passes : (g : Over) (c : goal.After-status_after g) (k : LimitKind) → c.status_after.result ≡ Limit k → (all : List ℕ) → Remains c.args.feed.now (g.I.Source.left c.args.source.now) all → PassesLimit k (as_described c.in-Ok-new.engine.desc) (raw_lines all)
     passes g c (AuditFile f) is all remains = absurd (subst (λ (s : Status). IsOfTry s) is c.status_after.ensures.statuses)
-    passes g c Lines is all remains = ((c.run_lines-ran.ensures.carried empty_db 1 all (stands_at _ _ 1 c.in-Ok.ensures.starts.next_is (c.in-Ok-new.ensures.stands empty_db c.in-Ok.ensures.starts.db_is)) (omega arith) remains).lines (c.status_after.ensures.lines is)).0
-    passes g c Bytes is all remains = ((c.run_lines-ran.ensures.carried empty_db 1 all (stands_at _ _ 1 c.in-Ok.ensures.starts.next_is (c.in-Ok-new.ensures.stands empty_db c.in-Ok.ensures.starts.db_is)) (omega arith) remains).bytes (c.status_after.ensures.bytes is)).0
-    passes g c Held is all remains = ((c.run_lines-ran.ensures.carried empty_db 1 all (stands_at _ _ 1 c.in-Ok.ensures.starts.next_is (c.in-Ok-new.ensures.stands empty_db c.in-Ok.ensures.starts.db_is)) (omega arith) remains).full_list (c.status_after.ensures.waiting is)).0
+    passes g c Lines is all remains =
+        too_many_lines _ _ _ _ ((c.run_lines-ran.ensures.carried empty_db 1 all (stands_at _ _ 1 c.in-Ok.ensures.starts.next_is (c.in-Ok-new.ensures.stands empty_db c.in-Ok.ensures.starts.db_is)) (omega arith) remains).lines (c.status_after.ensures.lines is)).0
+    passes g c Bytes is all remains =
+        too_many_bytes _ _ _ _ ((c.run_lines-ran.ensures.carried empty_db 1 all (stands_at _ _ 1 c.in-Ok.ensures.starts.next_is (c.in-Ok-new.ensures.stands empty_db c.in-Ok.ensures.starts.db_is)) (omega arith) remains).bytes (c.status_after.ensures.bytes is)).0
+    passes g c Held is all remains =
+        too_many_held _ _ _ _ ((c.run_lines-ran.ensures.carried empty_db 1 all (stands_at _ _ 1 c.in-Ok.ensures.starts.next_is (c.in-Ok-new.ensures.stands empty_db c.in-Ok.ensures.starts.db_is)) (omega arith) remains).full_list (c.status_after.ensures.waiting is)).0
 
 pub returns-in-Ok-new-clause-input : goal.returns-in-Ok-new-clause-input
 returns-in-Ok-new-clause-input g c = record {

@@ -1,4 +1,4 @@
-use Rattle.std.proofs.Common.{ℕ, ◌≡◌, ◌∙◌, ◌++◌, ap, arith, false, sym, subst, inl, inr, [], ◌∷◌, drop}
+use Rattle.std.proofs.Common.{◌≡◌, ◌∙◌, ◌++◌, ap, arith, false, sym, subst, inl, inr, [], ◌∷◌, drop}
 use Rattle.std.proofs.lemmas.Result.{on_ok_weaker}
 use Rattle.std.proofs.lemmas.Bool.{cases_Bool}
 use Rattle.dms_moments.specs.MomentLaws.{steps_on, steps_weaken}
@@ -6,9 +6,8 @@ use Rattle.dms_audrec.specs.Seen.{entry_seen}
 use Rattle.dms_audfile.specs.declared.audit_end.AuditEnd.{AuditEnd}
 use Rattle.dms_audfile.specs.TrailEntries.{trail_entries}
 use Rattle.dms_audfile.specs.Ends.{EndsAt, Appends, Grown, is_past}
-use Rattle.dms_audfile.proofs.Ended.{seals_first, seals_then, between, held_ends, appends_held, appends_begun, on_both, steps_as, entry_long}
-use Rattle.dms_audfile.specs.Within.{StaysWithin}
-use Rattle.dms_audfile.proofs.Within.{stays_on, stays_held, none_failed}
+use Rattle.dms_audfile.proofs.Ended.{seals_first, seals_then, between, appends_held, appends_begun, on_both, steps_as}
+use Rattle.dms_audfile.proofs.Waiting.{held_ends}
 use Rattle.dms_audfile.proofs.audit_end.AuditEnd.append.Goals as goal
 
 pub returns-in-Err-clause-moments : goal.returns-in-Err-clause-moments
@@ -26,8 +25,8 @@ returns-clause-moments g c first waiting tells plain at =
     let b = g.S.Site.clock c.make_room.new.site in
     let made : Appends one first waiting old mid b = c.in-Ok.ensures.appends first waiting tells plain at in
     let held = c.hold.ensures in
-    let ends : EndsAt new first (drop made.some waiting ++ e ∷ []) mid b = held_ends one new first (drop made.some waiting) e mid b made.ends made.plain c.requires.entry
-    (λ on. c.in-Ok.ensures.alone (c.begins-alone.ensures ∙ on)) held.held held.kind.0 held.kind.1 held.place.0 held.place.1 in
+    let ends : EndsAt new first (drop made.some waiting ++ e ∷ []) mid b = held_ends one new first (drop made.some waiting) e mid b made.ends made.plain c.requires.entry c.requires.size
+    (λ on. c.in-Ok.ensures.alone (c.begins-alone.ensures ∙ on)) held.held held.begun held.kind.0 held.kind.1 held.place.0 held.place.1 in
     steps_on (c.make_room.ensures.moments first waiting tells at)
     (steps_as new.total s.total new.tag s.tag first (drop made.some waiting ++ e ∷ []) _ _ (held.kind.0 ∙ c.in-Ok.ensures.kind.0) (held.kind.1 ∙ c.in-Ok.ensures.kind.1) (c.seal_where.ensures.moments first (drop made.some waiting ++ e ∷ []) tells ends))
     (λ z y x was now first_step then_step. seals_then s.total s.tag first made.some waiting (e ∷ []) z y x
@@ -46,8 +45,8 @@ returns-clause-appends g c = elim (cases_Bool c.begins-alone.result) [
       let b = g.S.Site.clock c.make_room.new.site in
       let made : Appends one first waiting old mid b = c.in-Ok.ensures.appends first waiting tells plain at in
       let held = c.hold.ensures in
-      let ends : EndsAt new first (drop made.some waiting ++ e ∷ []) mid b = held_ends one new first (drop made.some waiting) e mid b made.ends made.plain c.requires.entry
-      (λ on. c.in-Ok.ensures.alone (c.begins-alone.ensures ∙ on)) held.held held.kind.0 held.kind.1 held.place.0 held.place.1 in
+      let ends : EndsAt new first (drop made.some waiting ++ e ∷ []) mid b = held_ends one new first (drop made.some waiting) e mid b made.ends made.plain c.requires.entry c.requires.size
+      (λ on. c.in-Ok.ensures.alone (c.begins-alone.ensures ∙ on)) held.held held.begun held.kind.0 held.kind.1 held.place.0 held.place.1 in
       let files = g.S.Site.files c.seal_where.new.site in
       let more = drop made.some waiting ++ e ∷ [] in
       appends_begun one c.seal_where.new.self first waiting (e ∷ []) old mid files b (g.S.Site.clock c.seal_where.new.site) made (c.seal_where.ensures.kind.0 ∙ held.kind.0)
@@ -64,8 +63,8 @@ returns-clause-appends g c = elim (cases_Bool c.begins-alone.result) [
       let b = g.S.Site.clock c.make_room.new.site in
       let made : Appends one first waiting old mid b = c.in-Ok.ensures.appends first waiting tells plain at in
       let held = c.hold.ensures in
-      let ends : EndsAt new first (drop made.some waiting ++ e ∷ []) mid b = held_ends one new first (drop made.some waiting) e mid b made.ends made.plain c.requires.entry
-      (λ on. c.in-Ok.ensures.alone (c.begins-alone.ensures ∙ on)) held.held held.kind.0 held.kind.1 held.place.0 held.place.1 in
+      let ends : EndsAt new first (drop made.some waiting ++ e ∷ []) mid b = held_ends one new first (drop made.some waiting) e mid b made.ends made.plain c.requires.entry c.requires.size
+      (λ on. c.in-Ok.ensures.alone (c.begins-alone.ensures ∙ on)) held.held held.begun held.kind.0 held.kind.1 held.place.0 held.place.1 in
       let idle = c.seal_where.ensures.idle off in
       let appended : Appends new first (waiting ++ e ∷ []) old mid b = appends_held one new first waiting e old mid b made held.kind.0 ends c.requires.entry (sym c.begins-alone.ensures ∙ off) in
       subst (λ (s : AuditEnd). Appends s first (waiting ++ e ∷ []) old (g.S.Site.files c.seal_where.new.site) (g.S.Site.clock c.seal_where.new.site)) (sym idle.0)
@@ -82,14 +81,4 @@ pub returns-clause-waits : goal.returns-clause-waits
 returns-clause-waits g c = on_ok_weaker c.seal_where.result (λ done plain.
     let off : c.begins-alone.result ≡ false = c.begins-alone.ensures ∙ plain in
     let same = ap (λ (s : AuditEnd). s.used) (c.seal_where.ensures.idle off).0 in
-    omega (arith, same, c.hold.ensures.used, entry_long (entry_seen c.args.entry.now) c.requires.entry)) c.seal_where.ensures.empty
-
-pub returns-clause-stays : goal.returns-clause-stays
-returns-clause-stays g c not =
-    let s = c.args.self.now in
-    let one = c.make_room.new.self in
-    let held = c.hold.new.self in
-    let new = c.seal_where.new.self in
-    stays_on s.limit s one new (c.in-Ok.ensures.stays (λ is. absurd cc))
-    (stays_on s.limit one held new (stays_held s.limit one held c.in-Ok.ensures.begun c.hold.ensures.place.0 c.hold.ensures.place.1)
-    (none_failed ((k : ℕ) → StaysWithin k held new) c.seal_where.result c.seal_where.ensures.only not c.seal_where.ensures.within s.limit))
+    omega (arith, same, c.hold.ensures.some)) c.seal_where.ensures.empty

@@ -1,9 +1,8 @@
 use Rattle.std.proofs.Common.{◌≡◌, ◌∙◌, ap, subst, List}
 use Rattle.std.proofs.lemmas.Result.{on_ok_weaker}
 use Rattle.dms_block.specs.declared.change.Change.{Change}
-use Rattle.dms_block.specs.Content.{AppliesPart, Content, apply_changes, differing}
+use Rattle.dms_block.specs.Content.{Content, apply_changes}
 use Rattle.dms_block.specs.Changing.{differing_changed, fits_content}
-use Rattle.dms_block.specs.FaultLaws.{full_weaker}
 use Rattle.dms_block.specs.Faults.{IfFull}
 use Rattle.dms_block.specs.Held.{AuditPace}
 use Rattle.dms_block.specs.HeldLaws.{told_after}
@@ -22,10 +21,3 @@ returns-clause-content g c = on_ok_weaker c.apply.result (λ is tells.
 
 pub returns-clause-full : goal.returns-clause-full
 returns-clause-full g c = subst (λ (p : AuditPace). IfFull c.apply.result (λ f. f ≡ p.last)) (g.met.B.Blocks.same_pace c.args.self.now.below c.sift-kept.new.below c.sift-kept.ensures.same) c.apply.ensures.full
-
-pub returns-clause-part : goal.returns-clause-part
-returns-clause-part g c = full_weaker c.apply.result _ _ (λ f part tells.
-    let looks = c.in_ok-kept.ensures.looks in
-    let a : Content = (under c.args.self.now).content in
-    subst (λ (d : Content). AppliesPart (differing a (overlay_changes c.args.self.now)) d (g.B.Blocks.held c.apply.new.self).content) (looks.same.content tells)
-    (subst (λ (l : List Change). AppliesPart l (g.B.Blocks.held c.sift-kept.new.below).content (g.B.Blocks.held c.apply.new.self).content) (c.in_ok-kept.ensures.kept tells) (part (told_after looks.passes.lasts tells)))) c.apply.ensures.part

@@ -1,6 +1,5 @@
-use Rattle.std.proofs.Common.{false, [], ◌≡◌, refl, ap, subst, length, List, arith}
+use Rattle.std.proofs.Common.{◌≡◌, refl, ap, subst, length, List, arith}
 use Rattle.dms_block.specs.declared.change.Change.{Change}
-use Rattle.dms_block.specs.LandmarkLaws.{lands_untold}
 use Rattle.dms_memblocks.specs.Undoing.{PutAll, rows}
 use Rattle.dms_memblocks.specs.UndoLaws.{passes, put_before, put_counts, put_mark, put_marked, put_points, put_since, stays}
 use Rattle.dms_memblocks.proofs.blocks.MemBlocksBlocks.apply.Goals as goal
@@ -41,5 +40,4 @@ returns-clause-alters c =
       stays = stays b.schema (rows b.files.items) (rows c.put_all.new.files.items) b.log.items c.put_all.new.log.items b.made b.durable b.durable _ _ mark points (omega arith);
       memory = λ e. absurd (cc e);
       uses = record { not_fewer = omega arith; reads = omega arith; not_less = omega (arith, c.saturating_add-self.ensures, count); spent = omega (arith, c.saturating_add-self.ensures, count); syncs = refl; outs = refl };
-      landmarks = lands_untold false _ _ [];
     }

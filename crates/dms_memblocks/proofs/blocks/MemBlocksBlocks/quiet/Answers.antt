@@ -15,9 +15,8 @@ invariant_of-self-clause-since c =
     let all : length b.log.items ≤ c.len-self.result = omega (arith, c.len-self.ensures) in
     subst (λ l. AreSince (b.made + 1) l) (sym (drop_all c.len-self.result b.log.items all)) tt
 
-pub returns-then-number-lt18446744073709551615-clause-made :
-    goal.returns-then-number-lt18446744073709551615-clause-made
-returns-then-number-lt18446744073709551615-clause-made c =
+pub returns-clause-made : goal.returns-clause-made
+returns-clause-made c =
     let b = c.args.self.now in
     record {
       sound = tt;
@@ -27,8 +26,7 @@ returns-then-number-lt18446744073709551615-clause-made c =
       points = λ t room. (quiet_points b.schema b.made b.mark (rows b.files.items) b.log.items b.before b.since, omega arith);
     }
 
-pub returns-then-number-lt18446744073709551615-clause-leaves :
-    goal.returns-then-number-lt18446744073709551615-clause-leaves
-returns-then-number-lt18446744073709551615-clause-leaves c = λ t room.
+pub returns-clause-leaves : goal.returns-clause-leaves
+returns-clause-leaves c = λ t room.
     let b = c.args.self.now in
     runs_quiet b.schema b.made b.mark (rows b.files.items) b.log.items b.durable b.durable_low b.before b.since

@@ -3,7 +3,6 @@ use Rattle.dms_desc.specs.Shape.{as_described}
 use Rattle.dms_store.specs.Listed.{BadPath}
 use Rattle.dms_store.specs.Looked.{Looked, look_noted}
 use Rattle.dms_store.specs.Lifted.{store_seen}
-use Rattle.dms_store.specs.Noted.{lands_noted}
 use Rattle.dms_store.proofs.store.BlockStore.first_from.Goals as goal
 
 pub returns-clause-looked : goal.returns-clause-looked
@@ -13,6 +12,3 @@ returns-clause-looked g c =
     subst (λ r. Looked r (store_seen desc c.args.self.now.found o) (store_seen desc c.note.new.found c.first_from-found.new.over)) (sym c.note.ensures.same)
     (look_noted desc c.args.self.now.found c.note.new.found o c.first_from-found.new.over (BadPath desc c.args.path o) c.first_from-found.result c.note.ensures.small c.note.ensures.noted c.requires.sound
     (g.met.B.Blocks.agrees o.below c.requires.sound.sound) g.met.B.Blocks.same_pace c.first_from-found.ensures.reads c.first_from-found.ensures.causes (λ d told f b bad. bad.untold d told))
-
-pub returns-clause-landmarks : goal.returns-clause-landmarks
-returns-clause-landmarks g c = lands_noted c.note.ensures.same c.first_from-found.ensures.reads.looks.landmarks

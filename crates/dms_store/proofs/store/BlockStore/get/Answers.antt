@@ -3,7 +3,6 @@ use Rattle.dms_desc.specs.Shape.{as_described}
 use Rattle.dms_store.specs.Finding.{BadSlot}
 use Rattle.dms_store.specs.Looked.{Looked, look_noted}
 use Rattle.dms_store.specs.Lifted.{store_seen}
-use Rattle.dms_store.specs.Noted.{lands_noted}
 use Rattle.dms_store.specs.Undamaged.{no_bad_slot}
 use Rattle.dms_store.proofs.store.BlockStore.get.Goals as goal
 
@@ -14,6 +13,3 @@ returns-clause-looked g c =
     subst (λ r. Looked r (store_seen desc c.args.self.now.found o) (store_seen desc c.note.new.found c.get-found.new.over)) (sym c.note.ensures.same)
     (look_noted desc c.args.self.now.found c.note.new.found o c.get-found.new.over (BadSlot desc c.args.set o) c.get-found.result c.note.ensures.small c.note.ensures.noted c.requires.sound
     (g.met.B.Blocks.agrees o.below c.requires.sound.sound) g.met.B.Blocks.same_pace c.get-found.ensures.reads c.get-found.ensures.causes (λ d told f b. no_bad_slot desc o c.requires.sound d told c.args.set f b c.requires.set))
-
-pub returns-clause-landmarks : goal.returns-clause-landmarks
-returns-clause-landmarks g c = lands_noted c.note.ensures.same c.get-found.ensures.reads.looks.landmarks

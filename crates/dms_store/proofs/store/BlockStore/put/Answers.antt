@@ -7,8 +7,7 @@ use Rattle.dms_desc.specs.Shape.{as_described}
 use Rattle.dms_model.specs.Fitting.{PutFits}
 use Rattle.dms_model.specs.declared.put.Put.{Put}
 use Rattle.dms_store.specs.Lifted.{store_seen}
-use Rattle.dms_store.specs.Noted.{lands_noted}
-use Rattle.dms_store.specs.PuttingStore.{ChangesAtMost, FullWhere, LacksWhere, Stores, change_noted, few_structures, full_where, lacks_where, stores}
+use Rattle.dms_store.specs.PuttingStore.{ChangesAtMost, FullWhere, Stores, change_noted, few_structures, full_where, stores}
 use Rattle.dms_store.proofs.store.BlockStore.put.Goals as goal
 
 pub returns-clause-fits : goal.returns-clause-fits
@@ -39,13 +38,3 @@ returns-clause-stored g c =
     let o = c.args.self.now.over in
     subst (λ (r : Result Put BlockFault). FullWhere desc (store_seen desc c.args.self.now.found o).db c.args.set c.args.number c.args.rec.now r) (sym c.note.ensures.same)
     (full_where desc c.args.self.now.found c.note.new.found o c.put-stored.new.over c.args.set c.args.number c.args.rec.now c.put-stored.result c.put-stored.ensures.stored)
-
-pub returns-clause-lacks : goal.returns-clause-lacks
-returns-clause-lacks g c =
-    let desc = as_described c.args.self.now.desc in
-    let o = c.args.self.now.over in
-    subst (λ (r : Result Put BlockFault). LacksWhere desc (store_seen desc c.args.self.now.found o).db (store_seen desc c.note.new.found c.put-stored.new.over).records c.args.set c.args.number c.args.rec.now r) (sym c.note.ensures.same)
-    (lacks_where desc c.args.self.now.found c.note.new.found o c.put-stored.new.over (9 * length c.args.self.now.desc.structures + 2) c.args.set c.args.number c.args.rec.now c.put-stored.result c.put-stored.ensures.hands_down c.put-stored.ensures.lacks)
-
-pub returns-clause-landmarks : goal.returns-clause-landmarks
-returns-clause-landmarks g c = lands_noted c.note.ensures.same c.put-stored.ensures.hands_down.alters.landmarks

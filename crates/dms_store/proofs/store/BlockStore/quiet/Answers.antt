@@ -3,7 +3,6 @@ use Rattle.dms_block.specs.Faults.{Undamaged}
 use Rattle.dms_desc.specs.Shape.{as_described}
 use Rattle.dms_store.specs.Lifted.{IsUsable}
 use Rattle.dms_store.specs.LiftedLaws.{no_point_lifted, quiet_leaves}
-use Rattle.dms_store.specs.Noted.{lands_noted}
 use Rattle.dms_store.specs.Undamaged.{undamaged_below}
 use Rattle.dms_store.proofs.store.BlockStore.quiet.Goals as goal
 
@@ -24,6 +23,3 @@ returns-clause-no_point g c =
     let usable = IsUsable (as_described c.args.self.now.desc) c.args.self.now.over in
     no_point_lifted (as_described c.args.self.now.desc) usable usable c.args.self.now.found c.note.new.found (g.B.Blocks.pace c.args.self.now.over.below) (g.B.Blocks.pace c.quiet.new.self) (g.B.Blocks.held c.args.self.now.over.below) (g.B.Blocks.held c.quiet.new.self)
     c.quiet.result c.note.result c.note.ensures.same c.quiet.ensures.no_point
-
-pub returns-clause-landmarks : goal.returns-clause-landmarks
-returns-clause-landmarks g c = lands_noted c.note.ensures.same c.quiet.ensures.landmarks

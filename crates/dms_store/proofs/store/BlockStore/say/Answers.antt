@@ -1,6 +1,5 @@
 use Rattle.dms_desc.specs.Shape.{as_described}
 use Rattle.dms_store.specs.LiftedLaws.{text_lifted}
-use Rattle.dms_store.specs.Noted.{lands_noted}
 use Rattle.dms_store.proofs.store.BlockStore.say.Goals as goal
 
 pub returns-clause-part : goal.returns-clause-part
@@ -9,6 +8,3 @@ returns-clause-part g c = record {
   part = c.say.ensures.part;
   leaves = λ tells room. text_lifted (as_described c.args.self.now.desc) (g.B.Blocks.held c.args.self.now.over.below) (g.B.Blocks.held c.say.new.self) c.args.bytes.now (c.say.ensures.leaves tells room);
 }
-
-pub returns-clause-landmarks : goal.returns-clause-landmarks
-returns-clause-landmarks g c = lands_noted c.note.ensures.same c.say.ensures.landmarks

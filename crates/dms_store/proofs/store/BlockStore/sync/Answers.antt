@@ -1,7 +1,6 @@
 use Rattle.dms_block.specs.Faults.{Undamaged}
 use Rattle.dms_desc.specs.Shape.{as_described}
 use Rattle.dms_store.specs.LiftedLaws.{silent_lifted}
-use Rattle.dms_store.specs.Noted.{lands_noted}
 use Rattle.dms_store.specs.Undamaged.{undamaged_below}
 use Rattle.std.proofs.Common.{subst, sym}
 use Rattle.dms_store.proofs.store.BlockStore.sync.Goals as goal
@@ -15,6 +14,3 @@ returns-clause-undamaged g c d told =
     let a = g.B.Blocks.held c.args.self.now.over.below in
     subst (λ r. Undamaged r) (sym c.note.ensures.same)
     (undamaged_below (as_described c.args.self.now.desc) a c.requires.serves (g.met.B.Blocks.agrees c.args.self.now.over.below c.requires.sound) d told c.sync.result (g.B.Blocks.held c.sync.new.self) c.sync.ensures.causes)
-
-pub returns-clause-landmarks : goal.returns-clause-landmarks
-returns-clause-landmarks g c = lands_noted c.note.ensures.same c.sync.ensures.landmarks

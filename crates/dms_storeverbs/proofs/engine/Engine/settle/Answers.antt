@@ -18,8 +18,6 @@ use Rattle.dms_block.specs.FaultLaws.{full_weaker}
 use Rattle.dms_storeverbs.specs.Costs.{makes_quiet}
 use Rattle.dms_storeverbs.specs.Rooms.{LeavesNoPoint}
 use Rattle.dms_storeverbs.proofs.Rooms.{due_before, settled_syncs}
-use Rattle.dms_block.specs.LandmarkLaws.{landmarks_none, lands_then}
-use Rattle.dms_storeverbs.proofs.Landing.{plain_lands, same_lands, synced_lands}
 use Rattle.dms_storeverbs.proofs.engine.Engine.settle.Goals as goal
 
 pub invariant_of-self-then-not-self-clause-fit : goal.invariant_of-self-then-not-self-clause-fit
@@ -78,7 +76,7 @@ returns-in_err-sync-clause-step g c = λ s stands room.
       answers = if_err _ _ c.from_residual-in_err-sync.ensures.0;
       made = λ tells. if_err _ _ c.from_residual-in_err-sync.ensures.0;
       undamaged = let u : Undamaged c.sync.result = c.sync.ensures.undamaged s.db (c.in_ok-number.ensures.made.db r ∙ stands.db) in search rules;
-      leaves = λ tells. synced here (s.next, s.db) (told_known (g.St.Store.seen c.args.self.now.store) s (g.met.St.Store.agrees c.args.self.now.store c.requires.sound) stands.next stands.db) (settle s).quiets is c.quiet.ensures.causes.whole (c.quiet.ensures.leaves tells r) (c.in_ok-number.ensures.made.points tells r) (omega (arith, c.in_ok-number.ensures.made.next r)) c.quiet.ensures.mute.said (c.sync.ensures.silent.leaves (c.quiet.ensures.causes.tells tells) (omega (arith, c.in_ok-number.ensures.made.next r, stands.next, room)));
+      leaves = λ tells. synced here (s.next, s.db) (told_known (g.St.Store.seen c.args.self.now.store) s (g.met.St.Store.agrees c.args.self.now.store c.requires.sound) stands.next stands.db) (settle s).quiets is c.quiet.ensures.causes.whole (c.quiet.ensures.leaves tells r) (c.in_ok-number.ensures.made.points tells r) (c.in_ok-number.ensures.made.next r) c.quiet.ensures.mute.said (c.sync.ensures.silent.leaves (c.quiet.ensures.causes.tells tells) (omega (arith, c.in_ok-number.ensures.made.next r, stands.next, room)));
     }
 
 pub returns-clause-step : goal.returns-clause-step
@@ -92,7 +90,7 @@ returns-clause-step g c = λ s stands room.
       answers = grind (arith, common_steps, gets);
       made = λ tells. search rules;
       undamaged = tt;
-      leaves = λ tells. synced here (s.next, s.db) (told_known (g.St.Store.seen c.args.self.now.store) s (g.met.St.Store.agrees c.args.self.now.store c.requires.sound) stands.next stands.db) (settle s).quiets is c.quiet.ensures.causes.whole (c.quiet.ensures.leaves tells r) (c.in_ok-number.ensures.made.points tells r) (omega (arith, c.in_ok-number.ensures.made.next r)) c.quiet.ensures.mute.said (c.sync.ensures.silent.leaves (c.quiet.ensures.causes.tells tells) (omega (arith, c.in_ok-number.ensures.made.next r, stands.next, room)));
+      leaves = λ tells. synced here (s.next, s.db) (told_known (g.St.Store.seen c.args.self.now.store) s (g.met.St.Store.agrees c.args.self.now.store c.requires.sound) stands.next stands.db) (settle s).quiets is c.quiet.ensures.causes.whole (c.quiet.ensures.leaves tells r) (c.in_ok-number.ensures.made.points tells r) (c.in_ok-number.ensures.made.next r) c.quiet.ensures.mute.said (c.sync.ensures.silent.leaves (c.quiet.ensures.causes.tells tells) (omega (arith, c.in_ok-number.ensures.made.next r, stands.next, room)));
     }
 
 pub returns-then-someone_works-clause-costs : goal.returns-then-someone_works-clause-costs
@@ -139,30 +137,3 @@ returns-in_err-sync-clause-no_point g c = λ s stands room.
     let pending : s.pending ≡ true = grind (arith, common_steps, gets) in
     let u : IfFull c.sync.result (λ n. LeavesNoPoint (g.St.Store.seen c.args.self.now.store) (g.St.Store.seen c.sync.new.self) (settle s)) = full_weaker c.sync.result _ _ (λ f due. inr (settled_syncs s nobody pending, due_before (g.St.Store.seen c.args.self.now.store) (g.St.Store.seen c.quiet.new.self) c.quiet.ensures.causes.pace (ap (λ (e : Effort). e.syncs) c.quiet.ensures.effort) due)) c.sync.ensures.due in
     search rules
-
-pub returns-then-someone_works-clause-landmarks : goal.returns-then-someone_works-clause-landmarks
-returns-then-someone_works-clause-landmarks g c =
-    let a = g.St.Store.seen c.args.self.now.store in
-    plain_lands a a c.succeed.ensures.sync (landmarks_none _)
-
-pub returns-in_err-number-clause-landmarks : goal.returns-in_err-number-clause-landmarks
-returns-in_err-number-clause-landmarks g c = same_lands c.from_residual.result _ c.from_residual.ensures.1 c.in_err-number.ensures.landmarks
-
-pub returns-then-not-self-clause-landmarks : goal.returns-then-not-self-clause-landmarks
-returns-then-not-self-clause-landmarks g c =
-    let a = g.St.Store.seen c.args.self.now.store in
-    let m = g.St.Store.seen c.quiet.new.self in
-    plain_lands a m c.succeed-then-not-self.ensures.sync c.in_ok-number.ensures.landmarks.done
-
-pub returns-in_err-sync-clause-landmarks : goal.returns-in_err-sync-clause-landmarks
-returns-in_err-sync-clause-landmarks g c =
-    let r = c.from_residual-in_err-sync in
-    same_lands r.result _ r.ensures.1 (lands_then _ c.in_ok-number.ensures.landmarks c.in_err-sync.ensures.landmarks)
-
-pub returns-clause-landmarks : goal.returns-clause-landmarks
-returns-clause-landmarks g c =
-    let a = g.St.Store.seen c.args.self.now.store in
-    let m = g.St.Store.seen c.quiet.new.self in
-    let b = g.St.Store.seen c.sync.new.self in
-    let syncs = ap (λ (e : Effort). e.syncs) c.quiet.ensures.effort in
-    synced_lands a m b c.quiet.ensures.causes.pace syncs c.sync.ensures.silent.next refl c.in_ok-number.ensures.landmarks.done c.in_ok-sync.ensures.landmarks.done

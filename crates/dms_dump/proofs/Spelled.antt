@@ -1,0 +1,60 @@
+-- Fields of a head that are put one behind another.
+use Rattle.std.specs.Prelude.{◌==◌}
+use Rattle.std.proofs.Common.{ℕ, ◌+◌, ◌≤◌, ◌<◌, ◌≡◌, ◌≢◌, false, cond, List, [], ◌∷◌, ◌++◌, length, take, drop, get_or, sym, ◌∙◌, ap, arith, append_assoc, append-nil, length-append, length-take}
+use Rattle.std.specs.Int.{w16, w32, w64, to_be_bytes}
+use Rattle.std.proofs.lemmas.List.{take_at, take_more}
+use Rattle.std.proofs.lemmas.Bool.Decides.{nat_tests}
+use Rattle.dms_fields.specs.Fields.{lay_bytes}
+use Rattle.dms_fields.specs.Laying.{laid_length}
+use Rattle.dms_history.specs.declared.event.FileCount.{FileCount}
+use Rattle.dms_audrec.specs.Spelling.{pair_bytes, count_file, count_blocks}
+use Rattle.dms_dump.specs.Head.{Head, mark_bytes, head_bytes}
+
+-- the bytes up to the end of what was laid
+pub laid_take : (at : ℕ) (bytes old : List ℕ) → at + length bytes ≤ length old → take (at + length bytes) (lay_bytes at bytes old) ≡ take at old ++ bytes
+unfolding lay_bytes
+laid_take at bytes old le =
+    ap (λ (l : List ℕ). take (at + length bytes) l) (sym (append_assoc (take at old) bytes (drop (at + length bytes) old)))
+    ∙ take_at (take at old ++ bytes) (drop (at + length bytes) old) (at + length bytes) (omega (arith, le, length-append (take at old) bytes, length-take at old))
+
+pub laid_size : (at : ℕ) (bytes old : List ℕ) → at + length bytes ≤ length old → length (lay_bytes at bytes old) ≡ length old
+laid_size at bytes old room = laid_length at bytes old room
+
+pub pairs_more : (xs : List FileCount) (x : FileCount) → pair_bytes count_file count_blocks (xs ++ x ∷ []) ≡ (pair_bytes count_file count_blocks xs ++ to_be_bytes w32 x.file) ++ to_be_bytes w32 x.blocks
+pairs_more [] x = ap (λ (l : List ℕ). to_be_bytes w32 x.file ++ l) (append-nil (to_be_bytes w32 x.blocks))
+pairs_more (y ∷ ys) x =
+    let a = to_be_bytes w32 y.file in
+    let b = to_be_bytes w32 y.blocks in
+    let r = pair_bytes count_file count_blocks ys in
+    let p = to_be_bytes w32 x.file in
+    let q = to_be_bytes w32 x.blocks in
+    ap (λ (l : List ℕ). a ++ (b ++ l)) (pairs_more ys x)
+    ∙ ap (λ (l : List ℕ). a ++ l) (sym (append_assoc b (r ++ p) q) ∙ ap (λ (l : List ℕ). l ++ q) (sym (append_assoc b r p)))
+    ∙ sym (append_assoc a ((b ++ r) ++ p) q) ∙ ap (λ (l : List ℕ). l ++ q) (sym (append_assoc a (b ++ r) p))
+
+-- the bytes of the five fields, put one behind another
+pub fields_are : (h : Head) → (((mark_bytes h.tag ++ to_be_bytes w64 h.point) ++ to_be_bytes w32 h.audit) ++ to_be_bytes w16 (length h.counts)) ++ pair_bytes count_file count_blocks h.counts ≡ head_bytes h
+unfolding head_bytes
+fields_are h =
+    let m = mark_bytes h.tag in
+    let p = to_be_bytes w64 h.point in
+    let q = to_be_bytes w32 h.audit in
+    let r = to_be_bytes w16 (length h.counts) in
+    let l = pair_bytes count_file count_blocks h.counts in
+    append_assoc ((m ++ p) ++ q) r l ∙ append_assoc (m ++ p) q (r ++ l) ∙ append_assoc m p (q ++ (r ++ l))
+
+-- the mark with a tag that isn't 0
+pub mark_else : (tag : ℕ) (xs : List ℕ) → tag ≢ 0 → (xs ++ 68 ∷ 77 ∷ 83 ∷ 69 ∷ []) ++ to_be_bytes w64 tag ≡ xs ++ mark_bytes tag
+mark_else tag xs some =
+    let off : (tag == 0) ≡ false = grind (arith, nat_tests, some) in
+    append_assoc xs (68 ∷ 77 ∷ 83 ∷ 69 ∷ []) (to_be_bytes w64 tag) ∙ sym (ap (λ b. xs ++ cond b (68 ∷ 77 ∷ 83 ∷ 68 ∷ []) (68 ∷ 77 ∷ 83 ∷ 69 ∷ to_be_bytes w64 tag)) off)
+
+-- one count more
+pub counts_on : (counts : List FileCount) (i : ℕ) (d : FileCount) (front : List ℕ) → i < length counts
+    → ((front ++ pair_bytes count_file count_blocks (take i counts)) ++ to_be_bytes w32 (get_or counts i d).file) ++ to_be_bytes w32 (get_or counts i d).blocks ≡ front ++ pair_bytes count_file count_blocks (take (i + 1) counts)
+counts_on counts i d front low =
+    let p = pair_bytes count_file count_blocks (take i counts) in
+    let x = get_or counts i d in
+    append_assoc (front ++ p) (to_be_bytes w32 x.file) (to_be_bytes w32 x.blocks)
+    ∙ append_assoc front p (to_be_bytes w32 x.file ++ to_be_bytes w32 x.blocks)
+    ∙ ap (λ (l : List ℕ). front ++ l) (sym (append_assoc p (to_be_bytes w32 x.file) (to_be_bytes w32 x.blocks)) ∙ sym (pairs_more (take i counts) x) ∙ ap (λ (l : List FileCount). pair_bytes count_file count_blocks l) (sym (take_more counts i d low)))

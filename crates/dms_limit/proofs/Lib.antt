@@ -1,3 +1,0 @@
-pub mod NoEntries
-pub mod Written
-pub mod Limits

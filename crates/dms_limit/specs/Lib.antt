@@ -1,4 +1,0 @@
-pub mod Behind
-pub mod Places
-pub mod Same
-pub mod SameLaws

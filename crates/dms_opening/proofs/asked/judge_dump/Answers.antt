@@ -1,0 +1,6 @@
+use Rattle.std.proofs.Common.{◌∙◌}
+use Rattle.dms_opening.specs.Asked.{or_next}
+use Rattle.dms_opening.proofs.asked.judge_dump.Goals as goal
+
+pub returns : goal.returns
+returns c files = c.or_next.ensures ∙ (λ i. or_next (c.judge_file.ensures i) (c.judge_dump_point.ensures files i))

@@ -1,0 +1,87 @@
+-- The files that a stop leaves are states.
+use Rattle.std.proofs.Common.{ℕ, ◌<◌, ◌≡◌, ◌∙◌, ◌⊎◌, inl, inr, ⊎_elim, List, [], ◌∷◌, ◌++◌, sym, subst, ap, arith, append_assoc}
+use Rattle.std.specs.List.{AllByRecursion}
+use Rattle.dms_desc.specs.Shape.{Described}
+use Rattle.dms_model.specs.Points.{Quiet}
+use Rattle.dms_runner.specs.Answers.{answers_quiets, last_quiet}
+use Rattle.dms_running.specs.Points.{DescribedPoint, points_of, next_in}
+use Rattle.dms_restore.specs.Logging.{telling_of}
+use Rattle.dms_running.proofs.Wholes.{point_below}
+use Rattle.dms_scriptlaws.specs.Truths.{IsStart}
+use Rattle.dms_scriptlaws.proofs.Formed.{runnable}
+use Rattle.dms_scriptlaws.proofs.Scripts.{tells_true, stay_valid}
+use Rattle.dms_run.specs.State.{HasNext}
+use Rattle.dms_run.specs.States.{HasLive}
+use Rattle.dms_run.specs.Stops.{last_quiet_number, IsOneOf}
+use Rattle.dms_run.proofs.Standing.{stands}
+use Rattle.dms_run.proofs.Words.{last_one}
+use Rattle.dms_run.specs.RunStands.{EndsStand, StopsStand}
+use Rattle.dms_run.proofs.Lives.{next_is_one, state_lives}
+use Rattle.dms_run.proofs.NoLater.{RisesBy, rises_by, number_high, no_later}
+
+-- a point of entry is among all
+has_more : (d : Described) (points more : List DescribedPoint) (q : Quiet) → HasLive d points q → HasLive d (points ++ more) q
+has_more d points more q h = record {
+  before = h.before;
+  point = h.point;
+  after = h.after ++ more;
+  are = ap (λ (l : List DescribedPoint). l ++ more) h.are ∙ append_assoc h.before (h.point ∷ h.after) more;
+  number = h.number;
+  schema = h.schema;
+  spells = h.spells;
+}
+
+-- one of a list and another
+either_part : (q : Quiet) (xs ys : List Quiet) → IsOneOf q (xs ++ ys) → IsOneOf q xs ⊎ IsOneOf q ys
+either_part q [] ys one = inr one
+either_part q (x ∷ xs) ys (inl is) = inl (inl is)
+either_part q (x ∷ xs) ys (inr more) = ⊎_elim (λ here. inl (inr here)) (λ behind. inr behind) (either_part q xs ys more)
+
+-- each of them has it
+of_all : (P : Quiet → Type 0) (q : Quiet) (qs : List Quiet) → AllByRecursion P qs → IsOneOf q qs → P q
+of_all P q [] all one = absurd one
+of_all P q (x ∷ qs) all (inl is) = subst P (sym is) all.0
+of_all P q (x ∷ qs) all (inr more) = of_all P q qs all.1 more
+
+pub stand : StopsStand
+stand files n desc db h start next has_next entry lines x r =
+    let t = telling_of h.total h.first in
+    let points = points_of t files in
+    let scripts = runnable desc h.formed in
+    let stay = stay_valid desc scripts db start next lines in
+    let rises = rises_by next _ stay.numbers in
+    let low : n < next = subst (λ (k : ℕ). n < k) (next_is_one h.total h.first next files h.whole has_next) (point_below t files n h.whole h.lives.found) in
+    let point = last_quiet_number n r.made in
+    let now = last_quiet db r.made in
+    let recovered : ((point ≡ n) × (now ≡ db)) ⊎ IsOneOf (point, now) (answers_quiets desc db next lines) =
+    subst (λ (l : List Quiet). ((point ≡ n) × (now ≡ db)) ⊎ IsOneOf (point, now) l) r.front_of (last_one n db r.made r.rest) in
+    record {
+      point = point;
+      now = now;
+      state = (stands.last h.total h.first x.files desc point now h.formed r.whole r.state);
+      valid = ⊎_elim (λ same. subst (IsStart desc) (sym same.1) start) (λ one. of_all (λ (q : Quiet). IsStart desc q.1) (point, now) (answers_quiets desc db next lines) stay.valid one) recovered;
+      recovered = recovered;
+      no_earlier = λ text printed is said. no_later _ next (tells_true desc scripts db start next lines) rises n r.made r.rest text printed x.said r.front_of (r.text text is) said;
+      keeps = λ d m then a. stands.at h.total h.first x.files d (m, then) a.well_formed r.whole
+          (subst (λ (l : List DescribedPoint). HasLive d l (m, then)) (sym r.kept) (has_more d points r.more (m, then) (state_lives h.total h.first files h.whole m d then a)));
+      each = λ q one le. stands.at h.total h.first x.files desc q h.formed r.whole (
+          elim (either_part q r.made r.rest (subst (λ (l : List Quiet). IsOneOf q l) (sym r.front_of) one)) [
+            | inl made ↦ of_all (HasLive desc (points_of t x.files)) q r.made r.each made
+            | inr behind ↦ absurd (omega (arith, le, number_high n next r.made r.rest q low (subst (RisesBy next) (sym r.front_of) rises) behind))
+          ]
+          );
+      next_left = next_in t x.files;
+      has_next = stands.next h.total h.first x.files r.whole;
+      not_fallen = omega (arith, r.next_is);
+      not_risen = r.not_risen;
+    }
+
+pub end_stands : EndsStand
+end_stands total first files desc well n db start next lines whole state next_is =
+    let stay = stay_valid desc (runnable desc well) db start next lines in
+    let quiets = answers_quiets desc db next lines in
+    record {
+      state = stands.last total first files desc (last_quiet_number n quiets) (last_quiet db quiets) well whole state;
+      valid = stay.left;
+      has_next = subst (HasNext files) (next_is ∙ stay.next) (stands.next total first files whole);
+    }

@@ -1,5 +1,0 @@
-pub mod Lives
-pub mod NoLater
-pub mod Stands
-pub mod Fine
-pub mod Held

@@ -1,5 +1,0 @@
-use Rattle.dms_runlaws.proofs.NoLater.{tell_no_later}
-use Rattle.dms_runlaws.proofs.laws.told_law.Goals as goal
-
-pub returns : goal.returns
-returns c = tell_no_later

@@ -1,0 +1,92 @@
+-- The words of the calls that store one record: where it is to stand, and what they leave where a database is told.
+use Rattle.std.specs.Prelude.{◌≡◌, ◌≤◌, ◌+◌, ℕ, true, IsTrue, Some, None}
+use Rattle.std.specs.declared.option.Option.{Option}
+use Rattle.std.specs.declared.result.Result.{Result}
+use Rattle.dms_block.specs.declared.block_fault.BlockFault.{BlockFault}
+use Rattle.dms_block.specs.declared.blocks.Blocks.{Ghosts}
+use Rattle.dms_block.specs.declared.overlay.Overlay.{Overlay}
+use Rattle.dms_block.specs.Held.{HasCausesOr}
+use Rattle.dms_block.specs.View.{overlay_content, under}
+use Rattle.dms_desc.specs.Lookups.{structure_of}
+use Rattle.dms_desc.specs.Shape.{Shape, Described, as_described, shape_of}
+use Rattle.dms_desc.specs.declared.record.Record.{Record}
+use Rattle.dms_layout.specs.declared.slot.Slot.{Slot}
+use Rattle.dms_model.specs.Db.{Db}
+use Rattle.dms_model.specs.Fitting.{RecordFits}
+use Rattle.dms_model.specs.Stores.{with_links_of}
+use Rattle.dms_model.specs.Valid.{is_data_set}
+use Rattle.dms_model.specs.declared.put.Put.{Put}
+use Rattle.dms_slots.specs.Seen.{count_of}
+use Rattle.dms_slots.specs.SlotBlocks.{block_of, slot_opt}
+use Rattle.dms_store.specs.Lifted.{IsUsable}
+use Rattle.dms_store.specs.Owning.{AreSlots, IfOwned}
+use Rattle.dms_store.specs.Putting.{AnswersOver}
+use Rattle.dms_store.specs.PuttingEnters.{FindsSlot, IfStored, IsEntered, IsJudged, IsPlaced, IsUncounted, OwnerStands}
+use Rattle.dms_store.specs.Rows.{rec_opt}
+use Rattle.dms_store.specs.Spelled.{database_in}
+use Rattle.dms_store.specs.declared.address.Address.{Address}
+
+-- the description and the data set, as definitions speak of them
+abbrev pub desc_at : Address → Described
+desc_at at = as_described at.desc.now
+
+abbrev pub shape_at : Address → Shape
+shape_at at = shape_of at.set.now
+
+-- The store may be used, the structure is one of its data sets, a record of it may have the number, and the number's block stands or is
+-- the next one.
+pub record MayWrite {B : Type 0} {g : Ghosts B} (at : Address) (a : Overlay B g) : Type 0 where
+  pub usable : IsUsable (desc_at at) a
+  pub there : structure_of (desc_at at) at.set.now.number ≡ Some (shape_at at)
+  pub set : is_data_set (Some (shape_at at)) ≡ true
+  pub low : 1 ≤ at.number
+  pub most : at.number ≤ at.set.now.population
+  pub next : block_of at.set.now.items at.number ≤ count_of (shape_at at) a
+
+-- a record fits the data set
+abbrev pub FitsAt : Address → Record → Type 0
+FitsAt at rec = RecordFits (desc_at at) at.set.now.number rec
+
+-- ---- where a database is told
+
+module _ {B : Type 0} {g : Ghosts B} where
+  abbrev pub IfSpelt : Described → Overlay B g → (Db → Type 0) → Type 0
+  IfSpelt desc a P = (db : Db) → IsTrue (under a).told → database_in desc (under a).content ≡ Some db → P db
+
+  -- and this slot stands under the number
+  abbrev pub IfFound : Address → Option Slot → Overlay B g → (Db → Type 0) → Type 0
+  IfFound at o a P = (db : Db) → FindsSlot (desc_at at) db (shape_at at) at.number o a → P db
+
+  -- and this one is what is to be written for a record, in place of an old one
+  abbrev pub IfPlaced : Address → Option Record → Slot → Overlay B g → (Db → Option Slot → Record → Type 0) → Type 0
+  IfPlaced at old slot a P = (db : Db) (o : Option Slot) (rec : Record) → IsPlaced (desc_at at) db (shape_at at) at.number o rec old slot a → P db o rec
+
+  -- ---- what is left
+
+  -- the fault is that of the blocks below
+  abbrev pub FaultsBelow : {T : Type 0} → Result T BlockFault → Overlay B g → Overlay B g → Type 0
+  FaultsBelow result a b = HasCausesOr (λ f k. ⊥) result (under a) (under b)
+
+  -- where a record that has an owner is stored, the files of data sets are blocks of slots
+  abbrev pub LeavesSlots : Address → Overlay B g → Put → Type 0
+  LeavesSlots at b p = IfOwned at.set.now.owner (IfStored p (AreSlots (desc_at at) (overlay_content b)))
+
+  -- where the owner stands, the record stands under its number and its owner doesn't count it yet, or a set refuses it
+  abbrev pub LeavesUncounted : Address → Record → Overlay B g → Put → Db → Option Slot → Record → Type 0
+  LeavesUncounted at made b p db o rec = OwnerStands db (shape_at at) o rec → IsUncounted (desc_at at) db at.set.now.number at.number made (overlay_content b) p
+
+  -- and its owner counts it
+  abbrev pub LeavesEntered : Address → Record → Overlay B g → Put → Db → Option Slot → Record → Type 0
+  LeavesEntered at made b p db o rec = OwnerStands db (shape_at at) o rec → IsEntered (desc_at at) db at.set.now.number at.number made (overlay_content b) p
+
+  -- the same of what is stored for a record where this slot stands
+  abbrev pub LeavesStored : Address → Option Slot → Record → Overlay B g → Put → Db → Type 0
+  LeavesStored at o rec b p db = LeavesEntered at (with_links_of at.set.now.items (rec_opt (slot_opt o)) rec) b p db o rec
+
+  -- the answer is that of storing the record
+  abbrev pub AnswersTold : Described → Overlay B g → Overlay B g → ℕ → Option ℕ → Record → Put → Type 0
+  AnswersTold desc a b set number rec p = IsTrue (under a).told → AnswersOver desc (under a).content (overlay_content b) set number rec p
+
+-- what is answered for a record where no number is free
+abbrev pub JudgesAt : Address → Record → Put → Db → Type 0
+JudgesAt at rec p db = IsJudged (desc_at at) db at.set.now.number (at.set.now.population + 1) (with_links_of at.set.now.items None rec) p

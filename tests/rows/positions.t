@@ -1,0 +1,411 @@
+NEXT and PRIOR go on from the member that the program found last in that structure. From the start NEXT finds the first member, and PRIOR none.
+Each structure has a position of its own.
+
+  $ "$DMS" try <<'END'
+  > RDS RESTART DATA SET (PID ALPHA(10););
+  > D DATA SET (X NUMBER(4); Y NUMBER(4););
+  > D-SET SET OF D KEY IS X;
+  > DOWN SET OF D KEY IS (Y DESCENDING, X), DUPLICATES;
+  > BIG SUBSET OF D WHERE X > 1 KEY IS X;
+  > SCRIPT
+  > A: OPEN UPDATE
+  > A: BEGIN-TRANSACTION NO-AUDIT RDS
+  > A: CREATE D
+  > A: PUT D X = 3, Y = 1
+  > A: STORE D
+  > A: CREATE D
+  > A: PUT D X = 1, Y = 1
+  > A: STORE D
+  > A: CREATE D
+  > A: PUT D X = 2, Y = 2
+  > A: STORE D
+  > A: END-TRANSACTION NO-AUDIT RDS
+  > A: CLOSE
+  > A: OPEN INQUIRY
+  > A: FIND CURRENT D
+  > A: FIND PRIOR D-SET
+  > A: FIND NEXT D-SET
+  > A: GET D X
+  > A: FIND NEXT D-SET
+  > A: GET D X
+  > A: FIND NEXT D
+  > A: GET D X
+  > A: FIND NEXT D-SET
+  > A: FIND NEXT D-SET
+  > A: GET D X
+  > A: FIND PRIOR D-SET
+  > A: GET D X
+  > A: FIND NEXT BIG
+  > A: GET D X
+  > A: FIND CURRENT D
+  > A: FIND PRIOR D-SET
+  > A: GET D X
+  > A: FIND PRIOR D-SET
+  > A: FIND NEXT DOWN
+  > A: GET D X
+  > A: FIND NEXT DOWN
+  > A: GET D X
+  > A: FIND NEXT DOWN
+  > A: GET D X
+  > A: FIND NEXT DOWN
+  > END
+  1 A DONE
+  2 A DONE
+  3 A DONE
+  4 A DONE
+  5 A DONE
+  6 A DONE
+  7 A DONE
+  8 A DONE
+  9 A DONE
+  10 A DONE
+  11 A DONE
+  12 A DONE
+  13 A DONE
+  14 A DONE
+  15 A EXCEPTION NORECORD D
+  16 A EXCEPTION NOTFOUND D-SET
+  17 A DONE
+  18 A DONE X=1
+  19 A DONE
+  20 A DONE X=2
+  21 A DONE
+  22 A DONE X=3
+  23 A DONE
+  24 A EXCEPTION NOTFOUND D-SET
+  25 A DONE X=3
+  26 A DONE
+  27 A DONE X=2
+  28 A DONE
+  29 A DONE X=2
+  30 A DONE
+  31 A DONE
+  32 A DONE X=1
+  33 A EXCEPTION NOTFOUND D-SET
+  34 A DONE
+  35 A DONE X=2
+  36 A DONE
+  37 A DONE X=1
+  38 A DONE
+  39 A DONE X=3
+  40 A EXCEPTION NOTFOUND DOWN
+
+A position is a key and a record number. It stays where it is when the member that was found there gets another key, and when other programs
+store members beside it. A verb that is refused changes none.
+
+  $ "$DMS" try <<'END'
+  > RDS RESTART DATA SET (PID ALPHA(10););
+  > D DATA SET (X NUMBER(4););
+  > D-SET SET OF D KEY IS X;
+  > SCRIPT
+  > A: OPEN UPDATE
+  > B: OPEN INQUIRY
+  > A: BEGIN-TRANSACTION NO-AUDIT RDS
+  > A: CREATE D
+  > A: PUT D X = 10
+  > A: STORE D
+  > A: CREATE D
+  > A: PUT D X = 20
+  > A: STORE D
+  > A: CREATE D
+  > A: PUT D X = 30
+  > A: STORE D
+  > B: FIND D-SET AT X = 20
+  > A: LOCK D-SET AT X = 20
+  > A: PUT D X = 40
+  > A: STORE D
+  > A: CREATE D
+  > A: PUT D X = 15
+  > A: STORE D
+  > A: CREATE D
+  > A: PUT D X = 25
+  > A: STORE D
+  > B: GET D
+  > B: FIND D-SET AT X = 20
+  > B: FIND NEXT D-SET
+  > B: GET D
+  > B: FIND PRIOR D-SET
+  > B: GET D
+  > B: FIND LAST D-SET
+  > B: GET D
+  > B: FIND NEXT D-SET
+  > B: FIND PRIOR D-SET
+  > B: GET D
+  > A: FIND NEXT D-SET
+  > A: FIND NEXT D-SET
+  > A: GET D
+  > END
+  1 A DONE
+  2 B DONE
+  3 A DONE
+  4 A DONE
+  5 A DONE
+  6 A DONE
+  7 A DONE
+  8 A DONE
+  9 A DONE
+  10 A DONE
+  11 A DONE
+  12 A DONE
+  13 B DONE
+  14 A DONE
+  15 A DONE
+  16 A DONE
+  17 A DONE
+  18 A DONE
+  19 A DONE
+  20 A DONE
+  21 A DONE
+  22 A DONE
+  23 B DONE X=20
+  24 B EXCEPTION NOTFOUND D-SET
+  25 B DONE
+  26 B DONE X=25
+  27 B DONE
+  28 B DONE X=15
+  29 B DONE
+  30 B DONE X=40
+  31 B EXCEPTION NOTFOUND D-SET
+  32 B DONE
+  33 B DONE X=30
+  34 A DONE
+  35 A DONE
+  36 A DONE X=30
+
+A LOCK that waits leaves position, current record and area as they were, and sets them when it is done. CURRENT reads the record as it is now.
+
+  $ "$DMS" try <<'END'
+  > RDS RESTART DATA SET (PID ALPHA(10););
+  > D DATA SET (X NUMBER(4); Y NUMBER(4););
+  > D-SET SET OF D KEY IS X;
+  > SCRIPT
+  > A: OPEN UPDATE
+  > B: OPEN UPDATE
+  > A: BEGIN-TRANSACTION NO-AUDIT RDS
+  > A: CREATE D
+  > A: PUT D X = 1, Y = 1
+  > A: STORE D
+  > A: CREATE D
+  > A: PUT D X = 2, Y = 2
+  > A: STORE D
+  > A: END-TRANSACTION NO-AUDIT RDS
+  > B: FIND FIRST D-SET
+  > A: BEGIN-TRANSACTION NO-AUDIT RDS
+  > A: LOCK LAST D-SET
+  > B: LOCK NEXT D-SET
+  > A: PUT D Y = 7
+  > A: STORE D
+  > A: END-TRANSACTION NO-AUDIT RDS
+  > B: GET D
+  > B: FIND NEXT D-SET
+  > B: GET D
+  > A: LOCK PRIOR D-SET
+  > B: FIND PRIOR D-SET
+  > B: GET D
+  > B: PUT D Y = 9
+  > B: GET D
+  > B: FIND CURRENT D
+  > B: GET D
+  > A: CREATE D
+  > A: FIND CURRENT D
+  > A: FREE D
+  > END
+  1 A DONE
+  2 B DONE
+  3 A DONE
+  4 A DONE
+  5 A DONE
+  6 A DONE
+  7 A DONE
+  8 A DONE
+  9 A DONE
+  10 A DONE
+  11 B DONE
+  12 A DONE
+  13 A DONE
+  14 B WAITS FOR A
+  15 A DONE
+  16 A DONE
+  17 A DONE
+  14 B DONE
+  18 B DONE X=2, Y=7
+  19 B EXCEPTION NOTFOUND D-SET
+  20 B DONE X=2, Y=7
+  21 A DONE
+  22 B DONE
+  23 B DONE X=1, Y=1
+  24 B DONE
+  25 B DONE X=1, Y=9
+  26 B DONE
+  27 B DONE X=1, Y=1
+  28 A DONE
+  29 A EXCEPTION NORECORD D
+  30 A EXCEPTION NORECORD D
+
+A back-out puts positions back to the start; a DEADLOCK and a FREE leave them.
+
+  $ "$DMS" try <<'END'
+  > RDS RESTART DATA SET (PID ALPHA(10););
+  > D DATA SET (X NUMBER(4););
+  > D-SET SET OF D KEY IS X;
+  > SCRIPT
+  > A: OPEN UPDATE
+  > B: OPEN UPDATE
+  > A: BEGIN-TRANSACTION NO-AUDIT RDS
+  > A: CREATE D
+  > A: PUT D X = 1
+  > A: STORE D
+  > A: CREATE D
+  > A: PUT D X = 2
+  > A: STORE D
+  > A: END-TRANSACTION NO-AUDIT RDS
+  > A: BEGIN-TRANSACTION NO-AUDIT RDS
+  > B: BEGIN-TRANSACTION NO-AUDIT RDS
+  > A: LOCK D-SET AT X = 1
+  > B: LOCK D-SET AT X = 2
+  > A: LOCK NEXT D-SET
+  > B: LOCK PRIOR D-SET
+  > B: FIND NEXT D-SET
+  > B: FIND CURRENT D
+  > B: GET D
+  > A: END-TRANSACTION NO-AUDIT RDS
+  > B: FREE D
+  > B: FIND PRIOR D-SET
+  > B: GET D
+  > B: ABORT-TRANSACTION RDS
+  > B: FIND CURRENT D
+  > B: FIND PRIOR D-SET
+  > A: FIND PRIOR D-SET
+  > A: FIND NEXT D-SET
+  > A: GET D
+  > END
+  1 A DONE
+  2 B DONE
+  3 A DONE
+  4 A DONE
+  5 A DONE
+  6 A DONE
+  7 A DONE
+  8 A DONE
+  9 A DONE
+  10 A DONE
+  11 A DONE
+  12 B DONE
+  13 A DONE
+  14 B DONE
+  15 A WAITS FOR B
+  16 B EXCEPTION DEADLOCK D
+  15 A DONE
+  17 B EXCEPTION NOTFOUND D-SET
+  18 B DONE
+  19 B DONE X=2
+  20 A DONE
+  21 B DONE
+  22 B DONE
+  23 B DONE X=1
+  24 B DONE
+  25 B EXCEPTION NORECORD D
+  26 B EXCEPTION NOTFOUND D-SET
+  27 A EXCEPTION ABORT A
+  28 A DONE
+  29 A DONE X=1
+
+AT with several key items, in the order of the key: the first member that agrees with all of them. NULL finds a null key, and a literal that
+doesn't fit finds nothing.
+
+  $ "$DMS" try <<'END'
+  > RDS RESTART DATA SET (PID ALPHA(10););
+  > D DATA SET (T ALPHA(4); X NUMBER(4,1); N NUMBER(4););
+  > S SET OF D KEY IS (T, X DESCENDING, N), DUPLICATES;
+  > SCRIPT
+  > A: OPEN UPDATE
+  > A: BEGIN-TRANSACTION NO-AUDIT RDS
+  > A: CREATE D
+  > A: PUT D T = "A", X = 1.5, N = 1
+  > A: STORE D
+  > A: CREATE D
+  > A: PUT D T = "A", X = 1.5, N = 2
+  > A: STORE D
+  > A: CREATE D
+  > A: PUT D T = "A", X = 2, N = 3
+  > A: STORE D
+  > A: CREATE D
+  > A: PUT D X = 2, N = 4
+  > A: STORE D
+  > A: END-TRANSACTION NO-AUDIT RDS
+  > A: FIND S AT T = "A"
+  > A: GET D
+  > A: FIND S AT T = "A" AND X = 1.5
+  > A: GET D
+  > A: FIND S AT T = "A" AND X = 1.5 AND N = 2
+  > A: GET D
+  > A: LOCK S AT T = NULL AND X = 2
+  > A: GET D
+  > A: FIND PRIOR S
+  > A: GET D
+  > A: FIND S AT T = "A" AND X = 1.25
+  > A: FIND S AT T = "A" AND X = 1 AND N = 1
+  > A: FIND S AT T = "ABCDE" AND X = 2
+  > A: FIND S AT T = "A" AND N = 1
+  > A: FIND S AT T = "A", X = 1.5
+  > A: FIND S AT T = "A" AND X = 1.5 AND N = 2 AND T = "A"
+  > A: FIND S AT T = "A" AND
+  > A: FIND S AT T = "A" AND X
+  > A: FIND S AT T = "A" AND X = "B"
+  > A: FIND D AT T = "A"
+  > A: LOCK S
+  > A: LOCK
+  > A: MODIFY NEXT
+  > A: FIND PRIOR T
+  > A: FIND CURRENT S
+  > A: LOCK CURRENT
+  > A: FREE S
+  > A: FREE
+  > A: FREE D D
+  > A: FREE D;
+  > END
+  1 A DONE
+  2 A DONE
+  3 A DONE
+  4 A DONE
+  5 A DONE
+  6 A DONE
+  7 A DONE
+  8 A DONE
+  9 A DONE
+  10 A DONE
+  11 A DONE
+  12 A DONE
+  13 A DONE
+  14 A DONE
+  15 A DONE
+  16 A DONE
+  17 A DONE T="A", X=2.0, N=3
+  18 A DONE
+  19 A DONE T="A", X=1.5, N=1
+  20 A DONE
+  21 A DONE T="A", X=1.5, N=2
+  22 A DONE
+  23 A DONE T=NULL, X=2.0, N=4
+  24 A DONE
+  25 A DONE T="A", X=1.5, N=2
+  26 A EXCEPTION NOTFOUND S
+  27 A EXCEPTION NOTFOUND S
+  28 A EXCEPTION NOTFOUND S
+  29 BADLINE 26
+  30 BADLINE 21
+  31 BADLINE 48
+  32 BADLINE 25
+  33 BADLINE 27
+  34 BADLINE 30
+  35 BADLINE 14
+  36 BADLINE 10
+  37 BADLINE 8
+  38 BADLINE 15
+  39 BADLINE 15
+  40 BADLINE 17
+  41 BADLINE 16
+  42 BADLINE 9
+  43 BADLINE 8
+  44 BADLINE 11
+  45 A DONE
