@@ -1,0 +1,17 @@
+pub mod Lists
+pub mod Leads
+pub mod Located
+pub mod Linked
+pub mod LinkedLaws
+pub mod ListBlocks
+pub mod ListIn
+pub mod ListInLaws
+pub mod SpellLaws
+pub mod Filled
+pub mod Spelled
+pub mod Seen
+pub mod SeenLaws
+pub mod Changed
+pub mod Written
+pub mod Laid
+pub mod Parts
