@@ -6,37 +6,19 @@ use Rattle.std.proofs.lemmas.List.{take-append-drop}
 use Rattle.dms_block.specs.Content.{put_block}
 use Rattle.dms_ordlist.specs.declared.place.Look.{Look}
 use Rattle.dms_ordlist.specs.declared.place.ListPlace.{ListPlace}
-use Rattle.dms_ordlist.specs.Leads.{at_is, lead, rises_first, rises_second, rises_with, rising_is}
-use Rattle.dms_ordlist.specs.Linked.{BlockChain, front, numbers, said_by, times}
-use Rattle.dms_ordlist.specs.LinkedLaws.{numbers_times, times_own}
-use Rattle.dms_ordlist.specs.ListBlocks.{free_in, head_bytes, leaf_bytes, leaf_in}
-use Rattle.dms_ordlist.specs.ListIn.{IsList, Leaf, Spare, entries_of, list_in}
-use Rattle.dms_ordlist.specs.Lists.{AreInByteOrder, has_entry, with_entry, without}
+use Rattle.dms_chain.specs.Leads.{at_is, lead, rises_first, rises_second, rises_with, rising_is}
+use Rattle.dms_chain.specs.Linked.{BlockChain, front, numbers, said_by, times}
+use Rattle.dms_chain.specs.LinkedLaws.{numbers_times, times_own}
+use Rattle.dms_chain.specs.ListBlocks.{free_in, head_bytes, leaf_bytes, leaf_in}
+use Rattle.dms_chain.specs.ListIn.{IsList, Leaf, Spare, entries_of, list_in}
+use Rattle.dms_chain.specs.Lists.{AreInByteOrder, has_entry, with_entry, without}
 use Rattle.dms_ordlist.specs.ListWrites.{Taken, begun_written, here_written, split_written}
-use Rattle.dms_ordlist.specs.Located.{located_has, located_missing, located_stands, located_with}
+use Rattle.dms_chain.specs.Located.{located_has, located_missing, located_stands, located_with}
 use Rattle.dms_ordlist.specs.Looks.{IsLook, ListOr, locates, look_at, look_rises, parts_of}
 use Rattle.dms_ordlist.specs.Places.{IsPlace, PlaceHolds, entries_append, link_of}
-use Rattle.dms_ordlist.specs.Seen.{IsListWidth}
-use Rattle.dms_ordlist.specs.SpellLaws.{AllWide, leaf_again, leaf_is}
-
-pub wide_append : (w : ℕ) (xs ys : List (List ℕ)) → AllWide w xs → AllWide w ys → AllWide w (xs ++ ys)
-wide_append w [] ys a b = b
-wide_append w (x ∷ xs) ys a b = (a.0, wide_append w xs ys a.1 b)
-
-pub wide_take : (w k : ℕ) (xs : List (List ℕ)) → AllWide w xs → AllWide w (take k xs)
-wide_take w zero xs a = tt
-wide_take w (suc k) [] a = tt
-wide_take w (suc k) (x ∷ xs) a = (a.0, wide_take w k xs a.1)
-
-pub wide_drop : (w k : ℕ) (xs : List (List ℕ)) → AllWide w xs → AllWide w (drop k xs)
-wide_drop w zero xs a = a
-wide_drop w (suc k) [] a = tt
-wide_drop w (suc k) (x ∷ xs) a = wide_drop w k xs a.1
-
--- the numbers of chains are below the count
-pub front_low : {A : Type 0} (xs : List (ℕ × A)) (count : ℕ) → 0 < count → ((n : ℕ) → 0 < times n (numbers xs) → n < count) → front xs 0 < count
-front_low [] count some low = some
-front_low (x ∷ xs) count some low = low x.0 (omega (arith, times_own x.0))
+use Rattle.dms_chain.specs.Seen.{IsListWidth}
+use Rattle.dms_chain.specs.SpellLaws.{AllWide, leaf_again, leaf_is}
+use Rattle.dms_chain.specs.Parts.{at_same, front_low, wide_both, wide_drop, wide_take}
 
 free_low : (width : ℕ) (bs : List (List ℕ)) (first : ℕ) (ls : List Leaf) (f free : ℕ) → (t : Taken width bs first ls f free) → free < max (length bs) (f + 1)
 free_low width bs first ls f free t =
@@ -51,10 +33,7 @@ begun_list width bs first f free entry w t room wide =
     begun_written width bs first f free es (leaf_bytes 0 es) t (omega (arith, t.near, room)) (omega (arith, t.near, room, free_low width bs first [] f free t))
     (leaf_again width 0 es (omega (arith, w.low)) (omega arith) (wide, tt) (record { some = omega arith; room = omega (arith, w.most); rising = refl })) (tt, tt)
 
--- what stands at the place, and what holds of it
-pub at_same : (c : List ℕ) (es ds : List (List ℕ)) (i : ℕ) (t : Bool) → ds ≡ es → i ≡ lead c es → t ≡ at_is c (slice_get ds i) → at_is c (slice_get es (lead c es)) ≡ t
-at_same c es ds i t same place is = sym (is ∙ (λ j. at_is c (slice_get (same j) (place j))))
-
+-- what holds of the place
 pub holds_at : (w count : ℕ) (o : Option ListPlace) (p : ListPlace) → o ≡ Some p → IfSome o (PlaceHolds w count) → PlaceHolds w count p
 holds_at w count o p is h = subst (λ x. IfSome x (PlaceHolds w count)) is h
 
@@ -147,7 +126,7 @@ module _ (c : List ℕ) (width count : ℕ) (bs : List (List ℕ)) (xs : List (L
       ap (with_entry c) (sym l.entries ∙ parts_of c l.leaves p at) ∙ located_with c (entries_of at.ahead) es (entries_of at.behind) (locates c l.leaves p at) off
 
   new_wide : length c ≡ width → AllWide width (with_at_place c es)
-  new_wide wide = wide_append width (take (lead c es) es) (c ∷ drop (lead c es) es) (wide_take width (lead c es) es place_holds.here.leaf.wide) (wide, wide_drop width (lead c es) es place_holds.here.leaf.wide)
+  new_wide wide = wide_both width (take (lead c es) es) (c ∷ drop (lead c es) es) (wide_take width (lead c es) es place_holds.here.leaf.wide) (wide, wide_drop width (lead c es) es place_holds.here.leaf.wide)
 
   new_rises : at_is c (slice_get es (lead c es)) ≡ false → AreInByteOrder (with_at_place c es ++ entries_of place.behind)
   new_rises off = rises_second (entries_of place.ahead) (with_at_place c es ++ entries_of place.behind) (subst AreInByteOrder (with_parts off) (rises_with c xs rising))

@@ -7,18 +7,19 @@ use Rattle.dms_block.specs.Content.{put_block}
 use Rattle.dms_ordlist.specs.declared.place.Look.{Look}
 use Rattle.dms_ordlist.specs.declared.place.ListPlace.{ListPlace}
 use Rattle.dms_ordlist.specs.declared.place.NumberedLeaf.{NumberedLeaf}
-use Rattle.dms_ordlist.specs.Leads.{at_is, lead, rises_first, rises_second, rises_without, rising_is}
-use Rattle.dms_ordlist.specs.Linked.{front}
-use Rattle.dms_ordlist.specs.ListBlocks.{flat, free_bytes, head_bytes, leaf_bytes}
-use Rattle.dms_ordlist.specs.ListChanges.{front_low, place_holds, list_at, low_next, more_times, place, rising, whole_low, wide_append, wide_drop, wide_take}
-use Rattle.dms_ordlist.specs.ListIn.{IsList, Leaf, Spare, entries_of, list_in}
-use Rattle.dms_ordlist.specs.Lists.{AreInByteOrder, without}
+use Rattle.dms_chain.specs.Leads.{at_is, lead, rises_first, rises_second, rises_without, rising_is}
+use Rattle.dms_chain.specs.Linked.{front}
+use Rattle.dms_chain.specs.ListBlocks.{flat, free_bytes, head_bytes, leaf_bytes}
+use Rattle.dms_ordlist.specs.ListChanges.{place_holds, list_at, low_next, more_times, place, rising, whole_low}
+use Rattle.dms_chain.specs.Parts.{front_low, wide_both, wide_drop, wide_take}
+use Rattle.dms_chain.specs.ListIn.{IsList, Leaf, Spare, entries_of, list_in}
+use Rattle.dms_chain.specs.Lists.{AreInByteOrder, without}
 use Rattle.dms_ordlist.specs.ListWrites.{first_freed, here_written, later_freed}
-use Rattle.dms_ordlist.specs.Located.{lead_le, located_without}
+use Rattle.dms_chain.specs.Located.{lead_le, located_without}
 use Rattle.dms_ordlist.specs.Looks.{IsLook, locates, look_rises, parts_of}
 use Rattle.dms_ordlist.specs.Places.{Before, PlaceHolds, SpotHolds, entries_append, link_of}
-use Rattle.dms_ordlist.specs.Seen.{IsListWidth}
-use Rattle.dms_ordlist.specs.SpellLaws.{AllWide, few_enough, free_again, leaf_again, wide_room}
+use Rattle.dms_chain.specs.Seen.{IsListWidth}
+use Rattle.dms_chain.specs.SpellLaws.{AllWide, few_enough, free_again, leaf_again, wide_room}
 
 -- the entries of the block without the one at its place
 abbrev pub without_at_place : List ℕ → List (List ℕ) → List (List ℕ)
@@ -95,7 +96,7 @@ some_left (suc n) t is off = omega arith
 
 -- fewer entries fit
 pub wide_less : (c : List ℕ) (w : ℕ) (es : List (List ℕ)) → AllWide w es → AllWide w (without_at_place c es)
-wide_less c w es wide = wide_append w (take (lead c es) es) (drop (suc (lead c es)) es) (wide_take w (lead c es) es wide) (wide_drop w (suc (lead c es)) es wide)
+wide_less c w es wide = wide_both w (take (lead c es) es) (drop (suc (lead c es)) es) (wide_take w (lead c es) es wide) (wide_drop w (suc (lead c es)) es wide)
 
 pub less_fits : (c : List ℕ) (w : ℕ) (es : List (List ℕ)) → length es * w ≤ 1017 → length (without_at_place c es) * w ≤ 1017
 less_fits c w es room =

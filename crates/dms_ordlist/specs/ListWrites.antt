@@ -5,38 +5,18 @@ use Rattle.std.proofs.lemmas.Bool.{cases_eq}
 use Rattle.std.proofs.lemmas.Bool.Decides.{nat_tests}
 use Rattle.dms_block.specs.Content.{put_block}
 use Rattle.dms_block.specs.ContentLaws.{laid_length}
-use Rattle.dms_ordlist.specs.Linked.{BlockChain, front, numbers, put, said_by, times}
-use Rattle.dms_ordlist.specs.LinkedLaws.{times_other, times_own}
-use Rattle.dms_ordlist.specs.ListBlocks.{free_in, head_bytes, head_in, leaf_in}
-use Rattle.dms_ordlist.specs.ListIn.{IsList, Leaf, Spare, entries_of, list_in}
-use Rattle.dms_ordlist.specs.ListInLaws.{list_of}
-use Rattle.dms_ordlist.specs.Lists.{AreInByteOrder}
+use Rattle.dms_chain.specs.Laid.{laid_look}
+use Rattle.dms_chain.specs.Linked.{BlockChain, front, numbers, put, said_by, times}
+use Rattle.dms_chain.specs.LinkedLaws.{times_other, times_own}
+use Rattle.dms_chain.specs.ListBlocks.{free_in, head_bytes, head_in, leaf_in}
+use Rattle.dms_chain.specs.ListIn.{IsList, Leaf, Spare, entries_of, list_in}
+use Rattle.dms_chain.specs.ListInLaws.{list_of}
+use Rattle.dms_chain.specs.Lists.{AreInByteOrder}
 use Rattle.dms_ordlist.specs.Opened.{IsOpenAt, begins_leaf, changes_leaf, closes_list, frees_block, heads_list, lengthens_list, opens_list, parts_leaf, takes_spare, unlinks_leaf, unlinked_first}
-use Rattle.dms_ordlist.specs.SpellLaws.{head_again}
+use Rattle.dms_chain.specs.SpellLaws.{head_again}
 
 if_same : (n : ℕ) (o p : Option (List ℕ)) → cond (eqb n n) o p ≡ o
 if_same n o p = grind (arith, nat_tests)
-
-zero_off : (n : ℕ) (o p : Option (List ℕ)) → cond (eqb 0 (suc n)) o p ≡ p
-zero_off n o p = grind (arith, nat_tests)
-
-suc_off : (n : ℕ) (o p : Option (List ℕ)) → cond (eqb (suc n) 0) o p ≡ p
-suc_off n o p = grind (arith, nat_tests)
-
-suc_same : (m n : ℕ) (o p : Option (List ℕ)) → cond (eqb m n) o p ≡ cond (eqb (suc m) (suc n)) o p
-suc_same m n o p = grind (arith, nat_tests)
-
-laid_at : (b : ℕ) (x : List ℕ) (bs : List (List ℕ)) (n : ℕ) → b ≤ length bs → slice_get (put_block b x bs) n ≡ put (slice_get bs) b x n
-laid_at zero x [] zero le = refl
-laid_at zero x [] (suc n) le = sym (suc_off n (Some x) None)
-laid_at (suc b) x [] n le = absurd (omega arith)
-laid_at zero x (y ∷ bs) zero le = refl
-laid_at zero x (y ∷ bs) (suc n) le = sym (suc_off n (Some x) (slice_get bs n))
-laid_at (suc b) x (y ∷ bs) zero le = sym (zero_off b (Some x) (Some y))
-laid_at (suc b) x (y ∷ bs) (suc n) le = laid_at b x bs n (omega arith) ∙ suc_same n b (Some x) (slice_get bs n)
-
-pub laid_look : (b : ℕ) (x : List ℕ) (bs : List (List ℕ)) → b ≤ length bs → slice_get (put_block b x bs) ≡ put (slice_get bs) b x
-laid_look b x bs le = λ i n. laid_at b x bs n le i
 
 -- a look at blocks, one of which was written before
 pub put_look : (look other : ℕ → Option (List ℕ)) (b : ℕ) (x : List ℕ) → look ≡ other → put look b x ≡ put other b x

@@ -8,13 +8,13 @@ use Rattle.dms_block.specs.View.{overlay_content, under}
 use Rattle.dms_ordlist.specs.declared.place.NumberedLeaf.{NumberedLeaf}
 use Rattle.dms_ordlist.specs.declared.place.ListPlace.{ListPlace}
 use Rattle.dms_ordlist.specs.declared.place.Look.{Look}
-use Rattle.dms_ordlist.specs.Leads.{last_of, lead}
-use Rattle.dms_ordlist.specs.Linked.{BlockChain, front, said_by}
-use Rattle.dms_ordlist.specs.ListBlocks.{head_in, leaf_in}
-use Rattle.dms_ordlist.specs.ListIn.{IsList, Leaf, Spare, entries_of, list_in}
-use Rattle.dms_ordlist.specs.ListInLaws.{list_is, none_is}
-use Rattle.dms_ordlist.specs.Lists.{AreInByteOrder, first_from, last_to, or_else}
-use Rattle.dms_ordlist.specs.Located.{Located, last_append, located_first, located_last}
+use Rattle.dms_chain.specs.Leads.{last_of, lead}
+use Rattle.dms_chain.specs.Linked.{BlockChain, front, said_by}
+use Rattle.dms_chain.specs.ListBlocks.{head_in, leaf_in}
+use Rattle.dms_chain.specs.ListIn.{IsList, Leaf, Spare, entries_of, list_in}
+use Rattle.dms_chain.specs.ListInLaws.{list_is, none_is}
+use Rattle.dms_chain.specs.Lists.{AreInByteOrder, first_from, last_to, or_else}
+use Rattle.dms_chain.specs.Located.{Located, last_append, located_first, located_last}
 use Rattle.dms_ordlist.specs.Places.{Before, IsPlace, PlaceHolds, SpotHolds, entries_append, entries_one, link_of}
 
 -- these chains are what the blocks spell; a file of no blocks has none

@@ -2,11 +2,11 @@
 use Rattle.std.proofs.Common.{◌≡◌, ℕ, zero, suc, ◌+◌, ◌≤◌, ◌<◌, inl, inr, List, [], ◌∷◌, ◌++◌, Some, refl, sym, ap, ◌∙◌, length, length-append, arith}
 use Rattle.std.specs.declared.option.Option.{Option}
 use Rattle.std.proofs.lemmas.Bool.{cases_eq}
-use Rattle.dms_ordlist.specs.Lists.{AreInByteOrder}
-use Rattle.dms_ordlist.specs.ListBlocks.{free_in, head_in, leaf_in}
-use Rattle.dms_ordlist.specs.Linked.{BlockChain, front, numbers, put, said_by, times}
-use Rattle.dms_ordlist.specs.LinkedLaws.{chain_both, chain_first, chain_own, chain_second, chain_still, front_append, numbers_times, times_other, times_own}
-use Rattle.dms_ordlist.specs.ListIn.{IsList, Leaf, Spare, entries_of}
+use Rattle.dms_chain.specs.Lists.{AreInByteOrder}
+use Rattle.dms_chain.specs.ListBlocks.{free_in, head_in, leaf_in}
+use Rattle.dms_chain.specs.Linked.{BlockChain, front, numbers, put, said_by, times}
+use Rattle.dms_chain.specs.LinkedLaws.{chain_both, chain_first, chain_own, chain_second, chain_still, front_append, numbers_times, times_other, times_own}
+use Rattle.dms_chain.specs.ListIn.{IsList, Leaf, Spare, entries_of}
 
 pub record IsOpenAt (width count : ℕ) (look : ℕ → Option (List ℕ)) (first free : ℕ) (ls : List Leaf) (fs : List Spare) (loose : List ℕ) : Type 0 where
   pub first_is : front ls 0 ≡ first

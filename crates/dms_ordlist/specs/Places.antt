@@ -4,14 +4,14 @@ use Rattle.std.specs.Prelude.{IfSome}
 use Rattle.std.specs.declared.option.Option.{Option}
 use Rattle.dms_ordlist.specs.declared.place.NumberedLeaf.{NumberedLeaf}
 use Rattle.dms_ordlist.specs.declared.place.ListPlace.{ListPlace}
-use Rattle.dms_ordlist.specs.declared.spelling.LeafBlock.{LeafBlock}
-use Rattle.dms_ordlist.specs.Leads.{lead}
-use Rattle.dms_ordlist.specs.Linked.{BlockChain, front, said_by}
-use Rattle.dms_ordlist.specs.LinkedLaws.{chain_second}
-use Rattle.dms_ordlist.specs.ListBlocks.{leaf_in}
-use Rattle.dms_ordlist.specs.ListIn.{Leaf, entries_of}
-use Rattle.dms_ordlist.specs.Located.{lead_past}
-use Rattle.dms_ordlist.specs.SpellLaws.{IsLeaf}
+use Rattle.dms_chain.specs.declared.spelling.LeafBlock.{LeafBlock}
+use Rattle.dms_chain.specs.Leads.{lead}
+use Rattle.dms_chain.specs.Linked.{BlockChain, front, said_by}
+use Rattle.dms_chain.specs.LinkedLaws.{chain_second}
+use Rattle.dms_chain.specs.ListBlocks.{leaf_in}
+use Rattle.dms_chain.specs.ListIn.{Leaf, entries_of}
+use Rattle.dms_chain.specs.Located.{lead_past}
+use Rattle.dms_chain.specs.SpellLaws.{IsLeaf}
 
 abbrev pub link_of : NumberedLeaf → Leaf
 link_of s = (s.number, s.leaf.entries.items)

@@ -1,28 +1,18 @@
 ghost use Rattle.std.specs.Prelude.{◌≡◌, ◌+◌, IfOk, Some, length};
 ghost use Rattle.dms_block.specs.Held.{HasCausesOr};
 ghost use Rattle.dms_block.specs.View.{ReadsOverlay, seen_counts, under};
-ghost use Rattle.dms_ordlist.specs.Leads.{last_of};
-ghost use Rattle.dms_ordlist.specs.Lists.{first_from, last_to};
+ghost use Rattle.dms_chain.specs.Leads.{last_of};
+ghost use Rattle.dms_chain.specs.Lists.{first_from, last_to};
 ghost use Rattle.dms_ordlist.specs.Looks.{place_first, place_last};
-ghost use Rattle.dms_ordlist.specs.Seen.{IfList, IsListWidth, NoList};
-ghost use Rattle.std.specs.Prelude.{◌≤◌, take, slice_get};
+ghost use Rattle.dms_chain.specs.Seen.{IfList, IsListWidth, NoList};
+ghost use Rattle.std.specs.Prelude.{◌≤◌, take};
 
 use crate::looking::look;
-use crate::order::lead;
 use crate::place::ListPlace;
 use dms_base::{Bytes, Memory};
 use dms_block::{BlockFault, Blocks, Overlay};
+use dms_chain::{entry_at, lead};
 use std::alloc::Global;
-
-/// A copy of the entry at a place.
-fn entry_at(entries: &[Bytes], alloc: Global, place: usize) -> Result<Option<Bytes>, Memory>
-    ensures { IfOk result (λ o. o ≡ slice_get entries.now place) }
-{
-    match entries.get(place) {
-        Some(entry) => Ok(Some(entry.copy(alloc)?)),
-        None => Ok(None),
-    }
-}
 
 /// A copy of the last one of the first so many entries.
 fn last_of(entries: &[Bytes], alloc: Global, count: usize) -> Result<Option<Bytes>, Memory>

@@ -1,34 +1,23 @@
 ghost use Rattle.std.specs.Prelude.{◌≡◌, ◌+◌, ◌*◌, ◌/◌, ◌≤◌, ◌<◌, ℕ, [], ◌∷◌, IfOk, IfSome, OnOk, IsErrOf, IsTrue, Some, false, length, not, max};
 ghost use Rattle.dms_block.specs.Held.{HasCausesOr};
 ghost use Rattle.dms_block.specs.View.{WritesOverlay, overlay_content, seen_counts, under, overlay_changes};
-ghost use Rattle.dms_ordlist.specs.ListBlocks.{free_in};
-ghost use Rattle.dms_ordlist.specs.ListCalls.{BecomesList, IfEmpty, LeavesOthers, TakesBlock, laid_head, with_halves};
-ghost use Rattle.dms_ordlist.specs.ListIn.{list_in};
-ghost use Rattle.dms_ordlist.specs.Lists.{has_entry, with_entry};
+ghost use Rattle.dms_chain.specs.ListBlocks.{free_in};
+ghost use Rattle.dms_chain.specs.Changed.{LeavesOthers};
+ghost use Rattle.dms_ordlist.specs.ListCalls.{BecomesList, CountGrown, IfEmpty, TakesBlock, laid_head, with_halves};
+ghost use Rattle.dms_chain.specs.ListIn.{list_in};
+ghost use Rattle.dms_chain.specs.Lists.{has_entry, with_entry};
 ghost use Rattle.dms_ordlist.specs.Looks.{IfLook};
 ghost use Rattle.dms_ordlist.specs.Places.{PlaceHolds};
-ghost use Rattle.dms_ordlist.specs.Seen.{IfList, IsListWidth, MayChange, NoList, NotAt};
-ghost use Rattle.dms_ordlist.specs.SpellLaws.{AllWide};
-ghost use Rattle.dms_ordlist.specs.Written.{CountGrown};
+ghost use Rattle.dms_chain.specs.Seen.{IfList, IsListWidth, MayChange, NoList, NotAt};
+ghost use Rattle.dms_chain.specs.SpellLaws.{AllWide};
 
 use crate::looking::look;
-use crate::order::{lead, stands_at};
 use crate::place::{ListPlace, Look, NumberedLeaf};
-use crate::spelling::{LeafBlock, ListHead, leaf_block};
 use crate::writing::{next_free, write_three, write_two};
-use dms_base::{Bytes, Memory};
+use dms_base::Bytes;
 use dms_block::{BlockFault, BlockId, Blocks, Overlay};
+use dms_chain::{LeafBlock, ListHead, lead, leaf_block, leaf_with, stands_at};
 use std::alloc::Global;
-
-/// The block of one entry, the last one of a list.
-fn leaf_with(alloc: Global, entry: &[u8]) -> Result<LeafBlock, Memory>
-    ensures next { IfOk result (λ leaf. leaf.next ≡ 0) }
-    ensures entries { IfOk result (λ leaf. leaf.entries.items ≡ entry.now ∷ []) }
-{
-    let mut entries = Vec::new(alloc);
-    entries.push(Bytes::copy_of(alloc, entry)?)?;
-    Ok(LeafBlock { next: 0, entries })
-}
 
 /// The first entry of an empty list.
 fn begin<B: Blocks>(

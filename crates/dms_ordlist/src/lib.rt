@@ -4,14 +4,13 @@
 mod finding;
 mod inserting;
 mod looking;
-mod order;
 mod place;
 mod reaching;
-mod reading;
 mod removing;
-mod spelling;
+mod walking;
 mod writing;
 
 pub use finding::{first_from, last_to};
 pub use inserting::insert;
 pub use removing::remove;
+pub use walking::{count, ending};

@@ -3,13 +3,12 @@ ghost use Rattle.dms_block.specs.Held.{HasCausesOr};
 ghost use Rattle.dms_block.specs.View.{ReadsOverlay, overlay_content, seen_counts, under};
 ghost use Rattle.dms_ordlist.specs.Looks.{IsLook};
 ghost use Rattle.dms_ordlist.specs.Places.{PlaceHolds};
-ghost use Rattle.dms_ordlist.specs.Seen.{IfList, IsListWidth, NoList};
+ghost use Rattle.dms_chain.specs.Seen.{IfList, IsListWidth, NoList};
 
 use crate::place::Look;
 use crate::reaching::reach;
-use crate::reading::read_head;
-use crate::spelling::ListHead;
 use dms_block::{BlockFault, Blocks, Overlay};
+use dms_chain::{ListHead, read_head};
 use std::alloc::Global;
 
 /// The head of a file's list, and the place where bytes of the entries' width belong in it.

@@ -1,4 +1,4 @@
-use crate::spelling::{LeafBlock, ListHead};
+use dms_chain::{LeafBlock, ListHead};
 
 /// A block of a list, with its number.
 #[derive(Drop)]

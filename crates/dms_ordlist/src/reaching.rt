@@ -1,16 +1,15 @@
 ghost use Rattle.std.specs.Prelude.{◌≡◌, ◌<◌, List, IfOk, IsTrue};
 ghost use Rattle.dms_block.specs.Held.{HasCausesOr};
 ghost use Rattle.dms_block.specs.View.{ReadsOverlay, seen_counts, under};
-ghost use Rattle.dms_ordlist.specs.Linked.{BlockChain, front};
-ghost use Rattle.dms_ordlist.specs.ListBlocks.{leaf_in};
-ghost use Rattle.dms_ordlist.specs.ListIn.{Leaf};
+ghost use Rattle.dms_chain.specs.Linked.{BlockChain, front};
+ghost use Rattle.dms_chain.specs.ListBlocks.{leaf_in};
+ghost use Rattle.dms_chain.specs.ListIn.{Leaf};
 ghost use Rattle.dms_ordlist.specs.Places.{IsPlace, PlaceHolds, number_of};
-ghost use Rattle.dms_ordlist.specs.Seen.{IsListWidth, NoChain, look};
+ghost use Rattle.dms_chain.specs.Seen.{IsListWidth, NoChain, look};
 
-use crate::order::lead;
 use crate::place::{ListPlace, NumberedLeaf};
-use crate::reading::read_leaf;
 use dms_block::{BlockFault, Blocks, Overlay};
+use dms_chain::{lead, read_leaf};
 use std::alloc::Global;
 
 /// The number of a block, 0 where it is none.

@@ -1,20 +1,20 @@
 ghost use Rattle.std.specs.Prelude.{◌≡◌, ◌+◌, ◌≤◌, ◌<◌, ℕ, IfOk, IfSome, OnOk, IsErrOf, IsTrue, Some, false, length};
 ghost use Rattle.dms_block.specs.Held.{HasCausesOr};
 ghost use Rattle.dms_block.specs.View.{WritesOverlay, overlay_content, seen_counts, under, overlay_changes};
-ghost use Rattle.dms_ordlist.specs.ListCalls.{BecomesList, LeavesOthers};
-ghost use Rattle.dms_ordlist.specs.ListIn.{list_in};
+ghost use Rattle.dms_chain.specs.Changed.{LeavesOthers};
+ghost use Rattle.dms_ordlist.specs.ListCalls.{BecomesList};
+ghost use Rattle.dms_chain.specs.ListIn.{list_in};
 ghost use Rattle.dms_ordlist.specs.ListRemoves.{LeafSpotFits, release_block};
-ghost use Rattle.dms_ordlist.specs.Lists.{has_entry, without};
+ghost use Rattle.dms_chain.specs.Lists.{has_entry, without};
 ghost use Rattle.dms_ordlist.specs.Looks.{IfLook};
 ghost use Rattle.dms_ordlist.specs.Places.{PlaceHolds};
-ghost use Rattle.dms_ordlist.specs.Seen.{IfList, IsListWidth, MayChange, NoList};
+ghost use Rattle.dms_chain.specs.Seen.{IfList, IsListWidth, MayChange, NoList};
 
 use crate::looking::look;
-use crate::order::{lead, stands_at};
 use crate::place::{ListPlace, Look, NumberedLeaf};
-use crate::spelling::{LeafBlock, ListHead, free_block, leaf_block};
 use crate::writing::{write_three, write_two};
 use dms_block::{BlockFault, BlockId, Blocks, Overlay};
+use dms_chain::{LeafBlock, ListHead, free_block, lead, leaf_block, stands_at};
 use std::alloc::Global;
 
 /// A block leaves the chain and becomes the first free one. The block before it, or the head, leads to the next one.

@@ -2,13 +2,13 @@ ghost use Rattle.std.specs.Prelude.{◌≡◌, ◌+◌, ◌≤◌, ◌<◌, IfOk
 ghost use Rattle.dms_block.specs.Content.{limit, raise_count, with_block};
 ghost use Rattle.dms_block.specs.Held.{HasCausesOr};
 ghost use Rattle.dms_block.specs.View.{ReadsOverlay, overlay_content, seen_counts, under, overlay_changes};
-ghost use Rattle.dms_ordlist.specs.ListBlocks.{free_in};
-ghost use Rattle.dms_ordlist.specs.ListCalls.{IfSeen, TakesBlock, with_head};
-ghost use Rattle.dms_ordlist.specs.Seen.{NotAt};
+ghost use Rattle.dms_chain.specs.ListBlocks.{free_in};
+ghost use Rattle.dms_chain.specs.Changed.{IfSeen};
+ghost use Rattle.dms_ordlist.specs.ListCalls.{TakesBlock, with_head};
+ghost use Rattle.dms_chain.specs.Seen.{NotAt};
 
-use crate::reading::read_free;
-use crate::spelling::{ListHead, head_block};
 use dms_block::{Block, BlockFault, BlockId, Blocks, Overlay};
+use dms_chain::{ListHead, head_block, read_free};
 use std::alloc::Global;
 
 /// The number of the block that is taken next, and that of the first free one behind it.
@@ -54,14 +54,7 @@ pub fn write_two<B: Blocks>(
     ensures more { length (overlay_changes over.new) ≤ length (overlay_changes over.old) + 2 }
     ensures memory { OnErr result (IsErrOf result BlockFault.Memory) }
 {
-    over.write(BlockId { file, block: 0 }, &head_block(head))?;
-    over.write(
-        BlockId {
-            file,
-            block: number,
-        },
-        block,
-    )
+    dms_chain::write_two(over, file, &head_block(head), number, block)
 }
 
 /// Writes the head, and two other blocks; the second one is one of the file's already.

@@ -18,7 +18,7 @@ use Rattle.dms_sets.specs.Sets.{entry_of, entries_of, kinds_over}
 use Rattle.dms_sets.specs.Owners.{EntriesFit}
 use Rattle.dms_sets.specs.Clashes.{key_front, look, new_taken, old_taken}
 use Rattle.dms_sets.specs.Entries.{IsSetKey}
-use Rattle.dms_ordlist.specs.Lists.{without_in}
+use Rattle.dms_chain.specs.Lists.{without_in}
 
 -- the entry of the record that is replaced
 abbrev pub old_entry : List ItemKind → Shape → Records → ℕ → Option ℕ → Option (List ℕ)

@@ -31,7 +31,7 @@ use Rattle.dms_key.specs.KeyOrder.{equal_itself, prefix_order, key_length, split
 use Rattle.dms_sets.specs.Entries.{entry_bytes, IsSetKey, fits_short, fits_take}
 use Rattle.std.proofs.lemmas.List.{length-take-le, take-append-drop}
 use Rattle.std.proofs.lemmas.Bool.{and_parts, not-true}
-use Rattle.dms_ordlist.specs.Lists.{AreInByteOrder, bytes_cmp, keys_rise}
+use Rattle.dms_chain.specs.Lists.{AreInByteOrder, bytes_cmp, keys_rise}
 use Rattle.dms_sets.specs.Tests.{and_true, then_nothing}
 
 -- an entry stands behind a bound of an owner

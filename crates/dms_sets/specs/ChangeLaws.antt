@@ -16,7 +16,7 @@ use Rattle.dms_desc.specs.Keys.{key_of}
 use Rattle.dms_desc.specs.Kinds.{takes}
 use Rattle.dms_sets.specs.Entries.{entry_bytes}
 use Rattle.dms_sets.specs.Padded.{entry_width}
-use Rattle.dms_ordlist.specs.Lists.{with_entry, without, with_in, without_in, pad_bound, first_from}
+use Rattle.dms_chain.specs.Lists.{with_entry, without, with_in, without_in, pad_bound, first_from}
 use Rattle.dms_sets.specs.Prefixes.{starts}
 use Rattle.dms_desc.specs.Sorted.{that_passes}
 use Rattle.dms_sets.specs.Changes.{ListsOf, IsEntryWidth, OnlyList, OnlyRoomy, PartFits, PartsFit, HasEntry, entry_in, front_in, is_seen}

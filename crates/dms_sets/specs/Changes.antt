@@ -13,7 +13,7 @@ use Rattle.dms_key.specs.KeyBytes.{kind_of, key_bytes}
 use Rattle.dms_desc.specs.Keys.{key_of}
 use Rattle.dms_desc.specs.Kinds.{takes}
 use Rattle.dms_desc.specs.Sorted.{that_passes}
-use Rattle.dms_ordlist.specs.Lists.{pad_bound, first_from, with_in, without_in}
+use Rattle.dms_chain.specs.Lists.{pad_bound, first_from, with_in, without_in}
 use Rattle.dms_sets.specs.Entries.{entry_bytes}
 use Rattle.dms_sets.specs.Prefixes.{starts}
 use Rattle.dms_sets.specs.Padded.{entry_width}

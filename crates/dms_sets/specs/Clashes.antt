@@ -30,7 +30,7 @@ use Rattle.dms_sets.specs.Owners.{EntryFits, EntriesFit, belongs_is}
 use Rattle.dms_key.specs.KeyBytes.{key_bytes}
 use Rattle.dms_key.specs.KeyOrder.{four_cmp}
 use Rattle.dms_sets.specs.Entries.{entry_bytes, IsSetKey, whole_order, whole_width}
-use Rattle.dms_ordlist.specs.Lists.{ByteSet, any_with, bytes_cmp, empty_keys, entries_removed, keys_rise, with_in, without_in}
+use Rattle.dms_chain.specs.Lists.{ByteSet, any_with, bytes_cmp, empty_keys, entries_removed, keys_rise, with_in, without_in}
 use Rattle.dms_sets.specs.Tests.{and_true, then_nothing}
 use Rattle.dms_model.specs.Places.{places_same, places_total}
 

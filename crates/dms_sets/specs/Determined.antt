@@ -17,7 +17,7 @@ use Rattle.dms_sets.specs.Owners.{is_of, of_owner, spot_bytes, EntriesFit, owned
 use Rattle.dms_sets.specs.Padded.{IsSetEntry, entries_shaped}
 use Rattle.dms_key.specs.KeyBytes.{key_width}
 use Rattle.dms_key.specs.KeyOrder.{equal_itself}
-use Rattle.dms_ordlist.specs.Lists.{AreAllAbove, AreInByteOrder, bytes_cmp, bytes_same, has_entry, is_same, keys_rise}
+use Rattle.dms_chain.specs.Lists.{AreAllAbove, AreInByteOrder, bytes_cmp, bytes_same, has_entry, is_same, keys_rise}
 use Rattle.dms_model.specs.MemberLaws.{equal_of}
 
 -- what holds of all entries holds of one that is there

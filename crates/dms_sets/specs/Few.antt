@@ -14,7 +14,7 @@ use Rattle.dms_desc.specs.Shape.{Shape, Described}
 use Rattle.dms_desc.specs.Kinds.{over, takes}
 use Rattle.dms_desc.specs.Keys.{key_of}
 use Rattle.dms_model.specs.Db.{Db, Place, place_cmp}
-use Rattle.dms_ordlist.specs.Lists.{bytes_cmp, empty_keys, keys_with, with_entry, without, without_in, is_same}
+use Rattle.dms_chain.specs.Lists.{bytes_cmp, empty_keys, keys_with, with_entry, without, without_in, is_same}
 use Rattle.dms_sets.specs.Changes.{HasRoom}
 use Rattle.dms_sets.specs.Entries.{entry_bytes}
 use Rattle.dms_sets.specs.Listing.{listing, with_opt}

@@ -15,7 +15,7 @@ use Rattle.dms_sets.specs.Bounds.{BoundKeyFits}
 use Rattle.dms_sets.specs.Padded.{from_bytes, to_bytes, BoundSmall, entries_shaped, first_is, last_is}
 use Rattle.dms_sets.specs.Spots.{and_then, spot_at, RecordsHaveSpots, all_fit, first_member_at, last_member_at}
 use Rattle.dms_sets.specs.Puts.{IsNamed}
-use Rattle.dms_ordlist.specs.Lists.{first_from, last_to}
+use Rattle.dms_chain.specs.Lists.{first_from, last_to}
 
 -- the member of an entry, where it is the owner's
 abbrev pub spot_by : Shape → Db → ℕ → Option (List ℕ) → Option Spot

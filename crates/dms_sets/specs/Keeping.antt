@@ -8,7 +8,7 @@ use Rattle.dms_block.specs.declared.overlay.Overlay.{Overlay}
 use Rattle.dms_block.specs.Held.{HasCausesOr, Looks}
 use Rattle.dms_block.specs.View.{overlay_content, seen_counts, under, overlay_changes}
 use Rattle.dms_desc.specs.Files.{file_of}
-use Rattle.dms_ordlist.specs.ListIn.{list_in}
+use Rattle.dms_chain.specs.ListIn.{list_in}
 
 -- the list of a file, where the content is told; a list has at most 1,048,576 blocks
 abbrev pub list_told : Bool → ℕ → List (List ℕ) → Option (List (List ℕ))

@@ -13,9 +13,9 @@ use Rattle.dms_block.specs.Held.{BlocksAgree, HasCausesOr}
 use Rattle.dms_block.specs.HeldLaws.{causes_or_on, looks_as, looks_err, looks_none, looks_on}
 use Rattle.dms_block.specs.View.{ReadsOverlay, WritesOverlay, overlay_content, seen_counts, under}
 use Rattle.dms_block.specs.ViewLaws.{counts_seen, seen_still}
-use Rattle.dms_ordlist.specs.ListIn.{list_in}
-use Rattle.dms_ordlist.specs.Seen.{IfList, NoList}
-use Rattle.dms_ordlist.specs.SeenLaws.{causes_err, counts_still}
+use Rattle.dms_chain.specs.ListIn.{list_in}
+use Rattle.dms_chain.specs.Seen.{IfList, NoList}
+use Rattle.dms_chain.specs.SeenLaws.{causes_err, counts_still}
 use Rattle.dms_sets.specs.Changes.{IfListed, OnlyList, OnlyRoomy}
 use Rattle.dms_desc.specs.Files.{file_of}
 use Rattle.dms_sets.specs.Keeping.{Calm, EndsInFault, FileStays, FromBelow, Usable, list_told, seen_list}

@@ -29,7 +29,7 @@ use Rattle.dms_sets.specs.Bounds.{BoundKeyFits, SpotKeyFits, at_order, front_ord
 use Rattle.dms_key.specs.KeyBytes.{key_bytes}
 use Rattle.dms_key.specs.KeyOrder.{equal_itself}
 use Rattle.dms_sets.specs.Entries.{entry_bytes}
-use Rattle.dms_ordlist.specs.Lists.{AreAllAbove, AreInByteOrder, bytes_cmp, keys_rise}
+use Rattle.dms_chain.specs.Lists.{AreAllAbove, AreInByteOrder, bytes_cmp, keys_rise}
 use Rattle.dms_sets.specs.Tests.{gt_reverse}
 
 -- an entry stands before a bound of an owner

@@ -13,6 +13,7 @@ pub mod Lasts
 pub mod Spots
 pub mod Padded
 pub mod Stored
+pub mod Alike
 pub mod Told
 pub mod ToldLaws
 pub mod Determined

@@ -12,7 +12,7 @@ use Rattle.std.proofs.lemmas.Cmp.{eq_by_cmp_equiv}
 use Rattle.dms_desc.specs.declared.record.Record.{Record}
 use Rattle.dms_model.specs.Db.{Records, Place, place_cmp}
 use Rattle.dms_desc.specs.Sorted.{or_else}
-use Rattle.dms_ordlist.specs.Lists.{bytes_cmp, ByteSet, bytes_same}
+use Rattle.dms_chain.specs.Lists.{bytes_cmp, ByteSet, bytes_same}
 use Rattle.dms_model.specs.Places.{places_same, places_total}
 use Rattle.dms_model.specs.Fresh.{second_true, first_true}
 use Rattle.dms_model.specs.MemberLaws.{equal_of}

@@ -29,7 +29,7 @@ use Rattle.dms_sets.specs.Sets.{entry_of, entries_of, kinds_over, keys_with_opt}
 use Rattle.dms_key.specs.KeyBytes.{key_bytes}
 use Rattle.dms_key.specs.KeyOrder.{four_cmp, equal_itself}
 use Rattle.dms_sets.specs.Entries.{entry_bytes, IsSetKey, whole_order, whole_width}
-use Rattle.dms_ordlist.specs.Lists.{AreAllAbove, AreInByteOrder, bytes_cmp, bytes_same, empty_keys, keys_rise, with_entry, with_in}
+use Rattle.dms_chain.specs.Lists.{AreAllAbove, AreInByteOrder, bytes_cmp, bytes_same, empty_keys, keys_rise, with_entry, with_in}
 use Rattle.dms_model.specs.Fresh.{second_true, first_true}
 
 abbrev pub is_of : ℕ → List ℕ → Bool

@@ -32,8 +32,8 @@ use Rattle.dms_sets.specs.Lasts.{precedes}
 use Rattle.dms_key.specs.KeyBytes.{key_bytes, key_width, KeyHasKinds}
 use Rattle.dms_key.specs.KeyOrder.{four_cmp, key_most}
 use Rattle.dms_sets.specs.Entries.{entry_bytes, IsSetKey, whole_width}
-use Rattle.dms_ordlist.specs.Lists as list
-use Rattle.dms_ordlist.specs.Lists.{bytes_cmp, empty_keys, is_same, with_entry, with_in, without_in, pad_bound, not_below, is_under, first_from, last_to}
+use Rattle.dms_chain.specs.Lists as list
+use Rattle.dms_chain.specs.Lists.{bytes_cmp, empty_keys, is_same, with_entry, with_in, without_in, pad_bound, not_below, is_under, first_from, last_to}
 
 -- the form of an entry
 pub record IsSetEntry (width : ℕ) (q : List ℕ) : Type 0 where

@@ -9,7 +9,7 @@ use Rattle.std.specs.Cmp.Lexicographic.{nat_list_cmp_total}
 use Rattle.std.proofs.lemmas.Cmp.{ranked}
 use Rattle.dms_desc.specs.Sorted.{first, NoneLess, InOrder, that_passes, first_narrow}
 use Rattle.dms_key.specs.ByteOrder.{less_is, equal_is, then_assoc}
-use Rattle.dms_ordlist.specs.Lists.{AreAllAbove, AreInByteOrder, bytes_cmp, bytes_same}
+use Rattle.dms_chain.specs.Lists.{AreAllAbove, AreInByteOrder, bytes_cmp, bytes_same}
 
 -- a prefix against the beginning of a string
 abbrev pub front_cmp : List ℕ → List ℕ → Ordering

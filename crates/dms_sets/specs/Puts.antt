@@ -17,7 +17,7 @@ use Rattle.dms_sets.specs.Owners.{EntriesFit}
 use Rattle.dms_sets.specs.Answers.{AreJudged, closed_is, old_entry}
 use Rattle.dms_sets.specs.Spots.{ValuesFit, NameItems, RecordsHaveSpots, all_fit, key_fits}
 use Rattle.dms_sets.specs.Stored.{NamesNoLinks, entries_stored, put_entry}
-use Rattle.dms_ordlist.specs.Lists.{with_in, without_in}
+use Rattle.dms_chain.specs.Lists.{with_in, without_in}
 
 -- each part of a key names an item that is no link, and so does each comparison of WHERE
 pub record IsNamed (desc : Described) (s : Shape) : Type 0 where

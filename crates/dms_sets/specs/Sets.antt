@@ -28,7 +28,7 @@ use Rattle.dms_sets.specs.Listing.{leaves_list, still, with_opt, without_opt, li
 use Rattle.dms_key.specs.ByteOrder.{high_first_length}
 use Rattle.dms_key.specs.KeyBytes.{key_bytes}
 use Rattle.dms_sets.specs.Entries.{entry_bytes, kinds_of}
-use Rattle.dms_ordlist.specs.Lists.{ByteSet, entries_removed, keys_with, keys_without, with_in, without_in}
+use Rattle.dms_chain.specs.Lists.{ByteSet, entries_removed, keys_with, keys_without, with_in, without_in}
 use Rattle.dms_model.specs.Places.{places_same, places_total}
 
 -- the entry of a record in a set or automatic subset, where it belongs there

@@ -13,7 +13,7 @@ use Rattle.dms_model.specs.Stores.{put_after, put_number, put_unless, record_to_
 use Rattle.dms_model.specs.declared.put.Put.{Put}
 use Rattle.dms_model.specs.declared.put.Put.TheVariants.{Stored}
 use Rattle.dms_model.specs.declared.spot.Spot.{Spot}
-use Rattle.dms_ordlist.specs.Lists.{AreInByteOrder, first_from, last_to, with_in, without_in}
+use Rattle.dms_chain.specs.Lists.{AreInByteOrder, first_from, last_to, with_in, without_in}
 use Rattle.dms_sets.specs.Answers.{IsFoundNumber, clash_seen, old_entry}
 use Rattle.dms_sets.specs.Bounds.{BoundKeyFits}
 use Rattle.dms_sets.specs.Finds.{spot_by}

@@ -20,7 +20,7 @@ use Rattle.dms_model.specs.Stores.{kept_value, linked_from, with_links_of, value
 use Rattle.dms_sets.specs.Listing.{member_opt, AllPlaces}
 use Rattle.dms_sets.specs.Sets.{entry_of, entries_of, items_over, kinds_over, IsSmall, entries_put}
 use Rattle.dms_sets.specs.Entries.{entry_bytes}
-use Rattle.dms_ordlist.specs.Lists.{with_in, without_in}
+use Rattle.dms_chain.specs.Lists.{with_in, without_in}
 
 abbrev pub is_link_at : Option Item → Bool
 is_link_at None = false

@@ -5,7 +5,7 @@ use Rattle.std.specs.FinMap.{get, insert, remove}
 use Rattle.dms_desc.specs.declared.record.Record.{Record}
 use Rattle.dms_desc.specs.Shape.{Shape, Described}
 use Rattle.dms_model.specs.Db.{Db}
-use Rattle.dms_ordlist.specs.Lists.{without_in}
+use Rattle.dms_chain.specs.Lists.{without_in}
 use Rattle.dms_sets.specs.declared.answer.SetAnswer.{SetAnswer}
 use Rattle.dms_sets.specs.declared.answer.SetAnswer.TheVariants.{Done, Duplicate}
 use Rattle.dms_sets.specs.Answers.{clash_seen}

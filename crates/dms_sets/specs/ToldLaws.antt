@@ -17,7 +17,7 @@ use Rattle.dms_desc.specs.Kinds.{takes, over, is_set_or_automatic}
 use Rattle.dms_desc.specs.Lookups.{structure_of, items_of}
 use Rattle.dms_desc.specs.Sorted.{that_passes}
 use Rattle.dms_model.specs.Stores.{is_closed}
-use Rattle.dms_ordlist.specs.Lists.{with_in, without_in, pad_bound, first_from}
+use Rattle.dms_chain.specs.Lists.{with_in, without_in, pad_bound, first_from}
 use Rattle.dms_sets.specs.declared.answer.SetAnswer.TheVariants.{Done, Duplicate}
 use Rattle.dms_sets.specs.Answers.{clash_seen, closed_is, is_blocked, old_entry}
 use Rattle.dms_sets.specs.Changes.{ListsOf, OneChanged, has_number, OtherListsStay, is_over, list_of_set, entry_opt, refuses, front_in, is_seen}

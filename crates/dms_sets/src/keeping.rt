@@ -68,4 +68,23 @@ impl<B: Blocks> Lists for Overlay<B> {
     ) -> Result<Option<Bytes>, BlockFault> {
         dms_ordlist::last_to(self, alloc, file_of(structure), to)
     }
+
+    fn entry_count(
+        &mut self,
+        alloc: Global,
+        structure: u16,
+        width: usize,
+    ) -> Result<u64, BlockFault> {
+        dms_ordlist::count(self, alloc, file_of(structure), width)
+    }
+
+    fn ending(
+        &mut self,
+        alloc: Global,
+        structure: u16,
+        width: usize,
+        tail: &[u8; 4],
+    ) -> Result<Vec<Bytes>, BlockFault> {
+        dms_ordlist::ending(self, alloc, file_of(structure), width, tail)
+    }
 }

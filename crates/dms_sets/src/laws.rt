@@ -10,7 +10,7 @@ ghost use Rattle.dms_model.specs.Members.{first_member, last_member};
 ghost use Rattle.dms_model.specs.Stores.{put_answer, put_after, record_to_store};
 ghost use Rattle.dms_model.specs.declared.put.Put.{Put};
 ghost use Rattle.dms_model.specs.declared.put.Put.TheVariants.{Stored};
-ghost use Rattle.dms_ordlist.specs.Lists.{AreInByteOrder};
+ghost use Rattle.dms_chain.specs.Lists.{AreInByteOrder};
 ghost use Rattle.dms_sets.specs.Kept.{IsStoredSmall};
 ghost use Rattle.dms_sets.specs.Sets.{entries_of};
 ghost use Rattle.dms_sets.specs.Spots.{RecordsHaveSpots};

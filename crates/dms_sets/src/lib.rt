@@ -16,4 +16,5 @@ pub use laws::{
     sets_are_their_members,
 };
 pub use lists::Lists;
+pub use one::{change_one, refuses};
 pub use sets::change;

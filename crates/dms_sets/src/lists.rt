@@ -1,8 +1,9 @@
-ghost use Rattle.std.specs.Prelude.{◌≡◌, ◌+◌, ◌==◌, ℕ, Bool, true, List, Some, IfOk, IfErr, OnOk, length, not};
+ghost use Rattle.std.specs.Prelude.{◌≡◌, ◌+◌, ◌==◌, ℕ, Bool, true, List, Some, IfOk, IfErr, OnOk, filter, length, not};
 ghost use Rattle.std.specs.declared.option.Option.{Option};
 ghost use Rattle.dms_block.specs.declared.block_fault.BlockFault.{BlockFault as Fault};
 ghost use Rattle.dms_block.specs.declared.block_fault.BlockFault.TheVariants.{Memory};
-ghost use Rattle.dms_ordlist.specs.Lists.{with_entry, without, has_entry, first_from, last_to};
+ghost use Rattle.dms_chain.specs.Lists.{with_entry, without, has_entry, first_from, last_to};
+ghost use Rattle.dms_ordlist.specs.Walks.{ends_with};
 ghost use Rattle.dms_sets.specs.Changes.{IsEntryWidth, OnlyList, OnlyRoomy, IfListed};
 
 use dms_base::Bytes;
@@ -84,6 +85,39 @@ pub trait Lists {
         ensures calm { OnOk result (calm (λ m. m == structure) 1 self.old self.new) }
         ensures fails { IfErr result (λ e. fails e 1 self.old self.new) }
         ensures below { IfErr result (λ e. IfListed (listed self.old structure (length to.now)) (λ xs. below e self.old self.new)) };
+
+    /// How many entries there are, of this width each. It may read the whole list.
+    fn entry_count(
+        &mut self,
+        alloc: Global,
+        structure: u16,
+        width: usize,
+    ) -> Result<u64, BlockFault>
+        requires usable { usable self.old structure }
+        requires width { IsEntryWidth width }
+        ensures answer { IfOk result (λ n. IfListed (listed self.old structure width) (λ xs. n ≡ length xs)) }
+        ensures list { OnOk result (listed self.new ≡ listed self.old) }
+        ensures usable { OnOk result ((n : ℕ) → usable self.old n → usable self.new n) }
+        ensures calm { OnOk result (calm (λ m. m == structure) 1 self.old self.new) }
+        ensures fails { IfErr result (λ e. fails e 1 self.old self.new) }
+        ensures below { IfErr result (λ e. IfListed (listed self.old structure width) (λ xs. below e self.old self.new)) };
+
+    /// The entries, of this width each, that end with these four bytes, in their order. It may read the whole list.
+    fn ending(
+        &mut self,
+        alloc: Global,
+        structure: u16,
+        width: usize,
+        tail: &[u8; 4],
+    ) -> Result<Vec<Bytes>, BlockFault>
+        requires usable { usable self.old structure }
+        requires width { IsEntryWidth width }
+        ensures found { IfOk result (λ v. IfListed (listed self.old structure width) (λ xs. v.items ≡ filter (ends_with tail.now) xs)) }
+        ensures list { OnOk result (listed self.new ≡ listed self.old) }
+        ensures usable { OnOk result ((n : ℕ) → usable self.old n → usable self.new n) }
+        ensures calm { OnOk result (calm (λ m. m == structure) 1 self.old self.new) }
+        ensures fails { IfErr result (λ e. fails e 1 self.old self.new) }
+        ensures below { IfErr result (λ e. IfListed (listed self.old structure width) (λ xs. below e self.old self.new)) };
 
     /// No call leaves all as it was, and so does want of memory before any call.
     ghost calm_none: { (p : ℕ → Bool) (n : ℕ) (s : Self) → calm p n s s };

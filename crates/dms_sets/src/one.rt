@@ -1,7 +1,7 @@
 ghost use Rattle.std.specs.Prelude.{◌≡◌, ◌==◌, ◌++◌, ◌∷◌, [], ℕ, Some, IfOk, IfErr, OnOk};
 ghost use Rattle.std.specs.Option.{option_copied};
 ghost use Rattle.dms_desc.specs.Shape.{shape_of};
-ghost use Rattle.dms_ordlist.specs.Lists.{with_in, without_in};
+ghost use Rattle.dms_chain.specs.Lists.{with_in, without_in};
 ghost use Rattle.dms_sets.specs.Changes.{ChangesSet, Enters, IfListed, ListChanged, ListGrown, OtherListsStay, HasEntry, OptHasEntry, entry_in, entry_opt, is_seen, list_of_set, refuses};
 ghost use Rattle.dms_sets.specs.Prefixes.{starts};
 
@@ -99,8 +99,8 @@ fn is_taken<L: Lists>(
     }
 }
 
-// Whether a set refuses a record: an entry has its owner and key, and the set has no DUPLICATES.
-fn refuses<L: Lists>(
+/// Whether a set or subset refuses a record: an entry has its owner and key, and it has no DUPLICATES.
+pub fn refuses<L: Lists>(
     lists: &mut L,
     alloc: Global,
     s: &Structure,

@@ -14,8 +14,8 @@ use Rattle.dms_desc.specs.declared.bound.Bound.TheVariants.{Start, End, At, From
 use Rattle.dms_desc.specs.declared.structure.KeyPart.{KeyPart}
 use Rattle.dms_key.specs.KeyBytes.{KeyHasKinds, key_bytes}
 use Rattle.dms_key.specs.KeyOrder.{key_most}
-use Rattle.dms_ordlist.specs.ListIn.{list_in}
-use Rattle.dms_ordlist.specs.Lists.{first, first_from, has_entry, is_same, last, last_to, or_else, pad_bound}
+use Rattle.dms_chain.specs.ListIn.{list_in}
+use Rattle.dms_chain.specs.Lists.{first, first_from, has_entry, is_same, last, last_to, or_else, pad_bound}
 use Rattle.dms_sets.specs.Entries.{IsSetKey, entry_bytes, whole_width}
 use Rattle.dms_sets.specs.Padded.{entry_width, from_bytes, to_bytes}
 use Rattle.dms_store.specs.Listed.{MayLook}

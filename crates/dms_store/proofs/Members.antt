@@ -23,10 +23,10 @@ use Rattle.dms_model.specs.Fitting.{MayStart}
 use Rattle.dms_model.specs.Members.{first_member, last_member}
 use Rattle.dms_model.specs.Stores.{Tells, TellsOf}
 use Rattle.dms_model.specs.Valid.{is_data_set}
-use Rattle.dms_ordlist.specs.ListIn.{list_in}
-use Rattle.dms_ordlist.specs.Lists.{first_from, has_entry, last_to}
-use Rattle.dms_ordlist.specs.Seen.{IfList, NoList}
-use Rattle.dms_ordlist.specs.SeenLaws.{causes_since}
+use Rattle.dms_chain.specs.ListIn.{list_in}
+use Rattle.dms_chain.specs.Lists.{first_from, has_entry, last_to}
+use Rattle.dms_chain.specs.Seen.{IfList, NoList}
+use Rattle.dms_chain.specs.SeenLaws.{causes_since}
 use Rattle.dms_sets.specs.Finds.{spot_by}
 use Rattle.dms_sets.specs.Listing.{AllPlaces}
 use Rattle.dms_sets.specs.Padded.{entry_width, from_bytes, to_bytes}

@@ -23,7 +23,7 @@ use Rattle.dms_model.specs.Db.{Db}
 use Rattle.dms_model.specs.Fitting.{IsNumber, RecordFits, SpotFits, is_number}
 use Rattle.dms_model.specs.Members.{spot_of}
 use Rattle.dms_model.specs.Stores.{TellsOf}
-use Rattle.dms_ordlist.specs.Lists.{bytes_cmp, bytes_same, has_entry}
+use Rattle.dms_chain.specs.Lists.{bytes_cmp, bytes_same, has_entry}
 use Rattle.dms_sets.specs.Changes.{entry_in}
 use Rattle.dms_sets.specs.Entries.{entry_bytes}
 use Rattle.dms_sets.specs.Finds.{spot_by}

@@ -11,7 +11,7 @@ use Rattle.dms_desc.specs.Lookups.{structure_of}
 use Rattle.dms_desc.specs.Shape.{Shape, Described}
 use Rattle.dms_model.specs.Db.{Db}
 use Rattle.dms_model.specs.Valid.{is_data_set}
-use Rattle.dms_ordlist.specs.ListIn.{list_in}
+use Rattle.dms_chain.specs.ListIn.{list_in}
 use Rattle.dms_sets.specs.Padded.{entry_width}
 use Rattle.dms_sets.specs.Sets.{entries_of, kinds_over}
 use Rattle.dms_desc.specs.Files.{file_of}

@@ -21,7 +21,7 @@ use Rattle.dms_model.specs.Stores.{Tells}
 use Rattle.dms_model.specs.declared.spot.Spot.{Spot}
 use Rattle.dms_model.specs.Valid.{is_data_set}
 use Rattle.dms_sets.specs.Bounds.{BoundKeyFits}
-use Rattle.dms_ordlist.specs.Seen.{IfList}
+use Rattle.dms_chain.specs.Seen.{IfList}
 use Rattle.dms_sets.specs.Padded.{BoundSmall, entry_width}
 use Rattle.dms_sets.specs.Sets.{entry_of, kinds_over, place_in_entry}
 use Rattle.dms_desc.specs.Files.{file_of}

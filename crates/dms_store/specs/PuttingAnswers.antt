@@ -28,7 +28,7 @@ use Rattle.dms_sets.specs.Spots.{NameItems, RecordsHaveSpots, ValuesFit, key_fit
 use Rattle.dms_sets.specs.Spots as spots
 use Rattle.dms_sets.specs.Told.{ChangeStands, HaveOwnNumbers, OfStructures, answer_of}
 use Rattle.dms_sets.specs.declared.answer.SetAnswer.TheVariants.{Done, Duplicate}
-use Rattle.dms_ordlist.specs.Lists.{without_in}
+use Rattle.dms_chain.specs.Lists.{without_in}
 use Rattle.dms_store.specs.Finding.{number_at, served_at}
 use Rattle.dms_store.specs.PuttingSlots.{structure_here}
 use Rattle.dms_store.specs.Serving.{IsServed, IsServedSet}

@@ -11,7 +11,7 @@ use Rattle.dms_block.specs.Faults.{NotFull, Unbroken}
 use Rattle.dms_block.specs.Held.{Alters, HasCauses, HasCausesOr, Stays}
 use Rattle.dms_block.specs.HeldLaws.{alters_as, alters_more, alters_on, causes_or, causes_or_on, lasts_none, looks_alters, looks_as, looks_err, looks_none, looks_on, same_none}
 use Rattle.dms_block.specs.View.{ReadsOverlay, WritesOverlay, under, overlay_changes}
-use Rattle.dms_ordlist.specs.SeenLaws.{causes_err}
+use Rattle.dms_chain.specs.SeenLaws.{causes_err}
 use Rattle.dms_sets.specs.Keeping.{Calm}
 
 -- A call reads what stands below, and writes at most m blocks over it.

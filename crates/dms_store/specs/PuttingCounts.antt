@@ -25,7 +25,7 @@ use Rattle.dms_store.specs.Spelled.{is_counted_to, links_stand, links_to}
 use Rattle.dms_model.specs.Places.{places_same, places_total}
 use Rattle.dms_model.specs.Fresh.{second_true, first_true}
 use Rattle.dms_slots.specs.SlotBlockLaws.{both_false}
-use Rattle.dms_ordlist.specs.Lists.{less_of}
+use Rattle.dms_chain.specs.Lists.{less_of}
 
 -- ---- a sum over all records, after one of them is put
 

@@ -18,7 +18,7 @@ use Rattle.dms_layout.specs.declared.slot.Slot.{Slot}
 use Rattle.dms_model.specs.Db.{Db, Place, place_cmp}
 use Rattle.dms_model.specs.Stores.{with_links_of, linked_from, values_of, kept_owner}
 use Rattle.dms_model.specs.Valid.{is_data_set, owner_stands}
-use Rattle.dms_ordlist.specs.ListIn.{list_in}
+use Rattle.dms_chain.specs.ListIn.{list_in}
 use Rattle.dms_sets.specs.Changes.{has_number, is_over}
 use Rattle.dms_sets.specs.Padded.{entry_width}
 use Rattle.dms_sets.specs.Sets.{entries_of, kinds_over}

@@ -20,7 +20,7 @@ use Rattle.dms_layout.specs.declared.slot.SlotRead.TheVariants.{Free, Used, Bad}
 use Rattle.dms_model.specs.Db.{Db, Place, place_cmp}
 use Rattle.dms_model.specs.Stores.{kept_owner, with_links_of}
 use Rattle.dms_model.specs.Valid.{is_data_set, owner_stands}
-use Rattle.dms_ordlist.specs.ListIn.{list_in}
+use Rattle.dms_chain.specs.ListIn.{list_in}
 use Rattle.dms_sets.specs.Padded.{entry_width}
 use Rattle.dms_sets.specs.Sets.{kinds_over}
 use Rattle.dms_desc.specs.Files.{file_of}

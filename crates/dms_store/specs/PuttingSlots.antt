@@ -18,7 +18,7 @@ use Rattle.dms_layout.specs.declared.slot.SlotRead.{SlotRead}
 use Rattle.dms_layout.specs.declared.slot.SlotRead.TheVariants.{Free, Used, Bad}
 use Rattle.dms_model.specs.Db.{Db, Place, place_cmp}
 use Rattle.dms_model.specs.Valid.{is_data_set, owner_stands}
-use Rattle.dms_ordlist.specs.ListIn.{list_in}
+use Rattle.dms_chain.specs.ListIn.{list_in}
 use Rattle.dms_sets.specs.Padded.{entry_width}
 use Rattle.dms_sets.specs.Sets.{entries_of, kinds_over}
 use Rattle.dms_slots.specs.FileWritten.{all_good, some_slot}

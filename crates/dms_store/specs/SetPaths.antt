@@ -22,7 +22,7 @@ use Rattle.dms_layout.specs.Slots.{AreKinds}
 use Rattle.dms_model.specs.Fitting.{MayStart, fits_item, key_fits}
 use Rattle.dms_model.specs.Fitting as fitting
 use Rattle.dms_model.specs.Members.{first_member, last_member}
-use Rattle.dms_ordlist.specs.Lists.{first_from, last_to}
+use Rattle.dms_chain.specs.Lists.{first_from, last_to}
 use Rattle.dms_sets.specs.Bounds as bounds
 use Rattle.dms_sets.specs.Entries.{kinds_of}
 use Rattle.dms_sets.specs.Finds.{first_member_by, last_member_by, spot_by}

@@ -17,7 +17,7 @@ use Rattle.dms_layout.specs.declared.slot.SlotRead.TheVariants.{Free, Used, Bad}
 use Rattle.dms_model.specs.Valid.{is_data_set, link_stands, owner_stands}
 use Rattle.dms_model.specs.Db.{Db, SubsetEntry, Place, Records}
 use Rattle.dms_desc.specs.Lookups.{structure_of, items_of}
-use Rattle.dms_ordlist.specs.ListIn.{list_in}
+use Rattle.dms_chain.specs.ListIn.{list_in}
 use Rattle.dms_sets.specs.Padded.{entry_width}
 use Rattle.dms_sets.specs.Sets.{entries_of, kinds_over}
 use Rattle.dms_desc.specs.Files.{file_of}

@@ -29,8 +29,8 @@ use Rattle.dms_laws.specs.Sound.{IsFlat}
 use Rattle.dms_model.specs.Valid.{is_data_set, link_stands, owner_stands, refers}
 use Rattle.dms_model.specs.Db.{Db, Place, Records, place_cmp, empty_db}
 use Rattle.dms_desc.specs.Lookups.{structure_of, items_of}
-use Rattle.dms_ordlist.specs.ListIn.{list_in}
-use Rattle.dms_ordlist.specs.Lists.{empty_keys}
+use Rattle.dms_chain.specs.ListIn.{list_in}
+use Rattle.dms_chain.specs.Lists.{empty_keys}
 use Rattle.dms_sets.specs.Listing.{listing}
 use Rattle.dms_sets.specs.Padded.{entry_width}
 use Rattle.dms_sets.specs.Sets.{entries_of, kinds_over, entry_of}

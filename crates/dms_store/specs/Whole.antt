@@ -12,12 +12,12 @@ use Rattle.std.proofs.lemmas.List.{length-replicate}
 use Rattle.std.proofs.lemmas.Option.{same_Some, slice_get_within}
 use Rattle.std.proofs.lemmas.Slice.Eq.{bytes_eq-Decides}
 use Rattle.dms_desc.specs.Shape.{Shape}
-use Rattle.dms_ordlist.specs.Linked.{BlockChain, numbers, said_by, times}
-use Rattle.dms_ordlist.specs.LinkedLaws.{numbers_length, times_append, times_other, times_own}
-use Rattle.dms_ordlist.specs.ListBlocks.{entry_chunks, fill_block, flat, free_bytes, free_if, free_in, head_bytes, head_if, head_in, leaf_bytes, leaf_if, leaf_in, may_hold}
-use Rattle.dms_ordlist.specs.ListIn.{IsList, Leaf, Spare, list_in}
-use Rattle.dms_ordlist.specs.ListInLaws.{list_is}
-use Rattle.dms_ordlist.specs.SpellLaws.{leaf_is, wide_room}
+use Rattle.dms_chain.specs.Linked.{BlockChain, numbers, said_by, times}
+use Rattle.dms_chain.specs.LinkedLaws.{numbers_length, times_append, times_other, times_own}
+use Rattle.dms_chain.specs.ListBlocks.{entry_chunks, fill_block, flat, free_bytes, free_if, free_in, head_bytes, head_if, head_in, leaf_bytes, leaf_if, leaf_in, may_hold}
+use Rattle.dms_chain.specs.ListIn.{IsList, Leaf, Spare, list_in}
+use Rattle.dms_chain.specs.ListInLaws.{list_is}
+use Rattle.dms_chain.specs.SpellLaws.{leaf_is, wide_room}
 use Rattle.dms_slots.specs.SlotBlocks.{are_slots, is_block, per_block}
 use Rattle.dms_store.specs.Spelled.{is_whole}
 

@@ -1,7 +1,7 @@
 ghost use Rattle.std.specs.Prelude.{◌≡◌, ◌++◌, ◌+◌, ◌≤◌, ◌<◌, ◌^◌, IfOk, OnOk, length, replicate};
 ghost use Rattle.std.specs.Int.{w32, to_be_bytes};
 ghost use Rattle.dms_key.specs.KeyBytes.{key_bytes};
-ghost use Rattle.dms_ordlist.specs.Lists.{pad_bound};
+ghost use Rattle.dms_chain.specs.Lists.{pad_bound};
 ghost use Rattle.dms_sets.specs.Entries.{entry_bytes};
 ghost use Rattle.dms_sets.specs.Padded.{BoundSmall, entry_width, from_bytes, to_bytes};
 

@@ -1,8 +1,8 @@
 ghost use Rattle.std.specs.Prelude.{◌≡◌, ◌+◌, ◌≤◌, ◌<◌, ◌^◌, true, Some, IfOk, IfSome, length};
 ghost use Rattle.dms_block.specs.Held.{HasCausesOr};
 ghost use Rattle.dms_block.specs.View.{ReadsOverlay, seen_counts, under};
-ghost use Rattle.dms_ordlist.specs.Lists.{first_from, has_entry, last_to};
-ghost use Rattle.dms_ordlist.specs.Seen.{IfList, IsListWidth, NoList};
+ghost use Rattle.dms_chain.specs.Lists.{first_from, has_entry, last_to};
+ghost use Rattle.dms_chain.specs.Seen.{IfList, IsListWidth, NoList};
 ghost use Rattle.dms_sets.specs.Padded.{entry_width, from_bytes, to_bytes};
 ghost use Rattle.dms_desc.specs.Files.{file_of};
 ghost use Rattle.dms_store.specs.Listed.{IfLooked};

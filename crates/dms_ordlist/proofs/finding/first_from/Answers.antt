@@ -1,6 +1,6 @@
 use Rattle.std.proofs.Common.{◌∙◌, Some, sym, ap, length}
 use Rattle.dms_block.specs.View.{overlay_content}
-use Rattle.dms_ordlist.specs.Lists.{first_from}
+use Rattle.dms_chain.specs.Lists.{first_from}
 use Rattle.dms_ordlist.specs.Looks.{look_first, look_none_is}
 use Rattle.dms_ordlist.proofs.finding.first_from.Goals as goal
 

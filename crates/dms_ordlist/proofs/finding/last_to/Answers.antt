@@ -1,6 +1,6 @@
 use Rattle.std.proofs.Common.{◌∙◌, Some, sym, ap, length}
 use Rattle.dms_block.specs.View.{overlay_content, seen_counts}
-use Rattle.dms_ordlist.specs.Lists.{last_to}
+use Rattle.dms_chain.specs.Lists.{last_to}
 use Rattle.dms_ordlist.specs.Looks.{look_last, look_none_is}
 use Rattle.dms_ordlist.proofs.finding.last_to.Goals as goal
 

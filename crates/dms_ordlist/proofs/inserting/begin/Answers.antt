@@ -4,12 +4,12 @@ use Rattle.dms_block.specs.HeldLaws.{told_after}
 use Rattle.dms_block.specs.Content.{Content, put_block}
 use Rattle.dms_block.specs.View.{overlay_content, seen_counts}
 use Rattle.dms_block.specs.ViewLaws.{counts_seen}
-use Rattle.dms_ordlist.specs.ListBlocks.{head_bytes, leaf_bytes}
+use Rattle.dms_chain.specs.ListBlocks.{head_bytes, leaf_bytes}
 use Rattle.dms_ordlist.specs.ListChanges.{begun_list}
-use Rattle.dms_ordlist.specs.ListIn.{list_in}
-use Rattle.dms_ordlist.specs.SeenLaws.{counts_still, file_still}
+use Rattle.dms_chain.specs.ListIn.{list_in}
+use Rattle.dms_chain.specs.SeenLaws.{counts_still, file_still}
 use Rattle.dms_block.specs.ViewLaws.{seen_still}
-use Rattle.dms_ordlist.specs.Written.{grown_since, two_count, two_grown, two_in, two_off}
+use Rattle.dms_chain.specs.Written.{grown_since, two_count, two_grown, two_in, two_off}
 use Rattle.dms_ordlist.proofs.inserting.begin.Goals as goal
 
 pub returns-clause-list : goal.returns-clause-list
@@ -44,7 +44,7 @@ returns-clause-grows g c = on_ok_weaker c.write_two.result (λ wrote.
     let file = c.args.file in
     let still = counts_still c.in_ok-number.ensures.reads in
     let near : c.in_ok-number.number ≤ max (b file) 1 = omega (arith, c.in_ok-number.ensures.near, ap (λ (k : ℕ → ℕ). k file) still) in
-    grown_since a b d file still (two_grown b d file c.in_ok-number.number near wrote)) c.write_two.ensures.counts
+    grown_since 2 a b d file still (two_grown b d file c.in_ok-number.number near wrote)) c.write_two.ensures.counts
 
 pub returns-clause-room : goal.returns-clause-room
 returns-clause-room g c = on_ok_weaker c.write_two.result (λ wrote told fs list free.

@@ -1,11 +1,11 @@
 use Rattle.std.proofs.Common.{◌≡◌, refl, length}
 use Rattle.dms_block.specs.View.{overlay_content}
-use Rattle.dms_ordlist.specs.ListBlocks.{free_in}
+use Rattle.dms_chain.specs.ListBlocks.{free_in}
 use Rattle.dms_ordlist.specs.ListChanges.{no_spare}
-use Rattle.dms_ordlist.specs.ListIn.{list_in}
+use Rattle.dms_chain.specs.ListIn.{list_in}
 use Rattle.dms_ordlist.specs.Looks.{no_list}
-use Rattle.dms_ordlist.specs.Seen.{NoList, NotAt}
-use Rattle.dms_ordlist.specs.SeenLaws.{causes_since, not_at_since}
+use Rattle.dms_chain.specs.Seen.{NoList, NotAt}
+use Rattle.dms_chain.specs.SeenLaws.{causes_since, not_at_since}
 use Rattle.dms_ordlist.proofs.inserting.insert.Goals as goal
 
 pub returns-clause-causes : goal.returns-clause-causes

@@ -2,20 +2,21 @@ use Rattle.std.proofs.Common.{◌≡◌, ◌≤◌, ◌<◌, ◌*◌, ◌/◌, �
 use Rattle.dms_block.specs.Content.{put_block}
 use Rattle.dms_block.specs.View.{overlay_content, seen_counts}
 use Rattle.dms_block.specs.ViewLaws.{counts_seen}
-use Rattle.dms_ordlist.specs.Leads.{lead}
-use Rattle.dms_ordlist.specs.ListBlocks.{flat, head_bytes, leaf_bytes}
-use Rattle.dms_ordlist.specs.ListChanges.{at_same, here_list, holds_at, lower_fits, many_some, missing_has, one_over, room_after, split_list, stands_has, stands_with, upper_fits, wide_append, wide_drop, wide_take, with_at_place}
-use Rattle.dms_ordlist.specs.ListIn.{list_in}
-use Rattle.dms_ordlist.specs.Located.{lead_le}
-use Rattle.dms_ordlist.specs.SpellLaws.{AllWide, wide_room}
-use Rattle.dms_ordlist.specs.Written.{one_in, one_off}
+use Rattle.dms_chain.specs.Leads.{lead}
+use Rattle.dms_chain.specs.ListBlocks.{flat, head_bytes, leaf_bytes}
+use Rattle.dms_ordlist.specs.ListChanges.{here_list, holds_at, lower_fits, many_some, missing_has, one_over, room_after, split_list, stands_has, stands_with, upper_fits, with_at_place}
+use Rattle.dms_chain.specs.Parts.{at_same, wide_both, wide_drop, wide_take}
+use Rattle.dms_chain.specs.ListIn.{list_in}
+use Rattle.dms_chain.specs.Located.{lead_le}
+use Rattle.dms_chain.specs.SpellLaws.{AllWide, wide_room}
+use Rattle.dms_chain.specs.Written.{one_in, one_off}
 use Rattle.dms_ordlist.proofs.inserting.insert_in.Goals as goal
 
 new_items : (c e : List ℕ) (es new : List (List ℕ)) (i : ℕ) → i ≡ lead c es → e ≡ c → new ≡ take i es ++ e ∷ drop i es → new ≡ with_at_place c es
 new_items c e es new i place same is = is ∙ (λ j. take (place j) es ++ same j ∷ drop (place j) es)
 
 wide_new : (c : List ℕ) (es : List (List ℕ)) → AllWide (length c) es → AllWide (length c) (with_at_place c es)
-wide_new c es wide = wide_append (length c) (take (lead c es) es) (c ∷ drop (lead c es) es) (wide_take (length c) (lead c es) es wide) (refl, wide_drop (length c) (lead c es) es wide)
+wide_new c es wide = wide_both (length c) (take (lead c es) es) (c ∷ drop (lead c es) es) (wide_take (length c) (lead c es) es wide) (refl, wide_drop (length c) (lead c es) es wide)
 
 pub returns-then-stands_at-clause-list : goal.returns-then-stands_at-clause-list
 returns-then-stands_at-clause-list g c told xs l is =

@@ -3,11 +3,12 @@ use Rattle.dms_block.specs.HeldLaws.{told_after}
 use Rattle.dms_block.specs.Content.{Content, put_block}
 use Rattle.dms_block.specs.View.{overlay_content, seen_counts}
 use Rattle.dms_block.specs.ViewLaws.{seen_still}
-use Rattle.dms_ordlist.specs.ListBlocks.{flat, head_bytes, leaf_bytes}
-use Rattle.dms_ordlist.specs.ListChanges.{lower_fits, upper_fits, wide_drop, wide_take}
-use Rattle.dms_ordlist.specs.SeenLaws.{counts_still, file_still}
-use Rattle.dms_ordlist.specs.SpellLaws.{wide_room}
-use Rattle.dms_ordlist.specs.Written.{grown_since, three_count, three_grown, three_in, three_off}
+use Rattle.dms_chain.specs.ListBlocks.{flat, head_bytes, leaf_bytes}
+use Rattle.dms_ordlist.specs.ListChanges.{lower_fits, upper_fits}
+use Rattle.dms_chain.specs.Parts.{wide_drop, wide_take}
+use Rattle.dms_chain.specs.SeenLaws.{counts_still, file_still}
+use Rattle.dms_chain.specs.SpellLaws.{wide_room}
+use Rattle.dms_chain.specs.Written.{grown_since, three_count, three_grown, three_in, three_off}
 use Rattle.dms_ordlist.proofs.inserting.split.Goals as goal
 
 pub leaf_block-upper-requires-clause-room : goal.leaf_block-upper-requires-clause-room
@@ -61,7 +62,7 @@ returns-clause-grows g c =
     let here = ap (λ (k : ℕ → ℕ). k file) still in
     let near : c.in_ok-fresh.fresh ≤ max (b file) 1 = omega (arith, c.in_ok-fresh.ensures.near, here) in
     let low : c.args.number < b file = omega (arith, c.requires.there, here) in
-    grown_since a b d file still (three_grown b d file c.in_ok-fresh.fresh c.args.number near low c.in_ok-write_three.ensures.counts)
+    grown_since 2 a b d file still (three_grown b d file c.in_ok-fresh.fresh c.args.number near low c.in_ok-write_three.ensures.counts)
 
 pub returns-clause-count : goal.returns-clause-count
 returns-clause-count g c =

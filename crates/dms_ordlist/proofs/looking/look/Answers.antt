@@ -5,12 +5,12 @@ use Rattle.dms_block.specs.View.{overlay_content, under}
 use Rattle.dms_block.specs.ViewLaws.{counts_seen}
 use Rattle.dms_ordlist.specs.declared.place.Look.{Look}
 use Rattle.dms_ordlist.specs.declared.place.ListPlace.{ListPlace}
-use Rattle.dms_ordlist.specs.declared.spelling.ListHead.{ListHead}
-use Rattle.dms_ordlist.specs.Linked.{BlockChain}
-use Rattle.dms_ordlist.specs.ListBlocks.{head_in, leaf_in}
+use Rattle.dms_chain.specs.declared.spelling.ListHead.{ListHead}
+use Rattle.dms_chain.specs.Linked.{BlockChain}
+use Rattle.dms_chain.specs.ListBlocks.{head_in, leaf_in}
 use Rattle.dms_ordlist.specs.Looks.{look_empty, look_none, look_place, no_chain, no_head}
-use Rattle.dms_ordlist.specs.Seen.{NoChain, NoList, NotAt}
-use Rattle.dms_ordlist.specs.SeenLaws.{causes_err, causes_since, counts_still, file_still}
+use Rattle.dms_chain.specs.Seen.{NoChain, NoList, NotAt}
+use Rattle.dms_chain.specs.SeenLaws.{causes_err, causes_since, counts_still, file_still}
 use Rattle.dms_ordlist.proofs.looking.look.Goals as goal
 
 pub returns-then-count-eq0-clause-look : goal.returns-then-count-eq0-clause-look

@@ -4,13 +4,13 @@ use Rattle.dms_block.specs.HeldLaws.{told_after}
 use Rattle.dms_block.specs.View.{under}
 use Rattle.dms_block.specs.ViewLaws.{reads_as, reads_on}
 use Rattle.dms_ordlist.specs.declared.place.ListPlace.{ListPlace}
-use Rattle.dms_ordlist.specs.declared.spelling.LeafBlock.{LeafBlock}
-use Rattle.dms_ordlist.specs.Leads.{lead}
-use Rattle.dms_ordlist.specs.Linked.{said_by}
-use Rattle.dms_ordlist.specs.ListBlocks.{leaf_in}
+use Rattle.dms_chain.specs.declared.spelling.LeafBlock.{LeafBlock}
+use Rattle.dms_chain.specs.Leads.{lead}
+use Rattle.dms_chain.specs.Linked.{said_by}
+use Rattle.dms_chain.specs.ListBlocks.{leaf_in}
 use Rattle.dms_ordlist.specs.Places.{walked_next, walked_place, walked_there}
-use Rattle.dms_ordlist.specs.Seen.{NoChain, NotAt, look}
-use Rattle.dms_ordlist.specs.SeenLaws.{causes_err, causes_since, counts_still, file_still, not_at_since}
+use Rattle.dms_chain.specs.Seen.{NoChain, NotAt, look}
+use Rattle.dms_chain.specs.SeenLaws.{causes_err, causes_since, counts_still, file_still, not_at_since}
 use Rattle.dms_ordlist.proofs.reaching.reach.Goals as goal
 
 pub returns-in-Err-clause-causes : goal.returns-in-Err-clause-causes

@@ -2,11 +2,11 @@ use Rattle.std.proofs.Common.{◌≡◌, ◌<◌, List, IsTrue}
 use Rattle.std.specs.Prelude.{IfSome}
 use Rattle.std.specs.declared.result.Result.TheVariants.{Ok}
 use Rattle.dms_block.specs.View.{ReadsOverlay, seen_counts, under}
-use Rattle.dms_ordlist.specs.Linked.{BlockChain, front}
-use Rattle.dms_ordlist.specs.ListBlocks.{leaf_in}
-use Rattle.dms_ordlist.specs.ListIn.{Leaf}
+use Rattle.dms_chain.specs.Linked.{BlockChain, front}
+use Rattle.dms_chain.specs.ListBlocks.{leaf_in}
+use Rattle.dms_chain.specs.ListIn.{Leaf}
 use Rattle.dms_ordlist.specs.Places.{SpotHolds, Walked}
-use Rattle.dms_ordlist.specs.Seen.{look}
+use Rattle.dms_chain.specs.Seen.{look}
 use Rattle.dms_ordlist.proofs.reaching.reach.Given as goal
 
 abbrev pub invariant-loop-turn : goal.invariant-loop-turn

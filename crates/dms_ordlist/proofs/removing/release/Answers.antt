@@ -2,9 +2,9 @@ use Rattle.std.proofs.Common.{◌≡◌, ◌∙◌, ap, sym}
 use Rattle.std.proofs.lemmas.Result.{on_ok_weaker}
 use Rattle.dms_block.specs.Content.{put_block}
 use Rattle.dms_block.specs.View.{overlay_content}
-use Rattle.dms_ordlist.specs.ListBlocks.{free_bytes, head_bytes, leaf_bytes}
+use Rattle.dms_chain.specs.ListBlocks.{free_bytes, head_bytes, leaf_bytes}
 use Rattle.dms_ordlist.specs.ListRemoves.{release_block}
-use Rattle.dms_ordlist.specs.Written.{three_in, three_off, two_in, two_off}
+use Rattle.dms_chain.specs.Written.{three_in, three_off, two_in, two_off}
 use Rattle.dms_ordlist.proofs.removing.release.Goals as goal
 
 pub returns-in-None-clause-seen : goal.returns-in-None-clause-seen

@@ -1,6 +1,6 @@
 use Rattle.std.proofs.Common.{length}
-use Rattle.dms_ordlist.specs.Seen.{NoList}
-use Rattle.dms_ordlist.specs.SeenLaws.{causes_since}
+use Rattle.dms_chain.specs.Seen.{NoList}
+use Rattle.dms_chain.specs.SeenLaws.{causes_since}
 use Rattle.dms_ordlist.proofs.removing.remove.Goals as goal
 
 pub returns-clause-causes : goal.returns-clause-causes

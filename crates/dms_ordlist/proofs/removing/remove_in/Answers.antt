@@ -11,14 +11,15 @@ use Rattle.dms_block.specs.Held.{Looks}
 use Rattle.dms_block.specs.HeldLaws.{looks_none}
 use Rattle.dms_block.specs.View.{overlay_content, seen_counts}
 use Rattle.dms_block.specs.ViewLaws.{counts_seen}
-use Rattle.dms_ordlist.specs.Leads.{lead}
-use Rattle.dms_ordlist.specs.ListBlocks.{flat, leaf_bytes}
-use Rattle.dms_ordlist.specs.ListChanges.{at_same, holds_at, missing_has, missing_without, stands_has}
-use Rattle.dms_ordlist.specs.ListIn.{list_in}
+use Rattle.dms_chain.specs.Leads.{lead}
+use Rattle.dms_chain.specs.ListBlocks.{flat, leaf_bytes}
+use Rattle.dms_ordlist.specs.ListChanges.{holds_at, missing_has, missing_without, stands_has}
+use Rattle.dms_chain.specs.Parts.{at_same}
+use Rattle.dms_chain.specs.ListIn.{list_in}
 use Rattle.dms_ordlist.specs.ListRemoves.{here_removed, last_removed, less_fits, less_items, none_left, some_left, spot_fits, wide_less, without_at_place}
-use Rattle.dms_ordlist.specs.Located.{at_low}
-use Rattle.dms_ordlist.specs.SpellLaws.{wide_room}
-use Rattle.dms_ordlist.specs.Written.{one_in, one_off}
+use Rattle.dms_chain.specs.Located.{at_low}
+use Rattle.dms_chain.specs.SpellLaws.{wide_room}
+use Rattle.dms_chain.specs.Written.{one_in, one_off}
 use Rattle.dms_ordlist.proofs.removing.remove_in.Goals as goal
 
 not_full_that : {T U : Type 0} (r : Result T BlockFault) (x : BlockFault) → IsErrAnd r (λ y. y ≡ x) → IsErrOf {T = U} (Err x) Memory → NotFull r

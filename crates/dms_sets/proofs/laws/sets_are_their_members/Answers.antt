@@ -1,4 +1,4 @@
-use Rattle.dms_ordlist.specs.Lists.{keys_rise}
+use Rattle.dms_chain.specs.Lists.{keys_rise}
 use Rattle.dms_sets.specs.Sets.{listed_in, kinds_over}
 use Rattle.dms_sets.specs.Owners.{owned_entries}
 use Rattle.dms_sets.specs.Padded.{entries_shaped}

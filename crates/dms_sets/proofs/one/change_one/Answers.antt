@@ -2,7 +2,7 @@ use Rattle.std.specs.Prelude.{◌==◌}
 use Rattle.std.proofs.lemmas.Result.{IfOk-weaker, IfErr-weaker}
 use Rattle.std.specs.Option.{option_copied}
 use Rattle.dms_desc.specs.Shape.{shape_of}
-use Rattle.dms_ordlist.specs.Lists.{without_in}
+use Rattle.dms_chain.specs.Lists.{without_in}
 use Rattle.dms_sets.specs.Changes.{IfListed, list_of_set, entry_opt}
 use Rattle.dms_sets.proofs.Faults.{if_that}
 use Rattle.dms_sets.proofs.one.change_one.Goals as goal

@@ -1,6 +1,6 @@
 use Rattle.std.proofs.Common.{sym, ap, ◌∙◌, ◌++◌, ◌∷◌, [], Some, length, subst}
 use Rattle.dms_desc.specs.Shape.{shape_of}
-use Rattle.dms_ordlist.specs.Lists.{first_from}
+use Rattle.dms_chain.specs.Lists.{first_from}
 use Rattle.dms_sets.specs.Prefixes.{starts}
 use Rattle.dms_sets.specs.Changes.{IsEntryWidth, IfListed}
 use Rattle.dms_sets.specs.ChangeLaws.{front_whole, bound_long, seen_none, seen_some}

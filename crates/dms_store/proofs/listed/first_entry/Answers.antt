@@ -1,7 +1,7 @@
 use Rattle.std.proofs.Common.{◌≡◌, ◌∙◌, ℕ, List, IfOk, Option, Some, ap, length, subst, sym}
 use Rattle.dms_desc.specs.declared.structure.KeyPart.{KeyPart}
-use Rattle.dms_ordlist.specs.Lists.{first_from}
-use Rattle.dms_ordlist.specs.Seen.{IfList}
+use Rattle.dms_chain.specs.Lists.{first_from}
+use Rattle.dms_chain.specs.Seen.{IfList}
 use Rattle.dms_sets.specs.Padded.{BoundSmall, entry_width, from_bytes}
 use Rattle.dms_desc.specs.Files.{file_of}
 use Rattle.dms_store.proofs.Looking.{from_long}

@@ -2,8 +2,8 @@ use Rattle.std.proofs.Common.{◌∙◌, Some, ap, sym}
 use Rattle.std.proofs.lemmas.Result.{IfOk-weaker}
 use Rattle.dms_block.specs.View.{overlay_content}
 use Rattle.dms_block.specs.ViewLaws.{counts_seen}
-use Rattle.dms_ordlist.specs.ListIn.{list_in}
-use Rattle.dms_ordlist.specs.Lists.{last_to}
+use Rattle.dms_chain.specs.ListIn.{list_in}
+use Rattle.dms_chain.specs.Lists.{last_to}
 use Rattle.dms_store.proofs.Looking.{last_listed, none_listed}
 use Rattle.dms_store.proofs.listed.last_below.Goals as goal
 

@@ -5,7 +5,7 @@ use Rattle.dms_desc.specs.Shape.{shape_of}
 use Rattle.dms_layout.specs.Slots.{SlotFits}
 use Rattle.dms_layout.specs.declared.slot.Slot.{Slot}
 use Rattle.dms_layout.specs.declared.slot.SlotRead.TheVariants.{Used}
-use Rattle.dms_ordlist.specs.SeenLaws.{causes_err, causes_since, counts_still}
+use Rattle.dms_chain.specs.SeenLaws.{causes_err, causes_since, counts_still}
 use Rattle.dms_slots.specs.Seen.{BadAt, count_of}
 use Rattle.dms_desc.specs.Files.{file_of}
 use Rattle.dms_slots.specs.SlotBlocks.{block_of, slot_at, slot_opt}

@@ -5,9 +5,9 @@ use Rattle.dms_block.specs.ViewLaws.{reads_more, reads_on}
 use Rattle.dms_desc.specs.Shape.{as_described, shape_of}
 use Rattle.dms_model.specs.declared.spot.Spot.{Spot}
 use Rattle.dms_model.specs.Stores.{Tells}
-use Rattle.dms_ordlist.specs.Lists.{last_to}
-use Rattle.dms_ordlist.specs.Seen.{IfList, NoList}
-use Rattle.dms_ordlist.specs.SeenLaws.{causes_err}
+use Rattle.dms_chain.specs.Lists.{last_to}
+use Rattle.dms_chain.specs.Seen.{IfList, NoList}
+use Rattle.dms_chain.specs.SeenLaws.{causes_err}
 use Rattle.dms_sets.specs.Finds.{spot_by}
 use Rattle.dms_sets.specs.Padded.{entry_width, to_bytes}
 use Rattle.dms_sets.specs.Sets.{kinds_over}

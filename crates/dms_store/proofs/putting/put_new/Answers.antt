@@ -6,7 +6,7 @@ use Rattle.dms_block.specs.HeldLaws.{causes_or_on}
 use Rattle.dms_block.specs.View.{overlay_content, under}
 use Rattle.dms_desc.specs.Shape.{as_described, shape_of}
 use Rattle.dms_model.specs.declared.put.Put.{Put}
-use Rattle.dms_ordlist.specs.SeenLaws.{causes_err}
+use Rattle.dms_chain.specs.SeenLaws.{causes_err}
 use Rattle.dms_slots.specs.Seen.{BadIn, count_of}
 use Rattle.dms_desc.specs.Files.{file_of}
 use Rattle.dms_slots.specs.SlotBlocks.{block_of, least_free}

@@ -7,7 +7,7 @@ use Rattle.dms_desc.specs.Shape.{as_described, shape_of}
 use Rattle.dms_layout.specs.Slots.{SlotFits}
 use Rattle.dms_layout.specs.declared.slot.Slot.{Slot}
 use Rattle.dms_model.specs.declared.put.Put.{Put}
-use Rattle.dms_ordlist.specs.SeenLaws.{causes_err}
+use Rattle.dms_chain.specs.SeenLaws.{causes_err}
 use Rattle.dms_slots.specs.Seen.{BadAt}
 use Rattle.dms_desc.specs.Files.{file_of}
 use Rattle.dms_slots.specs.SlotBlocks.{block_of, slot_at, slot_opt}

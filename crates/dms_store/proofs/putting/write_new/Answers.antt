@@ -5,7 +5,7 @@ use Rattle.dms_block.specs.View.{overlay_content, under}
 use Rattle.dms_desc.specs.Shape.{as_described, shape_of}
 use Rattle.dms_model.specs.declared.put.Put.{Put}
 use Rattle.dms_model.specs.declared.put.Put.TheVariants.{Duplicate, Full}
-use Rattle.dms_ordlist.specs.SeenLaws.{causes_err}
+use Rattle.dms_chain.specs.SeenLaws.{causes_err}
 use Rattle.dms_store.specs.LiftedLaws.{serves_on}
 use Rattle.dms_store.specs.Owning.{AreSlots, IfOwned}
 use Rattle.dms_store.specs.PuttingAfter.{with_record}

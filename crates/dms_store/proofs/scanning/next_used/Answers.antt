@@ -5,7 +5,7 @@ use Rattle.dms_block.specs.View.{overlay_content, seen_counts}
 use Rattle.dms_block.specs.ViewLaws.{counts_seen, reads_as, reads_more, reads_on}
 use Rattle.dms_desc.specs.Shape.{shape_of}
 use Rattle.dms_model.specs.declared.spot.Spot.{Spot}
-use Rattle.dms_ordlist.specs.SeenLaws.{causes_since}
+use Rattle.dms_chain.specs.SeenLaws.{causes_since}
 use Rattle.dms_slots.specs.Seen.{BadIn}
 use Rattle.dms_desc.specs.Files.{file_of}
 use Rattle.dms_slots.specs.SlotBlocks.{per_block, slot_at}

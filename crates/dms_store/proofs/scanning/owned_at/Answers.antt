@@ -2,7 +2,7 @@ use Rattle.std.proofs.Common.{◌∙◌, ap, subst, sym, Option, IfSome}
 use Rattle.dms_desc.specs.Shape.{shape_of}
 use Rattle.dms_layout.specs.declared.slot.Slot.{Slot}
 use Rattle.dms_model.specs.declared.spot.Spot.{Spot}
-use Rattle.dms_ordlist.specs.SeenLaws.{causes_err}
+use Rattle.dms_chain.specs.SeenLaws.{causes_err}
 use Rattle.dms_block.specs.View.{under}
 use Rattle.dms_slots.specs.Seen.{BadAt, BadIn}
 use Rattle.dms_slots.specs.SlotBlocks.{block_of}

@@ -1,8 +1,8 @@
 use Rattle.std.proofs.Common.{ℕ, ◌≡◌, ◌+◌, List, Some, length}
 use Rattle.std.specs.declared.option.Option.{Option}
 use Rattle.dms_block.specs.View.{seen_counts}
-use Rattle.dms_ordlist.specs.Lists.{first_from}
-use Rattle.dms_ordlist.specs.Seen.{NoList}
+use Rattle.dms_chain.specs.Lists.{first_from}
+use Rattle.dms_chain.specs.Seen.{NoList}
 use Rattle.dms_sets.specs.KeepingLaws.{answer_of, below_write, calm_read, fails_write, list_read, usable_write, writes_of}
 use Rattle.dms_sets.proofs.keeping.OverlayLists.first_from.Goals as goal
 

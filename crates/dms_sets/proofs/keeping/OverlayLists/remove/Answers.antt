@@ -2,8 +2,8 @@ use Rattle.std.proofs.Common.{ℕ, ◌≡◌, ◌+◌, ◌<◌, Bool, IsTrue, le
 use Rattle.std.proofs.lemmas.Result.{on_ok_weaker}
 use Rattle.dms_block.specs.declared.block_fault.BlockFault.TheVariants.{Damaged}
 use Rattle.dms_block.specs.View.{seen_counts, under}
-use Rattle.dms_ordlist.specs.Lists.{without, has_entry}
-use Rattle.dms_ordlist.specs.Seen.{NoList}
+use Rattle.dms_chain.specs.Lists.{without, has_entry}
+use Rattle.dms_chain.specs.Seen.{NoList}
 use Rattle.dms_sets.specs.KeepingLaws.{answer_of, below_long, below_write, calm_write, fails_long, fails_write, only_after, usable_write}
 use Rattle.dms_sets.proofs.keeping.OverlayLists.remove.Goals as goal
 
