@@ -1,0 +1,23 @@
+use Rattle.std.proofs.Common.{sym, ap, ◌∙◌, length, subst}
+use Rattle.std.specs.Prelude.{IfErr}
+use Rattle.dms_desc.specs.Shape.{shape_of}
+use Rattle.dms_sets.specs.Changes.{IsEntryWidth, IfListed}
+use Rattle.dms_sets.specs.ChangeLaws.{entry_whole, entry_long}
+use Rattle.dms_manual.specs.EnteringLaws.{both_ok, taken_given}
+use Rattle.dms_manual.proofs.entering.leave.Goals as goal
+
+pub remove-requires-clause-width : goal.remove-requires-clause-width
+remove-requires-clause-width g c =
+    subst (λ q. IsEntryWidth (length q)) (sym c.as_slice.ensures)
+    (entry_whole c.args.kinds.now (shape_of c.args.s.now) c.args.number c.args.rec.now _ c.requires.fits (sym c.in_ok-entry.ensures ∙ c.in-Some.is))
+
+pub returns-in-Some-clause-taken : goal.returns-in-Some-clause-taken
+returns-in-Some-clause-taken g c =
+    let is = sym c.in_ok-entry.ensures ∙ c.in-Some.is in
+    both_ok c.remove.result c.remove.ensures.answer c.remove.ensures.list (λ was p q. taken_given c.args.kinds.now (shape_of c.args.s.now) c.args.number c.args.rec.now _ c.requires.kind c.requires.fits is c.as_slice.result.now c.as_slice.ensures _ _ was p q)
+
+pub returns-in-Some-clause-below : goal.returns-in-Some-clause-below
+returns-in-Some-clause-below g c =
+    let is = sym c.in_ok-entry.ensures ∙ c.in-Some.is in
+    let long = entry_long c.args.kinds.now (shape_of c.args.s.now) c.args.number c.args.rec.now _ c.requires.fits is in
+    subst (λ v. IfErr c.remove.result (λ e. IfListed (g.L.Lists.listed c.args.lists.now c.args.s.now.number v) (λ xs. g.L.Lists.below e c.args.lists.now c.remove.new.self))) (ap length c.as_slice.ensures ∙ long) c.remove.ensures.below

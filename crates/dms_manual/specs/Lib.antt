@@ -1,0 +1,11 @@
+pub mod Entered
+pub mod Moves
+pub mod Listed
+pub mod Entering
+pub mod EnteringLaws
+pub mod Refused
+pub mod Named
+pub mod Naming
+pub mod Counted
+pub mod Answered
+pub mod Judged

@@ -1,0 +1,38 @@
+ghost use Rattle.std.specs.Prelude.{◌≡◌, ◌^◌, ◌<◌, ℕ, true, false, Some};
+ghost use Rattle.std.specs.FinMap.{get};
+ghost use Rattle.dms_desc.specs.Shape.{Shape, Described};
+ghost use Rattle.dms_desc.specs.declared.record.Record.{Record};
+ghost use Rattle.dms_model.specs.Db.{Db};
+ghost use Rattle.dms_model.specs.Uses.{after_leave, enter_answer, has_entry};
+ghost use Rattle.dms_chain.specs.Lists.{with_entry, without};
+ghost use Rattle.dms_sets.specs.Sets.{kinds_over};
+ghost use Rattle.dms_manual.specs.Entered.{IsSmallPair, manual_of};
+ghost use Rattle.dms_manual.specs.Entering.{entry_put};
+ghost use Rattle.dms_manual.specs.Judged.{IfMember, IfTold, NamesIn};
+ghost use Rattle.dms_manual.specs.Listed.{SameIn, bytes_for};
+ghost use Rattle.dms_manual.specs.Moves.{SmallIn, with_entry_of};
+
+/// A law: the list of a manual subset, after an entry that didn't stand came, is the old one with the bytes of that
+/// entry in their place; after one that stood went, the old one without them. A subset with the same entries, and the
+/// same records where they name one, has the same list.
+pub fn lists_follow_entries()
+    ensures comes { (desc : Described) (s : Shape) (db : Db) (o n : ℕ) (r : Record) → IfMember s db o n r (has_entry db s.number o n ≡ false
+        → manual_of desc (with_entry_of db s.number o n) s ≡ with_entry (bytes_for (kinds_over desc s) s o n r) (manual_of desc db s)) }
+    ensures goes { (desc : Described) (s : Shape) (db : Db) (o n : ℕ) (r : Record) → IfMember s db o n r (has_entry db s.number o n ≡ true
+        → SmallIn s (after_leave db s.number o n) → manual_of desc (after_leave db s.number o n) s ≡ without (bytes_for (kinds_over desc s) s o n r) (manual_of desc db s)) }
+    ensures stays { (desc : Described) (s : Shape) (db d : Db) → SameIn s db d → manual_of desc d s ≡ manual_of desc db s }
+{}
+
+/// A law: what the list of a manual subset answers to an entry that is to be made is what the database answers: a
+/// duplicate where the entry stands or another member of the owner has an equal key and the subset has NO DUPLICATES,
+/// else that it is full where it has as many entries as its POPULATION.
+pub fn answers_by_the_list()
+    ensures { (desc : Described) (s : Shape) (db : Db) (o n : ℕ) (r : Record) → IfMember s db o n r (IfTold desc s db
+        (entry_put (kinds_over desc s) s n (record r { owner = o }) (manual_of desc db s) ≡ enter_answer desc db s.number o n)) }
+{}
+
+/// A law: the list of a manual subset has an entry that ends with a record's number exactly where the database has an
+/// entry of the subset that names the record.
+pub fn lists_name_records()
+    ensures { (desc : Described) (s : Shape) (db : Db) (n : ℕ) (r : Record) → get db.records (s.set, n) ≡ Some r → SmallIn s db → n < 2 ^ 32 → NamesIn desc s db n }
+{}
