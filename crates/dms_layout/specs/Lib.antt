@@ -1,3 +1,4 @@
+pub mod Judging
 pub mod ReadLaws
 pub mod SlotLaws
 pub mod Slots

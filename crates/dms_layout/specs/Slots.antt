@@ -114,3 +114,14 @@ slot_by false false slot = Bad
 -- what a slot's bytes say: nothing stands there, the record whose spelling they are, or neither
 unfoldable pub slot_of : Shape → List ℕ → SlotRead
 slot_of s bytes = slot_by (is_free s.items bytes) (is_spelled s bytes (slot_in s.items bytes)) (slot_in s.items bytes)
+
+-- what was read is bad, or free
+abbrev pub reads_bad : SlotRead → Bool
+reads_bad Free = false
+reads_bad (Used slot) = false
+reads_bad Bad = true
+
+abbrev pub reads_free : SlotRead → Bool
+reads_free Free = true
+reads_free (Used slot) = false
+reads_free Bad = false

@@ -1,6 +1,7 @@
 //! Slots of data set files: the bytes of a record with its owner and counts.
 #![tactic(auto)]
 
+mod judging;
 mod laws;
 mod reading;
 mod slot;
@@ -8,6 +9,7 @@ mod slot;
 mod tests;
 mod writing;
 
+pub use judging::{is_bad_slot, is_free_slot};
 pub use laws::{reading_law, spelling_law};
 pub use reading::from_slot;
 pub use slot::{Slot, SlotRead};

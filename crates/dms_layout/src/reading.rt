@@ -1,18 +1,18 @@
 ghost use Rattle.std.specs.Prelude.{◌≡◌, ◌==◌, IfOk, length, drop};
 ghost use Rattle.std.specs.List.{list_all};
 ghost use Rattle.dms_desc.specs.Shape.{shape_of};
-ghost use Rattle.dms_layout.specs.Slots.{shift_down, text_or_null, value_in, value_at, values_at, slot_in, is_zero, is_free, may_own, is_spelled, slot_of, slot_width};
+ghost use Rattle.dms_layout.specs.Slots.{shift_down, text_or_null, value_in, value_at, values_at, slot_in, is_zero, is_free, may_own, slot_of, slot_width};
 ghost use Rattle.dms_base.specs.Text.{text_of};
 
-use crate::writing::to_slot;
+use crate::judging::is_used;
 use crate::{Slot, SlotRead};
 use dms_base::{ItemKind, Memory, Text, Value};
-use dms_desc::{Item, Record, Structure, Values, item_width, values_fit};
+use dms_desc::{Item, Record, Structure, Values, item_width};
 use dms_fields::{take_u32, take_u64};
 use std::alloc::Global;
 
 // The number that was moved so that the least one is 0.
-fn shift_down(number: u64) -> i64
+pub fn shift_down(number: u64) -> i64
     ensures { result ≡ shift_down number }
 {
     if number < 1 << 63 {
@@ -73,7 +73,7 @@ fn values_at(alloc: Global, items: &[Item], bytes: &[u8]) -> Result<Values, Memo
 }
 
 // What stands behind the first 13 bytes.
-fn record_in(bytes: &[u8]) -> &[u8]
+pub fn record_in(bytes: &[u8]) -> &[u8]
     ensures { result.now ≡ drop 13 bytes.now }
 {
     &bytes[bytes.len().min(13)..]
@@ -118,28 +118,16 @@ fn has_width(items: &[Item], bytes: &[u8]) -> bool
 }
 
 #[tactic(auto, unfolding(crate::specs::Slots::is_free))]
-fn is_free(items: &[Item], bytes: &[u8]) -> bool
+pub fn is_free(items: &[Item], bytes: &[u8]) -> bool
     ensures { result ≡ is_free items.now bytes.now }
 {
     are_zeros(bytes) && has_width(items, bytes)
 }
 
-fn may_own(desc: &Structure, owner: u64) -> bool
+pub fn may_own(desc: &Structure, owner: u64) -> bool
     ensures { result ≡ may_own (shape_of desc.now) owner }
 {
     desc.owner != 0 || owner == 0
-}
-
-#[tactic(auto, unfolding(crate::specs::Slots::is_spelled))]
-fn is_spelled(alloc: Global, desc: &Structure, bytes: &[u8], slot: &Slot) -> Result<bool, Memory>
-    ensures { IfOk result (λ is. is ≡ is_spelled (shape_of desc.now) bytes.now slot.now) }
-{
-    let spelled = to_slot(alloc, desc, slot)?;
-    Ok(
-        bytes == spelled.as_slice()
-            && may_own(desc, slot.rec.owner)
-            && values_fit(desc.items.as_slice(), slot.rec.values.as_slice()),
-    )
 }
 
 /// What the bytes of a slot say. `Free` exactly for zeros alone, `Used` exactly for the spelling of a record whose
@@ -153,9 +141,8 @@ pub fn from_slot(alloc: Global, desc: &Structure, bytes: &[u8]) -> Result<SlotRe
     if is_free(items, bytes) {
         return Ok(SlotRead::Free);
     }
-    let slot = slot_in(alloc, items, bytes)?;
-    if is_spelled(alloc, desc, bytes, &slot)? {
-        return Ok(SlotRead::Used(slot));
+    if !is_used(desc, bytes) {
+        return Ok(SlotRead::Bad);
     }
-    Ok(SlotRead::Bad)
+    Ok(SlotRead::Used(slot_in(alloc, items, bytes)?))
 }

@@ -1,6 +1,6 @@
 -- The slots of a file by its blocks.
-use Rattle.std.proofs.Common.{◌≡◌, ◌+◌, ◌-◌, ◌*◌, ◌/◌, ◌%◌, ◌<◌, ◌≤◌, ℕ, zero, suc, List, [], ◌∷◌, ◌++◌, flat_map, Bool, true, false, cond, refl, sym, ap, ◌∙◌, length, take, drop, replicate, get_or, slice_get, arith, add-one}
-use Rattle.std.specs.Prelude.{◌&&◌, ◌==◌, IfSome}
+use Rattle.std.proofs.Common.{◌≡◌, ◌+◌, ◌-◌, ◌*◌, ◌/◌, ◌%◌, ◌<◌, ◌≤◌, ℕ, zero, suc, List, [], ◌∷◌, ◌++◌, flat_map, Bool, true, false, cond, refl, sym, ap, ◌∙◌, length, take, drop, replicate, get_or, slice_get, arith, add-one, inl, inr}
+use Rattle.std.specs.Prelude.{◌&&◌, ◌==◌, IfSome, not}
 use Rattle.std.specs.declared.option.Option.{Option}
 use Rattle.std.specs.declared.option.Option.TheVariants.{None, Some}
 use Rattle.std.proofs.lemmas.List.{length-replicate, drop_all, take-replicate}
@@ -13,9 +13,9 @@ use Rattle.dms_layout.specs.declared.slot.Slot.{Slot}
 use Rattle.dms_layout.specs.declared.slot.SlotRead.{SlotRead}
 use Rattle.dms_layout.specs.declared.slot.SlotRead.TheVariants.{Free, Used, Bad}
 use Rattle.dms_layout.specs.ReadLaws.{used_fits}
-use Rattle.dms_layout.specs.Slots.{SlotFits, slot_width, slot_of, is_zero}
+use Rattle.dms_layout.specs.Slots.{SlotFits, slot_width, slot_of, is_zero, reads_bad, reads_free}
 use Rattle.std.specs.List.{list_all}
-use Rattle.std.proofs.lemmas.Bool.{and_parts}
+use Rattle.std.proofs.lemmas.Bool.{and_parts, cases_lt, true≢false}
 use Rattle.dms_slots.specs.SlotBlocks.{per_block, block_of, is_slot, is_free, are_slots, is_block, slot_chunks, slots_by, slots_in, slots_of, or_free, slot_at, before_free, block_or_zeros, block_at}
 
 -- ---- lists
@@ -128,6 +128,16 @@ used_there s block p slot h = used_by (is_block s block) s block p slot h
 
 -- ---- a walk through a block
 
+pub slot_read : (r : SlotRead) → not (reads_bad r) ≡ is_slot r
+slot_read Free = refl
+slot_read (Used slot) = refl
+slot_read Bad = refl
+
+pub free_read : (r : SlotRead) → reads_free r ≡ is_free r
+free_read Free = refl
+free_read (Used slot) = refl
+free_read Bad = refl
+
 left_more : (i n : ℕ) → i < n → n - i ≡ suc (n - (i + 1))
 left_more i n low = omega arith
 
@@ -229,10 +239,42 @@ taken_some (Free ∷ xs) ys low = refl
 taken_some (Bad ∷ xs) ys low = ap suc (taken_some xs ys (omega arith))
 taken_some (Used slot ∷ xs) ys low = ap suc (taken_some xs ys (omega arith))
 
+free_most : (xs : List SlotRead) → before_free xs ≤ length xs
+free_most [] = omega arith
+free_most (Free ∷ xs) = omega arith
+free_most (Bad ∷ xs) = let e = free_most xs in omega (arith, e)
+free_most (Used slot ∷ xs) = let e = free_most xs in omega (arith, e)
+
 slots_next : (s : Shape) (bs : List (List ℕ)) (i : ℕ) → i < length bs → slots_of s (drop i bs) ≡ slots_in s (get_or bs i []) ++ slots_of s (drop (i + 1) bs)
 slots_next s [] i low = absurd (omega arith)
 slots_next s (b ∷ bs) zero low = refl
 slots_next s (b ∷ bs) (suc i) low = slots_next s bs i (omega arith) ∙ ap (λ k. slots_in s (get_or bs i []) ++ slots_of s (drop k (b ∷ bs))) (let e : suc (i + 1) ≡ suc i + 1 = omega arith in e)
+
+-- the blocks that the first taken slots fill are full
+pub least_from : (s : Shape) (bs : List (List ℕ)) (i per : ℕ) → per ≡ per_block s.items → i ≤ length bs → i * per ≤ before_free (slots_of s bs)
+    → before_free (slots_of s bs) ≡ i * per + before_free (slots_of s (drop i bs))
+least_from s bs zero per e within taken = omega (arith, nat.zero-mul per)
+least_from s [] (suc i) per e within taken = absurd (omega (arith, within))
+least_from s (b ∷ bs) (suc i) per e within taken =
+    let long = slots_length s b in
+    let width : length (slots_in s b) ≡ per = omega (arith, long, e) in
+    let more = nat.suc-mul i per in
+    elim (cases_lt (before_free (slots_in s b)) (length (slots_in s b))) [
+      | inl low ↦ absurd (omega (arith, taken_some (slots_in s b) (slots_of s bs) low, taken, more, width, low))
+      | inr high ↦
+          let full : before_free (slots_in s b) ≡ length (slots_in s b) = omega (arith, high, free_most (slots_in s b)) in
+          let whole = taken_all (slots_in s b) (slots_of s bs) full in
+          let rest = least_from s bs i per e (omega (arith, within)) (omega (arith, whole, taken, more, width)) in
+          omega (arith, whole, rest, more, width)
+    ]
+
+-- slots that aren't free, one after another from the first
+pub taken_upto : (rs : List SlotRead) (n : ℕ) → ((i : ℕ) → i < n → is_free (or_free (slice_get rs i)) ≡ false) → n ≤ before_free rs
+taken_upto rs zero all = omega arith
+taken_upto [] (suc n) all = absurd (true≢false (all 0 (omega arith)))
+taken_upto (Free ∷ rs) (suc n) all = absurd (true≢false (all 0 (omega arith)))
+taken_upto (Used slot ∷ rs) (suc n) all = let e = taken_upto rs n (λ i low. all (suc i) (omega (arith, low))) in omega (arith, e)
+taken_upto (Bad ∷ rs) (suc n) all = let e = taken_upto rs n (λ i low. all (suc i) (omega (arith, low))) in omega (arith, e)
 
 -- a block that is full is passed
 pub least_on : (s : Shape) (bs : List (List ℕ)) (i per n all : ℕ) → i < length bs → per ≡ per_block s.items → n ≡ before_free (slots_in s (get_or bs i [])) → per ≤ n → n ≤ per

@@ -101,6 +101,10 @@ block_at bs b = block_or_zeros (slice_get bs b)
 abbrev pub least_free : Shape → List (List ℕ) → Option ℕ
 least_free s bs = within s.population (before_free (slots_of s bs) + 1)
 
+-- the first slots of a file aren't free
+abbrev pub AreTaken : Shape → List (List ℕ) → ℕ → Type 0
+AreTaken s bs n = n ≤ before_free (slots_of s bs)
+
 -- the slot of the record with a number, among all files
 abbrev pub record_slot : Shape → Content → ℕ → SlotRead
 record_slot s c number = slot_at s (c (file_of s.number)) number

@@ -1,13 +1,13 @@
 ghost use Rattle.std.specs.Prelude.{◌≡◌, ◌<◌, ◌≤◌, IfOk, length, slice_get, take, drop};
 ghost use Rattle.std.specs.List.{list_all};
 ghost use Rattle.dms_desc.specs.Shape.{shape_of};
-ghost use Rattle.dms_layout.specs.Slots.{slot_width, is_zero};
+ghost use Rattle.dms_layout.specs.Slots.{slot_width, slot_of, is_zero};
 ghost use Rattle.dms_slots.specs.SlotBlocks.{per_block, is_slot, is_free, is_block, slot_chunks, slots_in, or_free, before_free};
 
 use dms_base::Memory;
 use dms_block::Block;
 use dms_desc::Structure;
-use dms_layout::{SlotRead, from_slot, slot_width};
+use dms_layout::{SlotRead, from_slot, is_bad_slot, is_free_slot, slot_width};
 use std::alloc::Global;
 
 /// How many bytes a slot has.
@@ -30,16 +30,19 @@ pub fn per_block(s: &Structure) -> usize
     1024 / width_of(s)
 }
 
-fn is_slot(read: &SlotRead) -> bool
-    ensures { result ≡ is_slot read.now }
+// Whether bytes are a slot, free or used.
+#[tactic(auto, using(crate::specs::SlotBlockLaws::slot_read))]
+fn is_slot(s: &Structure, bytes: &[u8]) -> bool
+    ensures { result ≡ is_slot (slot_of (shape_of s.now) bytes.now) }
 {
-    !matches!(read, SlotRead::Bad)
+    !is_bad_slot(s, bytes)
 }
 
-fn is_free(read: &SlotRead) -> bool
-    ensures { result ≡ is_free read.now }
+#[tactic(auto, using(crate::specs::SlotBlockLaws::free_read))]
+fn is_free(s: &Structure, bytes: &[u8]) -> bool
+    ensures { result ≡ is_free (slot_of (shape_of s.now) bytes.now) }
 {
-    matches!(read, SlotRead::Free)
+    is_free_slot(s, bytes)
 }
 
 /// The first bytes; fewer where there are no more.
@@ -70,22 +73,21 @@ fn bytes_of(block: &Block) -> &[u8]
     &block.0
 }
 
-/// Whether each slot of a block is free or used, with zeros behind the last one; a block has 1,024 bytes. Answers Err where memory is refused.
+/// Whether each slot of a block is free or used, with zeros behind the last one; a block has 1,024 bytes.
 #[tactic(auto, unfolding(crate::specs::SlotBlocks::is_block))]
-pub fn is_block(alloc: Global, s: &Structure, block: &Block) -> Result<bool, Memory>
+pub fn is_block(s: &Structure, block: &Block) -> bool
     requires few { length s.now.items ≤ 60 }
-    ensures { IfOk result (λ is. is ≡ is_block (shape_of s.now) block.now.0) }
+    ensures { result ≡ is_block (shape_of s.now) block.now.0 }
 {
     let width = width_of(s);
     let mut rest = bytes_of(block);
     for _i in 0..per_block(s) {
-        let read = from_slot(alloc, s, ahead(rest, width))?;
-        if !is_slot(&read) {
-            return Ok(false);
+        if !is_slot(s, ahead(rest, width)) {
+            return false;
         }
         rest = behind(rest, width);
     }
-    Ok(are_zeros(rest))
+    are_zeros(rest)
 }
 
 /// What stands at a place of a block; bad where the block is none.
@@ -100,28 +102,27 @@ pub fn slot_in(
     requires place { place < per_block s.now.items }
     ensures { IfOk result (λ r. r ≡ or_free (slice_get (slots_in (shape_of s.now) block.now.0) place)) }
 {
-    if !is_block(alloc, s, block)? {
+    if !is_block(s, block) {
         return Ok(SlotRead::Bad);
     }
     let width = width_of(s);
     from_slot(alloc, s, ahead(behind(&block.0, place * width), width))
 }
 
-/// How many slots stand before the first free one, in the bytes of a block. Answers Err where memory is refused.
-pub fn before_free(alloc: Global, s: &Structure, bytes: &[u8]) -> Result<usize, Memory>
+/// How many slots stand before the first free one, in the bytes of a block.
+pub fn before_free(s: &Structure, bytes: &[u8]) -> usize
     requires few { length s.now.items ≤ 60 }
-    ensures first { IfOk result (λ n. n ≡ before_free (slot_chunks (shape_of s.now) (per_block s.now.items) bytes.now)) }
-    ensures most { IfOk result (λ n. n ≤ per_block s.now.items) }
+    ensures first { result ≡ before_free (slot_chunks (shape_of s.now) (per_block s.now.items) bytes.now) }
+    ensures most { result ≤ per_block s.now.items }
 {
     let width = width_of(s);
     let per = per_block(s);
     let mut rest = bytes;
     for i in 0..per {
-        let read = from_slot(alloc, s, ahead(rest, width))?;
-        if is_free(&read) {
-            return Ok(i);
+        if is_free(s, ahead(rest, width)) {
+            return i;
         }
         rest = behind(rest, width);
     }
-    Ok(per)
+    per
 }

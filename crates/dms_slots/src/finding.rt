@@ -3,10 +3,10 @@ ghost use Rattle.dms_desc.specs.Shape.{shape_of};
 ghost use Rattle.dms_layout.specs.Slots.{slot_width, SlotFits};
 ghost use Rattle.dms_block.specs.Held.{HasCausesOr};
 ghost use Rattle.dms_block.specs.View.{ReadsOverlay, under};
-ghost use Rattle.std.specs.Prelude.{◌/◌, slice_index_or, []};
+ghost use Rattle.std.specs.Prelude.{◌/◌, min, slice_index_or, []};
 ghost use Rattle.dms_slots.specs.Seen.{blocks_of, count_of, BadAt, BadIn};
 ghost use Rattle.dms_desc.specs.Files.{file_of};
-ghost use Rattle.dms_slots.specs.SlotBlocks.{per_block, block_of, slot_at, slot_opt, slots_in, before_free, within, least_free};
+ghost use Rattle.dms_slots.specs.SlotBlocks.{per_block, block_of, slot_at, slot_opt, slots_in, before_free, within, least_free, AreTaken};
 
 use crate::cutting::{before_free, is_block, per_block, slot_in};
 use dms_block::{BlockFault, BlockId, Blocks, Overlay};
@@ -64,10 +64,10 @@ fn taken_in<B: Blocks>(
 {
     let file = file_of(s.number);
     let bytes = b.read(alloc, BlockId { file, block })?;
-    if !is_block(alloc, s, &bytes)? {
+    if !is_block(s, &bytes) {
         return Err(BlockFault::Damaged(file, block));
     }
-    Ok(before_free(alloc, s, &bytes.0)?)
+    Ok(before_free(s, &bytes.0))
 }
 
 // A number, where it isn't above POPULATION.
@@ -79,6 +79,42 @@ fn within(s: &Structure, number: u64) -> Option<u64>
         return Some(number);
     }
     None
+}
+
+// How many blocks the first slots fill, at most those that there are.
+fn full_blocks(per: u64, taken: u64, count: u32) -> u32
+    requires { 0 < per }
+    ensures { result ≡ min (taken / per) count }
+{
+    (taken / per).min(u64::from(count)) as u32
+}
+
+/// The least number whose slot is free, where the first `taken` slots aren't; none exactly where that number is above
+/// POPULATION. Only blocks from that of the next slot on are read. `Damaged` where one of them before the free slot isn't
+/// one of a data set.
+pub fn next_free<B: Blocks>(
+    b: &mut Overlay<B>,
+    alloc: Global,
+    s: &Structure,
+    taken: u64,
+) -> Result<Option<u64>, BlockFault>
+    requires sound { (under b.old).sound }
+    requires few { length s.now.items ≤ 60 }
+    requires fits { slot_width s.now.items ≤ 1024 }
+    ensures least { IfOk result (λ o. IsTrue (under b.old).told → AreTaken (shape_of s.now) (blocks_of (shape_of s.now) b.old) taken → o ≡ least_free (shape_of s.now) (blocks_of (shape_of s.now) b.old)) }
+    ensures place { IfOk result (λ o. IfSome o (λ n. (1 ≤ n) × (n ≤ s.now.population) × (block_of s.now.items n ≤ count_of (shape_of s.now) b.old))) }
+    ensures reads { ReadsOverlay (count_of (shape_of s.now) b.old) result b.old b.new }
+    ensures causes { HasCausesOr (BadIn (shape_of s.now) b.old) result (under b.old) (under b.new) }
+{
+    let per = per_block(s);
+    let count = b.count(file_of(s.number));
+    for i in full_blocks(per as u64, taken, count)..count {
+        let here = taken_in(b, alloc, s, i)?;
+        if here < per {
+            return Ok(within(s, u64::from(i) * per as u64 + here as u64 + 1));
+        }
+    }
+    Ok(within(s, u64::from(count) * per as u64 + 1))
 }
 
 /// The least number whose slot is free; none exactly where that is above POPULATION. `Damaged` where a block before it
@@ -96,13 +132,5 @@ pub fn take_least<B: Blocks>(
     ensures reads { ReadsOverlay (count_of (shape_of s.now) b.old) result b.old b.new }
     ensures causes { HasCausesOr (BadIn (shape_of s.now) b.old) result (under b.old) (under b.new) }
 {
-    let per = per_block(s);
-    let count = b.count(file_of(s.number));
-    for i in 0..count {
-        let taken = taken_in(b, alloc, s, i)?;
-        if taken < per {
-            return Ok(within(s, u64::from(i) * per as u64 + taken as u64 + 1));
-        }
-    }
-    Ok(within(s, u64::from(count) * per as u64 + 1))
+    next_free(b, alloc, s, 0)
 }

@@ -9,6 +9,6 @@ mod tests;
 mod writing;
 
 pub use cutting::{is_block, per_block};
-pub use finding::{read_slot, take_least};
+pub use finding::{next_free, read_slot, take_least};
 pub use laws::{file_law, written_law};
 pub use writing::{free_slot, write_slot};

@@ -51,7 +51,7 @@ fn block_at<B: Blocks>(
         return Ok(blank());
     }
     let bytes = b.read(alloc, BlockId { file, block })?;
-    if !is_block(alloc, s, &bytes)? {
+    if !is_block(s, &bytes) {
         return Err(BlockFault::Damaged(file, block));
     }
     Ok(bytes)

@@ -1,5 +1,6 @@
-use Rattle.std.proofs.Common.{◌∙◌, ◌<◌, ℕ, ap, length, subst, sym}
+use Rattle.std.proofs.Common.{◌∙◌, ◌<◌, ℕ, ap, length, refl, subst, sym}
 use Rattle.dms_desc.specs.Shape.{shape_of}
+use Rattle.dms_layout.specs.Slots.{slot_of}
 use Rattle.dms_slots.specs.SlotBlocks.{per_block}
 use Rattle.dms_slots.specs.SlotBlockLaws.{is_whole, no_block, walk_ends, walk_on, walk_stops}
 use Rattle.dms_slots.proofs.cutting.is_block.Goals as goal
@@ -7,12 +8,12 @@ use Rattle.dms_slots.proofs.cutting.is_block.Goals as goal
 pub returns-then-not-is_slot : goal.returns-then-not-is_slot
 returns-then-not-is_slot c =
     let low : c.loop-i._i < per_block c.args.s.now.items = subst (λ (n : ℕ). c.loop-i._i < n) c.per_block-i-end.ensures.count c.loop-i-test.true in
-    no_block (shape_of c.args.s.now) c.args.block.now.0 (walk_stops (shape_of c.args.s.now) c.loop-i._i (per_block c.args.s.now.items) c.width_of-width.result c.loop-i.rest.now c.ahead.result.now c.in_ok-read.read _ low c.width_of-width.ensures.width c.ahead.ensures c.in_ok-read.ensures (sym c.is_slot.ensures ∙ c.if-not-is_slot.true) c.loop-i.invariant)
+    no_block (shape_of c.args.s.now) c.args.block.now.0 (walk_stops (shape_of c.args.s.now) c.loop-i._i (per_block c.args.s.now.items) c.width_of-width.result c.loop-i.rest.now c.ahead.result.now (slot_of (shape_of c.args.s.now) c.ahead.result.now) _ low c.width_of-width.ensures.width c.ahead.ensures refl (sym c.is_slot.ensures ∙ c.if-not-is_slot.true) c.loop-i.invariant)
 
 pub loop-i-preserved : goal.loop-i-preserved
 loop-i-preserved c =
     let low : c.loop-i._i < per_block c.args.s.now.items = subst (λ (n : ℕ). c.loop-i._i < n) c.per_block-i-end.ensures.count c.loop-i-test.true in
-    walk_on (shape_of c.args.s.now) c.loop-i._i (per_block c.args.s.now.items) c.width_of-width.result c.loop-i.rest.now c.ahead.result.now c.behind-rest.result.now c.in_ok-read.read _ low c.width_of-width.ensures.width c.ahead.ensures c.behind-rest.ensures c.in_ok-read.ensures (sym c.is_slot.ensures ∙ c.if-not-is_slot.false) c.loop-i.invariant
+    walk_on (shape_of c.args.s.now) c.loop-i._i (per_block c.args.s.now.items) c.width_of-width.result c.loop-i.rest.now c.ahead.result.now c.behind-rest.result.now (slot_of (shape_of c.args.s.now) c.ahead.result.now) _ low c.width_of-width.ensures.width c.ahead.ensures c.behind-rest.ensures refl (sym c.is_slot.ensures ∙ c.if-not-is_slot.false) c.loop-i.invariant
 
 pub returns : goal.returns
 returns c =

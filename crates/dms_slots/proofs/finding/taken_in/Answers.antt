@@ -8,5 +8,5 @@ use Rattle.dms_slots.proofs.finding.taken_in.Goals as goal
 pub returns-clause-taken : goal.returns-clause-taken
 returns-clause-taken g c tells =
     let b = c.args.b.now in
-    taken_block (shape_of c.args.s.now) c.in_ok-bytes.bytes.0 c.in_ok-before_free.field-0 (sym c.in_ok-is_block.ensures ∙ c.if-not-branch.false) c.in_ok-before_free.ensures.first
+    taken_block (shape_of c.args.s.now) c.in_ok-bytes.bytes.0 c.before_free.result (sym c.is_block.ensures ∙ c.if-not-is_block.false) c.before_free.ensures.first
     ∙ ap (λ (l : List ℕ). before_free (slots_in (shape_of c.args.s.now) l)) (c.in_ok-bytes.ensures.block tells ∙ ap (λ (h : ℕ). get_or (overlay_content b h) c.args.block []) c.file_of-file.ensures)
