@@ -5,7 +5,7 @@ ghost use Rattle.dms_model.specs.Db.{Db};
 ghost use Rattle.dms_model.specs.BackOut.{asks_back_out};
 ghost use Rattle.dms_model.specs.Seen.{IsMute, IsSilent, StaysDurable};
 ghost use Rattle.dms_desc.specs.Lookups.{structure_of};
-ghost use Rattle.dms_findverbs.specs.Seeks.{MetFits, SoughtIs};
+ghost use Rattle.dms_findverbs.specs.Seeks.{MetFits, TellsSought};
 ghost use Rattle.dms_findverbs.specs.Shows.{shown_of};
 ghost use Rattle.dms_model.specs.Spoken.{IsOuter};
 ghost use Rattle.dms_model.specs.Session.{Session, find_step, get_step, lock_step, sought, verb_step, carried_out, step, is_waits};
@@ -33,7 +33,7 @@ impl<St: Store> Engine<St> {
         requires path { IsPathOf (as_described self.old.desc) path.now }
         requires place { i < length self.old.programs.items }
         requires sound { (engine_view self.old).sound }
-        ensures sought { IfOk result (λ k. (p : Program) → slice_get self.old.programs.items i ≡ Some p → (d : Db) → (engine_view self.old).db ≡ Some d → SoughtIs k (as_described self.old.desc) (sought (as_described self.old.desc) d p path.now)) }
+        ensures sought { IfOk result (λ k. (p : Program) → slice_get self.old.programs.items i ≡ Some p → TellsSought k (as_described self.old.desc) p path.now (engine_view self.old).db) }
         ensures fits { IfOk result (λ k. MetFits k (as_described self.old.desc) path.now) }
         ensures stands { OnOk result (SameSession self.old self.new) }
         ensures programs { self.new.programs.items ≡ self.old.programs.items }
