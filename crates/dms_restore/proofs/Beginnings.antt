@@ -28,7 +28,7 @@ use Rattle.dms_restore.specs.Parts.{SealsPart}
 use Rattle.dms_restore.specs.Begins.{LastIs, begun_to, BegunAt, BeginsRestore, RestoredAt, Restores}
 use Rattle.dms_restore.specs.declared.told.Told.{Told}
 use Rattle.dms_restore.specs.declared.run.Run.{Run}
-use Rattle.dms_restore.specs.Table.{Kept, keeps_by, IsPlan, Holds, all_in}
+use Rattle.dms_restore.specs.Table.{Kept, keeps_by, Writes, Holds, all_in}
 use Rattle.dms_restore.proofs.Trails.{is_telling, first_low, waits_is}
 use Rattle.dms_restore.proofs.Logs.{ReadsNow, tells, plain, entry_steps, same_telling, appended, ends_then, settles, sealing}
 
@@ -148,7 +148,7 @@ module _ (p : Pending) (a : LogView) (r : BegunAt p a) (read : ReadsNow a) where
     pub table_begun : BegunAt p then_
     table_begun = record { ends = ends_still; begun = restore_begun (telling a) tells_it p (state a) r.begun read (state then_) written r.begun.nothing steps }
 
-    pub table_restored : (runs : List Run) (table : List Told) → IsPlan p a.files runs table → Holds a.files (all_in runs ++ table) files → Only files clock → RestoredAt p then_
+    pub table_restored : (runs : List Run) (table : List Told) → Writes p a.files runs table → Holds a.files (all_in runs ++ table) files → Only files clock → RestoredAt p then_
     table_restored runs table is holds only = record {
       restored = restored_all (telling a) tells_it p (state a) r.begun read (state then_) written (λ f b low x told size. holds f b x (is.all f b x low told size));
       only = only;

@@ -1,6 +1,6 @@
 -- What a restore writes and keeps; one by the audit writes what the audit tells.
 use Rattle.std.specs.Prelude.{nat_lt}
-use Rattle.std.proofs.Common.{ℕ, ◌<◌, ◌≡◌, ◌⊎◌, inl, inr, ◌&&◌, Bool, true, false, cond, List, [], ◌∷◌, Option, Some, None, refl, sym, ◌∙◌, ap, arith}
+use Rattle.std.proofs.Common.{ℕ, ◌<◌, ◌≡◌, ◌⊎◌, inl, inr, ◌&&◌, Bool, true, false, cond, List, [], ◌∷◌, Option, Some, None, refl, sym, ◌∙◌, ap, subst, arith}
 use Rattle.std.proofs.lemmas.Bool.Decides.{nat_tests}
 use Rattle.dms_moments.specs.Moments.{Clock, Steps}
 use Rattle.dms_moments.specs.MomentLaws.{steps_weaken}
@@ -19,7 +19,9 @@ use Rattle.dms_running.specs.ByHow.{IsKeptBy, told_by}
 use Rattle.dms_running.specs.Restoring.{Rewritten, Rewrites}
 use Rattle.dms_restore.specs.Dumped.{dumps_of}
 use Rattle.dms_restore.specs.declared.told.Told.{Told}
-use Rattle.dms_restore.specs.Table.{bytes_at, Kept, keeps_by, AreFree, AreWhole, last_of, IsAmong, EachIsTold, IsTable, IsPlan}
+use Rattle.dms_restore.specs.declared.run.Run.{Run}
+use Rattle.dms_restore.specs.declared.restore_table.RestoreTable.{RestoreTable}
+use Rattle.dms_restore.specs.Table.{bytes_at, Kept, keeps_by, AreFree, AreWhole, last_of, IsAmong, EachIsTold, IsTable, Writes, IsPlan}
 
 -- by the test
 lt_test : (a b : ℕ) → a < b → nat_lt a b ≡ true
@@ -98,7 +100,7 @@ module _ (live : List Event) (m : ℕ) (files : Files) where
     each_free how by_audit ts each.1,
   )
 
-pub plan_by_audit : (p : Pending) → ByAudit p.how → (files : Files) (table : List Told) → IsTable p.entries p.point files table → IsPlan p files [] table
+pub plan_by_audit : (p : Pending) → ByAudit p.how → (files : Files) (table : List Told) → IsTable p.entries p.point files table → Writes p files [] table
 plan_by_audit p by_audit files table is = record {
   runs_free = tt;
   runs_whole = tt;
@@ -109,3 +111,7 @@ plan_by_audit p by_audit files table is = record {
       let last = among_last p.entries p.point files table f b (is.all f b x known) in
       last.1 ∙ sym (last_told p.entries p.point files table f b last.0 is.each last.1) ∙ known;
 }
+
+-- the same, of lists that were lent
+pub plan_lent : (p : Pending) (files : Files) (t : RestoreTable) (runs : List Run) (told : List Told) → runs ≡ t.runs.items → told ≡ t.told.items → IsPlan p files t → Writes p files runs told
+plan_lent p files t runs told one two plan = subst (λ (l : List Told). Writes p files runs l) (sym two) (subst (λ (l : List Run). Writes p files l t.told.items) (sym one) plan)

@@ -18,11 +18,11 @@ some_test d some = grind (arith, nat_tests)
 few_test : (d : ℕ) → d ≤ 9999 → nat_le d 10000 ≡ true
 few_test d few = grind (arith, nat_tests)
 
-dump_is : (files : Files) (d : ℕ) (h : Head) → 1 ≤ d → d ≤ 9999 → head_in (files (20000 + d)) ≡ Some h → dumps_of files d ≡ dump_with h (files (20000 + d))
+pub dump_is : (files : Files) (d : ℕ) (h : Head) → 1 ≤ d → d ≤ 9999 → head_in (files (20000 + d)) ≡ Some h → dumps_of files d ≡ dump_with h (files (20000 + d))
 unfolding dump_of
 dump_is files d h some few is = (λ i. cond (some_test d some i && few_test d few i) (dump_of (files (20000 + d))) no_dump) ∙ ap (λ (o : Option Head). dump_by_head o (files (20000 + d))) is
 
-block_is : (h : Head) (file : List ℕ) (f i : ℕ) → i < counts_in h.counts f → block_in (dump_with h file).blocks f i ≡ dumped_block h file f i
+pub block_is : (h : Head) (file : List ℕ) (f i : ℕ) → i < counts_in h.counts f → block_in (dump_with h file).blocks f i ≡ dumped_block h file f i
 unfolding content_of
 block_is h file f i low = content_block (counts_in h.counts) (dumped_block h file) f i low
 

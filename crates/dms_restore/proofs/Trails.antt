@@ -165,7 +165,7 @@ found_sealed total tag first g n w y x writes seals f =
     })
 
 pub is_telling : (total first : ℕ) → first ≤ 20000 → IsTelling (telling_of total first)
-is_telling total first low = record { entries_low = trail_entries_low total first low; dumps_between = dumps_same; found_low = found_stays total first; dump_found_between = λ x y d same found. found }
+is_telling total first low = record { entries_low = trail_entries_low total first low; dumps_between = dumps_same; found_low = found_stays total first; dump_found_between = found_dump first }
 
 pub first_low : (end : AuditEnd) (first : ℕ) (w : List Entry) (files : Files) (clock : Clock Left) → EndsAt end first w files clock → first ≤ 20000
 first_low end first w files clock e = omega (arith, e.writes.order, end.high)

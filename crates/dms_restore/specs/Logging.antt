@@ -19,12 +19,12 @@ use Rattle.dms_audfile.specs.Ends.{unsealed_bytes, full_blocks, EndsAt, Grown}
 use Rattle.dms_running.specs.Telling.{Telling}
 use Rattle.dms_running.specs.Points.{DescribedPoint}
 use Rattle.dms_running.specs.Running.{State, entries_now, next_now, points_now, durable_now, here_now, content_now, IsRunning, IsChanged, LeavesPoints}
-use Rattle.dms_restore.specs.Dumped.{dumps_of}
+use Rattle.dms_restore.specs.Dumped.{IsDumpFound, dumps_of}
 use Rattle.dms_restore.specs.Finding.{IsFoundFrom}
 
 -- what files tell of which the trail begins with file `first` and has so many blocks a file
 abbrev pub telling_of : ℕ → ℕ → Telling
-telling_of total first = record { first = first == 10001; entries = trail_entries total first; dumps = dumps_of; found = IsFoundFrom total first; dump_found = λ files d. ⊥ }
+telling_of total first = record { first = first == 10001; entries = trail_entries total first; dumps = dumps_of; found = IsFoundFrom total first; dump_found = IsDumpFound first }
 
 -- the entries that wait: those of the full blocks, and those of the block that is filled
 unfoldable pub waits : AuditEnd → List Entry
