@@ -7,7 +7,7 @@ use Rattle.dms_site.specs.declared.site.Site.{Ghosts}
 use Rattle.dms_site.specs.Files.{Files, Left, stored_of}
 use Rattle.dms_history.specs.Events.{AllBlocks}
 use Rattle.dms_history.specs.History.{Pending, History}
-use Rattle.dms_history.specs.Entries.{Entry, begin_restore, by_halt_load, control_point}
+use Rattle.dms_history.specs.Entries.{Entry, Kind, begin_restore, by_halt_load, control_point}
 use Rattle.dms_history.specs.EntryEvents.{history_of}
 use Rattle.dms_history.specs.Schemas.{schema_entries}
 use Rattle.dms_history.specs.declared.event.FileCount.{FileCount}
@@ -29,11 +29,7 @@ use Rattle.dms_audrec.specs.Bodies.{bodies}
 use Rattle.dms_restore.specs.Counts.{count_of, file_counts}
 use Rattle.dms_restore.specs.Laying.{schema_control}
 use Rattle.dms_restore.specs.Logging.{LogView, telling_of, telling, state, entries, points, content, PrintsNothing}
-use Rattle.dms_restore.specs.Table.{IsTable, IsPlan}
-use Rattle.dms_restore.proofs.ByAudit.{plan_by_audit}
-use Rattle.dms_running.specs.Begun.{ByAudit}
-use Rattle.dms_restore.specs.declared.told.Told.{Told}
-use Rattle.dms_opening.specs.Refusals.{IsOpening}
+use Rattle.dms_opening.specs.Doing.{IsOpening}
 use Rattle.dms_restore.specs.Begins.{BegunAt}
 use Rattle.dms_opening.specs.Starts.{MayOpen, MayGoOn, BegunFrom, OpenedAt}
 use Rattle.dms_restore.proofs.CountBytes.{IsCountTable, counts_read, counts_told}
@@ -42,9 +38,9 @@ use Rattle.dms_wal.specs.Lifting.{last_blocks}
 use Rattle.dms_wal.specs.Marks.{last_number}
 use Rattle.dms_wal.proofs.Under.{under_control}
 use Rattle.dms_opening.specs.declared.plan.OpeningPlan.{OpeningPlan}
-use Rattle.dms_opening.specs.Plans.{Plans}
-use Rattle.dms_opening.specs.Openings.{begin_where_none, opening_entries, RunsFrom, MayHaveWritten, Reopens, text_of}
-use Rattle.dms_opening.specs.Carrying.{IsFitPlan, IsPlanned}
+use Rattle.dms_opening.specs.Plans.{SameDumps, Plans, PlansFor}
+use Rattle.dms_opening.specs.Openings.{begin_where_none, ending_entries, opening_entries, RunsFrom, MayHaveWritten, Reopens, text_of}
+use Rattle.dms_opening.specs.Carrying.{IsFitPlan, IsPlanned, IsPlannedFor, MayBegin, RunsTo}
 use Rattle.dms_opening.proofs.LastPoint.{last_is, left_is}
 
 -- By the plan of a trail that was scanned the restore is begun, or goes on: its Begin alone stands behind the entries that there were.
@@ -53,6 +49,7 @@ pub record BeginsPlan (a : LogView) (plan : OpeningPlan) (b : LogView) : Type 0 
   pub total_same : b.end.total ≡ a.end.total
   pub first_same : b.first ≡ a.first
   pub grown : Grown a.end.total a.first a.files b.files
+  pub dumps : SameDumps a.files b.files
   pub sealed : trail_entries a.end.total a.first b.files ≡ trail_entries a.end.total a.first a.files ++ begin_where_none (history_of (trail_entries a.end.total a.first a.files)).pending plan.choice.point
 
 -- So it is where the files hold a database: the restore is to leave what it was to leave, and points and next number are the same.
@@ -65,7 +62,7 @@ pub record BeginsWhole (a : LogView) (plan : OpeningPlan) (b : LogView) : Type 0
 -- the Begin of an opening is there where it begins a restore
 pub begin_is : (h : History) (begins : Bool) (point : ℕ) (p : Pending) → IsOpening h begins point p → cond begins (begin_restore point by_halt_load ∷ []) [] ≡ begin_where_none h.pending point
 begin_is h true point p o = ap (λ (r : Option Pending). begin_where_none r point) (sym (o.new refl).0)
-begin_is h false point p o = ap (λ (r : Option Pending). begin_where_none r point) (sym (o.goes_on refl).0)
+begin_is h false point p o = ap (λ (r : Option Pending). begin_where_none r point) (sym (o.goes_on refl))
 
 pub count_table : (plan : OpeningPlan) → IsFitPlan plan → IsCountTable plan.counts.items
 count_table plan ready = record { few = ready.counts.few; small = ready.counts.small }
@@ -74,31 +71,21 @@ count_table plan ready = record { few = ready.counts.few; small = ready.counts.s
 pub bytes_are : (counts said bytes : List ℕ) → said ≡ counts → bytes ≡ pair_bytes count_file count_blocks (file_counts 30001 said) → bytes ≡ pair_bytes count_file count_blocks (file_counts 30001 counts)
 bytes_are counts said bytes same is = is ∙ ap (λ (l : List ℕ). pair_bytes count_file count_blocks (file_counts 30001 l)) same
 
--- it begins or goes on with a restore by the audit
-pub opening_by_audit : (h : History) (begins : Bool) (point : ℕ) (p : Pending) → IsOpening h begins point p → ByAudit p.how
-opening_by_audit h true point p o = subst (λ (q : Pending). ByAudit q.how) (sym (o.new refl).3) tt
-opening_by_audit h false point p o = (o.goes_on refl).1
-
--- the table of a plan is all that its restore writes
-pub plan_audit : (total first : ℕ) (files : Files) (plan : OpeningPlan) (p : Plans total first files plan) (new : Files) (table : List Told) → table ≡ plan.table.items → Grown total first files new → IsPlan p.chooses.restore new [] table
-plan_audit total first files plan p new table listed grown =
-    plan_by_audit p.chooses.restore (opening_by_audit _ plan.choice.begins plan.choice.point p.chooses.restore p.chooses.is) new table
-    (subst (λ (l : List Told). IsTable p.chooses.restore.entries p.chooses.restore.point new l) (sym listed) (p.table_is new grown))
-
 -- what an opening may do
 pub may_open : (v : LogView) (plan : OpeningPlan) (s : IsPlanned v plan) → IsWhole (telling v) v.files → MayOpen v plan.choice.begins plan.choice.point s.plans.chooses.restore
 may_open v plan s whole = record { start = s.start; whole = whole; opening = s.plans.chooses.is }
 
 -- the Begin of a plan is sealed
 module _ (a b : LogView) (plan : OpeningPlan) (s : IsPlanned a plan) (total : b.end.total ≡ a.end.total) (first : b.first ≡ a.first) (grown : Grown a.end.total a.first a.files b.files)
-    (sealed : trail_entries a.end.total a.first b.files ≡ trail_entries a.end.total a.first a.files ++ cond plan.choice.begins (begin_restore plan.choice.point by_halt_load ∷ []) []) where
+    (dumps : SameDumps a.files b.files) (kind : Kind) (kind_is : kind ≡ by_halt_load) (sealed : trail_entries a.end.total a.first b.files ≡ trail_entries a.end.total a.first a.files ++ cond plan.choice.begins (begin_restore plan.choice.point kind ∷ []) []) where
   abbrev pub begins_plan : BeginsPlan a plan b
   begins_plan = record {
     planned = s;
     total_same = total;
     first_same = first;
     grown = grown;
-    sealed = sealed ∙ ap (λ (l : List Entry). trail_entries a.end.total a.first a.files ++ l) (begin_is (history_of (trail_entries a.end.total a.first a.files)) plan.choice.begins plan.choice.point s.plans.chooses.restore s.plans.chooses.is);
+    dumps = dumps;
+    sealed = sealed ∙ ap (λ (k : Kind). trail_entries a.end.total a.first a.files ++ cond plan.choice.begins (begin_restore plan.choice.point k ∷ []) []) kind_is ∙ ap (λ (l : List Entry). trail_entries a.end.total a.first a.files ++ l) (begin_is (history_of (trail_entries a.end.total a.first a.files)) plan.choice.begins plan.choice.point s.plans.chooses.restore s.plans.chooses.is);
   }
 
   pub begins_whole : IsWhole (telling a) a.files → BegunAt s.plans.chooses.restore b → BegunFrom s.plans.chooses.restore a b → BeginsWhole a plan b
@@ -118,10 +105,10 @@ module _ (a b : LogView) (plan : OpeningPlan) (w : BeginsWhole a plan b) (ready 
   same : telling b ≡ telling a
   same = λ i. telling_of (w.begins.total_same i) (w.begins.first_same i)
 
-  pub may_end : (table : List Told) → table ≡ plan.table.items → MayGoOn restore b [] table plan.choice.point plan.next bytes
-  may_end table listed = record {
+  pub may_end : MayGoOn restore b plan.table plan.choice.point plan.next bytes
+  may_end = record {
     begun = w.begun;
-    plan_is = plan_audit a.end.total a.first a.files plan plans b.files table listed w.begins.grown;
+    plan_is = plans.plan_is b.files w.begins.grown w.begins.dumps;
     point_is = sym plans.chooses.is.point_is;
     next_is = sym plans.next_is ∙ sym w.keeps.next_same;
     count = λ f. counts_told plan.counts.items (count_table plan ready) bytes is f ∙ plans.counts_are f;

@@ -17,11 +17,11 @@ use Rattle.dms_history.proofs.PlainPick.{to_end}
 use Rattle.dms_audrec.specs.Reading.{counts_at}
 use Rattle.dms_restore.specs.declared.live.LiveEntry.{LiveEntry}
 use Rattle.dms_restore.specs.declared.live.LiveEntry.TheVariants.{Changed, Quiet, Controlled}
-use Rattle.dms_restore.specs.Counts.{count_of}
+use Rattle.dms_restore.specs.Counts.{count_of, AllAtMost}
 use Rattle.dms_audrec.specs.Spelling.{counts_rise}
 use Rattle.dms_audfile.specs.declared.fault.AudFault.{AudFault}
 use Rattle.dms_audfile.specs.declared.fault.AudFault.TheVariants.{Disk, Memory}
-use Rattle.dms_opening.specs.PointCounts.{AllAtMost, IsNoCount, IsNoCountAmong}
+use Rattle.dms_opening.specs.PointCounts.{IsNoCount, IsNoCountAmong}
 use Rattle.dms_restore.specs.LiveEntries.{logged_at, logged_live, events_at}
 use Rattle.dms_history.specs.Ranges.{is_control_logged}
 use Rattle.dms_restore.proofs.Changes.{events_append, own_controls}

@@ -1,27 +1,149 @@
 -- What is read of a dump, and what it is found to be.
-use Rattle.std.specs.Prelude.{ℕ, ◌≡◌, IfOk, IfErr}
+use Rattle.std.specs.Prelude.{◌&&◌, nat_lt, nat_le, IfOk, IfErr}
+use Rattle.std.proofs.Common.{ℕ, ◌+◌, ◌<◌, ◌≤◌, ◌≡◌, ◌⊎◌, inl, inr, Bool, true, false, cond, IsTrue, length, Option, Some, None, refl, sym, ◌∙◌, ap, subst, arith}
+use Rattle.std.proofs.lemmas.Bool.Decides.{nat_tests}
 use Rattle.std.specs.declared.result.Result.{Result}
 use Rattle.std.specs.declared.result.Result.TheVariants.{Ok, Err}
+use Rattle.dms_site.specs.Files.{Files}
+use Rattle.dms_history.specs.Events.{How, halt_load, back_out, roll_back, rebuild, reconstruct}
+use Rattle.dms_history.specs.History.{Pending}
 use Rattle.dms_audfile.specs.Counting.{CountedAt}
 use Rattle.dms_audfile.specs.declared.fault.AudFault.{AudFault}
 use Rattle.dms_dump.specs.Copying.{CountsAt}
+use Rattle.dms_dump.specs.Head.{Head}
 use Rattle.dms_dump.specs.HeadSeen.{head_seen}
-use Rattle.dms_dump.specs.Judged.{DumpRead, sealed, RefusesDump}
+use Rattle.dms_dump.specs.Judged.{DumpRead, missing, unsealed, damaged, sealed, dump_read, RefusesDump}
 use Rattle.dms_dump.specs.declared.fault.DumpFault.{DumpFault}
 use Rattle.dms_dump.specs.declared.reading.DumpHead.{DumpHead}
+use Rattle.dms_dump.proofs.HeadRead.{both, le_of}
+use Rattle.dms_running.specs.FromDumps.{dump_by, dump_in}
+use Rattle.dms_audrec.specs.Spelling.{counts_rise}
+use Rattle.dms_restore.specs.Planned.{HasHead, IsFitHead, IsHeadFor}
+use Rattle.dms_opening.specs.Asked.{judge_file}
 use Rattle.dms_opening.specs.declared.asked.DumpLook.{DumpLook}
-use Rattle.dms_opening.specs.DumpLooks.{look_of, SaysLook}
+use Rattle.dms_opening.specs.declared.dump_looks.DumpFound.{DumpFound}
+use Rattle.dms_opening.specs.declared.dump_looks.DumpFound.TheVariants.{Missing, Unsealed, Damaged, Sealed}
+use Rattle.dms_opening.specs.DumpLooks.{look_of, look_seen, head_found, SaysFound, IsFoundAs, IsFitFound, IsFoundFor, dump_at, dump_numbered, dump_begun}
 
 pub counted_dump : (P Q : Type 0) (before now : ℕ) → (Q → P) → (P → Q) → CountsAt P before now → CountedAt Q before now
 counted_dump P Q before now to back c = record { later = c.later; failed = λ q. c.failed (to q); once = c.once; clean = λ off. c.clean (λ p. off (back p)) }
 
 -- what was read says so of the file
-read_says : (d : ℕ) (file : DumpRead) (read : Result DumpHead DumpFault) (look : DumpLook) → IfOk read (λ h. file ≡ sealed (head_seen h)) → IfErr read (λ e. RefusesDump d file e) → SaysLook d file read look → look ≡ look_of file
-read_says d file (Ok head) look found refused says = says found
-read_says d file (Err fault) look found refused says = says refused
+read_says : (d : ℕ) (file : DumpRead) (read : Result DumpHead DumpFault) (found : DumpFound) → IfOk read (λ h. file ≡ sealed (head_seen h)) → IfErr read (λ e. RefusesDump d file e) → SaysFound d file read found → IsFoundAs file found
+read_says d file (Ok head) found seen refused says = says seen
+read_says d file (Err fault) found seen refused says = says refused
 
-pub look_says : (tells : Type 0) (d : ℕ) (file : DumpRead) (read : Result DumpHead DumpFault) (r : Result DumpLook AudFault) → IfOk read (λ h. tells → file ≡ sealed (head_seen h)) → IfErr read (λ e. tells → RefusesDump d file e)
-    → IfOk r (λ l. (d : ℕ) (file : DumpRead) → SaysLook d file read l) → IfOk r (λ l. tells → l ≡ look_of file)
-look_says tells d file (Ok head) (Ok look) found refused says = λ t. read_says d file (Ok head) look (found t) tt (says d file)
-look_says tells d file (Err fault) (Ok look) found refused says = λ t. read_says d file (Err fault) look tt (refused t) (says d file)
-look_says tells d file read (Err e) found refused says = tt
+pub found_says : (tells : Type 0) (d : ℕ) (file : DumpRead) (read : Result DumpHead DumpFault) (r : Result DumpFound AudFault) → IfOk read (λ h. tells → file ≡ sealed (head_seen h)) → IfErr read (λ e. tells → RefusesDump d file e)
+    → IfOk r (λ f. (d : ℕ) (file : DumpRead) → SaysFound d file read f) → IfOk r (λ f. tells → IsFoundAs file f)
+found_says tells d file (Ok head) (Ok found) seen refused says = λ t. read_says d file (Ok head) found (seen t) tt (says d file)
+found_says tells d file (Err fault) (Ok found) seen refused says = λ t. read_says d file (Err fault) found tt (refused t) (says d file)
+found_says tells d file read (Err e) seen refused says = tt
+
+-- what is looked at is that of the file
+pub look_is : (file : DumpRead) (found : DumpFound) → IsFoundAs file found → look_seen found ≡ look_of file
+look_is file Missing is = ap look_of (sym is)
+look_is file Unsealed is = ap look_of (sym is)
+look_is file Damaged is = ap look_of (sym is)
+look_is file (Sealed head) is = ap look_of (sym is)
+
+-- ---- a dump by its number
+
+some_test : (d : ℕ) → 1 ≤ d → nat_lt 0 d ≡ true
+some_test d some = grind (arith, nat_tests)
+
+few_test : (d : ℕ) → d ≤ 9999 → nat_le d 9999 ≡ true
+few_test d few = grind (arith, nat_tests)
+
+some_of : (d : ℕ) → nat_lt 0 d ≡ true → 1 ≤ d
+some_of d on = grind (arith, nat_tests)
+
+range_of : (d : ℕ) → nat_lt 0 d && nat_le d 9999 ≡ true → (1 ≤ d) × (d ≤ 9999)
+range_of d on = let parts = both (nat_lt 0 d) (nat_le d 9999) on in (some_of d parts.0, le_of d 9999 parts.1)
+
+-- from 1 to 9,999 its file is read
+pub at_read : (files : Files) (d : ℕ) → 1 ≤ d → d ≤ 9999 → dump_at files d ≡ dump_read (files (20000 + d))
+at_read files d some few = λ i. cond (some_test d some i && few_test d few i) (dump_read (files (20000 + d))) missing
+
+-- no other is found
+pub none_at : (files : Files) (d : ℕ) → (d ≡ 0) ⊎ (9999 < d) → dump_at files d ≡ missing
+none_at files d out = by_test (nat_lt 0 d && nat_le d 9999) refl
+  where
+    outside : nat_lt 0 d && nat_le d 9999 ≡ true → ⊥
+    outside on = let r = range_of d on in elim out [ inl none ↦ omega (arith, r.0, none) | inr far ↦ omega (arith, r.1, far) ]
+
+    by_test : (b : Bool) → nat_lt 0 d && nat_le d 9999 ≡ b → dump_at files d ≡ missing
+    by_test true on = absurd (outside on)
+    by_test false off = ap (λ b. cond b (dump_read (files (20000 + d))) missing) off
+
+-- a dump that is found has a number in this range
+record SealedAt (files : Files) (d : ℕ) (h : Head) : Type 0 where
+  some : 1 ≤ d
+  few : d ≤ 9999
+  read : dump_read (files (20000 + d)) ≡ sealed h
+
+not_found : (h : Head) → missing ≡ sealed h → ⊥
+not_found h is = absurd cc
+
+sealed_at : (files : Files) (d : ℕ) (h : Head) → dump_at files d ≡ sealed h → SealedAt files d h
+sealed_at files d h is = by_test (nat_lt 0 d && nat_le d 9999) refl
+  where
+    by_test : (b : Bool) → nat_lt 0 d && nat_le d 9999 ≡ b → SealedAt files d h
+    by_test true on = let r = range_of d on in record { some = r.0; few = r.1; read = sym (ap (λ b. cond b (dump_read (files (20000 + d))) missing) on) ∙ is }
+    by_test false off = absurd (not_found h (sym (ap (λ b. cond b (dump_read (files (20000 + d))) missing) off) ∙ is))
+
+-- ---- the dump of a restore that isn't refused
+
+-- a dump whose file isn't refused is found with its head
+head_there : (files : Files) (first d : ℕ) (file : DumpRead) (found : DumpFound) → file ≡ dump_at files d → judge_file first d (look_of file) ≡ None → IsFoundAs file found → HasHead files d (head_found found)
+head_there files first d file Missing at none is = absurd (refused (subst (λ (f : DumpRead). judge_file first d (look_of f) ≡ None) is none))
+  where
+    refused : judge_file first d (look_of missing) ≡ None → ⊥
+    refused e = absurd cc
+head_there files first d file Unsealed at none is = absurd (refused (subst (λ (f : DumpRead). judge_file first d (look_of f) ≡ None) is none))
+  where
+    refused : judge_file first d (look_of unsealed) ≡ None → ⊥
+    refused e = absurd cc
+head_there files first d file Damaged at none is = absurd (refused (subst (λ (f : DumpRead). judge_file first d (look_of f) ≡ None) is none))
+  where
+    refused : judge_file first d (look_of damaged) ≡ None → ⊥
+    refused e = absurd cc
+head_there files first d file (Sealed head) at none is = let s = sealed_at files d (head_seen head) (sym at ∙ is) in (s.some, s.few, s.read)
+
+-- a restore by the audit needs none
+pub head_for : (files : Files) (first : ℕ) (how : How) (file : DumpRead) (found : DumpFound) → ((d : ℕ) → dump_by how ≡ Some d → (file ≡ dump_at files d) × (judge_file first d (look_of file) ≡ None)) → IsFoundAs file found
+    → IsFoundFor files how found
+head_for files first halt_load file found by is = tt
+head_for files first back_out file found by is = tt
+head_for files first roll_back file found by is = tt
+head_for files first (rebuild d) file found by is = let b = by d refl in head_there files first d file found b.0 b.1 is
+head_for files first (reconstruct d named) file found by is = let b = by d refl in head_there files first d file found b.0 b.1 is
+
+has_head : (x y : Files) (d : ℕ) (head : Option DumpHead) → ((g : ℕ) → 20000 < g → g ≤ 30000 → y g ≡ x g) → HasHead x d head → HasHead y d head
+has_head x y d None same has = has
+has_head x y d (Some h) same has = (has.0, has.1, ap dump_read (same (20000 + d) (omega (arith, has.0)) (omega (arith, has.1))) ∙ has.2)
+
+-- while dumps are the same it is found so
+pub found_stays : (x y : Files) (how : How) (found : DumpFound) → ((g : ℕ) → 20000 < g → g ≤ 30000 → y g ≡ x g) → IsFoundFor x how found → IsFoundFor y how found
+found_stays x y halt_load found same is = tt
+found_stays x y back_out found same is = tt
+found_stays x y roll_back found same is = tt
+found_stays x y (rebuild d) found same is = has_head x y d (head_found found) same is
+found_stays x y (reconstruct d named) found same is = has_head x y d (head_found found) same is
+
+-- ---- of the restore that is pending
+
+pub none_begun : (files : Files) (q : Option Pending) (o : Option ℕ) → o ≡ None → o ≡ dump_in q → dump_begun files q ≡ missing
+none_begun files q o none is = ap (dump_numbered files) (sym is ∙ none)
+
+pub some_begun : (files : Files) (q : Option Pending) (o : Option ℕ) (d : ℕ) → o ≡ Some d → o ≡ dump_in q → dump_begun files q ≡ dump_at files d
+some_begun files q o d some is = ap (dump_numbered files) (sym is ∙ some)
+
+-- the one of two that is meant fits
+pub fit_for : (b : Bool) (begun look found : DumpFound) → found ≡ cond b look begun → IsFitFound begun → IsFitFound look → IsFitFound found
+fit_for true begun look found is one two = subst IsFitFound (sym is) two
+fit_for false begun look found is one two = subst IsFitFound (sym is) one
+
+-- what was read fits
+pub fit_read : (read : Result DumpHead DumpFault) (r : Result DumpFound AudFault) → IfOk read (λ h. (counts_rise 30001 h.counts.items ≡ true) × (length h.counts.items ≤ 200)) → (IfOk read IsFitHead → IfOk r IsFitFound) → IfOk r IsFitFound
+fit_read (Ok head) r fit law = law fit
+fit_read (Err e) r fit law = law tt

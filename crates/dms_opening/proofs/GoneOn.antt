@@ -17,8 +17,7 @@ use Rattle.dms_restore.specs.Logging.{LogView, telling, state}
 use Rattle.dms_restore.specs.Begins.{BegunAt, RestoredAt, Restores, LeavesEach}
 use Rattle.dms_restore.specs.Endings.{EndsBy, EndedAt}
 use Rattle.dms_opening.specs.Starts.{MayGoOn, OpenedAt}
-use Rattle.dms_restore.specs.declared.told.Told.{Told}
-use Rattle.dms_restore.specs.declared.run.Run.{Run}
+use Rattle.dms_restore.specs.declared.restore_table.RestoreTable.{RestoreTable}
 
 -- all points of one state are all points of another that has the same
 pub each_as : (a b : LogView) (later : Clock Left) → telling b ≡ telling a → points_of (telling b) b.files ≡ points_of (telling a) a.files → next_in (telling b) b.files ≡ next_in (telling a) a.files → LeavesAll (telling b) (state b) later
@@ -36,7 +35,7 @@ outcome_size : (t : Telling) (p : Pending) (b : LogView) (f : ℕ) → length (o
 unfolding outcome
 outcome_size t p b f = content_length (count_at p.entries p.point) _ f
 
-module _ (p : Pending) (a b : LogView) (runs : List Run) (table : List Told) (point next : ℕ) (counts : List ℕ) (m : MayGoOn p a runs table point next counts) (begun : BegunAt p b) (restored : RestoredAt p b) (keeps : Restores p a b) where
+module _ (p : Pending) (a b : LogView) (table : RestoreTable) (point next : ℕ) (counts : List ℕ) (m : MayGoOn p a table point next counts) (begun : BegunAt p b) (restored : RestoredAt p b) (keeps : Restores p a b) where
   pub ends_by : EndsBy p b point next counts
   ends_by = record { begun = begun; restored = restored; point_is = m.point_is; next_is = m.next_is ∙ sym keeps.next_same; count = m.count }
 

@@ -26,7 +26,7 @@ use Rattle.dms_history.proofs.Picks.{some_is}
 use Rattle.dms_running.specs.Telling.{Telling}
 use Rattle.dms_running.specs.Standing.{IsWhole}
 use Rattle.dms_running.specs.Points.{DescribedPoint, described_in, points_of}
-use Rattle.dms_opening.specs.Refusals.{IsOpening}
+use Rattle.dms_opening.specs.Doing.{IsOpening}
 use Rattle.dms_wal.specs.Lifting.{last_blocks}
 use Rattle.dms_wal.specs.Marks.{number_from, last_number}
 use Rattle.dms_wal.proofs.Pointing.{IsTop, top_is}
@@ -79,7 +79,7 @@ module _ (t : Telling) (files : Files) (w : IsWhole t files) (begins : Bool) (po
 
   module _ (old : begins ≡ false) where
     is : (history_of es).pending ≡ Some p
-    is = (o.goes_on old).0
+    is = o.goes_on old
 
     steady : Steady dumps (history_of es) w.base stored
     steady = w.stands.kept.steady

@@ -8,6 +8,7 @@ pub mod Carries
 pub mod Looks
 pub mod Opens
 pub mod Runs
+pub mod RunsTo
 pub mod Callers
 pub mod Complete
 pub mod Trims
@@ -18,7 +19,7 @@ pub mod GoneOn
 pub mod Judges
 pub mod Numbered
 pub mod Prepared
-pub mod Refused
+pub mod Pendings
 pub mod Started
 pub mod Standing
 pub mod Rooms

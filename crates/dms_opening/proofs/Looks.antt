@@ -1,8 +1,8 @@
 -- A trail that was scanned, and the plan of its opening.
-use Rattle.std.proofs.Common.{ℕ, ◌≤◌, ◌≡◌, inl, inr, List, length, sym, ◌∙◌, subst, arith}
+use Rattle.std.proofs.Common.{ℕ, ◌≤◌, ◌≡◌, inl, inr, List, length, refl, sym, ◌∙◌, subst, arith}
 use Rattle.std.specs.Global.{Vec}
 use Rattle.dms_moments.specs.Moments.{Clock, Steps}
-use Rattle.dms_moments.specs.MomentLaws.{steps_on}
+use Rattle.dms_moments.specs.MomentLaws.{runs_none, steps_on}
 use Rattle.dms_site.specs.Files.{Files, Left, Same}
 use Rattle.dms_audfile.specs.AuditTrail.{IsFound}
 use Rattle.dms_audfile.specs.Ends.{Grown}
@@ -14,14 +14,18 @@ use Rattle.dms_restore.specs.declared.trace.TrailTrace.{TrailTrace}
 use Rattle.dms_restore.specs.Counts.{count_of}
 use Rattle.dms_restore.specs.Laying.{IsAtStart}
 use Rattle.dms_restore.specs.Scanned.{AreEntryPlaces}
-use Rattle.dms_restore.specs.Table.{AreBlocks}
-use Rattle.dms_restore.specs.declared.told.Told.{Told}
+use Rattle.dms_restore.specs.Table.{AreBlocks, AreRuns}
+use Rattle.dms_restore.specs.declared.restore_table.RestoreTable.{RestoreTable}
 use Rattle.dms_wal.specs.Marks.{IsDescription}
 use Rattle.dms_opening.specs.Carrying.{IsFitPlan}
 use Rattle.dms_restore.specs.Traces.{IsTraceOf}
 use Rattle.dms_opening.specs.declared.plan.OpeningPlan.{OpeningPlan}
 use Rattle.dms_opening.specs.Openings.{IsTrailFound, RefusesFiles}
 use Rattle.dms_opening.specs.Plans.{IsTrailRead, FitsOpening, Plans, RefusesPlan}
+
+-- no call at all
+pub same_none : (c : Clock Left) → Steps Same c c
+same_none c = record { follows = λ x now. (x, now, refl); runs = runs_none c _ }
 
 -- one call that changes nothing after another
 pub same_on : (a b c : Clock Left) → Steps Same a b → Steps Same b c → Steps Same a c
@@ -49,9 +53,8 @@ refused_as total first files now fault same trail why = inr (inl (record { total
 module _ (total first : ℕ) (files : Files) (a b : OpeningPlan) (choice : b.choice ≡ a.choice) (next : b.next ≡ a.next) (table : b.table ≡ a.table) (schema : b.schema ≡ a.schema) (same : (f : ℕ) → count_of b.counts.items f ≡ count_of a.counts.items f) where
   pub cut_plans : Plans total first files a → Plans total first files b
   cut_plans p = subst (λ (q : OpeningPlan). Plans total first files q) (λ i. record { choice = sym choice i; next = sym next i; table = sym table i; counts = b.counts; schema = sym schema i }) (record {
-    no_dump = p.no_dump;
     chooses = p.chooses;
-    table_is = p.table_is;
+    plan_is = p.plan_is;
     counts_are = λ f. same f ∙ p.counts_are f;
     schema_is = p.schema_is;
     next_is = p.next_is;
@@ -59,7 +62,8 @@ module _ (total first : ℕ) (files : Files) (a b : OpeningPlan) (choice : b.cho
 
   pub ready_of : FitsOpening a → length b.counts.items ≤ length a.counts.items → IsFitPlan b
   ready_of fit fewer = record {
-    blocks = subst (λ (v : Vec Told). AreBlocks v.items) (sym table) fit.blocks;
+    runs = subst (λ (k : RestoreTable). AreRuns k.runs.items) (sym table) fit.runs;
+    blocks = subst (λ (k : RestoreTable). AreBlocks k.told.items) (sym table) fit.blocks;
     counts = record { few = omega (arith, fewer, fit.size); small = λ f. omega (arith, same f, fit.small f) };
     described = subst (λ (v : Vec ℕ). IsDescription v.items) (sym schema) (omega (arith, fit.some), fit.few);
   }

@@ -36,7 +36,6 @@ module _ {S : Type 0} (files : Files) (p : PlannedOpening S) where
       → OpensAt p.log.end.total p.log.first files p.plan.choice.point p.plan.next p.plan.schema.items p.plan.counts.items
   planned_opens trail plans named = record {
     trail = trail;
-    no_dump = plans.no_dump;
     choice = p.plan.choice;
     chooses = plans.chooses;
     point_is = refl;

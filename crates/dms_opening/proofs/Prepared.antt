@@ -1,12 +1,13 @@
 -- What an opening needs of a trail before its first write.
 use Rattle.std.proofs.Common.{ℕ, min, ◌≡◌, Bool, true, false, List, [], ◌∷◌, ◌++◌, length, take, Option, Some, None, refl, sym, ◌∙◌, ap, subst, arith}
 use Rattle.dms_site.specs.Files.{Files}
-use Rattle.dms_history.specs.Events.{begin, halt_load}
+use Rattle.dms_history.specs.Events.{begin}
 use Rattle.dms_history.specs.Lists.{until_first}
 use Rattle.dms_history.specs.Places.{is_point}
 use Rattle.dms_history.specs.History.{Pending, History}
 use Rattle.dms_history.specs.Pick.{reached_count, count_at}
-use Rattle.dms_history.specs.Entries.{Entry, begin_restore, by_halt_load}
+use Rattle.dms_history.specs.Entries.{Entry, Kind, begin_restore, how_of}
+use Rattle.dms_history.specs.declared.event.Row.{Row}
 use Rattle.dms_history.specs.EntryEvents.{history_of}
 use Rattle.dms_running.proofs.OneMore.{history_entry}
 use Rattle.dms_restore.specs.declared.live.LiveEntry.{LiveEntry}
@@ -16,26 +17,34 @@ use Rattle.dms_restore.specs.LiveEntries.{logged_live, events_at}
 use Rattle.dms_history.specs.Ranges.{all_changes}
 use Rattle.dms_history.proofs.Turns.{changes_until}
 use Rattle.dms_restore.proofs.Patched.{reached_own}
-use Rattle.dms_opening.specs.Refusals.{IsOpening}
-use Rattle.dms_opening.specs.Starts.{TracesPending}
-use Rattle.dms_restore.specs.Tracing.{IsPendingAt, MatchesPending, IsTraced}
+use Rattle.dms_opening.specs.declared.asked.Asked.{Asked}
+use Rattle.dms_opening.specs.declared.asked.Asked.TheVariants.{HaltLoad, Rollback, Rebuild, Reconstruct}
+use Rattle.dms_opening.specs.Doing.{IsDone, goes_first, kind_asked}
+use Rattle.dms_restore.specs.Tracing.{IsPendingAt, MatchesPending, IsTraced, TracesPending}
 
--- the entries of an opening with its Begin, where it begins a restore
-abbrev pub with_begin : List Entry → ℕ → List Entry
-with_begin entries point = entries ++ begin_restore point by_halt_load ∷ []
+-- entries with the Begin of what is asked behind them
+abbrev pub with_begin : List Entry → ℕ → Kind → List Entry
+with_begin entries point kind = entries ++ begin_restore point kind ∷ []
 
-pub pending_new : (entries : List Entry) (begins : Bool) (point : ℕ) (p : Pending) → begins ≡ true → IsOpening (history_of entries) begins point p → (history_of (with_begin entries point)).pending ≡ Some p
-pending_new entries begins point p new o =
-    ap (λ (h : History). h.pending) (history_entry entries (begin_restore point by_halt_load) (begin point halt_load) refl) ∙ ap (λ (q : Pending). Some q) (sym (o.new new).3)
+pub pending_new : (entries : List Entry) (asked : Asked) (rows : List Row) (begins : Bool) (point : ℕ) (p : Pending) → begins ≡ true → IsDone (history_of entries) asked rows begins point p
+    → (history_of (with_begin entries point (kind_asked asked rows))).pending ≡ Some p
+pending_new entries asked rows begins point p new o =
+    ap (λ (h : History). h.pending) (history_entry entries (begin_restore point (kind_asked asked rows)) (begin point (how_of (kind_asked asked rows))) refl) ∙ ap (λ (q : Pending). Some q) (sym (o.new new).3)
 
-pub pending_old : (entries : List Entry) (begins : Bool) (point : ℕ) (p : Pending) → begins ≡ false → IsOpening (history_of entries) begins point p → (history_of entries).pending ≡ Some p
-pending_old entries begins point p old o = (o.goes_on old).0
+-- what goes on first is pending
+pub first_pending : (asked : Asked) (q : Option Pending) (p : Pending) → goes_first asked q ≡ Some p → q ≡ Some p
+first_pending HaltLoad q p is = is
+first_pending (Rollback n) q p is = is
+first_pending (Rebuild d n) q p is = absurd cc
+first_pending (Reconstruct d) q p is = is
 
-pub traces_new : (files : Files) (entries : List Entry) (begins : Bool) (point : ℕ) (h : TrailHistory) (p : Pending) → begins ≡ true → IsOpening (history_of entries) begins point p → IsTraced files (with_begin entries point) h → TracesPending files h p
-traces_new files entries begins point h p new o t = record { entries = with_begin entries point; traced = t; pending = pending_new entries begins point p new o }
+pub traces_new : (files : Files) (entries : List Entry) (asked : Asked) (rows : List Row) (begins : Bool) (point : ℕ) (h : TrailHistory) (p : Pending) → begins ≡ true → IsDone (history_of entries) asked rows begins point p
+    → IsTraced files (with_begin entries point (kind_asked asked rows)) h → TracesPending files h p
+traces_new files entries asked rows begins point h p new o t = record { entries = with_begin entries point (kind_asked asked rows); traced = t; pending = pending_new entries asked rows begins point p new o }
 
-pub traces_old : (files : Files) (entries : List Entry) (begins : Bool) (point : ℕ) (h : TrailHistory) (p : Pending) → begins ≡ false → IsOpening (history_of entries) begins point p → IsTraced files entries h → TracesPending files h p
-traces_old files entries begins point h p old o t = record { entries = entries; traced = t; pending = pending_old entries begins point p old o }
+pub traces_old : (files : Files) (entries : List Entry) (asked : Asked) (rows : List Row) (begins : Bool) (point : ℕ) (h : TrailHistory) (p : Pending) → begins ≡ false → IsDone (history_of entries) asked rows begins point p → IsTraced files entries h
+    → TracesPending files h p
+traces_old files entries asked rows begins point h p old o t = record { entries = entries; traced = t; pending = first_pending asked (history_of entries).pending p (o.goes_on old) }
 
 -- the pending restore as it is kept
 pub record HoldsPending (files : Files) (h : TrailHistory) (p : Pending) : Type 0 where

@@ -5,12 +5,13 @@ use Rattle.dms_audfile.specs.Reads.{Refuses}
 use Rattle.dms_audfile.specs.declared.fault.AudFault.{AudFault}
 use Rattle.dms_audfile.specs.declared.fault.AudFault.TheVariants as aud
 use Rattle.dms_opening.specs.declared.choosing.OpenFault.{OpenFault}
-use Rattle.dms_opening.specs.declared.choosing.OpenFault.TheVariants.{Audit, ByDump}
+use Rattle.dms_opening.specs.declared.choosing.OpenFault.TheVariants.{Audit}
 use Rattle.dms_restore.specs.Logging.{LogView, Ends}
 use Rattle.dms_wal.specs.Closing.{IsFullTrail}
 use Rattle.dms_wal.proofs.Closed.{full_trail}
-use Rattle.dms_opening.specs.Choices.{IsOfPoint}
-use Rattle.dms_opening.specs.Refusals.{RefusedPoint}
+use Rattle.dms_history.specs.Judge.{no_such_point, audit_missing, voided}
+use Rattle.dms_opening.specs.Asked.{Refused, at_point, dump_missing, dump_unsealed, dump_damaged, audit_before, dump_later}
+use Rattle.dms_opening.specs.Choices.{fault_of}
 use Rattle.dms_opening.specs.Plans.{RefusesPlan}
 
 audit_is : (e f : AudFault) → Audit e ≡ Audit f → e ≡ f
@@ -20,23 +21,24 @@ audit_is e f is = cc
 pub scan_has_room : (files : Files) (e : AudFault) (n : ℕ) → Refuses files e → Audit e ≡ Audit (aud.Full n) → ⊥
 scan_has_room files e n refuses full = subst (λ (f : AudFault). Refuses files f) (audit_is e (aud.Full n) full) refuses
 
-point_has_room : (first n : ℕ) (r : RefusedPoint) (fault : OpenFault) → IsOfPoint first r fault → fault ≡ Audit (aud.Full n) → ⊥
-point_has_room first n r fault is full = apart (subst (λ (f : OpenFault). IsOfPoint first r f) full is).1
-  where
-    apart : aud.Full n ≡ aud.Missing (first - 10001) → ⊥
-    apart e = absurd cc
+judged_has_room : (first n : ℕ) (r : Refused) → fault_of first r ≡ Audit (aud.Full n) → ⊥
+judged_has_room first n (at_point m no_such_point) e = absurd cc
+judged_has_room first n (at_point m audit_missing) e = absurd cc
+judged_has_room first n (at_point m voided) e = absurd cc
+judged_has_room first n (dump_missing d) e = absurd cc
+judged_has_room first n (dump_unsealed d) e = absurd cc
+judged_has_room first n (dump_damaged d) e = absurd cc
+judged_has_room first n audit_before e = absurd cc
+judged_has_room first n (dump_later d p) e = absurd cc
 
 -- nor is a plan
 pub plan_has_room : (total first n : ℕ) (files : Files) (fault : OpenFault) → RefusesPlan total first files fault → fault ≡ Audit (aud.Full n) → ⊥
 plan_has_room total first n files fault refuses full = elim refuses [
   | inl disk ↦ no_disk (sym disk ∙ full)
   | inr rest ↦ elim rest [
-    | inl points ↦ elim points [
+    | inl judged ↦ elim judged [
       | inl memory ↦ no_memory (sym memory ∙ full)
-      | inr more ↦ elim more [
-        | inl dump ↦ no_dump dump.0 (sym dump.2 ∙ full)
-        | inr point ↦ point_has_room first n point.refused fault point.answered full
-      ]
+      | inr refused ↦ judged_has_room first n refused.refusal (sym refused.answered ∙ full)
     ]
     | inr none ↦ no_damage (sym none.0 ∙ full)
   ]
@@ -47,9 +49,6 @@ plan_has_room total first n files fault refuses full = elim refuses [
 
     no_memory : Audit aud.Memory ≡ Audit (aud.Full n) → ⊥
     no_memory e = absurd cc
-
-    no_dump : (d : ℕ) → ByDump d ≡ Audit (aud.Full n) → ⊥
-    no_dump d e = absurd cc
 
     no_damage : Audit (aud.Damaged first 0) ≡ Audit (aud.Full n) → ⊥
     no_damage e = absurd cc

@@ -8,18 +8,22 @@ use Rattle.dms_history.specs.Places.{IsLive}
 use Rattle.dms_history.specs.History.{Pending, last_point}
 use Rattle.dms_history.specs.Pick.{blocks_at}
 use Rattle.dms_history.specs.Here.{restore_pick, outcome}
-use Rattle.dms_history.specs.Entries.{Entry}
+use Rattle.dms_history.specs.Entries.{Entry, Kind, by_halt_load, how_of}
 use Rattle.dms_history.specs.EntryEvents.{history_of, live_of, next_of}
 use Rattle.dms_history.proofs.Order.{append_none}
 use Rattle.dms_audfile.specs.TrailEntries.{trail_entries}
 use Rattle.dms_running.specs.Points.{DescribedPoint, points_told, points_of, next_in}
 use Rattle.dms_running.specs.Running.{entries_now, LeavesPoints}
-use Rattle.dms_running.specs.Begun.{outcome_now}
+use Rattle.dms_running.specs.Begun.{ByAudit, outcome_now}
 use Rattle.dms_restore.specs.Logging.{waits, LogView, telling, state, LogRuns, points, next}
 use Rattle.dms_restore.specs.Begins.{LastIs, begun_to, BegunAt, BeginsRestore, LeavesEach}
 use Rattle.dms_opening.specs.Starts.{MayOpen, BegunFrom}
 use Rattle.dms_restore.proofs.Trails.{waits_is}
 use Rattle.dms_restore.proofs.Opens.{opens_running, opens_begun}
+
+-- a halt/load goes by the audit
+pub audit_kind : (kind : Kind) → kind ≡ by_halt_load → ByAudit (how_of kind)
+audit_kind kind is = subst (λ (k : Kind). ByAudit (how_of k)) (sym is) tt
 
 module _ (v : LogView) (begins : Bool) (point : ℕ) (p : Pending) (s : MayOpen v begins point p) where
   abbrev found_entries : List Entry
@@ -68,7 +72,7 @@ module _ (v : LogView) (begins : Bool) (point : ℕ) (p : Pending) (s : MayOpen 
   leaves_new later leaves = subst (λ n. LeavesPoints (telling v) (points_of (telling v) v.files) n (state v) later) next_found (subst (λ (l : List DescribedPoint). LeavesPoints (telling v) l (next v) (state v) later) points_found leaves)
 
   pub begun_found : begins ≡ false → BegunAt p v
-  begun_found old = opens_begun v s.start s.whole p (s.opening.goes_on old).0
+  begun_found old = opens_begun v s.start s.whole p (s.opening.goes_on old)
 
 -- nothing changes where the restore goes on
 pub keeps_found : (p : Pending) (v : LogView) → BegunFrom p v v

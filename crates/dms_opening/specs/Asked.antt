@@ -70,13 +70,17 @@ judge_own first live next last (Rollback n) look = refused_at n (judge_point liv
 judge_own first live next last (Rebuild d n) look = or_next (refused_at n (judge_point live next n)) (judge_dump first live next d look n)
 judge_own first live next last (Reconstruct d) look = or_next (judge_last_point next live last) (judge_dump first live next d look (number_or last))
 
--- A restore that is pending: the file of its dump, its point, the point of its dump, over the live entries before its Begin.
+-- A restore by a dump that is pending: the file of the dump, its point, the point of the dump.
+abbrev pub judge_by_dump : ℕ → ℕ → ℕ → DumpLook → List Event → ℕ → Option Refused
+judge_by_dump first next d look live m = or_next (judge_file first d look) (or_next (refused_at m (judge_point live next m)) (judge_dump_point live next d look m))
+
+-- A restore that is pending, over the live entries before its Begin.
 abbrev pub judge_restore : ℕ → ℕ → How → DumpLook → List Event → ℕ → Option Refused
 judge_restore first next halt_load look live m = refused_at m (judge_point live next m)
 judge_restore first next back_out look live m = refused_at m (judge_point live next m)
 judge_restore first next roll_back look live m = refused_at m (judge_point live next m)
-judge_restore first next (rebuild d) look live m = or_next (judge_file first d look) (or_next (refused_at m (judge_point live next m)) (judge_dump_point live next d look m))
-judge_restore first next (reconstruct d named) look live m = or_next (judge_file first d look) (or_next (refused_at m (judge_point live next m)) (judge_dump_point live next d look m))
+judge_restore first next (rebuild d) look live m = judge_by_dump first next d look live m
+judge_restore first next (reconstruct d named) look live m = judge_by_dump first next d look live m
 
 abbrev pub judge_begun : ℕ → ℕ → Option Pending → DumpLook → Option Refused
 judge_begun first next None look = None

@@ -1,20 +1,66 @@
--- Within an opening: a plan.
-use Rattle.dms_restore.specs.Logging.{LogView}
+-- What is planned is carried out.
+use Rattle.std.specs.Prelude.{◌≡◌, true, List, [], ◌∷◌, ◌++◌, length}
+use Rattle.dms_site.specs.Files.{Only}
+use Rattle.dms_history.specs.Events.{Stored}
+use Rattle.dms_history.specs.Pick.{blocks_at}
+use Rattle.dms_history.specs.Here.{here}
+use Rattle.dms_history.specs.Entries.{Kind, begin_restore}
+use Rattle.dms_history.specs.EntryEvents.{history_of, live_of}
+use Rattle.dms_history.specs.declared.event.Row.{Row}
+use Rattle.dms_audfile.specs.TrailEntries.{trail_entries}
+use Rattle.dms_running.specs.AnyBegun.{points_to}
+use Rattle.dms_running.specs.Running.{AllWritten}
+use Rattle.dms_restore.specs.Begins.{BeginsAny}
+use Rattle.dms_restore.specs.Dumped.{dumps_of}
 use Rattle.dms_restore.specs.Laying.{IsAtStart}
-use Rattle.dms_restore.specs.Table.{AreBlocks}
+use Rattle.dms_restore.specs.Logging as logs
+use Rattle.dms_restore.specs.Logging.{LogView, LogRuns, telling, state, waits, entries, points, durable, content}
+use Rattle.dms_restore.specs.Table.{AreBlocks, AreRuns}
 use Rattle.dms_wal.specs.Lifting.{AreCounts}
 use Rattle.dms_wal.specs.Marks.{IsDescription}
+use Rattle.dms_opening.specs.declared.asked.Asked.{Asked}
+use Rattle.dms_opening.specs.declared.asked.Asked.TheVariants.{HaltLoad}
 use Rattle.dms_opening.specs.declared.plan.OpeningPlan.{OpeningPlan}
-use Rattle.dms_opening.specs.Plans.{Plans}
+use Rattle.dms_opening.specs.Doing.{kind_asked}
+use Rattle.dms_opening.specs.Openings.{ending_entries}
+use Rattle.dms_opening.specs.Plans.{PlansFor}
 
--- The table is of blocks of structure files, the counts are those of at most 200 files, none with more blocks than may be, and the
+-- What is written are blocks of structure files, the counts are those of at most 200 files, none with more blocks than may be, and the
 -- description has from 1 to 65,535 bytes.
 pub record IsFitPlan (plan : OpeningPlan) : Type 0 where
-  pub blocks : AreBlocks plan.table.items
+  pub runs : AreRuns plan.table.runs.items
+  pub blocks : AreBlocks plan.table.told.items
   pub counts : AreCounts plan.counts.items
   pub described : IsDescription plan.schema.items
 
--- A trail was scanned, and this is what its opening does.
-pub record IsPlanned (v : LogView) (plan : OpeningPlan) : Type 0 where
+-- A trail was scanned, and this is what is done for what is asked of it.
+pub record IsPlannedFor (v : LogView) (asked : Asked) (rows : List Row) (plan : OpeningPlan) : Type 0 where
   pub start : IsAtStart v.end v.first v.files v.clock
-  pub plans : Plans v.end.total v.first v.files plan
+  pub plans : PlansFor v.end.total v.first v.files asked rows plan
+
+-- so it is for its opening
+abbrev pub IsPlanned : LogView → OpeningPlan → Type 0
+IsPlanned v plan = IsPlannedFor v HaltLoad [] plan
+
+-- What is asked begins by a restore of this kind, which may begin with these right blocks.
+pub record MayBegin (v : LogView) (right : Stored) (kind : Kind) (plan : OpeningPlan) : Type 0 where
+  pub asked : Asked
+  pub rows : List Row
+  pub planned : IsPlannedFor v asked rows plan
+  pub kind_is : kind ≡ kind_asked asked rows
+  pub begins : plan.choice.begins ≡ true
+  pub from : BeginsAny v right plan.choice.point kind
+
+-- The database runs at the point of the plan. Exactly the Begin, the Schema and a Control were sealed, and nothing waits. Exactly the points up to
+-- that one are left, all durable, and the next number is the same. The content is that at the point, each block of it stands in its file, and a stop
+-- now leaves what is read.
+pub record RunsTo (a : LogView) (right : Stored) (kind : Kind) (plan : OpeningPlan) (v : LogView) : Type 0 where
+  pub runs : LogRuns v
+  pub nothing : waits v.end ≡ []
+  pub entries_are : entries v ≡ trail_entries a.end.total a.first a.files ++ begin_restore plan.choice.point kind ∷ ending_entries plan.choice.point plan.next plan.schema.items plan.counts.items
+  pub points_are : points v ≡ points_to (telling a) (state a) right plan.choice.point
+  pub all_durable : durable v ≡ length (points v)
+  pub next_is : logs.next v ≡ plan.next
+  pub content_is : content v ≡ blocks_at (live_of (trail_entries a.end.total a.first a.files)) (here (dumps_of a.files) (history_of (trail_entries a.end.total a.first a.files)) right) plan.choice.point
+  pub written : AllWritten (telling v) (state v)
+  pub only : Only v.files v.clock

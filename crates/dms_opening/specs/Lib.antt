@@ -4,8 +4,9 @@ pub mod Plans
 pub mod Laws
 pub mod Openings
 pub mod Carrying
+pub mod Looking
 pub mod Judged
-pub mod Refusals
+pub mod Doing
 pub mod Choices
 pub mod PointCounts
 pub mod Starts

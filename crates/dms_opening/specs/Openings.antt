@@ -22,7 +22,6 @@ use Rattle.dms_audfile.specs.TrailEntries.{trail_entries}
 use Rattle.dms_audfile.specs.declared.fault.AudFault.{AudFault}
 use Rattle.dms_audfile.specs.declared.fault.AudFault.TheVariants as aud
 use Rattle.dms_audfile.specs.declared.place.EntryPlace.{EntryPlace}
-use Rattle.dms_running.specs.FromDumps.{NoDumpPending}
 use Rattle.dms_running.specs.Telling.{Telling}
 use Rattle.dms_running.specs.Standing.{IsWhole}
 use Rattle.dms_running.specs.Points.{points_of, next_in}
@@ -31,7 +30,8 @@ use Rattle.dms_opening.specs.declared.choosing.OpenFault.{OpenFault}
 use Rattle.dms_opening.specs.declared.choosing.OpenFault.TheVariants.{Audit}
 use Rattle.dms_opening.specs.declared.choosing.Choice.{Choice}
 use Rattle.dms_audrec.specs.Bodies.{bodies}
-use Rattle.dms_opening.specs.Choices.{Chooses}
+use Rattle.dms_opening.specs.declared.asked.Asked.TheVariants.{HaltLoad}
+use Rattle.dms_opening.specs.Choices.{Chooses, judge_files}
 use Rattle.dms_restore.specs.Counts.{count_of, file_counts}
 use Rattle.dms_restore.specs.Views.{view_of}
 use Rattle.dms_restore.specs.Logging as logs
@@ -58,13 +58,12 @@ pub record NamesStructures (schema counts : List ℕ) : Type 0 where
   pub none_behind : (d : Described) → IsWellFormed d → spelling d ≡ schema → length d.structures < length counts → 0 < slice_index_or counts (length counts - 1) 0
   pub all_left : ((d : Described) → IsWellFormed d → spelling d ≡ schema → ⊥) → length counts ≡ 200
 
--- Neither the trail nor a point of it is refused. The opening begins a restore by halt/load to the last point, or goes on with the one that
--- is pending, and these are the restore's point, the next number, the description at the point, and how many blocks each file has there.
+-- Neither the trail nor the dump or a point of a restore is refused. The opening begins a restore by halt/load to the last point, or goes on with the
+-- one that is pending, and these are the restore's point, the next number, the description at the point, and how many blocks each file has there.
 pub record OpensAt (total first : ℕ) (files : Files) (point next : ℕ) (schema counts : List ℕ) : Type 0 where
   pub trail : IsTrailFound total first files
-  pub no_dump : NoDumpPending (trail_entries total first files)
   pub choice : Choice
-  pub chooses : Chooses (history_of (trail_entries total first files)) (next_of (trail_entries total first files)) choice
+  pub chooses : Chooses (judge_files total first files HaltLoad) (history_of (trail_entries total first files)) HaltLoad [] choice
   pub point_is : choice.point ≡ point
   pub next_is : next_of (trail_entries total first files) ≡ next
   pub schema_is : schema_at (trail_entries total first files) point ≡ Some schema
@@ -78,9 +77,13 @@ abbrev pub begin_where_none : Option Pending → ℕ → List Entry
 begin_where_none None point = begin_restore point by_halt_load ∷ []
 begin_where_none (Some p) point = []
 
--- what an opening seals: its Begin, and then the whole Schema and a Control with the counts
+-- what ends a restore: the whole Schema, and a Control with the counts
+abbrev pub ending_entries : ℕ → ℕ → List ℕ → List ℕ → List Entry
+ending_entries point next schema counts = schema_entries (bodies schema) ++ control_point point next (file_counts 30001 counts) ∷ []
+
+-- what an opening seals: its Begin, and then what ends its restore
 abbrev pub opening_entries : Option Pending → ℕ → ℕ → List ℕ → List ℕ → List Entry
-opening_entries pending point next schema counts = begin_where_none pending point ++ (schema_entries (bodies schema) ++ control_point point next (file_counts 30001 counts) ∷ [])
+opening_entries pending point next schema counts = begin_where_none pending point ++ ending_entries point next schema counts
 
 -- The database that these files held runs. Exactly those entries were sealed behind its own, and nothing waits. Its points and its next number
 -- are the same, and all points are durable. The content is that of the last point, each block of it stands in its file, and a stop now leaves
@@ -146,7 +149,7 @@ pub record RefusesTrail (files : Files) (fault : OpenFault) : Type 0 where
 abbrev pub IsFullFault : OpenFault → Type 0
 IsFullFault fault = fault ≡ Audit (aud.Full 9999)
 
--- The first refusal of the trail, or of its points and description; a failure of the disk, want of memory and an audit without room say nothing
+-- The first refusal of the trail, or of its points, the dump of the restore that is pending, and the description; a failure of the disk, want of memory and an audit without room say nothing
 -- of the files.
 abbrev pub RefusesFiles : Files → OpenFault → Type 0
 RefusesFiles files fault = ((e : AudFault) × (fault ≡ Audit e) × Refuses files e) ⊎ (RefusesTrail files fault ⊎ IsFullFault fault)
@@ -170,7 +173,7 @@ pub record HasFullTrail (files now : Files) : Type 0 where
   pub trail : IsTrailFound total first files
   pub full : (g : ℕ) → first ≤ g → g ≤ 19999 → is_full total (now g) ≡ true
 
--- Neither the trail of these files nor a point of it is refused, and the Schema at the point has from 1 to 65,535 bytes: so they are opened.
+-- Neither the trail of these files nor the dump or a point of a restore is refused, and the Schema at the point has from 1 to 65,535 bytes: so they are opened.
 pub record CanOpen (files : Files) : Type 0 where
   pub total : ℕ
   pub first : ℕ

@@ -1,26 +1,29 @@
 -- What an opening does, and what it needs, before its first write.
-use Rattle.std.specs.Prelude.{ℕ, ◌<◌, ◌≤◌, ◌≡◌, ◌⊎◌, List, length, Some}
+use Rattle.std.specs.Prelude.{ℕ, ◌<◌, ◌≤◌, ◌≡◌, ◌⊎◌, List, [], length, Some}
 use Rattle.dms_site.specs.declared.site.Site.{Ghosts}
 use Rattle.dms_site.specs.Files.{Files}
 use Rattle.dms_history.specs.Pick.{count_at}
 use Rattle.dms_history.specs.Entries.{Entry}
 use Rattle.dms_history.specs.EntryEvents.{history_of, next_of}
 use Rattle.dms_history.specs.SchemaAt.{schema_at}
+use Rattle.dms_history.specs.declared.event.Row.{Row}
 use Rattle.dms_audfile.specs.AuditTrail.{IsFound}
 use Rattle.dms_audfile.specs.Ends.{Grown}
 use Rattle.dms_audfile.specs.TrailEntries.{trail_entries}
 use Rattle.dms_audfile.specs.declared.fault.AudFault.TheVariants as aud
 use Rattle.dms_audfile.specs.declared.place.EntryPlace.{EntryPlace}
-use Rattle.dms_running.specs.FromDumps.{NoDumpPending}
+use Rattle.dms_opening.specs.declared.asked.Asked.{Asked}
+use Rattle.dms_opening.specs.declared.asked.Asked.TheVariants.{HaltLoad}
 use Rattle.dms_opening.specs.declared.choosing.OpenFault.{OpenFault}
+use Rattle.dms_opening.specs.declared.dump_looks.DumpFound.{DumpFound}
+use Rattle.dms_opening.specs.DumpLooks.{IsFoundAs, dump_begun, dump_asked}
 use Rattle.dms_opening.specs.declared.choosing.OpenFault.TheVariants.{Audit}
 use Rattle.dms_opening.specs.declared.choosing.Choice.{Choice}
 use Rattle.dms_restore.specs.declared.trace.TrailTrace.{TrailTrace}
-use Rattle.dms_opening.specs.Choices.{RefusesOpening, Chooses}
-use Rattle.dms_restore.specs.Counts.{count_of}
-use Rattle.dms_opening.specs.PointCounts.{AllAtMost}
+use Rattle.dms_opening.specs.Choices.{RefusesAsked, Chooses, judge_files}
+use Rattle.dms_restore.specs.Counts.{count_of, AllAtMost}
 use Rattle.dms_restore.specs.Scanned.{AreEntryPlaces}
-use Rattle.dms_restore.specs.Table.{AreBlocks, IsTable}
+use Rattle.dms_restore.specs.Table.{AreBlocks, AreRuns, IsPlan}
 use Rattle.dms_restore.specs.Traces.{StaysTraced}
 use Rattle.dms_opening.specs.declared.plan.OpeningPlan.{OpeningPlan}
 use Rattle.dms_opening.specs.declared.scanning.Scanned.{Scanned}
@@ -35,20 +38,34 @@ pub record IsTrailRead (total first : ℕ) (files : Files) (places : List EntryP
 abbrev pub IsScanRead : {S : Type 0} → Ghosts S → Scanned S → Type 0
 IsScanRead g s = IsTrailRead s.log.end.total s.log.first (g.files s.log.site) s.places.items s.trace
 
--- Nothing is refused, and this is what the opening does. For the restore that it begins or goes on with, the table is what the audit tells
--- at the point, however the trail grows. The counts, the description and the next number are those there.
-pub record Plans (total first : ℕ) (files : Files) (plan : OpeningPlan) : Type 0 where
-  pub no_dump : NoDumpPending (trail_entries total first files)
-  pub chooses : Chooses (history_of (trail_entries total first files)) (next_of (trail_entries total first files)) plan.choice
-  pub table_is : (new : Files) → Grown total first files new → IsTable chooses.restore.entries chooses.restore.point new plan.table.items
+-- So it is, and this is what the dump of the restore that is pending is found to be, and the one that is asked for.
+pub record AreFoundFor (total first : ℕ) (files : Files) (places : List EntryPlace) (t : TrailTrace) (asked : Asked) (begun look : DumpFound) : Type 0 where
+  pub read : IsTrailRead total first files places t
+  pub begun_is : IsFoundAs (dump_begun files (history_of (trail_entries total first files)).pending) begun
+  pub look_is : IsFoundAs (dump_asked files asked) look
+
+-- the files of dumps are the same
+abbrev pub SameDumps : Files → Files → Type 0
+SameDumps old new = (g : ℕ) → 20000 < g → g ≤ 30000 → new g ≡ old g
+
+-- Nothing is refused of what is asked, and this is what is done. For the restore that begins or goes on, the table is what it writes, however the trail
+-- grows while dumps stay. The counts, the description and the next number are those at its point.
+pub record PlansFor (total first : ℕ) (files : Files) (asked : Asked) (rows : List Row) (plan : OpeningPlan) : Type 0 where
+  pub chooses : Chooses (judge_files total first files asked) (history_of (trail_entries total first files)) asked rows plan.choice
+  pub plan_is : (new : Files) → Grown total first files new → SameDumps files new → IsPlan chooses.restore new plan.table
   pub counts_are : (f : ℕ) → count_of plan.counts.items f ≡ count_at chooses.restore.entries chooses.restore.point f
   pub schema_is : schema_at (trail_entries total first files) plan.choice.point ≡ Some plan.schema.items
   pub next_is : next_of (trail_entries total first files) ≡ plan.next
 
--- The table is of blocks of structure files, the counts are those of 200 files, none with more blocks than may be, and the description has
+-- so it is for an opening
+abbrev pub Plans : ℕ → ℕ → Files → OpeningPlan → Type 0
+Plans total first files plan = PlansFor total first files HaltLoad [] plan
+
+-- What is written are blocks of structure files, the counts are those of 200 files, none with more blocks than may be, and the description has
 -- from 1 to 65,535 bytes.
 pub record FitsOpening (plan : OpeningPlan) : Type 0 where
-  pub blocks : AreBlocks plan.table.items
+  pub runs : AreRuns plan.table.runs.items
+  pub blocks : AreBlocks plan.table.told.items
   pub size : length plan.counts.items ≡ 200
   pub small : AllAtMost plan.counts.items
   pub some : 1 ≤ length plan.schema.items
@@ -64,19 +81,21 @@ pub record HasNoDescriptionAt (entries : List Entry) (point : ℕ) : Type 0 wher
   pub schema_is : schema_at entries point ≡ Some bytes
   pub none : CannotDescribe bytes
 
--- Nothing is refused by points, but there is no description at the point of the restore.
-pub record HasNoDescription (total first : ℕ) (files : Files) : Type 0 where
+-- Nothing is refused of what is asked, but there is no description at the point of the restore.
+pub record HasNoDescription (total first : ℕ) (files : Files) (asked : Asked) : Type 0 where
   pub choice : Choice
-  pub chooses : Chooses (history_of (trail_entries total first files)) (next_of (trail_entries total first files)) choice
+  pub chooses : (rows : List Row) → Chooses (judge_files total first files asked) (history_of (trail_entries total first files)) asked rows choice
   pub at : HasNoDescriptionAt (trail_entries total first files) choice.point
 
 -- a call of the site failed, or memory was refused
 abbrev pub IsPlainFault : OpenFault → Type 0
 IsPlainFault fault = (fault ≡ Audit aud.Disk) ⊎ (fault ≡ Audit aud.Memory)
 
--- A call of the site failed, memory was refused, a restore by a dump is pending, a point can't be had, or there is no description.
+-- A call of the site failed, memory was refused, what is asked is refused, or there is no description.
+abbrev pub RefusesFor : ℕ → ℕ → Files → Asked → OpenFault → Type 0
+RefusesFor total first files asked fault =
+    (fault ≡ Audit aud.Disk) ⊎ (RefusesAsked first (judge_files total first files asked) fault ⊎ ((fault ≡ Audit (aud.Damaged first 0)) × HasNoDescription total first files asked))
+
+-- so it is for an opening
 abbrev pub RefusesPlan : ℕ → ℕ → Files → OpenFault → Type 0
-RefusesPlan total first files fault =
-    (fault ≡ Audit aud.Disk)
-    ⊎ (RefusesOpening first (history_of (trail_entries total first files)) (next_of (trail_entries total first files)) fault
-    ⊎ ((fault ≡ Audit (aud.Damaged first 0)) × HasNoDescription total first files))
+RefusesPlan total first files fault = RefusesFor total first files HaltLoad fault

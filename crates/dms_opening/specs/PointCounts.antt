@@ -9,11 +9,6 @@ use Rattle.dms_restore.specs.declared.live.ImageAt.{ImageAt}
 use Rattle.dms_restore.specs.declared.live.ControlAt.{ControlAt}
 use Rattle.dms_restore.specs.declared.live.LiveEntry.{LiveEntry}
 use Rattle.dms_restore.specs.declared.live.LiveEntry.TheVariants.{Changed, Quiet, Controlled}
-use Rattle.dms_restore.specs.Counts.{count_of}
-
--- no file has more blocks than may be
-abbrev pub AllAtMost : List ℕ → Type 0
-AllAtMost counts = (f : ℕ) → count_of counts f ≤ 2097152
 
 -- The list of a Control is longer than a block of the audit, or stands behind the last one; or it isn't there whole, or its counts aren't
 -- those of structure files, rising.

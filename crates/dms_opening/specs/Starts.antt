@@ -1,5 +1,5 @@
 -- The start of an opening.
-use Rattle.std.specs.Prelude.{ℕ, ◌/◌, ◌≡◌, Bool, List, [], ◌++◌, length, Some}
+use Rattle.std.specs.Prelude.{ℕ, ◌/◌, ◌≡◌, Bool, List, [], ◌++◌, length}
 use Rattle.dms_site.specs.Files.{Files, Only}
 use Rattle.dms_history.specs.History.{Pending}
 use Rattle.dms_history.specs.EntryEvents.{history_of}
@@ -9,19 +9,20 @@ use Rattle.dms_running.specs.Points.{points_of, next_in}
 use Rattle.dms_running.specs.Begun.{outcome_now}
 use Rattle.dms_history.specs.Pick.{count_at}
 use Rattle.dms_history.specs.Entries.{Entry, counts_in}
+use Rattle.dms_history.specs.declared.event.Row.{Row}
 use Rattle.dms_audrec.specs.Reading.{counts_at}
 use Rattle.dms_running.specs.Running.{AllWritten}
 use Rattle.dms_restore.specs.Logging as logs
 use Rattle.dms_restore.specs.Logging.{LogView, telling, state, waits, LogRuns, entries, points, durable, content}
 use Rattle.dms_restore.specs.Begins.{BegunAt}
-use Rattle.dms_restore.specs.declared.told.Told.{Told}
+use Rattle.dms_restore.specs.declared.restore_table.RestoreTable.{RestoreTable}
 use Rattle.dms_restore.specs.declared.tracing.TrailHistory.{TrailHistory}
 use Rattle.dms_restore.specs.Tracing.{IsTraced}
 use Rattle.dms_restore.specs.Table.{IsPlan}
-use Rattle.dms_restore.specs.declared.run.Run.{Run}
 use Rattle.dms_restore.specs.Laying.{IsAtStart}
 use Rattle.dms_opening.specs.declared.choosing.Choice.{Choice}
-use Rattle.dms_opening.specs.Refusals.{IsOpening}
+use Rattle.dms_opening.specs.declared.asked.Asked.{Asked}
+use Rattle.dms_opening.specs.Doing.{IsDone, IsOpening}
 
 -- A trail was scanned, its files hold a database, and this is what an opening does.
 pub record MayOpen (v : LogView) (begins : Bool) (point : ℕ) (p : Pending) : Type 0 where
@@ -35,10 +36,10 @@ pub record BegunFrom (p : Pending) (a b : LogView) : Type 0 where
   pub next_same : next_in (telling b) b.files ≡ next_in (telling a) a.files
   pub outcome_same : outcome_now (telling b) p (state b) ≡ outcome_now (telling a) p (state a)
 
--- The restore is begun, runs and table are what it writes, and the Control is one of its point with the next number and the counts there.
-pub record MayGoOn (p : Pending) (v : LogView) (runs : List Run) (table : List Told) (point next : ℕ) (counts : List ℕ) : Type 0 where
+-- The restore is begun, the table is what it writes, and the Control is one of its point with the next number and the counts there.
+pub record MayGoOn (p : Pending) (v : LogView) (table : RestoreTable) (point next : ℕ) (counts : List ℕ) : Type 0 where
   pub begun : BegunAt p v
-  pub plan_is : IsPlan p v.files runs table
+  pub plan_is : IsPlan p v.files table
   pub point_is : point ≡ p.point
   pub next_is : next ≡ next_in (telling v) v.files
   pub count : (f : ℕ) → counts_in (counts_at (length counts / 8) counts) f ≡ count_at p.entries p.point f
@@ -56,14 +57,8 @@ pub record OpenedAt (p : Pending) (a b : LogView) (es : List Entry) : Type 0 whe
   pub written : AllWritten (telling b) (state b)
   pub only : Only b.files b.clock
 
--- What is kept in memory tells of some entries, by which this restore is pending.
-pub record TracesPending (files : Files) (h : TrailHistory) (p : Pending) : Type 0 where
+-- What is kept in memory tells of some entries, and this is what is done for what is asked of them, by this restore.
+pub record TracesDone (files : Files) (h : TrailHistory) (asked : Asked) (rows : List Row) (c : Choice) (p : Pending) : Type 0 where
   pub entries : List Entry
   pub traced : IsTraced files entries h
-  pub pending : (history_of entries).pending ≡ Some p
-
--- What is kept in memory tells of some entries, and this is what an opening of them does, by this restore.
-pub record TracesOpening (files : Files) (h : TrailHistory) (c : Choice) (p : Pending) : Type 0 where
-  pub entries : List Entry
-  pub traced : IsTraced files entries h
-  pub opening : IsOpening (history_of entries) c.begins c.point p
+  pub done : IsDone (history_of entries) asked rows c.begins c.point p

@@ -4,16 +4,16 @@ ghost use Rattle.std.specs.Prelude.{◌≡◌, ◌≤◌, ◌++◌, ℕ, List, O
 ghost use Rattle.dms_site.specs.Files.{Files};
 ghost use Rattle.dms_history.specs.Entries as meaning;
 ghost use Rattle.dms_history.specs.Events.{How};
+ghost use Rattle.dms_history.specs.declared.event.Row as row;
 ghost use Rattle.dms_history.specs.Judge.{judge_point};
 ghost use Rattle.dms_history.specs.History.{Pending, last_point};
 ghost use Rattle.dms_history.specs.EntryEvents.{history_of, live_of, next_of};
 ghost use Rattle.dms_restore.specs.LiveEntries.{changes_at};
-ghost use Rattle.dms_restore.specs.Tracing.{MatchesHow, IsPendingAt, IsTraced};
-ghost use Rattle.dms_opening.specs.Asked.{judge_file, judge_dump_point, judge_dump, judge_last_point, judge_own, judge_restore, judge_begun, judge, is_later, number_or, or_next, refused_at, refused_seen};
+ghost use Rattle.dms_restore.specs.Tracing.{MatchesHow, IsTraced};
+ghost use Rattle.dms_opening.specs.Asked.{judge_file, judge_dump_point, judge_dump, judge_last_point, judge_own, judge_by_dump, judge_restore, judge_begun, judge, is_later, number_or, or_next, refused_at, refused_seen};
 
 use crate::judging::{PointFault, judge_point};
 use crate::numbers::last_point;
-use crate::refusing::entries_before;
 use dms_restore::{HowAt, LiveEntry, PendingAt, TrailHistory};
 use std::alloc::{AllocError, Global};
 
@@ -181,6 +181,26 @@ fn judge_own(
     }
 }
 
+/// The refusal of a restore by a dump that is pending, over the live entries before its Begin.
+fn judge_by_dump(
+    first: u32,
+    next: u64,
+    dump: u16,
+    look: DumpLook,
+    before: &[LiveEntry],
+    point: u64,
+) -> Option<Refusal>
+    ensures { (files : Files) → refused_seen result ≡ judge_by_dump first next dump look (changes_at files before.now) point }
+{
+    or_next(
+        judge_file(first, dump, look),
+        or_next(
+            refuse_point(before, next, point),
+            judge_dump_point(before, next, dump, look, point),
+        ),
+    )
+}
+
 /// The refusal of a restore that is pending, over the live entries before its Begin.
 fn judge_restore(
     first: u32,
@@ -190,20 +210,31 @@ fn judge_restore(
     before: &[LiveEntry],
     point: u64,
 ) -> Option<Refusal>
-    ensures { (files : Files) (h : How) → MatchesHow how h → refused_seen result ≡ judge_restore first next h look (changes_at files before.now) point }
+    ensures { (files : Files) (rows : List row.Row) (h : How) → MatchesHow how rows h
+        → refused_seen result ≡ judge_restore first next h look (changes_at files before.now) point }
 {
     match how {
         HowAt::HaltLoad => refuse_point(before, next, point),
         HowAt::BackOut => refuse_point(before, next, point),
         HowAt::Rollback => refuse_point(before, next, point),
-        HowAt::ByDump(dump) => or_next(
-            judge_file(first, dump, look),
-            or_next(
-                refuse_point(before, next, point),
-                judge_dump_point(before, next, dump, look, point),
-            ),
-        ),
+        HowAt::Rebuild(dump) => judge_by_dump(first, next, dump, look, before, point),
+        HowAt::Reconstruct(dump) => judge_by_dump(first, next, dump, look, before, point),
     }
+}
+
+/// The live entries before the Begin of a restore: those that it kept, and those that it removed.
+fn entries_before(
+    alloc: Global,
+    live: &[LiveEntry],
+    removed: &[LiveEntry],
+    kept: usize,
+) -> Result<Vec<LiveEntry>, AllocError>
+    requires { kept ≤ length live.now }
+    ensures { IfOk result (λ v. v.items ≡ take kept live.now ++ removed.now) }
+{
+    let mut before = live[..kept].to_vec(alloc)?;
+    before.extend_from_slice(removed)?;
+    Ok(before)
 }
 
 /// The refusal of the restore that is pending, of which this is what its dump is found to be.

@@ -1,20 +1,28 @@
 //! A plan is carried out: the restore is begun, its blocks are written, and it is ended.
 
-ghost use Rattle.std.specs.Prelude.{◌≡◌, IfOk, IfErr, IsTrue};
+ghost use Rattle.std.specs.Prelude.{◌≡◌, ◌≤◌, List, length, IfOk, IfErr, IsTrue};
 ghost use Rattle.dms_moments.specs.Moments.{Runs};
+ghost use Rattle.dms_history.specs.Entries.{by_halt_load};
+ghost use Rattle.dms_history.specs.Events.{Stored};
+ghost use Rattle.dms_history.specs.declared.event.Row as row;
+ghost use Rattle.dms_audrec.specs.Seen.{how_seen};
+ghost use Rattle.dms_audrec.specs.Spelling.{IsRestoreKind, rows_of};
 ghost use Rattle.dms_audfile.specs.Counting.{CountedAt};
+ghost use Rattle.dms_running.specs.AnyBegun.{BeginLeaves};
 ghost use Rattle.dms_running.specs.Standing.{IsWhole};
-ghost use Rattle.dms_restore.specs.Logging.{LogGrows, telling, view};
+ghost use Rattle.dms_restore.specs.Begins.{AnyLeaves};
+ghost use Rattle.dms_restore.specs.Logging.{LogGrows, telling, state, view};
 ghost use Rattle.dms_restore.specs.Views.{view_of};
 ghost use Rattle.dms_wal.specs.Closing.{IsFullTrail};
-ghost use Rattle.dms_opening.specs.Carrying.{IsFitPlan, IsPlanned};
+ghost use Rattle.dms_opening.specs.declared.asked.Asked as meant;
+ghost use Rattle.dms_opening.specs.Carrying.{IsFitPlan, IsPlanned, IsPlannedFor, MayBegin, RunsTo};
 ghost use Rattle.dms_opening.specs.Openings.{RunsFrom, Reopens, text_of, IsFullFault, MayHaveWritten};
 
 use crate::going_on::go_on;
-use crate::looking::PlannedOpening;
 use crate::starting::start;
-use crate::{OpenFault, Opened, OpeningPlan};
+use crate::{OpenFault, Opened, OpeningPlan, PlannedOpening};
 use dms_audfile::AudFault;
+use dms_audrec::BeginHow;
 use dms_restore::{Log, count_bytes};
 use dms_site::Site;
 
@@ -30,21 +38,32 @@ pub(crate) fn site_of<S: Site>(log: Log<S>) -> S
     site
 }
 
-/// Begins the restore of a plan, or goes on with the pending one, writes its blocks, and ends it.
-pub(crate) fn carry_out<S: Site>(planned: PlannedOpening<S>) -> Result<Opened<S>, (OpenFault, S)>
+/// Begins the restore of a plan, which is of this kind, or goes on with the pending one, writes its blocks, and ends it.
+pub(crate) fn carry_out<S: Site>(
+    planned: PlannedOpening<S>,
+    how: BeginHow<'_>,
+) -> Result<Opened<S>, (OpenFault, S)>
     requires ready { IsFitPlan planned.plan }
+    requires kind { IsRestoreKind (how_seen how) }
+    requires few { length (rows_of (how_seen how)) ≤ 100 }
     requires limit { planned.log.end.limit ≡ 9999 }
-    ensures runs { IfOk result (λ o. IsTrue S.tells → let v = view_of S.Site planned.log in IsPlanned v planned.plan → IsWhole (telling v) v.files
+    ensures runs { IfOk result (λ o. IsTrue S.tells → how_seen how.entry ≡ by_halt_load → let v = view_of S.Site planned.log in IsPlanned v planned.plan → IsWhole (telling v) v.files
         → RunsFrom v.files planned.plan.choice.point planned.plan.next planned.plan.schema.items planned.plan.counts.items (view_of S.Site o.log)) }
-    ensures moments { IfOk result (λ o. IsTrue S.tells → let v = view_of S.Site planned.log in IsPlanned v planned.plan → IsWhole (telling v) v.files
+    ensures moments { IfOk result (λ o. IsTrue S.tells → how_seen how.entry ≡ by_halt_load → let v = view_of S.Site planned.log in IsPlanned v planned.plan → IsWhole (telling v) v.files
         → Runs v.clock (S.clock o.log.site) (Reopens (telling v) v.files (text_of S.Site planned.log.site))) }
-    ensures stopped { IfErr result (λ e. IsTrue S.tells → let v = view_of S.Site planned.log in IsPlanned v planned.plan → IsWhole (telling v) v.files
+    ensures stopped { IfErr result (λ e. IsTrue S.tells → how_seen how.entry ≡ by_halt_load → let v = view_of S.Site planned.log in IsPlanned v planned.plan → IsWhole (telling v) v.files
         → Runs v.clock (S.clock e.1) (Reopens (telling v) v.files (text_of S.Site planned.log.site))) }
-    ensures only { IfErr result (λ e. IsTrue S.tells → IsPlanned (view_of S.Site planned.log) planned.plan → MayHaveWritten e.0) }
-    ensures full { IfErr result (λ e. IsTrue S.tells → IsPlanned (view_of S.Site planned.log) planned.plan → IsFullFault e.0 → IsFullTrail (view_of S.Site planned.log) (S.files e.1)) }
-    ensures grown { IfOk result (λ o. IsTrue S.tells → let v = view_of S.Site planned.log in IsPlanned v planned.plan
+    ensures runs_to { IfOk result (λ o. (right : Stored) → IsTrue S.tells → let v = view_of S.Site planned.log in MayBegin v right (how_seen how.entry) planned.plan
+        → RunsTo v right (how_seen how.entry) planned.plan (view_of S.Site o.log)) }
+    ensures leaves { IfOk result (λ o. (right : Stored) → IsTrue S.tells → let v = view_of S.Site planned.log in MayBegin v right (how_seen how.entry) planned.plan
+        → AnyLeaves v right planned.plan.choice.point (view_of S.Site o.log)) }
+    ensures leaves_then { IfErr result (λ e. (right : Stored) → IsTrue S.tells → let v = view_of S.Site planned.log in MayBegin v right (how_seen how.entry) planned.plan
+        → Runs v.clock (S.clock e.1) (BeginLeaves (telling v) (state v) right planned.plan.choice.point)) }
+    ensures only { IfErr result (λ e. (asked : meant.Asked) (rows : List row.Row) → IsTrue S.tells → IsPlannedFor (view_of S.Site planned.log) asked rows planned.plan → MayHaveWritten e.0) }
+    ensures full { IfErr result (λ e. (asked : meant.Asked) (rows : List row.Row) → IsTrue S.tells → IsPlannedFor (view_of S.Site planned.log) asked rows planned.plan → IsFullFault e.0 → IsFullTrail (view_of S.Site planned.log) (S.files e.1)) }
+    ensures grown { IfOk result (λ o. (asked : meant.Asked) (rows : List row.Row) → IsTrue S.tells → let v = view_of S.Site planned.log in IsPlannedFor v asked rows planned.plan
         → LogGrows 19 v (view_of S.Site o.log)) }
-    ensures grown_then { IfErr result (λ e. IsTrue S.tells → let v = view_of S.Site planned.log in IsPlanned v planned.plan
+    ensures grown_then { IfErr result (λ e. (asked : meant.Asked) (rows : List row.Row) → IsTrue S.tells → let v = view_of S.Site planned.log in IsPlannedFor v asked rows planned.plan
         → LogGrows 19 v (view v.end v.first (S.files e.1) (S.clock e.1))) }
     ensures plan { IfOk result (λ o. (o.point ≡ planned.plan.choice.point) × (o.next ≡ planned.plan.next) × (o.schema ≡ planned.plan.schema) × (o.counts ≡ planned.plan.counts)) }
     ensures kind { IfOk result (λ o. (o.log.end.total ≡ planned.log.end.total) × (o.log.end.limit ≡ planned.log.end.limit) × (o.log.first ≡ planned.log.first)) }
@@ -65,27 +84,21 @@ pub(crate) fn carry_out<S: Site>(planned: PlannedOpening<S>) -> Result<Opened<S>
         counts,
         schema,
     } = plan;
-    let begun = match start(log, choice.begins, choice.point) {
+    let begun = match start(log, choice.begins, choice.point, how) {
         Ok(begun) => begun,
         Err((fault, log)) => return Err((OpenFault::Audit(fault), site_of(log))),
     };
+    let audit = begun.log.end.file.saturating_sub(10_000);
     let mut bytes = [0u8; 1600];
     let used = count_bytes(&counts, &mut bytes);
-    match go_on(
-        begun,
-        &[],
-        &table,
-        &schema,
-        choice.point,
-        next,
-        &bytes[..used],
-    ) {
+    match go_on(begun, &table, &schema, choice.point, next, &bytes[..used]) {
         Ok(log) => Ok(Opened {
             log,
             schema,
             counts,
             next,
             point: choice.point,
+            audit,
         }),
         Err((fault, log)) => Err((OpenFault::Audit(fault), site_of(log))),
     }

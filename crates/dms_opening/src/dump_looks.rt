@@ -1,54 +1,140 @@
 //! What the file of a dump is found to be.
 
-ghost use Rattle.std.specs.Prelude.{◌≡◌, ◌⊎◌, ◌↔◌, ◌+◌, ◌≤◌, ℕ, IfOk, IfErr, IsErrOf, IsTrue};
-ghost use Rattle.dms_moments.specs.Moments.{Steps};
-ghost use Rattle.dms_site.specs.Files.{Same};
+ghost use Rattle.std.specs.Prelude.{◌≡◌, ◌⊎◌, ◌↔◌, ◌+◌, ◌≤◌, ℕ, List, IfOk, IfErr, IsErrOf, IsTrue};
+ghost use Rattle.dms_site.specs.Files.{Files};
+ghost use Rattle.dms_history.specs.Entries as meaning;
+ghost use Rattle.dms_history.specs.EntryEvents.{history_of};
+ghost use Rattle.dms_history.specs.Events.{How};
+ghost use Rattle.dms_history.specs.declared.event.Row as row;
 ghost use Rattle.dms_audfile.specs.Counting.{CountedAt};
-ghost use Rattle.dms_dump.specs.Judged.{DumpRead, dump_read};
-ghost use Rattle.dms_opening.specs.DumpLooks.{look_of, SaysLook};
+ghost use Rattle.dms_audfile.specs.Reads.{ReadsAlone};
+ghost use Rattle.dms_dump.specs.Judged.{DumpRead};
+ghost use Rattle.dms_running.specs.FromDumps.{dump_by, dump_in};
+ghost use Rattle.dms_restore.specs.Planned.{IsFitHead};
+ghost use Rattle.dms_restore.specs.Tracing.{MatchesHow, IsTraced};
+ghost use Rattle.dms_opening.specs.DumpLooks.{look_seen, SaysFound, IsFoundAs, IsFitFound, dump_at, dump_begun};
 
 use crate::DumpLook;
 use dms_audfile::AudFault;
 use dms_dump::{DumpFault, DumpHead, read_dump};
+use dms_restore::{HowAt, TrailHistory};
 use dms_site::Site;
 use std::alloc::Global;
 
+/// What the file of a dump is found to be, with its head where it can be read.
+pub enum DumpFound {
+    Missing,
+    Unsealed,
+    Damaged,
+    Sealed(DumpHead),
+}
+
+impl DumpFound {
+    /// The same without the counts.
+    pub fn look(&self) -> DumpLook
+        ensures { result ≡ look_seen self.now }
+    {
+        match self {
+            DumpFound::Missing => DumpLook::Missing,
+            DumpFound::Unsealed => DumpLook::Unsealed,
+            DumpFound::Damaged => DumpLook::Damaged,
+            DumpFound::Sealed(head) => DumpLook::Sealed(head.point, head.audit),
+        }
+    }
+
+    /// Gives its memory back.
+    pub fn let_go(self) {
+        match self {
+            DumpFound::Missing => {}
+            DumpFound::Unsealed => {}
+            DumpFound::Damaged => {}
+            DumpFound::Sealed(
+                DumpHead {
+                    tag: _,
+                    point: _,
+                    audit: _,
+                    counts: _counts,
+                },
+            ) => {}
+        }
+    }
+}
+
 /// What was read of a dump. A dump that is read isn't one that exists already: that fault never comes where files are told.
-fn look_found(read: Result<DumpHead, DumpFault>) -> Result<DumpLook, AudFault>
-    ensures looks { IfOk result (λ l. (d : ℕ) (file : DumpRead) → SaysLook d file read l) }
+fn found_as(read: Result<DumpHead, DumpFault>) -> Result<DumpFound, AudFault>
+    ensures found { IfOk result (λ f. (d : ℕ) (file : DumpRead) → SaysFound d file read f) }
+    ensures fit { IfOk read IsFitHead → IfOk result IsFitFound }
     ensures only { IfErr result (λ e. (e ≡ AudFault.Disk) ⊎ (e ≡ AudFault.Memory)) }
     ensures disk { IsErrOf result AudFault.Disk ↔ IsErrOf read DumpFault.Disk }
 {
     match read {
-        Ok(
-            DumpHead {
-                tag: _,
-                point,
-                audit,
-                counts: _counts,
-            },
-        ) => Ok(DumpLook::Sealed(point, audit)),
+        Ok(head) => Ok(DumpFound::Sealed(head)),
         Err(DumpFault::Disk) => Err(AudFault::Disk),
         Err(DumpFault::Memory) => Err(AudFault::Memory),
-        Err(DumpFault::Exists(_)) => Ok(DumpLook::Missing),
-        Err(DumpFault::Missing(_)) => Ok(DumpLook::Missing),
-        Err(DumpFault::Unsealed(_)) => Ok(DumpLook::Unsealed),
-        Err(DumpFault::Damaged(_, _)) => Ok(DumpLook::Damaged),
+        Err(DumpFault::Exists(_)) => Ok(DumpFound::Missing),
+        Err(DumpFault::Missing(_)) => Ok(DumpFound::Missing),
+        Err(DumpFault::Unsealed(_)) => Ok(DumpFound::Unsealed),
+        Err(DumpFault::Damaged(_, _)) => Ok(DumpFound::Damaged),
     }
 }
 
-/// What the file of dump d is found to be. Answers Disk where a call of the site failed, and Memory.
-pub fn look_at_dump<S: Site>(alloc: Global, site: &mut S, dump: u16) -> Result<DumpLook, AudFault>
-    requires number { dump ≤ 9999 }
-    ensures looks { IfOk result (λ l. IsTrue S.tells → l ≡ look_of (dump_read (S.files site.old (20000 + dump)))) }
+/// What the file of dump d is found to be; where d isn't from 1 to 9,999 it is missing. Nothing changes. Answers Disk where a call of the site
+/// failed, and Memory.
+pub fn find_dump<S: Site>(alloc: Global, site: &mut S, dump: u16) -> Result<DumpFound, AudFault>
+    ensures found { IfOk result (λ f. IsTrue S.tells → IsFoundAs (dump_at (S.files site.old) dump) f) }
+    ensures fit { IfOk result IsFitFound }
     ensures only { IfErr result (λ e. (e ≡ AudFault.Disk) ⊎ (e ≡ AudFault.Memory)) }
-    ensures files { IsTrue S.tells → S.files site.new ≡ S.files site.old }
-    ensures said { S.said site.new ≡ S.said site.old }
+    ensures reads { ReadsAlone S.Site site.old site.new }
     ensures same_site { S.same_site site.old site.new }
-    ensures moments { Steps Same (S.clock site.old) (S.clock site.new) }
     ensures disk { CountedAt (IsErrOf result AudFault.Disk) (S.disk_faults site.old) (S.disk_faults site.new) }
-    ensures say_faults { S.say_faults site.new ≡ S.say_faults site.old }
 {
+    if dump == 0 || dump > 9999 {
+        return Ok(DumpFound::Missing);
+    }
     let read = read_dump(alloc, site, dump);
-    look_found(read)
+    found_as(read)
+}
+
+/// The number of the dump by which a restore goes.
+fn dump_of(how: HowAt) -> Option<u16>
+    ensures { (rows : List row.Row) (h : How) → MatchesHow how rows h → result ≡ dump_by h }
+{
+    match how {
+        HowAt::HaltLoad => None,
+        HowAt::BackOut => None,
+        HowAt::Rollback => None,
+        HowAt::Rebuild(dump) => Some(dump),
+        HowAt::Reconstruct(dump) => Some(dump),
+    }
+}
+
+/// The number of the dump by which the pending restore goes.
+fn pending_dump(history: &TrailHistory) -> Option<u16>
+    ensures { (files : Files) (entries : List meaning.Entry) → IsTraced files entries history.now → result ≡ dump_in (history_of entries).pending }
+{
+    match history.pending {
+        None => None,
+        Some(at) => dump_of(at.how),
+    }
+}
+
+/// What the dump of the restore that is pending is found to be; it is missing where none is pending, or one by the audit. Nothing changes. Answers
+/// Disk where a call of the site failed, and Memory.
+pub fn find_begun<S: Site>(
+    alloc: Global,
+    site: &mut S,
+    history: &TrailHistory,
+) -> Result<DumpFound, AudFault>
+    ensures found { IfOk result (λ f. IsTrue S.tells → (files : Files) (entries : List meaning.Entry) → IsTraced files entries history.now
+        → IsFoundAs (dump_begun (S.files site.old) (history_of entries).pending) f) }
+    ensures fit { IfOk result IsFitFound }
+    ensures only { IfErr result (λ e. (e ≡ AudFault.Disk) ⊎ (e ≡ AudFault.Memory)) }
+    ensures reads { ReadsAlone S.Site site.old site.new }
+    ensures same_site { S.same_site site.old site.new }
+    ensures disk { CountedAt (IsErrOf result AudFault.Disk) (S.disk_faults site.old) (S.disk_faults site.new) }
+{
+    match pending_dump(history) {
+        None => Ok(DumpFound::Missing),
+        Some(dump) => find_dump(alloc, site, dump),
+    }
 }

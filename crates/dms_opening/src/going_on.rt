@@ -15,51 +15,50 @@ ghost use Rattle.dms_opening.specs.Starts.{MayGoOn, OpenedAt};
 ghost use Rattle.dms_restore.specs.Table.{AreBlocks, AreRuns, IsPlan};
 
 use dms_audfile::AudFault;
-use dms_restore::{Begun, Log, Run, Told};
+use dms_restore::{Begun, Log, RestoreTable};
 use dms_site::Site;
 
 /// Writes the blocks of the restore's point, and seals the description and the Control that end it.
 pub(crate) fn go_on<S: Site>(
     begun: Begun<S>,
-    runs: &[Run],
-    table: &[Told],
+    table: &RestoreTable,
     description: &[u8],
     point: u64,
     next: u64,
     counts: &[u8],
 ) -> Result<Log<S>, (AudFault, Log<S>)>
-    requires runs { AreRuns runs.now }
-    requires blocks { AreBlocks table.now }
+    requires runs { AreRuns table.now.runs.items }
+    requires blocks { AreBlocks table.now.told.items }
     requires some { 0 < length description.now }
     requires few { length description.now ≤ 65535 }
     requires control { IsEntry (control_point point next (counts_at (length counts.now / 8) counts.now)) }
     requires size { length counts.now ≤ 1600 }
-    ensures opened { IfOk result (λ l. (p : Pending) → IsTrue S.tells → MayGoOn p (view_of S.Site begun.log) runs.now table.now point next counts.now
+    ensures opened { IfOk result (λ l. (p : Pending) → IsTrue S.tells → MayGoOn p (view_of S.Site begun.log) table.now point next counts.now
         → OpenedAt p (view_of S.Site begun.log) (view_of S.Site l) (schema_control description.now point next counts.now)) }
-    ensures moments { IfOk result (λ l. (p : Pending) → IsTrue S.tells → MayGoOn p (view_of S.Site begun.log) runs.now table.now point next counts.now
+    ensures moments { IfOk result (λ l. (p : Pending) → IsTrue S.tells → MayGoOn p (view_of S.Site begun.log) table.now point next counts.now
         → LeavesEach (view_of S.Site begun.log) (view_of S.Site l)) }
-    ensures stopped { IfErr result (λ e. (p : Pending) → IsTrue S.tells → MayGoOn p (view_of S.Site begun.log) runs.now table.now point next counts.now
+    ensures stopped { IfErr result (λ e. (p : Pending) → IsTrue S.tells → MayGoOn p (view_of S.Site begun.log) table.now point next counts.now
         → LeavesEach (view_of S.Site begun.log) (view_of S.Site e.1)) }
-    ensures silent { IfOk result (λ l. (p : Pending) → IsTrue S.tells → MayGoOn p (view_of S.Site begun.log) runs.now table.now point next counts.now
+    ensures silent { IfOk result (λ l. (p : Pending) → IsTrue S.tells → MayGoOn p (view_of S.Site begun.log) table.now point next counts.now
         → StaysSilent S.Site begun.log.site l.site) }
-    ensures silent_then { IfErr result (λ e. (p : Pending) → IsTrue S.tells → MayGoOn p (view_of S.Site begun.log) runs.now table.now point next counts.now
+    ensures silent_then { IfErr result (λ e. (p : Pending) → IsTrue S.tells → MayGoOn p (view_of S.Site begun.log) table.now point next counts.now
         → StaysSilent S.Site begun.log.site e.1.site) }
-    ensures grown { IfOk result (λ l. (p : Pending) → IsTrue S.tells → IsPlan p (S.files begun.log.site) runs.now table.now → EndsSealed (view_of S.Site begun.log)
+    ensures grown { IfOk result (λ l. (p : Pending) → IsTrue S.tells → IsPlan p (S.files begun.log.site) table.now → EndsSealed (view_of S.Site begun.log)
         → LogGrows 18 (view_of S.Site begun.log) (view_of S.Site l)) }
-    ensures grown_then { IfErr result (λ e. (p : Pending) → IsTrue S.tells → IsPlan p (S.files begun.log.site) runs.now table.now → EndsSealed (view_of S.Site begun.log)
+    ensures grown_then { IfErr result (λ e. (p : Pending) → IsTrue S.tells → IsPlan p (S.files begun.log.site) table.now → EndsSealed (view_of S.Site begun.log)
         → LogGrows 18 (view_of S.Site begun.log) (view_of S.Site e.1)) }
     ensures same { IfOk result (λ l. S.same_site begun.log.site l.site) }
     ensures same_then { IfErr result (λ e. S.same_site begun.log.site e.1.site) }
     ensures said { IfOk result (λ l. S.said l.site ≡ S.said begun.log.site) }
     ensures said_then { IfErr result (λ e. S.said e.1.site ≡ S.said begun.log.site) }
     ensures clean { IfOk result (λ l. S.disk_faults l.site ≡ S.disk_faults begun.log.site) }
-    ensures only { IfErr result (λ e. (p : Pending) → IsTrue S.tells → IsPlan p (S.files begun.log.site) runs.now table.now
+    ensures only { IfErr result (λ e. (p : Pending) → IsTrue S.tells → IsPlan p (S.files begun.log.site) table.now
         → (e.0 ≡ AudFault.Disk) ⊎ (e.0 ≡ AudFault.Full begun.log.end.limit)) }
-    ensures full { IfErr result (λ e. (p : Pending) → IsTrue S.tells → IsPlan p (S.files begun.log.site) runs.now table.now → e.0 ≡ AudFault.Full begun.log.end.limit
+    ensures full { IfErr result (λ e. (p : Pending) → IsTrue S.tells → IsPlan p (S.files begun.log.site) table.now → e.0 ≡ AudFault.Full begun.log.end.limit
         → (e.1.end.used ≡ 0) × (10000 + begun.log.end.limit < e.1.end.file)) }
-    ensures ends { IfErr result (λ e. (p : Pending) → IsTrue S.tells → IsPlan p (S.files begun.log.site) runs.now table.now → EndsSealed (view_of S.Site begun.log)
+    ensures ends { IfErr result (λ e. (p : Pending) → IsTrue S.tells → IsPlan p (S.files begun.log.site) table.now → EndsSealed (view_of S.Site begun.log)
         → e.0 ≡ AudFault.Full begun.log.end.limit → Ends (view_of S.Site e.1)) }
-    ensures part { IfErr result (λ e. (p : Pending) → IsTrue S.tells → MayGoOn p (view_of S.Site begun.log) runs.now table.now point next counts.now → e.0 ≡ AudFault.Full begun.log.end.limit
+    ensures part { IfErr result (λ e. (p : Pending) → IsTrue S.tells → MayGoOn p (view_of S.Site begun.log) table.now point next counts.now → e.0 ≡ AudFault.Full begun.log.end.limit
         → SealsPart (view_of S.Site begun.log) (view_of S.Site e.1) (schema_control description.now point next counts.now)) }
     ensures disk { IfErr result (λ e. CountedAt (e.0 ≡ AudFault.Disk) (S.disk_faults begun.log.site) (S.disk_faults e.1.site)) }
     ensures say_faults { IfOk result (λ l. S.say_faults l.site ≡ S.say_faults begun.log.site) }
@@ -67,7 +66,7 @@ pub(crate) fn go_on<S: Site>(
     ensures kind { IfOk result (λ l. IsSameTrail begun.log l) }
     ensures kind_then { IfErr result (λ e. IsSameTrail begun.log e.1) }
 {
-    match begun.restore(runs, table) {
+    match begun.restore(table) {
         Ok(restored) => restored.finish(description, point, next, counts),
         Err(fault) => Err(fault),
     }

@@ -5,20 +5,62 @@ ghost use Rattle.dms_moments.specs.Moments.{Steps};
 ghost use Rattle.dms_site.specs.Files.{Same};
 ghost use Rattle.dms_audfile.specs.Counting.{CountedAt};
 ghost use Rattle.dms_restore.specs.Views.{view_of, LogStarts};
-ghost use Rattle.dms_opening.specs.Openings.{IsTrailFound, NamesStructures, RefusesFiles, IsFullFault};
+ghost use Rattle.dms_opening.specs.Looking.{IsLookedAt};
+ghost use Rattle.dms_opening.specs.Openings.{IsTrailFound, NamesStructures, OpensAt, RunsWhere, ReopensSince, OpeningGrows, RefusesFiles, IsFullFault, HasFullTrail, MayHaveWritten};
 ghost use Rattle.dms_opening.specs.Plans.{IsScanRead, Plans, RefusesPlan};
 ghost use Rattle.dms_opening.specs.Carrying.{IsFitPlan};
 
-use crate::{Found, OpenFault, OpeningPlan, Scanned, prepare};
+use crate::carrying::{carry_out, site_of};
+use crate::{Found, OpenFault, Opened, OpeningPlan, Scanned, prepare};
 use dms_audfile::AudFault;
+use dms_audrec::BeginHow;
 use dms_restore::Log;
 use dms_site::Site;
 use std::alloc::Global;
 
-/// A database that was looked at, and what its opening does.
-pub(crate) struct PlannedOpening<S: Site> {
-    pub(crate) log: Log<S>,
-    pub(crate) plan: OpeningPlan,
+/// A database that was looked at, and what its opening does: nothing was written yet. What has to be refused before the first write is judged here.
+pub struct PlannedOpening<S: Site> {
+    /// The end of its trail, with the trail's first file and its tag.
+    pub log: Log<S>,
+    /// The point, the next number, whether a restore is pending, what is written, the counts and the description.
+    pub plan: OpeningPlan,
+}
+
+impl<S: Site> PlannedOpening<S> {
+    /// The site of a database that was looked at, and isn't opened. Makes no call of it.
+    pub fn into_site(self) -> S
+        ensures { result ≡ self.log.site }
+    {
+        let PlannedOpening { log, plan: _plan } = self;
+        site_of(log)
+    }
+
+    /// Opens a database that was looked at, as its plan says. All that is refused was refused before: it answers Disk where a call of the site failed,
+    /// and Full where the audit has no room.
+    pub fn open(self) -> Result<Opened<S>, (OpenFault, S)>
+        requires ready { IsFitPlan self.plan }
+        requires named { NamesStructures self.plan.schema.items self.plan.counts.items }
+        requires limit { self.log.end.limit ≡ 9999 }
+        ensures opens { IfOk result (λ o. IsTrue S.tells → IsLookedAt S.Site self → OpensAt o.log.end.total o.log.first (S.files self.log.site) o.point o.next o.schema.items o.counts.items) }
+        ensures runs { IfOk result (λ o. IsTrue S.tells → IsLookedAt S.Site self → RunsWhere S.Site (S.files self.log.site) o) }
+        ensures plan { IfOk result (λ o. (o.point ≡ self.plan.choice.point) × (o.next ≡ self.plan.next) × (o.schema ≡ self.plan.schema) × (o.counts ≡ self.plan.counts)) }
+        ensures kind { IfOk result (λ o. (o.log.end.total ≡ self.log.end.total) × (o.log.end.limit ≡ self.log.end.limit) × (o.log.first ≡ self.log.first)) }
+        ensures moments { IfOk result (λ o. IsTrue S.tells → IsLookedAt S.Site self → ReopensSince S.Site self.log.site o.log.site) }
+        ensures stopped { IfErr result (λ e. IsTrue S.tells → IsLookedAt S.Site self → ReopensSince S.Site self.log.site e.1) }
+        ensures only { IfErr result (λ e. IsTrue S.tells → IsLookedAt S.Site self → MayHaveWritten e.0) }
+        ensures full { IfErr result (λ e. IsTrue S.tells → IsLookedAt S.Site self → IsFullFault e.0 → HasFullTrail (S.files self.log.site) (S.files e.1)) }
+        ensures grows { IfOk result (λ o. IsTrue S.tells → IsLookedAt S.Site self → OpeningGrows S.Site self.log.site o.log.site) }
+        ensures grows_then { IfErr result (λ e. IsTrue S.tells → IsLookedAt S.Site self → OpeningGrows S.Site self.log.site e.1) }
+        ensures same { IfOk result (λ o. S.same_site self.log.site o.log.site) }
+        ensures same_then { IfErr result (λ e. S.same_site self.log.site e.1) }
+        ensures said { IfOk result (λ o. S.said o.log.site ≡ S.said self.log.site) }
+        ensures said_then { IfErr result (λ e. S.said e.1 ≡ S.said self.log.site) }
+        ensures clean { IfOk result (λ o. (S.disk_faults o.log.site ≡ S.disk_faults self.log.site) × (S.say_faults o.log.site ≡ S.say_faults self.log.site)) }
+        ensures disk { IfErr result (λ e. CountedAt (e.0 ≡ OpenFault.Audit AudFault.Disk) (S.disk_faults self.log.site) (S.disk_faults e.1)) }
+        ensures say_faults { IfErr result (λ e. S.say_faults e.1 ≡ S.say_faults self.log.site) }
+    {
+        carry_out(self, BeginHow::HaltLoad)
+    }
 }
 
 /// Plans the opening of a trail that was scanned. Nothing changes.
@@ -66,10 +108,9 @@ pub(crate) fn plan_scanned<S: Site>(
 }
 
 /// Scans the trail of the files that were found, and plans their opening. Nothing changes.
-pub(crate) fn look<S: Site>(
-    alloc: Global,
-    found: Found<S>,
-) -> Result<PlannedOpening<S>, (OpenFault, S)>
+///
+/// Answers the first refusal of the trail and of its points, Disk where a call of the site failed, and Memory.
+pub fn look<S: Site>(alloc: Global, found: Found<S>) -> Result<PlannedOpening<S>, (OpenFault, S)>
     ensures starts { IfOk result (λ p. IsTrue S.tells → LogStarts (view_of S.Site p.log)) }
     ensures trail { IfOk result (λ p. IsTrue S.tells → IsTrailFound p.log.end.total p.log.first (S.files found.site)) }
     ensures plans { IfOk result (λ p. IsTrue S.tells → Plans p.log.end.total p.log.first (S.files found.site) p.plan) }

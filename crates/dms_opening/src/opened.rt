@@ -12,9 +12,9 @@ ghost use Rattle.dms_wal.specs.Marks.{IsDescription};
 ghost use Rattle.dms_opening.specs.Openings.{NamesStructures, OpensAt, RunsFrom, RunsWhere, OpenedRuns, ReopensSince, TellsOpened, RefusesFiles, IsFullFault, HasFullTrail, OpeningGrows, CanOpen, StaysUnopened, MayHaveWritten, IsOpenable, IsNoRefusal};
 
 use crate::carrying::{carry_out, site_of};
-use crate::looking::look;
-use crate::{Found, OpenFault};
+use crate::{Found, OpenFault, look};
 use dms_audfile::AudFault;
+use dms_audrec::BeginHow;
 use dms_base::Memory;
 use dms_restore::Log;
 use dms_site::Site;
@@ -32,12 +32,14 @@ pub struct Opened<S: Site> {
     /// The number of the next quiet point, and of the last point.
     pub next: u64,
     pub point: u64,
+    /// The number, from 1 on, of the audit file in which the Schema was sealed with which it was opened. The tag of the trail is that of its end.
+    pub audit: u32,
 }
 
 /// Opens the database of the files that were found: begins a restore by halt/load to the last point, or goes on with the restore that is
 /// pending, and ends it. The audit may go on up to file 9,999 meanwhile.
 ///
-/// Answers the first refusal of the trail and of its points, before anything is written, Disk where a call of the site failed, Full where the
+/// Answers the first refusal of the trail, of a restore that is pending and of the last point, before anything is written, Disk where a call of the site failed, Full where the
 /// audit has no room, and Memory, before anything is written.
 pub fn open<S: Site>(alloc: Global, found: Found<S>) -> Result<Opened<S>, (OpenFault, S)>
     ensures opens { IfOk result (λ o. IsTrue S.tells → OpensAt o.log.end.total o.log.first (S.files found.site) o.point o.next o.schema.items o.counts.items) }
@@ -64,7 +66,7 @@ pub fn open<S: Site>(alloc: Global, found: Found<S>) -> Result<Opened<S>, (OpenF
     ensures say_faults { IfErr result (λ e. S.say_faults e.1 ≡ S.say_faults found.site) }
 {
     match look(alloc, found) {
-        Ok(planned) => carry_out(planned),
+        Ok(planned) => carry_out(planned, BeginHow::HaltLoad),
         Err(refused) => Err(refused),
     }
 }
@@ -98,6 +100,7 @@ impl<S: Site> Opened<S> {
             counts,
             next,
             point,
+            audit: _,
         } = self;
         let marks = match counts.to_vec(alloc) {
             Ok(marks) => marks,

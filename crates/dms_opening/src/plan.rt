@@ -1,6 +1,6 @@
-//! What an opening does, and what it needs, before its first write.
+//! What is done for what is asked, and what it needs, before its first write.
 
-ghost use Rattle.std.specs.Prelude.{◌≡◌, ◌≤◌, ◌⊎◌, ℕ, Some, length, IfOk, IfErr, IsErrOf, IsTrue};
+ghost use Rattle.std.specs.Prelude.{◌≡◌, ◌≤◌, ◌⊎◌, ℕ, [], Some, length, if◌then◌else◌, IfOk, IfErr, IsErrOf, IsTrue};
 ghost use Rattle.dms_site.specs.Files.{Files};
 ghost use Rattle.dms_history.specs.EntryEvents.{live_of};
 ghost use Rattle.dms_history.specs.History.{Pending};
@@ -10,30 +10,33 @@ ghost use Rattle.dms_history.specs.SchemaAt.{schema_at};
 ghost use Rattle.dms_audfile.specs.Counting.{CountedAt};
 ghost use Rattle.dms_audfile.specs.Reads.{ReadsAlone};
 ghost use Rattle.dms_audfile.specs.TrailEntries.{trail_entries};
-ghost use Rattle.dms_restore.specs.Counts.{count_of};
-ghost use Rattle.dms_opening.specs.PointCounts.{AllAtMost};
-ghost use Rattle.dms_opening.specs.Starts.{TracesOpening};
-ghost use Rattle.dms_restore.specs.Table.{AreBlocks, IsTable};
-ghost use Rattle.dms_opening.specs.Plans.{IsTrailRead, CannotDescribe, HasNoDescriptionAt, IsPlainFault, Plans, FitsOpening, RefusesPlan};
+ghost use Rattle.dms_restore.specs.Counts.{count_of, AllAtMost};
+ghost use Rattle.dms_restore.specs.Table.{AreBlocks, AreRuns, IsPlan};
+ghost use Rattle.dms_opening.specs.DumpLooks.{IsFitFound, IsFoundFor};
+ghost use Rattle.dms_opening.specs.Starts.{TracesDone};
+ghost use Rattle.dms_opening.specs.Plans.{IsTrailRead, CannotDescribe, HasNoDescriptionAt, IsPlainFault, AreFoundFor, Plans, PlansFor, FitsOpening, RefusesFor, RefusesPlan};
 
+use crate::asked::Asked;
 use crate::choosing::{Choice, OpenFault, choose};
 use crate::describing::{read_schema, schema_span};
-use crate::preparing::{opening_table, pending_counts};
+use crate::dump_looks::{DumpFound, find_begun};
+use crate::preparing::{begin_where, pending_counts, pending_table};
 use dms_audfile::{AudFault, EntryPlace};
+use dms_history::Row;
 use dms_history::laws::points_have_schemas;
-use dms_restore::{Told, TrailHistory, TrailTrace};
+use dms_restore::{RestoreTable, TrailHistory, TrailTrace};
 use dms_site::Site;
 use std::alloc::Global;
 
-/// What an opening does, and what it needs, before its first write.
+/// What is done for what is asked, and what it needs, before its first write.
 #[derive(Drop)]
 pub struct OpeningPlan {
     pub choice: Choice,
     /// The next number.
     pub next: u64,
-    /// What the audit tells of each block at the point of the restore.
-    pub table: Vec<Told>,
-    /// How many blocks each of the files 30,001 to 30,200 has there.
+    /// What the restore writes.
+    pub table: RestoreTable,
+    /// How many blocks each of the files 30,001 to 30,200 has at its point.
     pub counts: Vec<u32>,
     /// The bytes of the description there.
     pub schema: Vec<u8>,
@@ -87,7 +90,7 @@ fn read_description<S: Site>(
     }
 }
 
-/// What an opening's restore writes, and how many blocks each of the files 30,001 to 30,200 has at its point.
+/// What a restore writes, and how many blocks each of the files 30,001 to 30,200 has at its point. `found` is what its dump is found to be.
 ///
 /// Nothing changes. Answers Disk where a call of the site failed, and Memory, of a trail that was scanned.
 fn prepare_restore<S: Site>(
@@ -95,30 +98,105 @@ fn prepare_restore<S: Site>(
     site: &mut S,
     choice: &Choice,
     history: TrailHistory,
-) -> Result<(Vec<Told>, Vec<u32>), OpenFault>
-    ensures blocks { IfOk result (λ x. AreBlocks x.0.items) }
-    ensures table { IfOk result (λ x. (files : Files) (p : Pending) → TracesOpening files history choice.now p → IsTable p.entries p.point files x.0.items) }
-    ensures counts { IfOk result (λ x. IsTrue S.tells → (p : Pending) → TracesOpening (S.files site.old) history choice.now p
+    asked: Asked,
+    rows: &[Row],
+    found: &DumpFound,
+) -> Result<(RestoreTable, Vec<u32>), OpenFault>
+    requires fit { IsFitFound found.now }
+    ensures runs { IfOk result (λ x. AreRuns x.0.runs.items) }
+    ensures blocks { IfOk result (λ x. AreBlocks x.0.told.items) }
+    ensures plan { IfOk result (λ x. IsTrue S.tells → (p : Pending) → TracesDone (S.files site.old) history asked rows.now choice.now p
+        → (files : Files) → TracesDone files history asked rows.now choice.now p → IsFoundFor files p.how found.now → IsPlan p files x.0) }
+    ensures counts { IfOk result (λ x. IsTrue S.tells → (p : Pending) → TracesDone (S.files site.old) history asked rows.now choice.now p
         → (f : ℕ) → count_of x.1.items f ≡ count_at p.entries p.point f) }
     ensures size { IfOk result (λ x. length x.1.items ≡ 200) }
     ensures small { IfOk result (λ x. AllAtMost x.1.items) }
-    ensures only { IfErr result (λ e. IsTrue S.tells → (p : Pending) → TracesOpening (S.files site.old) history choice.now p → IsPlainFault e) }
+    ensures only { IfErr result (λ e. IsTrue S.tells → (p : Pending) → TracesDone (S.files site.old) history asked rows.now choice.now p → IsPlainFault e) }
     ensures reads { ReadsAlone S.Site site.old site.new }
     ensures same_site { S.same_site site.old site.new }
     ensures disk { CountedAt (IsErrOf result (OpenFault.Audit AudFault.Disk)) (S.disk_faults site.old) (S.disk_faults site.new) }
 {
     let mut history = history;
-    let table = match opening_table(&mut history, alloc, choice) {
-        Ok(table) => table,
+    match begin_where(&mut history, alloc, choice, asked, rows) {
+        Ok(()) => {}
+        Err(_) => return Err(OpenFault::Audit(AudFault::Memory)),
+    }
+    let counts = match pending_counts(&history, alloc, site) {
+        Ok(counts) => counts,
         Err(fault) => return Err(OpenFault::Audit(fault)),
     };
-    match pending_counts(&history, alloc, site) {
-        Ok(counts) => Ok((table, counts)),
+    match pending_table(&history, alloc, &counts, found) {
+        Ok(table) => Ok((table, counts)),
         Err(fault) => Err(OpenFault::Audit(fault)),
     }
 }
 
-/// What an opening does, and what it needs, of a trail that begins with file `first` and was scanned.
+/// What the dump of the restore is found to be that begins or goes on.
+fn found_for<'a>(choice: &Choice, begun: &'a DumpFound, look: &'a DumpFound) -> &'a DumpFound
+    ensures { result.now ≡ (if choice.now.begins then look.now else begun.now) }
+{
+    if choice.begins { look } else { begun }
+}
+
+/// What is done for what is asked of a trail that begins with file `first` and was scanned, and what it needs. `rows` are those of a reconstruction,
+/// `begun` is what the dump of the restore that is pending is found to be, and `look` the dump that is asked for.
+///
+/// Nothing changes. Answers the first refusal of what is asked, Damaged of file `first` where the Schema at the point has no byte or more than
+/// 65,535, Disk where a call of the site failed, and Memory.
+pub fn prepare_asked<S: Site>(
+    alloc: Global,
+    site: &mut S,
+    first: u32,
+    places: &[EntryPlace],
+    trace: TrailTrace,
+    asked: Asked,
+    rows: &[Row],
+    begun: &DumpFound,
+    look: &DumpFound,
+) -> Result<OpeningPlan, OpenFault>
+    requires low { 10001 ≤ first }
+    requires begun { IsFitFound begun.now }
+    requires look { IsFitFound look.now }
+    ensures plans { IfOk result (λ plan. IsTrue S.tells → (total : ℕ) → AreFoundFor total first (S.files site.old) places.now trace asked begun.now look.now
+        → PlansFor total first (S.files site.old) asked rows.now plan) }
+    ensures fit { IfOk result FitsOpening }
+    ensures refused { IfErr result (λ e. IsTrue S.tells → (total : ℕ) → AreFoundFor total first (S.files site.old) places.now trace asked begun.now look.now
+        → RefusesFor total first (S.files site.old) asked e) }
+    ensures reads { ReadsAlone S.Site site.old site.new }
+    ensures same_site { S.same_site site.old site.new }
+    ensures disk { CountedAt (IsErrOf result (OpenFault.Audit AudFault.Disk)) (S.disk_faults site.old) (S.disk_faults site.new) }
+{
+    let choice = match choose(
+        &trace.history,
+        alloc,
+        first,
+        asked,
+        begun.look(),
+        look.look(),
+    ) {
+        Ok(choice) => choice,
+        Err(fault) => return Err(fault),
+    };
+    let schema = match read_description(alloc, site, first, places, &trace, choice.point) {
+        Ok(schema) => schema,
+        Err(fault) => return Err(fault),
+    };
+    let next = trace.history.next;
+    let found = found_for(&choice, begun, look);
+    match prepare_restore(alloc, site, &choice, trace.history, asked, rows, found) {
+        Ok((table, counts)) => Ok(OpeningPlan {
+            choice,
+            next,
+            table,
+            counts,
+            schema,
+        }),
+        Err(fault) => Err(fault),
+    }
+}
+
+/// What an opening does, and what it needs, of a trail that begins with file `first` and was scanned. The dump of a restore that is pending is looked
+/// at.
 ///
 /// Nothing changes. Answers the first refusal by the pending restore and the last point, Damaged of file `first` where the Schema at the
 /// point has no byte or more than 65,535, Disk where a call of the site failed, and Memory.
@@ -137,23 +215,23 @@ pub fn prepare<S: Site>(
     ensures same_site { S.same_site site.old site.new }
     ensures disk { CountedAt (IsErrOf result (OpenFault.Audit AudFault.Disk)) (S.disk_faults site.old) (S.disk_faults site.new) }
 {
-    let choice = match choose(&trace.history, alloc, first) {
-        Ok(choice) => choice,
-        Err(fault) => return Err(fault),
+    let begun = match find_begun(alloc, site, &trace.history) {
+        Ok(begun) => begun,
+        Err(fault) => return Err(OpenFault::Audit(fault)),
     };
-    let schema = match read_description(alloc, site, first, places, &trace, choice.point) {
-        Ok(schema) => schema,
-        Err(fault) => return Err(fault),
-    };
-    let next = trace.history.next;
-    match prepare_restore(alloc, site, &choice, trace.history) {
-        Ok((table, counts)) => Ok(OpeningPlan {
-            choice,
-            next,
-            table,
-            counts,
-            schema,
-        }),
-        Err(fault) => Err(fault),
-    }
+    let none = DumpFound::Missing;
+    let planned = prepare_asked(
+        alloc,
+        site,
+        first,
+        places,
+        trace,
+        Asked::HaltLoad,
+        &[],
+        &begun,
+        &none,
+    );
+    begun.let_go();
+    none.let_go();
+    planned
 }

@@ -8,8 +8,8 @@ ghost use Rattle.dms_audrec.specs.Reading.{counts_at};
 ghost use Rattle.dms_audrec.specs.Spelling.{counts_rise};
 ghost use Rattle.dms_audfile.specs.Counting.{CountedAt};
 ghost use Rattle.dms_audfile.specs.Reads.{ReadsAlone};
-ghost use Rattle.dms_restore.specs.Counts.{count_of};
-ghost use Rattle.dms_opening.specs.PointCounts.{AllAtMost, HasNoCounts, HasNoCount, IsNoCount, IsNoCountAmong};
+ghost use Rattle.dms_restore.specs.Counts.{count_of, AllAtMost};
+ghost use Rattle.dms_opening.specs.PointCounts.{HasNoCounts, HasNoCount, IsNoCount, IsNoCountAmong};
 ghost use Rattle.dms_restore.specs.LiveEntries.{events_at};
 ghost use Rattle.dms_restore.specs.declared.live.LiveEntry.TheVariants.{Changed};
 

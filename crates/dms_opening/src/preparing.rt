@@ -1,23 +1,31 @@
-//! What an opening needs of a trail before its first write.
+//! What is needed of a trail before the first write.
 
-ghost use Rattle.std.specs.Prelude.{◌≡◌, ◌≤◌, ◌⊎◌, ℕ, Some, min, length, OnOk, IfOk, IfErr, IsErrOf, IsTrue};
+ghost use Rattle.std.specs.Prelude.{◌≡◌, ◌≤◌, ◌⊎◌, ℕ, List, Some, min, length, OnOk, IfOk, IfErr, IsErrOf, IsTrue};
 ghost use Rattle.dms_site.specs.Files.{Files};
+ghost use Rattle.dms_history.specs.Entries.{how_of};
 ghost use Rattle.dms_history.specs.History.{Pending};
 ghost use Rattle.dms_history.specs.Pick.{count_at};
+ghost use Rattle.dms_history.specs.declared.event.Row as named;
 ghost use Rattle.dms_audfile.specs.Counting.{CountedAt};
 ghost use Rattle.dms_audfile.specs.Reads.{ReadsAlone};
-ghost use Rattle.dms_restore.specs.Counts.{count_of};
-ghost use Rattle.dms_opening.specs.PointCounts.{AllAtMost, IsNoCountAmong};
+ghost use Rattle.dms_restore.specs.Counts.{count_of, AllAtMost};
 ghost use Rattle.dms_restore.specs.declared.live.PendingAt as at;
 ghost use Rattle.dms_restore.specs.Named.{HasNoBlock};
-ghost use Rattle.dms_opening.specs.Starts.{TracesPending, TracesOpening};
-ghost use Rattle.dms_restore.specs.Table.{AreBlocks, IsTable};
+ghost use Rattle.dms_restore.specs.Planned.{AreCountsAt};
+ghost use Rattle.dms_restore.specs.Table.{AreBlocks, AreRuns, IsPlan};
+ghost use Rattle.dms_restore.specs.Tracing.{MatchesHow, TracesPending};
+ghost use Rattle.dms_opening.specs.Doing.{kind_asked};
+ghost use Rattle.dms_opening.specs.DumpLooks.{IsFitFound, IsFoundFor};
+ghost use Rattle.dms_opening.specs.PointCounts.{IsNoCountAmong};
+ghost use Rattle.dms_opening.specs.Starts.{TracesDone};
 
+use crate::asked::Asked;
 use crate::choosing::Choice;
-use crate::pending::pending_table;
+use crate::dump_looks::DumpFound;
 use crate::point_counts::counts_after;
 use dms_audfile::AudFault;
-use dms_restore::{HowAt, PendingAt, Told, TrailHistory};
+use dms_history::Row;
+use dms_restore::{HowAt, PendingAt, RestoreTable, TrailHistory, plan_of};
 use dms_site::Site;
 use std::alloc::{AllocError, Global};
 
@@ -32,36 +40,34 @@ fn kept_of(pending: Option<PendingAt>, live: usize) -> usize
     }
 }
 
-/// Adds the Begin of a restore that an opening begins.
-fn begin_where(history: &mut TrailHistory, alloc: Global, choice: &Choice) -> Result<(), AllocError>
-    ensures { OnOk result ((files : Files) (p : Pending) → TracesOpening files history.old choice.now p → TracesPending files history.new p) }
+/// How the restore goes that is asked for.
+fn how_asked(asked: Asked) -> HowAt
+    ensures { (rows : List named.Row) → MatchesHow result rows (how_of (kind_asked asked rows)) }
 {
-    if choice.begins {
-        history.begin(alloc, choice.point, HowAt::HaltLoad)
-    } else {
-        Ok(())
+    match asked {
+        Asked::HaltLoad => HowAt::HaltLoad,
+        Asked::Rollback(_) => HowAt::Rollback,
+        Asked::Rebuild(dump, _) => HowAt::Rebuild(dump),
+        Asked::Reconstruct(dump) => HowAt::Reconstruct(dump),
     }
 }
 
-/// The table of the restore that an opening begins or goes on with. The Begin of one that it begins is added to what is kept.
-///
-/// Answers Memory, and Damaged where an Image isn't of a block of a structure file, which is so of no trail that was scanned.
-pub(crate) fn opening_table(
+/// Adds the Begin of the restore that is asked for, where it begins.
+pub(crate) fn begin_where(
     history: &mut TrailHistory,
     alloc: Global,
     choice: &Choice,
-) -> Result<Vec<Told>, AudFault>
-    ensures blocks { IfOk result (λ v. AreBlocks v.items) }
-    ensures table { IfOk result (λ v. (files : Files) (p : Pending) → TracesOpening files history.old choice.now p → IsTable p.entries p.point files v.items) }
-    ensures traces { OnOk result ((files : Files) (p : Pending) → TracesOpening files history.old choice.now p → TracesPending files history.new p) }
-    ensures only { IfErr result (λ e. (e ≡ AudFault.Memory) ⊎ HasNoBlock history.new.live.items history.new.removed.items e) }
-    ensures memory { IfErr result (λ e. (files : Files) (p : Pending) → TracesOpening files history.old choice.now p → e ≡ AudFault.Memory) }
+    asked: Asked,
+    rows: &[Row],
+) -> Result<(), AllocError>
+    ensures { OnOk result ((files : Files) (p : Pending) → TracesDone files history.old asked rows.now choice.now p → TracesPending files history.new p) }
 {
-    match begin_where(history, alloc, choice) {
-        Ok(()) => {}
-        Err(_) => return Err(AudFault::Memory),
+    if choice.begins {
+        let rows = rows.to_vec(alloc)?;
+        history.begin(alloc, choice.point, how_asked(asked), rows)
+    } else {
+        Ok(())
     }
-    pending_table(history, alloc)
 }
 
 /// How many blocks each of the files 30,001 to 30,200 has at the point of the pending restore, in a table of 200 files.
@@ -83,4 +89,27 @@ pub(crate) fn pending_counts<S: Site>(
 {
     let kept = kept_of(history.pending, history.live.len());
     counts_after(alloc, site, &history.live[..kept])
+}
+
+/// What the restore that is pending writes, by what its dump is found to be. Reads no file. Answers Memory, of a trail that was scanned.
+pub(crate) fn pending_table(
+    history: &TrailHistory,
+    alloc: Global,
+    counts: &[u32],
+    found: &DumpFound,
+) -> Result<RestoreTable, AudFault>
+    requires small { AllAtMost counts.now }
+    requires fit { IsFitFound found.now }
+    ensures runs { IfOk result (λ t. AreRuns t.runs.items) }
+    ensures blocks { IfOk result (λ t. AreBlocks t.told.items) }
+    ensures plan { IfOk result (λ t. (files : Files) (p : Pending) → TracesPending files history.now p → AreCountsAt counts.now p → IsFoundFor files p.how found.now → IsPlan p files t) }
+    ensures memory { IfErr result (λ e. (files : Files) (p : Pending) → TracesPending files history.now p → e ≡ AudFault.Memory) }
+    ensures only { IfErr result (λ e. (e ≡ AudFault.Memory) ⊎ HasNoBlock history.now.live.items history.now.removed.items e) }
+{
+    match found {
+        DumpFound::Sealed(head) => plan_of(alloc, history, counts, Some(head)),
+        DumpFound::Missing => plan_of(alloc, history, counts, None),
+        DumpFound::Unsealed => plan_of(alloc, history, counts, None),
+        DumpFound::Damaged => plan_of(alloc, history, counts, None),
+    }
 }

@@ -35,12 +35,11 @@ use Rattle.dms_audfile.specs.TrailEntries.{trail_entries}
 use Rattle.dms_audfile.proofs.Again.{found_are_entries}
 use Rattle.dms_audfile.proofs.Kept.{found_is_kept}
 use Rattle.dms_audfile.proofs.There.{entries_are_there}
-use Rattle.dms_running.specs.FromDumps.{NoDumpPending}
+use Rattle.dms_running.specs.FromDumps.{DumpsInOrder}
 use Rattle.dms_running.specs.Standing.{IsWhole}
-use Rattle.dms_running.proofs.FromDumps.{no_dump_order}
 use Rattle.dms_running.specs.Points.{points_of}
 use Rattle.dms_running.proofs.Wholes.{agrees_whole}
-use Rattle.dms_restore.specs.Dumped.{dumps_of}
+use Rattle.dms_restore.specs.Dumped.{IsDumpFound, dumps_of}
 use Rattle.dms_restore.specs.Finding.{IsFoundFrom}
 use Rattle.dms_restore.specs.Logging.{telling_of}
 use Rattle.dms_run.specs.State.{StateOf}
@@ -134,7 +133,7 @@ module _ (files : Files) (n : ℕ) (desc : Described) (db : Db) (s : StateOf fil
 
   whole : IsWhole (telling_of total first) files
   whole = agrees_whole (telling_of total first) files found agrees (has_front (is_point n) is_described live lives.described)
-      (λ p is. (pending_cuts (events all) p (alone_events all agrees.alone) is).lives n lives) images sized (no_dump_order (λ d. ⊥) (dumps_of files) (history_of all).pending (subst NoDumpPending same s.at_point.no_dump))
+      (λ p is. (pending_cuts (events all) p (alone_events all agrees.alone) is).lives n lives) images sized (subst (λ (es : List Entry). DumpsInOrder (IsDumpFound first files) (dumps_of files) (history_of es).pending) same s.at_point.order)
 
   top : (m : ℕ) → IsLive live m → m ≤ n
   top m at =

@@ -18,13 +18,13 @@ use Rattle.dms_history.proofs.Order.{last_lives}
 use Rattle.dms_model.specs.Db.{Db}
 use Rattle.dms_running.specs.Standing.{IsWhole}
 use Rattle.dms_running.specs.Points.{DescribedPoint, described_in, points_of}
-use Rattle.dms_running.proofs.FromDumps.{no_dump_found}
+use Rattle.dms_running.specs.FromDumps.{DumpsInOrder}
 use Rattle.dms_running.proofs.Described.{schema_there}
 use Rattle.dms_running.proofs.Wholes.{whole_agrees}
 use Rattle.dms_site.specs.Files.{Files, stored_of}
 use Rattle.dms_store.specs.Spelled.{database_in}
 use Rattle.dms_audfile.specs.TrailEntries.{trail_entries}
-use Rattle.dms_restore.specs.Dumped.{dumps_of}
+use Rattle.dms_restore.specs.Dumped.{IsDumpFound, dumps_of}
 use Rattle.dms_restore.specs.Logging.{telling_of}
 use Rattle.dms_run.specs.State.{StateAt}
 use Rattle.dms_run.specs.Files.{StandsLaw}
@@ -91,12 +91,15 @@ module _ (total first : ℕ) (files : Files) (desc : Described) (well : IsWellFo
   agrees : Agrees (w.found.finds.trail.first == 10001) entries (dumps_of files) (stored_of files)
   agrees = subst (λ (k : ℕ). Agrees (k == 10001) entries (dumps_of files) (stored_of files)) (sym w.found.first_is) (whole_agrees (telling_of total first) files w)
 
+  order : DumpsInOrder (IsDumpFound w.found.finds.trail.first files) (dumps_of files) (history_of entries).pending
+  order = subst (λ (k : ℕ). DumpsInOrder (IsDumpFound k files) (dumps_of files) (history_of entries).pending) (sym w.found.first_is) w.order
+
   -- what the entries tell at a point
   abbrev pub TellsAt : ℕ → Db → Type 0
   TellsAt n db = IsLive live n × (schema_at entries n ≡ Some (spelling desc)) × (database_in desc (blocks_at live counted n) ≡ Some db)
 
   abbrev state_by : (n : ℕ) (db : Db) → TellsAt n db → StateAt files n desc db
-  state_by n db t = record { entries = entries; finds = w.found.finds; agrees = agrees; no_dump = no_dump_found (λ d. ⊥) (dumps_of files) (history_of entries).pending (λ d x. x) w.order; lives = t.0; described = t.1; well_formed = well; spells = t.2 }
+  state_by n db t = record { entries = entries; finds = w.found.finds; agrees = agrees; order = order; lives = t.0; described = t.1; well_formed = well; spells = t.2 }
 
   module _ (front after : List DescribedPoint) (p : DescribedPoint) (n : ℕ) (db : Db) (are : points_of (telling_of total first) files ≡ front ++ p ∷ after) (number : p.number ≡ n) (schema : p.schema ≡ spelling desc)
       (spells : database_in desc p.blocks ≡ Some db) where

@@ -15,17 +15,17 @@ use Rattle.dms_history.specs.Places.{IsLive}
 use Rattle.dms_history.specs.SchemaAt.{schema_at}
 use Rattle.dms_audfile.specs.Header.{tag_said}
 use Rattle.dms_audfile.specs.ScanLaws.{IsFoundWith}
-use Rattle.dms_running.specs.FromDumps.{NoDumpPending}
-use Rattle.dms_restore.specs.Dumped.{dumps_of}
+use Rattle.dms_running.specs.FromDumps.{DumpsInOrder}
+use Rattle.dms_restore.specs.Dumped.{IsDumpFound, dumps_of}
 
 -- At their live point n the files stand for this database under this description: scanning refuses nothing, the entries agree with
 -- the dumps and the structure files, the description is that of the last whole live Schema before the place of n, and it is
--- well-formed, and the blocks at n spell the database. No restore by a dump is pending.
+-- well-formed, and the blocks at n spell the database. Where a restore by a dump is pending, that dump is in order.
 pub record StateAt (files : Files) (n : ℕ) (desc : Described) (db : Db) : Type 0 where
   pub entries : List Entry
   pub finds : IsFoundWith entries files
   pub agrees : Agrees (finds.trail.first == 10001) entries (dumps_of files) (stored_of files)
-  pub no_dump : NoDumpPending entries
+  pub order : DumpsInOrder (IsDumpFound finds.trail.first files) (dumps_of files) (history_of entries).pending
   pub lives : IsLive (live_of entries) n
   pub described : schema_at entries n ≡ Some (spelling desc)
   pub well_formed : IsWellFormed desc

@@ -1,9 +1,9 @@
 -- What an input has to do with the end of a run, by where the status comes from.
-use Rattle.std.proofs.Common.{ℕ, ◌≡◌, ◌⊎◌, ◌∙◌, inl, inr, List, Option, Some, sym, subst}
+use Rattle.std.proofs.Common.{ℕ, ◌+◌, ◌≡◌, ◌⊎◌, ◌∙◌, inl, inr, List, Option, Some, sym, subst}
 use Rattle.std.specs.Prelude.{nat_le}
 use Rattle.dms_audfile.specs.declared.fault.AudFault.TheVariants as aud
 use Rattle.dms_opening.specs.declared.choosing.OpenFault.{OpenFault}
-use Rattle.dms_opening.specs.declared.choosing.OpenFault.TheVariants.{Audit, NoSuchPoint, Voided, ByDump}
+use Rattle.dms_opening.specs.declared.choosing.OpenFault.TheVariants.{Audit, NoSuchPoint, Voided, DumpMissing, DumpUnsealed, DumpDamaged, DumpLater}
 use Rattle.dms_runner.specs.Running.{FitsScript, HasTooManyBytes, HasTooManyLines, InputBreaks}
 use Rattle.dms_runner.specs.declared.run.RunFault.{RunFault}
 use Rattle.dms_runner.specs.declared.run.RunFault.TheVariants as run
@@ -60,7 +60,10 @@ open_limit (Audit (aud.Damaged f b)) k e = absurd (damage_is (nat_le f 30000) f 
 open_limit (Audit aud.Memory) k e = absurd cc
 open_limit (NoSuchPoint n) k e = absurd cc
 open_limit (Voided n) k e = absurd cc
-open_limit (ByDump d) k e = absurd cc
+open_limit (DumpMissing d) k e = absurd cc
+open_limit (DumpUnsealed d) k e = absurd cc
+open_limit (DumpDamaged d) k e = absurd (damage_is (nat_le (20000 + d) 30000) (20000 + d) 0 (λ x. x ≡ Limit k → ⊥) (λ e. absurd cc) (λ e. absurd cc) e)
+open_limit (DumpLater d n) k e = absurd cc
 
 pub blames_opening : {left left' : Option (List ℕ)} (fault : OpenFault) (s : Status) → s ≡ open_status fault → BlamesInput left left' s
 blames_opening {left} {left'} fault s is = subst (BlamesInput left left') (sym is) (blames_none (open_ok fault) (open_limit fault limit.Lines) (open_limit fault limit.Bytes) (open_input fault))

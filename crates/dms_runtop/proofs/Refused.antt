@@ -1,11 +1,11 @@
 -- What an opening's refusal leaves.
-use Rattle.std.proofs.Common.{ℕ, ◌≡◌, ◌⊎◌, inl, inr, Bool, true, false, cond, refl, sym, ap, subst, arith}
+use Rattle.std.proofs.Common.{ℕ, ◌+◌, ◌≡◌, ◌⊎◌, inl, inr, Bool, true, false, cond, refl, sym, ap, subst, arith}
 use Rattle.std.specs.Prelude.{nat_le}
 use Rattle.std.proofs.lemmas.Bool.Decides.{nat_tests}
 use Rattle.dms_audfile.specs.Counting.{CountedAt}
 use Rattle.dms_audfile.specs.declared.fault.AudFault.TheVariants as aud
 use Rattle.dms_opening.specs.declared.choosing.OpenFault.{OpenFault}
-use Rattle.dms_opening.specs.declared.choosing.OpenFault.TheVariants.{Audit, NoSuchPoint, Voided, ByDump}
+use Rattle.dms_opening.specs.declared.choosing.OpenFault.TheVariants.{Audit, NoSuchPoint, Voided, DumpMissing, DumpUnsealed, DumpDamaged, DumpLater}
 use Rattle.dms_opening.specs.Openings.{MayHaveWritten, IsNoRefusal}
 use Rattle.dms_status.specs.declared.status.Status.{Status}
 use Rattle.dms_status.specs.declared.status.Status.TheVariants.{Ok, BadWords, SchemaRefused, NoDatabase, Needed, InputFault, Memory, Limit, Damaged, SayFault, DiskFault, Exists}
@@ -66,6 +66,13 @@ pub of_run : (s : Status) → (s ≡ Ok) ⊎ IsOfScript s → IsOfRun s
 of_run s (inl ok) = subst IsOfRun (sym ok) ok_of_run
 of_run s (inr of) = script_of_run s of
 
+damaged_of_run : (f b : ℕ) → IsOfRun (open_status (Audit (aud.Damaged f b)))
+damaged_of_run f b = by_test (nat_le f 30000) refl
+  where
+    by_test : (t : Bool) → nat_le f 30000 ≡ t → IsOfRun (cond t (Damaged f b) Memory)
+    by_test true is = grind (arith, nat_tests)
+    by_test false is = tt
+
 pub open_of_run : (fault : OpenFault) → IsOfRun (open_status fault)
 open_of_run (Audit aud.NoDatabase) = tt
 open_of_run (Audit aud.Disk) = tt
@@ -73,15 +80,14 @@ open_of_run (Audit (aud.Full k)) = tt
 open_of_run (Audit (aud.Missing k)) = tt
 open_of_run (Audit (aud.Unsealed k)) = tt
 open_of_run (Audit (aud.Foreign k)) = tt
-open_of_run (Audit (aud.Damaged f b)) = by_test (nat_le f 30000) refl
-  where
-    by_test : (t : Bool) → nat_le f 30000 ≡ t → IsOfRun (cond t (Damaged f b) Memory)
-    by_test true is = grind (arith, nat_tests)
-    by_test false is = tt
+open_of_run (Audit (aud.Damaged f b)) = damaged_of_run f b
 open_of_run (Audit aud.Memory) = tt
 open_of_run (NoSuchPoint n) = tt
 open_of_run (Voided n) = tt
-open_of_run (ByDump d) = tt
+open_of_run (DumpMissing d) = tt
+open_of_run (DumpUnsealed d) = tt
+open_of_run (DumpDamaged d) = damaged_of_run (20000 + d) 0
+open_of_run (DumpLater d n) = tt
 
 pub open_disk : (fault : OpenFault) → open_status fault ≡ DiskFault → fault ≡ Audit aud.Disk
 open_disk (Audit aud.NoDatabase) e = absurd cc
@@ -94,7 +100,10 @@ open_disk (Audit (aud.Damaged f b)) e = absurd (damage_is (nat_le f 30000) f b (
 open_disk (Audit aud.Memory) e = absurd cc
 open_disk (NoSuchPoint n) e = absurd cc
 open_disk (Voided n) e = absurd cc
-open_disk (ByDump d) e = absurd cc
+open_disk (DumpMissing d) e = absurd cc
+open_disk (DumpUnsealed d) e = absurd cc
+open_disk (DumpDamaged d) e = absurd (damage_is (nat_le (20000 + d) 30000) (20000 + d) 0 (λ x. x ≡ DiskFault → ⊥) (λ e. absurd cc) (λ e. absurd cc) e)
+open_disk (DumpLater d n) e = absurd cc
 
 pub counts_open : (fault : OpenFault) (a b : ℕ) → CountedAt (fault ≡ Audit aud.Disk) a b → CountedAt (open_status fault ≡ DiskFault) a b
 counts_open fault a b c = record { later = c.later; failed = λ is. c.failed (open_disk fault is); once = c.once; clean = λ none. c.clean (λ is. none (ap open_status is)) }
@@ -110,7 +119,10 @@ open_say (Audit (aud.Damaged f b)) e = absurd (damage_is (nat_le f 30000) f b (�
 open_say (Audit aud.Memory) e = absurd cc
 open_say (NoSuchPoint n) e = absurd cc
 open_say (Voided n) e = absurd cc
-open_say (ByDump d) e = absurd cc
+open_say (DumpMissing d) e = absurd cc
+open_say (DumpUnsealed d) e = absurd cc
+open_say (DumpDamaged d) e = absurd (damage_is (nat_le (20000 + d) 30000) (20000 + d) 0 (λ x. x ≡ SayFault → ⊥) (λ e. absurd cc) (λ e. absurd cc) e)
+open_say (DumpLater d n) e = absurd cc
 
 pub open_input : (fault : OpenFault) → open_status fault ≡ InputFault → ⊥
 open_input (Audit aud.NoDatabase) e = absurd cc
@@ -123,7 +135,10 @@ open_input (Audit (aud.Damaged f b)) e = absurd (damage_is (nat_le f 30000) f b 
 open_input (Audit aud.Memory) e = absurd cc
 open_input (NoSuchPoint n) e = absurd cc
 open_input (Voided n) e = absurd cc
-open_input (ByDump d) e = absurd cc
+open_input (DumpMissing d) e = absurd cc
+open_input (DumpUnsealed d) e = absurd cc
+open_input (DumpDamaged d) e = absurd (damage_is (nat_le (20000 + d) 30000) (20000 + d) 0 (λ x. x ≡ InputFault → ⊥) (λ e. absurd cc) (λ e. absurd cc) e)
+open_input (DumpLater d n) e = absurd cc
 
 pub open_ok : (fault : OpenFault) → open_status fault ≡ Ok → ⊥
 open_ok (Audit aud.NoDatabase) e = absurd cc
@@ -136,4 +151,7 @@ open_ok (Audit (aud.Damaged f b)) e = absurd (damage_is (nat_le f 30000) f b (λ
 open_ok (Audit aud.Memory) e = absurd cc
 open_ok (NoSuchPoint n) e = absurd cc
 open_ok (Voided n) e = absurd cc
-open_ok (ByDump d) e = absurd cc
+open_ok (DumpMissing d) e = absurd cc
+open_ok (DumpUnsealed d) e = absurd cc
+open_ok (DumpDamaged d) e = absurd (damage_is (nat_le (20000 + d) 30000) (20000 + d) 0 (λ x. x ≡ Ok → ⊥) (λ e. absurd cc) (λ e. absurd cc) e)
+open_ok (DumpLater d n) e = absurd cc

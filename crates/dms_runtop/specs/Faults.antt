@@ -1,10 +1,10 @@
 -- The status that each fault ends with.
-use Rattle.std.specs.Prelude.{ℕ, ◌≡◌, ◌⊎◌, nat_lt, nat_le, ◌&&◌, Bool, if◌then◌else◌}
+use Rattle.std.specs.Prelude.{ℕ, ◌+◌, ◌≡◌, ◌⊎◌, nat_lt, nat_le, ◌&&◌, Bool, if◌then◌else◌}
 use Rattle.dms_audfile.specs.declared.fault.AudFault.TheVariants as aud
 use Rattle.dms_block.specs.declared.block_fault.BlockFault.{BlockFault}
 use Rattle.dms_block.specs.declared.block_fault.BlockFault.TheVariants as block
 use Rattle.dms_opening.specs.declared.choosing.OpenFault.{OpenFault}
-use Rattle.dms_opening.specs.declared.choosing.OpenFault.TheVariants.{Audit, NoSuchPoint, Voided, ByDump}
+use Rattle.dms_opening.specs.declared.choosing.OpenFault.TheVariants.{Audit, NoSuchPoint, Voided, DumpMissing, DumpUnsealed, DumpDamaged, DumpLater}
 use Rattle.dms_runner.specs.declared.run.RunFault.{RunFault}
 use Rattle.dms_runner.specs.declared.run.RunFault.TheVariants as run
 use Rattle.dms_status.specs.declared.status.LimitKind.TheVariants as limit
@@ -62,4 +62,7 @@ open_status (Audit (aud.Damaged f b)) = audit_damaged_status f b
 open_status (Audit aud.Memory) = Memory
 open_status (NoSuchPoint n) = Needed (need.NoSuchPoint n)
 open_status (Voided n) = Needed (need.Voided n)
-open_status (ByDump d) = Needed (need.DumpPending d)
+open_status (DumpMissing d) = Needed (need.DumpMissing d)
+open_status (DumpUnsealed d) = Needed (need.DumpUnsealed d)
+open_status (DumpDamaged d) = audit_damaged_status (20000 + d) 0
+open_status (DumpLater d n) = Needed (need.DumpLater d n)

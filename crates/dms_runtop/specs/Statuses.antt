@@ -1,7 +1,7 @@
 -- The statuses of a run, by where they come from.
 use Rattle.std.specs.Prelude.{◌≡◌, ◌<◌, ◌≤◌, ⊤}
 use Rattle.dms_status.specs.declared.status.NeedFault.{NeedFault}
-use Rattle.dms_status.specs.declared.status.NeedFault.TheVariants.{NoDescription, AuditMissing, AuditUnsealed, AuditForeign, NoSuchPoint, Voided, DumpPending}
+use Rattle.dms_status.specs.declared.status.NeedFault.TheVariants.{NoDescription, AuditMissing, AuditUnsealed, AuditForeign, NoSuchPoint, Voided, DumpMissing, DumpUnsealed, DumpLater}
 use Rattle.dms_status.specs.declared.status.LimitKind.{LimitKind}
 use Rattle.dms_status.specs.declared.status.LimitKind.TheVariants.{AuditFile, Lines, Bytes, Held}
 use Rattle.dms_status.specs.declared.status.Status.{Status}
@@ -52,7 +52,9 @@ IsOfOpening (AuditUnsealed k) = ⊤
 IsOfOpening (AuditForeign k) = ⊤
 IsOfOpening (NoSuchPoint n) = ⊤
 IsOfOpening (Voided n) = ⊤
-IsOfOpening (DumpPending d) = ⊤
+IsOfOpening (DumpMissing d) = ⊤
+IsOfOpening (DumpUnsealed d) = ⊤
+IsOfOpening (DumpLater d n) = ⊤
 
 -- the statuses of `run`
 abbrev pub IsOfRun : Status → Type 0

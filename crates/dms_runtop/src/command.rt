@@ -56,6 +56,7 @@ fn site_of<S: Site>(opened: Opened<S>) -> S
         counts: _counts,
         next: _,
         point: _,
+        audit: _,
     } = opened;
     let Log {
         site,
@@ -112,6 +113,7 @@ fn run_described<S: Site, I: Source>(
         counts,
         next,
         point,
+        audit,
     } = opened;
     let opened = Opened {
         log,
@@ -119,6 +121,7 @@ fn run_described<S: Site, I: Source>(
         counts,
         next,
         point,
+        audit,
     };
     match opened.into_running(
         alloc,
@@ -153,6 +156,7 @@ fn run_opened<S: Site, I: Source>(alloc: Global, opened: Opened<S>, source: &mut
         counts,
         next,
         point,
+        audit,
     } = opened;
     let Log {
         mut site,
@@ -167,6 +171,7 @@ fn run_opened<S: Site, I: Source>(alloc: Global, opened: Opened<S>, source: &mut
                 counts,
                 next,
                 point,
+                audit,
             };
             run_described(alloc, opened, &desc, source)
         }

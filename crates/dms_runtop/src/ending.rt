@@ -70,7 +70,7 @@ pub(crate) fn fault_within(fault: RunFault, last: u32) -> RunFault
     }
 }
 
-/// The status that a damaged block ends an opening with. Only blocks of audit files are found damaged then; where a structure file were named, that
+/// The status that a damaged block ends an opening with. Only blocks of audit files and dumps are found damaged then; where a structure file were named, that
 /// counts as want of memory.
 fn status_of_audit_damage(file: u32, block: u32) -> Status
     ensures { result ≡ audit_damaged_status file block }
@@ -99,6 +99,9 @@ pub fn status_of_open(fault: OpenFault) -> Status
         OpenFault::Audit(AudFault::Memory) => Status::Memory,
         OpenFault::NoSuchPoint(point) => Status::Needed(NeedFault::NoSuchPoint(point)),
         OpenFault::Voided(point) => Status::Needed(NeedFault::Voided(point)),
-        OpenFault::ByDump(dump) => Status::Needed(NeedFault::DumpPending(dump)),
+        OpenFault::DumpMissing(dump) => Status::Needed(NeedFault::DumpMissing(dump)),
+        OpenFault::DumpUnsealed(dump) => Status::Needed(NeedFault::DumpUnsealed(dump)),
+        OpenFault::DumpDamaged(dump) => status_of_audit_damage(20_000 + u32::from(dump), 0),
+        OpenFault::DumpLater(dump, point) => Status::Needed(NeedFault::DumpLater(dump, point)),
     }
 }

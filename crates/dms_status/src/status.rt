@@ -34,12 +34,16 @@ pub enum NeedFault {
     AuditUnsealed(u32),
     /// An audit file is one of another database.
     AuditForeign(u32),
-    /// The point of a restore isn't below the next number.
+    /// The point of a restore or of its dump isn't below the next number.
     NoSuchPoint(u64),
     /// The point of a restore was taken back.
     Voided(u64),
-    /// A restore by that dump is pending.
-    DumpPending(u16),
+    /// The file of that dump isn't present.
+    DumpMissing(u16),
+    /// The gate of that dump isn't open.
+    DumpUnsealed(u16),
+    /// That dump is at this point, which is above the point of the restore.
+    DumpLater(u16, u64),
 }
 
 /// How a command ends.

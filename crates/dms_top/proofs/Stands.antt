@@ -32,8 +32,8 @@ use Rattle.dms_audrec.specs.Bodies.{bodies_of, part_count, bodies}
 use Rattle.dms_creation.specs.FirstEntries.{zero_counts, first_entries}
 use Rattle.dms_creation.specs.Creation.{IsMade, Initializes}
 use Rattle.dms_creation.specs.FoundAgain.{MadeIsFound}
-use Rattle.dms_running.specs.FromDumps.{dump_in}
-use Rattle.dms_restore.specs.Dumped.{dumps_of}
+use Rattle.dms_running.proofs.FromDumps.{none_order}
+use Rattle.dms_restore.specs.Dumped.{IsDumpFound, dumps_of}
 use Rattle.dms_scriptlaws.proofs.Scripts.{empty_start}
 use Rattle.dms_top.specs.State.{StandsNew, BecomesNew, MadeStands}
 use Rattle.dms_runtop.proofs.Formed.{some_bytes}
@@ -124,7 +124,7 @@ last_first : (n : ℕ) → last_point (history (first_event n)) ≡ Some 0
 unfolding history
 last_first n = refl
 
-none_first : (n : ℕ) → dump_in (history (first_event n)).pending ≡ None
+none_first : (n : ℕ) → (history (first_event n)).pending ≡ None
 unfolding history
 none_first n = refl
 
@@ -207,7 +207,7 @@ module _ (found : MadeIsFound) (sealed_control : ControlSealed) (first_agrees : 
               entries = first_entries d;
               finds = f;
               agrees = agrees (f.trail.first == 10001) (dumps_of files) (stored_of files);
-              no_dump = ap (λ (l : List Event). dump_in (history l).pending) events_are ∙ none_first n;
+              order = none_order (IsDumpFound f.trail.first files) (dumps_of files) (history_of (first_entries d)).pending (ap (λ (l : List Event). (history l).pending) events_are ∙ none_first n);
               lives = subst (λ (l : List Event). IsLive (history l).live 0) (sym events_are) (lives_first n);
               described = described;
               well_formed = sealed.well_formed;

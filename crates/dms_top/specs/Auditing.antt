@@ -12,7 +12,7 @@ use Rattle.dms_audprint.specs.AuditText.{HasTrail, PrintsAudit, PrintsPart}
 use Rattle.dms_audprint.specs.declared.fault.PrintFault.{PrintFault}
 use Rattle.dms_audprint.specs.declared.fault.PrintFault.TheVariants.{Audit, Say}
 use Rattle.dms_status.specs.declared.status.NeedFault.{NeedFault}
-use Rattle.dms_status.specs.declared.status.NeedFault.TheVariants.{NoDescription, AuditMissing, AuditUnsealed, AuditForeign, NoSuchPoint, Voided, DumpPending}
+use Rattle.dms_status.specs.declared.status.NeedFault.TheVariants.{NoDescription, AuditMissing, AuditUnsealed, AuditForeign, NoSuchPoint, Voided, DumpMissing, DumpUnsealed, DumpLater}
 use Rattle.dms_status.specs.declared.status.Status.{Status}
 use Rattle.dms_status.specs.declared.status.Status.TheVariants.{Ok, BadWords, SchemaRefused, NoDatabase, Needed, InputFault, Memory, Limit, Damaged, SayFault, DiskFault, Exists}
 use Rattle.dms_top.specs.Words.{ComesUnsaid}
@@ -25,7 +25,9 @@ IsOfAudit (AuditUnsealed k) = ⊤
 IsOfAudit (AuditForeign k) = ⊤
 IsOfAudit (NoSuchPoint n) = ⊥
 IsOfAudit (Voided n) = ⊥
-IsOfAudit (DumpPending d) = ⊥
+IsOfAudit (DumpMissing d) = ⊥
+IsOfAudit (DumpUnsealed d) = ⊥
+IsOfAudit (DumpLater d n) = ⊥
 
 -- the statuses of `print audit`
 abbrev pub IsOfPrinting : Status → Type 0
@@ -50,7 +52,9 @@ NeedsAudit files (AuditUnsealed k) = TrailIs files (unsealed k)
 NeedsAudit files (AuditForeign k) = TrailIs files (foreign k)
 NeedsAudit files (NoSuchPoint n) = ⊥
 NeedsAudit files (Voided n) = ⊥
-NeedsAudit files (DumpPending d) = ⊥
+NeedsAudit files (DumpMissing d) = ⊥
+NeedsAudit files (DumpUnsealed d) = ⊥
+NeedsAudit files (DumpLater d n) = ⊥
 
 -- At status 0 these files hold a trail. A status that refuses it is its first refusal by scanning; the others say nothing of it.
 abbrev pub JudgesTrail : Files → Status → Type 0

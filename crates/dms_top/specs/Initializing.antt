@@ -7,7 +7,7 @@ use Rattle.dms_creation.specs.Creation.{IsMade, InitializesSite}
 use Rattle.dms_site.specs.declared.site.Site.{Ghosts}
 use Rattle.dms_site.specs.Files.{Only, Same}
 use Rattle.dms_status.specs.declared.status.NeedFault.{NeedFault}
-use Rattle.dms_status.specs.declared.status.NeedFault.TheVariants.{NoDescription, AuditMissing, AuditUnsealed, AuditForeign, NoSuchPoint, Voided, DumpPending}
+use Rattle.dms_status.specs.declared.status.NeedFault.TheVariants.{NoDescription, AuditMissing, AuditUnsealed, AuditForeign, NoSuchPoint, Voided, DumpMissing, DumpUnsealed, DumpLater}
 use Rattle.dms_status.specs.declared.status.Status.{Status}
 use Rattle.dms_status.specs.declared.status.Status.TheVariants.{Ok, BadWords, SchemaRefused, NoDatabase, Needed, InputFault, Memory, Limit, Damaged, SayFault, DiskFault, Exists}
 use Rattle.dms_top.specs.Compiling.{IsBefore, IsSpoken, SaysLine}
@@ -25,7 +25,9 @@ IsNoDescription (AuditUnsealed k) = ⊥
 IsNoDescription (AuditForeign k) = ⊥
 IsNoDescription (NoSuchPoint n) = ⊥
 IsNoDescription (Voided n) = ⊥
-IsNoDescription (DumpPending d) = ⊥
+IsNoDescription (DumpMissing d) = ⊥
+IsNoDescription (DumpUnsealed d) = ⊥
+IsNoDescription (DumpLater d n) = ⊥
 
 -- the statuses of `initialize`
 abbrev pub IsOfCreation : Status → Type 0

@@ -16,9 +16,9 @@ pub returns-in-Ok-clause-opened : goal.returns-in-Ok-clause-opened
 returns-in-Ok-clause-opened g c = one_if_ok c.finish.result c.finish.ensures.ended (λ l ended p tells m.
     let a : LogView = view c.args.begun.log.end c.args.begun.log.first (g.S.Site.files c.args.begun.log.site) (g.S.Site.clock c.args.begun.log.site) in
     let r = c.in-Ok.ensures in
-    opened p a _ c.args.runs.now c.args.table.now c.args.point c.args.next c.args.counts.now m (r.begun p tells m.begun m.plan_is) (r.restored p tells m.begun m.plan_is) (r.keeps p tells m.begun m.plan_is)
+    opened p a _ c.args.table.now c.args.point c.args.next c.args.counts.now m (r.begun p tells m.begun m.plan_is) (r.restored p tells m.begun m.plan_is) (r.keeps p tells m.begun m.plan_is)
     ((λ i. trail_entries (r.kind.0 i).total (r.kind.1 i) (g.S.Site.files c.in-Ok.restored.log.site)) ∙ r.entries tells (first_low _ a.first [] _ _ (ends_sealed p a m.begun))) _ _
-    (ended p tells (ends_by p a _ c.args.runs.now c.args.table.now c.args.point c.args.next c.args.counts.now m (r.begun p tells m.begun m.plan_is) (r.restored p tells m.begun m.plan_is) (r.keeps p tells m.begun m.plan_is))))
+    (ended p tells (ends_by p a _ c.args.table.now c.args.point c.args.next c.args.counts.now m (r.begun p tells m.begun m.plan_is) (r.restored p tells m.begun m.plan_is) (r.keeps p tells m.begun m.plan_is))))
 
 pub returns-in-Ok-clause-moments : goal.returns-in-Ok-clause-moments
 returns-in-Ok-clause-moments g c = one_if_ok c.finish.result c.finish.ensures.moments (λ l leaves p tells m.
@@ -28,7 +28,7 @@ returns-in-Ok-clause-moments g c = one_if_ok c.finish.result c.finish.ensures.mo
     let r = c.in-Ok.ensures in
     let keeps = r.keeps p tells m.begun m.plan_is in
     each_on a b _ (λ i. telling_of (r.kind.0 i).total (r.kind.1 i)) keeps.points_same keeps.next_same (r.moments p tells m.begun m.plan_is)
-    (leaves p tells (ends_by p a b c.args.runs.now c.args.table.now c.args.point c.args.next c.args.counts.now m (r.begun p tells m.begun m.plan_is) (r.restored p tells m.begun m.plan_is) keeps)))
+    (leaves p tells (ends_by p a b c.args.table.now c.args.point c.args.next c.args.counts.now m (r.begun p tells m.begun m.plan_is) (r.restored p tells m.begun m.plan_is) keeps)))
 
 pub returns-in-Ok-clause-stopped : goal.returns-in-Ok-clause-stopped
 returns-in-Ok-clause-stopped g c = one_if_err c.finish.result c.finish.ensures.stopped (λ e leaves p tells m.
@@ -38,7 +38,7 @@ returns-in-Ok-clause-stopped g c = one_if_err c.finish.result c.finish.ensures.s
     let r = c.in-Ok.ensures in
     let keeps = r.keeps p tells m.begun m.plan_is in
     each_on a b _ (λ i. telling_of (r.kind.0 i).total (r.kind.1 i)) keeps.points_same keeps.next_same (r.moments p tells m.begun m.plan_is)
-    (leaves p tells (ends_by p a b c.args.runs.now c.args.table.now c.args.point c.args.next c.args.counts.now m (r.begun p tells m.begun m.plan_is) (r.restored p tells m.begun m.plan_is) keeps)))
+    (leaves p tells (ends_by p a b c.args.table.now c.args.point c.args.next c.args.counts.now m (r.begun p tells m.begun m.plan_is) (r.restored p tells m.begun m.plan_is) keeps)))
 
 pub returns-in-Err-clause-stopped : goal.returns-in-Err-clause-stopped
 returns-in-Err-clause-stopped g c p tells m = c.in-Err.ensures.stopped p tells m.begun m.plan_is
@@ -62,7 +62,7 @@ returns-in-Ok-clause-silent g c = one_if_ok c.finish.result c.finish.ensures.sil
     let log = c.in-Ok.restored.log in
     let b : LogView = view log.end log.first (g.S.Site.files log.site) (g.S.Site.clock log.site) in
     let r = c.in-Ok.ensures in
-    silent_on _ _ _ (r.silent p tells m.plan_is) (still p tells (ends_by p a b c.args.runs.now c.args.table.now c.args.point c.args.next c.args.counts.now m (r.begun p tells m.begun m.plan_is) (r.restored p tells m.begun m.plan_is) (r.keeps p tells m.begun m.plan_is))))
+    silent_on _ _ _ (r.silent p tells m.plan_is) (still p tells (ends_by p a b c.args.table.now c.args.point c.args.next c.args.counts.now m (r.begun p tells m.begun m.plan_is) (r.restored p tells m.begun m.plan_is) (r.keeps p tells m.begun m.plan_is))))
 
 pub returns-in-Ok-clause-silent_then : goal.returns-in-Ok-clause-silent_then
 returns-in-Ok-clause-silent_then g c = one_if_err c.finish.result c.finish.ensures.silent_then (λ e still p tells m.
@@ -70,7 +70,7 @@ returns-in-Ok-clause-silent_then g c = one_if_err c.finish.result c.finish.ensur
     let log = c.in-Ok.restored.log in
     let b : LogView = view log.end log.first (g.S.Site.files log.site) (g.S.Site.clock log.site) in
     let r = c.in-Ok.ensures in
-    silent_on _ _ _ (r.silent p tells m.plan_is) (still p tells (ends_by p a b c.args.runs.now c.args.table.now c.args.point c.args.next c.args.counts.now m (r.begun p tells m.begun m.plan_is) (r.restored p tells m.begun m.plan_is) (r.keeps p tells m.begun m.plan_is))))
+    silent_on _ _ _ (r.silent p tells m.plan_is) (still p tells (ends_by p a b c.args.table.now c.args.point c.args.next c.args.counts.now m (r.begun p tells m.begun m.plan_is) (r.restored p tells m.begun m.plan_is) (r.keeps p tells m.begun m.plan_is))))
 
 pub returns-in-Err-clause-silent_then : goal.returns-in-Err-clause-silent_then
 returns-in-Err-clause-silent_then g c p tells m = c.in-Err.ensures.silent_then p tells m.plan_is

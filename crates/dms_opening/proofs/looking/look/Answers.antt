@@ -39,3 +39,6 @@ returns-in-Ok-clause-room g c = one_if_err c.plan_scanned.result c.plan_scanned.
 
 pub returns-in-Err-clause-room : goal.returns-in-Err-clause-room
 returns-in-Err-clause-room g c tells full = scan_has_room (g.S.Site.files c.args.found.site) _ 9999 (c.in-Err.ensures.refused tells) full
+
+pub returns-in-Ok-clause-same : goal.returns-in-Ok-clause-same
+returns-in-Ok-clause-same g c = one_if_ok c.plan_scanned.result c.plan_scanned.ensures.same (λ p same. g.met.S.Site.same_then _ _ _ c.in-Ok.ensures.same same)

@@ -2,7 +2,7 @@ use Rattle.std.proofs.Common.{◌≡◌, IsTrue, ℕ, take}
 use Rattle.dms_history.specs.Pick.{reached_count}
 use Rattle.dms_audfile.specs.Reads.{OnlyReads}
 use Rattle.dms_restore.specs.Counts.{count_of}
-use Rattle.dms_opening.specs.PointCounts.{AllAtMost}
+use Rattle.dms_restore.specs.Counts.{AllAtMost}
 use Rattle.dms_restore.specs.LiveEntries.{events_at}
 use Rattle.dms_opening.proofs.point_counts.count_all.Given as goal
 

@@ -1,5 +1,5 @@
 use Rattle.dms_opening.proofs.Chosen.{dump_none, dump_some}
-use Rattle.dms_opening.proofs.choosing.pending_dump.Goals as goal
+use Rattle.dms_opening.proofs.dump_looks.pending_dump.Goals as goal
 
 pub returns-in-None : goal.returns-in-None
 returns-in-None c files entries t = dump_none files entries c.args.history.now c.in-None.is t
