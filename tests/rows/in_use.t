@@ -13,6 +13,7 @@ The first one waits for its input. It has begun to read when a pipe took more th
   $ blanks >&3
   $ "$DMS" compile < ../schema
   dms: the folder is in use
+  dms: wait until the other command in this folder has ended
   [5]
   $ ls
 
@@ -40,6 +41,7 @@ The first one goes on as if it were alone.
   01000000003e444d535300010064000a01000200270f000202035244530000000f42400103504944010a0000000000000101440000000f42400101580204000000000000
   $ "$DMS" compile < ../schema
   dms: exists already
+  dms: make another database in another folder
   [11]
 
 A program that is killed holds the folder no longer.
@@ -50,6 +52,7 @@ A program that is killed holds the folder no longer.
   $ blanks >&3
   $ "$DMS" compile < ../schema
   dms: the folder is in use
+  dms: wait until the other command in this folder has ended
   [5]
   $ kill -9 $!
   $ wait $! 2> /dev/null
@@ -63,8 +66,10 @@ Any lock on the folder counts.
   $ rm F00001.DMS
   $ flock . "$DMS" compile < ../schema
   dms: the folder is in use
+  dms: wait until the other command in this folder has ended
   [5]
   $ flock --shared . "$DMS" compile < ../schema
   dms: the folder is in use
+  dms: wait until the other command in this folder has ended
   [5]
   $ ls

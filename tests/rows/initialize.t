@@ -3,6 +3,7 @@ An empty database is made of the description in the current folder, once.
   $ mkdir db && cd db
   $ "$DMS" initialize
   dms: no description
+  dms: run dms compile in this folder first
   [4]
   $ ls
   $ "$DMS" compile <<'END'
@@ -31,9 +32,11 @@ A second one is refused, and changes nothing.
   $ cat F*.DMS | cksum > before
   $ "$DMS" initialize
   dms: exists already
+  dms: make another database in another folder
   [11]
   $ "$DMS" initialize 5
   dms: exists already
+  dms: make another database in another folder
   [11]
   $ cat F*.DMS | cksum | cmp - before
 
@@ -69,6 +72,7 @@ A tag is a number in plain digits, below 2^64.
   [1]
   $ "$DMS" initialize 0007
   dms: no description
+  dms: run dms compile in this folder first
   [4]
 
 Another program in the folder, an output that is one of its files, and one that is full.
@@ -78,20 +82,25 @@ Another program in the folder, an output that is one of its files, and one that 
   COMPILED 1 STRUCTURES
   $ flock . "$DMS" initialize
   dms: the folder is in use
+  dms: wait until the other command in this folder has ended
   [5]
   $ "$DMS" initialize >> F00001.DMS
   dms: output fault
+  dms: standard output is a file of a database; print to another place
   [10]
   $ stat -c '%n %s' F*.DMS
   F00001.DMS 48
   $ "$DMS" initialize > /dev/full
   dms: output fault
+  dms: standard output: No space left on device
   [10]
   $ "$DMS" initialize
   dms: exists already
+  dms: make another database in another folder
   [11]
   $ "$DMS" initialize 7
   dms: exists already
+  dms: make another database in another folder
   [11]
 
 The tag 7 as the header has it.

@@ -9,6 +9,7 @@ The shell makes the file, or empties it, before the program runs.
 
   $ "$DMS" compile < ../schema > F00001.DMS
   dms: output fault
+  dms: standard output is a file of a database; print to another place
   [10]
   $ ls
   F00001.DMS
@@ -23,26 +24,33 @@ Where it doesn't empty the file, the description stays; so it does behind a link
 
   $ "$DMS" compile < ../schema >> F00001.DMS
   dms: output fault
+  dms: standard output is a file of a database; print to another place
   [10]
   $ "$DMS" compile < ../schema 1<> F00001.DMS
   dms: output fault
+  dms: standard output is a file of a database; print to another place
   [10]
   $ "$DMS" compile < ../schema >> ../db/F00001.DMS
   dms: output fault
+  dms: standard output is a file of a database; print to another place
   [10]
   $ ln -s F00001.DMS link
   $ "$DMS" compile < ../schema >> link
   dms: output fault
+  dms: standard output is a file of a database; print to another place
   [10]
   $ ln F00001.DMS name
   $ "$DMS" compile < ../schema >> name
   dms: output fault
+  dms: standard output is a file of a database; print to another place
   [10]
   $ "$DMS" try < ../script >> F00001.DMS
   dms: output fault
+  dms: standard output is a file of a database; print to another place
   [10]
   $ "$DMS" --help >> F00001.DMS
   dms: output fault
+  dms: standard output is a file of a database; print to another place
   [10]
   $ bytes F00001.DMS
   01000000003e444d535300010064000a01000200270f000202035244530000000f42400103504944010a0000000000000101440000000f42400101580204000000000000
@@ -53,6 +61,7 @@ The same where the file of the folder is a link itself.
   $ ln -s ../linked/text F00001.DMS
   $ "$DMS" compile < ../schema >> ../linked/text
   dms: output fault
+  dms: standard output is a file of a database; print to another place
   [10]
   $ bytes ../linked/text
   01000000003e444d535300010064000a01000200270f000202035244530000000f42400103504944010a0000000000000101440000000f42400101580204000000000000
@@ -71,6 +80,7 @@ Any file of a database counts, and no other file.
   $ rm F00001.DMS
   $ "$DMS" compile < ../schema > F10001.DMS
   dms: output fault
+  dms: standard output is a file of a database; print to another place
   [10]
   $ "$DMS" compile < ../schema > F1.DMS
   $ cat F1.DMS

@@ -3,6 +3,7 @@
   $ mkdir db && cd db
   $ "$DMS" print audit
   dms: no database
+  dms: go to the folder of a database, or make one by dms compile and dms initialize
   [3]
   $ "$DMS" compile <<'END'
   > RDS RESTART DATA SET (PID ALPHA(10););
@@ -11,6 +12,7 @@
   COMPILED 2 STRUCTURES
   $ "$DMS" print audit
   dms: no database
+  dms: go to the folder of a database, or make one by dms compile and dms initialize
   [3]
   $ "$DMS" initialize
   INITIALIZED AT POINT 0
@@ -35,12 +37,15 @@ Other words are bad. Another program in the folder, and an output that fails, ar
         6 dms: see dms --help
   $ flock . "$DMS" print audit
   dms: the folder is in use
+  dms: wait until the other command in this folder has ended
   [5]
   $ "$DMS" print audit > /dev/full
   dms: output fault
+  dms: standard output: No space left on device
   [10]
   $ "$DMS" print audit >> F10001.DMS
   dms: output fault
+  dms: standard output is a file of a database; print to another place
   [10]
   $ "$DMS" print audit < F10001.DMS | tail -n 1
   1 1 CONTROL 0 NEXT 1
@@ -123,7 +128,7 @@ The header: its mark, its number, its number of blocks, zeros before and behind 
   > 514 01
   > 1023 01
   > END
-       13 dms: file 10001 block 0 damaged 9 
+       13 dms: file 10001 block 0 damaged dms: put back a copy of the whole database 9 
 
 Another number of blocks, where the bytes fit it; a tag; and gates that are shut may be any byte but 1.
 
@@ -144,11 +149,11 @@ Only the byte 1 is an open gate. Without a block the trail has no description. A
   > 512 02
   > 512 ff
   > END
-        3 dms: file 10001 block 0 damaged 9 
+        3 dms: file 10001 block 0 damaged dms: put back a copy of the whole database 9 
   $ each db <<'END'
   > 513 01
   > END
-        1 dms: file 10001 block 2 damaged 9 
+        1 dms: file 10001 block 2 damaged dms: put back a copy of the whole database 9 
 
 A block: the number of its used bytes, and zeros behind them.
 
@@ -161,7 +166,7 @@ A block: the number of its used bytes, and zeros behind them.
   > 4202 01
   > 8191 01
   > END
-        7 dms: file 10001 block 1 damaged 9 
+        7 dms: file 10001 block 1 damaged dms: put back a copy of the whole database 9 
 
 A Schema: its kind, its part, its number of parts, and its length. What the description's bytes say isn't read.
 
@@ -176,7 +181,7 @@ A Schema: its kind, its part, its number of parts, and its length. What the desc
   > 4103 003f
   > 4103 0fa1
   > END
-        9 dms: file 10001 block 1 damaged 9 
+        9 dms: file 10001 block 1 damaged dms: put back a copy of the whole database 9 
   $ each db <<'END'
   > 4105 00
   > END
@@ -203,7 +208,7 @@ A Control: its number, the next one, and the counts of structure files, rising.
   > 4194 000075f9
   > 4198 00200001
   > END
-        8 dms: file 10001 block 1 damaged 9 
+        8 dms: file 10001 block 1 damaged dms: put back a copy of the whole database 9 
 
 Without a Control behind it the Schema counts for nothing: here a quiet point stands in its place.
 
@@ -213,7 +218,7 @@ Without a Control behind it the Schema counts for nothing: here a quiet point st
   $ each quiet <<'END'
   > 4095 00
   > END
-        1 dms: file 10001 block 0 damaged 9 
+        1 dms: file 10001 block 0 damaged dms: put back a copy of the whole database 9 
 
 Images and quiet points: the file, the block, and whether it is new.
 
@@ -227,7 +232,7 @@ Images and quiet points: the file, the block, and whether it is new.
   > 9237 02
   > 11286 04
   > END
-        8 dms: file 10001 block 2 damaged 9 
+        8 dms: file 10001 block 2 damaged dms: put back a copy of the whole database 9 
   $ each kinds <<'END' | grep -o 'IMAGE.*NEW'
   > 8195 000075f8001fffff
   > END
@@ -243,14 +248,14 @@ A begin: its kind, its dump, its rows, and that it stands alone in its block.
   > 12300 0001
   > 12302 0001
   > END
-        6 dms: file 10001 block 3 damaged 9 
+        6 dms: file 10001 block 3 damaged dms: put back a copy of the whole database 9 
   $ each kinds <<'END'
   > 24587 03
   > 24588 0000
   > 24588 2710
   > 24590 0001
   > END
-        4 dms: file 10001 block 6 damaged 9 
+        4 dms: file 10001 block 6 damaged dms: put back a copy of the whole database 9 
   $ each kinds <<'END'
   > 28684 0000
   > 28684 2710
@@ -261,18 +266,18 @@ A begin: its kind, its dump, its rows, and that it stands alone in its block.
   > 28696 0000753100000000
   > 28696 000075f9
   > END
-        8 dms: file 10001 block 7 damaged 9 
+        8 dms: file 10001 block 7 damaged dms: put back a copy of the whole database 9 
   $ each kinds <<'END'
   > 12288 001705000000000000000001000000000300000000000000
   > 12288 0017030000000000000001050000000000000000010000
   > END
-        2 dms: file 10001 block 3 damaged 9 
+        2 dms: file 10001 block 3 damaged dms: put back a copy of the whole database 9 
 
 A file that is too short: of its header, and of its block.
 
   $ for size in 1 9 10 512 513 4095 4096 4097 8191; do rm -rf t; cp -r db t; truncate -s $size t/F10001.DMS; (cd t; "$DMS" print audit 2>&1; echo $?) | tr '\n' ' '; echo; done | sort | uniq -c
-        6 dms: file 10001 block 0 damaged 9 
-        3 dms: file 10001 block 1 damaged 9 
+        6 dms: file 10001 block 0 damaged dms: put back a copy of the whole database 9 
+        3 dms: file 10001 block 1 damaged dms: put back a copy of the whole database 9 
 
 A longer one is as it was.
 
@@ -282,13 +287,16 @@ A longer one is as it was.
 No database: the description isn't sealed, its length is another one, the gate of the database is shut, or no audit file is there.
 
   $ for put in '0 00' '0 02' '1 00' '1 02' '2 0000003d' '6 45' '10 0002'; do rm -rf t; cp -r db t; patch t/F00001.DMS $put; (cd t; "$DMS" print audit 2>&1; echo $?) | tr '\n' ' '; echo; done | sort | uniq -c
-        7 dms: no database 3 
+        7 dms: no database dms: go to the folder of a database, or make one by dms compile and dms initialize 3 
   $ for file in F00001.DMS F10001.DMS; do rm -rf t; cp -r db t; rm t/$file; (cd t; "$DMS" print audit); done
   dms: no database
+  dms: go to the folder of a database, or make one by dms compile and dms initialize
   dms: no database
+  dms: go to the folder of a database, or make one by dms compile and dms initialize
   [3]
   $ rm -rf t; cp -r db t; : > t/F10001.DMS; (cd t; "$DMS" print audit)
   dms: no database
+  dms: go to the folder of a database, or make one by dms compile and dms initialize
   [3]
 
 A trail of several files of eight blocks each. File 2 has nothing behind it but its own next file's header.
@@ -309,6 +317,7 @@ A trail of several files of eight blocks each. File 2 has nothing behind it but 
   $ patch F10001.DMS 513 01010101010101
   $ "$DMS" print audit
   dms: audit file 2 missing
+  dms: put F10002.DMS back, as it was
   [4]
   $ head_of 2 0000000000000007 36864
   $ for i in 1 2 3 4 5 6 7 8; do quiet 2 $i $((i + 8)); done
@@ -326,10 +335,12 @@ The file that the trail reaches has another tag, or another number of blocks.
   $ patch F10003.DMS 10 0000000000000008
   $ "$DMS" print audit
   dms: audit file 3 of another database
+  dms: put back all files of one copy of the database
   [4]
   $ patch F10003.DMS 8 0009
   $ "$DMS" print audit
   dms: file 10003 block 0 damaged
+  dms: put back a copy of the whole database
   [9]
   $ patch F10003.DMS 8 00080000000000000007
 
@@ -342,10 +353,12 @@ Where the trail doesn't reach the last file its bytes don't count. A gate that i
   $ patch F10001.DMS 519 00
   $ "$DMS" print audit
   dms: audit file 1 unsealed
+  dms: put back all files of one copy of the database
   [4]
   $ patch F10001.DMS 0 00
   $ "$DMS" print audit
   dms: audit file 1 unsealed
+  dms: put back all files of one copy of the database
   [4]
   $ patch F10001.DMS 0 44
   $ patch F10001.DMS 519 01
@@ -357,10 +370,12 @@ A file that is missing in the middle, and the first one. The trail begins behind
   $ mv F10002.DMS kept
   $ "$DMS" print audit
   dms: audit file 2 missing
+  dms: put F10002.DMS back, as it was
   [4]
   $ mv kept F10002.DMS; mv F10001.DMS kept
   $ "$DMS" print audit
   dms: audit file 1 missing
+  dms: put F10001.DMS back, as it was
   [4]
   $ dd if=kept of=F10003.DMS bs=4096 skip=1 seek=1 count=1 conv=notrunc status=none
   $ patch F10003.DMS 512 01

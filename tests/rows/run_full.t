@@ -15,6 +15,7 @@ takes 2 and 3, and each syncpoint one more.
   $ { echo 'A: OPEN UPDATE'; for n in $(seq 14); do echo 'A: BEGIN-TRANSACTION NO-AUDIT RDS'; echo 'A: END-TRANSACTION NO-AUDIT RDS SYNC'; done; } > ../script
   $ "$DMS" run < ../script > ../out
   dms: audit file 2 full
+  dms: bring its records over to a new database; docs/GUIDE.md, A full audit
   [8]
   $ tail -n 3 ../out
   27 A DONE
@@ -43,6 +44,7 @@ It can't be changed any more. A transaction may begin, and what needs a block of
   1 A DONE
   2 A DONE
   dms: audit file 2 full
+  dms: bring its records over to a new database; docs/GUIDE.md, A full audit
   [8]
   $ "$DMS" run < /dev/null
   $ "$DMS" print audit | tail -n 1 | cut -d' ' -f3-
@@ -73,6 +75,7 @@ Nothing is written through: with a store in each transaction the file of D isn't
   $ { echo 'A: OPEN UPDATE'; for n in $(seq 14); do echo 'A: BEGIN-TRANSACTION NO-AUDIT RDS'; echo 'A: CREATE D'; echo 'A: STORE D'; echo 'A: END-TRANSACTION NO-AUDIT RDS SYNC'; done; } > ../script
   $ "$DMS" run < ../script > ../out
   dms: audit file 2 full
+  dms: bring its records over to a new database; docs/GUIDE.md, A full audit
   [8]
   $ tail -n 4 ../out
   53 A DONE
@@ -123,6 +126,7 @@ stands it is stored once more, and with a third value it isn't.
   > END
   $ "$DMS" run < ../script > ../out
   dms: audit file 2 full
+  dms: bring its records over to a new database; docs/GUIDE.md, A full audit
   [8]
   $ tail -n 3 ../out
   30 A DONE
@@ -149,6 +153,7 @@ of file 2, and the control point behind it would be in file 3. That line isn't a
   $ { echo 'A: OPEN UPDATE'; for n in $(seq 8); do echo 'A: BEGIN-TRANSACTION NO-AUDIT RDS'; echo 'A: END-TRANSACTION NO-AUDIT RDS SYNC'; done; } > ../script
   $ "$DMS" run < ../script > ../out
   dms: audit file 2 full
+  dms: bring its records over to a new database; docs/GUIDE.md, A full audit
   [8]
   $ tail -n 2 ../out
   SYNCPOINT 6

@@ -102,7 +102,9 @@ While a run works in the folder no other one does.
   $ start; head -n 1 script >&3; wait_for '1 A DONE'
   $ (cd db; "$DMS" run < ../look; "$DMS" print audit)
   dms: the folder is in use
+  dms: wait until the other command in this folder has ended
   dms: the folder is in use
+  dms: wait until the other command in this folder has ended
   [5]
   $ stop
   $ left

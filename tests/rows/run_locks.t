@@ -231,4 +231,5 @@ At most 10,000 lines are held, for a lock too; the one too many prints nothing, 
   3 A DONE
   4 B WAITS FOR A
   dms: too many held lines
+  dms: look what was carried out, and divide the rest of the script
   [8]

@@ -4,6 +4,7 @@ What `run` refuses is refused before anything is changed. Without a database.
   $ echo 'A: OPEN INQUIRY' > ../look
   $ "$DMS" run < ../look
   dms: no database
+  dms: go to the folder of a database, or make one by dms compile and dms initialize
   [3]
   $ ls
   $ "$DMS" compile <<'END'
@@ -15,6 +16,7 @@ What `run` refuses is refused before anything is changed. Without a database.
   $ cksum F*.DMS > ../before
   $ "$DMS" run < ../look
   dms: no database
+  dms: go to the folder of a database, or make one by dms compile and dms initialize
   [3]
   $ cksum F*.DMS | cmp - ../before
   $ ls
@@ -31,9 +33,11 @@ Words, and the folder in use.
         5 dms: see dms --help
   $ flock . "$DMS" run < ../look
   dms: the folder is in use
+  dms: wait until the other command in this folder has ended
   [5]
   $ "$DMS" run < ../look >> F10001.DMS
   dms: output fault
+  dms: standard output is a file of a database; print to another place
   [10]
   $ cksum F*.DMS | cmp - ../before
 
@@ -62,38 +66,48 @@ A sealed block, or a header, that can't be read.
 
   $ after 'put F10001.DMS 4096 ff'
   dms: file 10001 block 1 damaged
+  dms: put back a copy of the whole database
   status 9
   $ after 'put F10002.DMS 12288 ff'
   dms: file 10002 block 3 damaged
+  dms: put back a copy of the whole database
   status 9
   $ after 'put F10003.DMS 0 45'
   dms: file 10003 block 0 damaged
+  dms: put back a copy of the whole database
   status 9
   $ after 'truncate -s 9000 F10004.DMS'
   dms: file 10004 block 2 damaged
+  dms: put back a copy of the whole database
   status 9
 
 A gate that is shut two files before the last; a file that is missing; one of another database.
 
   $ after 'put F10001.DMS 519 00'
   dms: audit file 1 unsealed
+  dms: put back all files of one copy of the database
   status 4
   $ after 'put F10002.DMS 512 07'
   dms: audit file 2 unsealed
+  dms: put back all files of one copy of the database
   status 4
   $ after 'rm F10004.DMS'
   dms: audit file 4 missing
+  dms: put F10004.DMS back, as it was
   status 4
   $ after 'rm F10003.DMS F10004.DMS'
   dms: audit file 3 missing
+  dms: put F10003.DMS back, as it was
   status 4
   $ after 'put F10003.DMS 17 05'
   dms: audit file 3 of another database
+  dms: put back all files of one copy of the database
   status 4
 
 No database: the description can't be read, its gate or that of the database is shut, or no audit file is there.
 
   $ for change in 'put F00001.DMS 0 00' 'put F00001.DMS 1 00' 'put F00001.DMS 6 45' 'rm F00001.DMS' 'rm F10*.DMS'; do after "$change"; done | sort | uniq -c
+        5 dms: go to the folder of a database, or make one by dms compile and dms initialize
         5 dms: no database
         5 status 3
 
@@ -107,9 +121,11 @@ Old audit files may be removed from the front. Point 20 stands in file 3, and th
   $ cd ..
   $ after 'rm F10001.DMS F10002.DMS'
   dms: audit file 2 missing
+  dms: put F10002.DMS back, as it was
   status 4
   $ after 'rm F10002.DMS'
   dms: audit file 2 missing
+  dms: put F10002.DMS back, as it was
   status 4
   $ cp db/F10002.DMS t/; cd t; "$DMS" run < ../look
   1 A DONE
@@ -136,6 +152,7 @@ Behind point 21, which changed no block, it tells of none, and a block that is r
   $ "$DMS" run < ../look
   1 A DONE
   dms: file 30002 block 0 damaged
+  dms: put back a copy of the whole database
   [9]
   $ mv ../kept F30002.DMS; "$DMS" run < ../look
   1 A DONE
@@ -149,17 +166,21 @@ An input that fails, an output that fails, and a script that is too long: nothin
   $ rm -rf t; cp -r db t; cd t
   $ "$DMS" run < /
   dms: input fault
+  dms: standard input: Is a directory
   [6]
   $ "$DMS" run <&-
   dms: input fault
+  dms: standard input: Bad file descriptor
   [6]
   $ printf "$more" | "$DMS" run > /dev/full
   dms: output fault
+  dms: standard output: No space left on device
   [10]
   $ "$DMS" run < ../look | tail -n 1
   3 A DONE X=20
   $ { printf "$more"; yes '' | head -n 999991; } | "$DMS" run | tail -n 1
   dms: too many lines
+  dms: look what was carried out, and divide the rest of the script
   10 A DONE
   $ "$DMS" run < ../look | tail -n 1
   3 A DONE X=21
@@ -185,6 +206,7 @@ A disk that is full, here a file that may not grow beyond 20 KiB, which are the 
   9 A DONE
   10 A DONE
   dms: disk fault
+  dms: F10001.DMS: File too large
   [5]
   $ "$DMS" run < ../look
   1 A DONE
@@ -192,6 +214,7 @@ A disk that is full, here a file that may not grow beyond 20 KiB, which are the 
   3 A DONE X=1
   $ bash -c 'trap "" XFSZ; ulimit -f 4; exec "$DMS" run' < ../look
   dms: disk fault
+  dms: F10001.DMS: File too large
   [5]
   $ "$DMS" run < ../look | tail -n 1
   3 A DONE X=1

@@ -9,17 +9,20 @@ Standard output is closed: the description is whole, and nothing was printed int
 
   $ "$DMS" compile < schema >&-
   dms: output fault
+  dms: standard output: Bad file descriptor
   [10]
   $ bytes F00001.DMS
   01000000003e444d535300010064000a01000200270f000202035244530000000f42400103504944010a0000000000000101440000000f42400101580204000000000000
   $ "$DMS" compile < schema
   dms: exists already
+  dms: make another database in another folder
   [11]
   $ "$DMS" try < script >&-
   dms: output fault
   [10]
   $ "$DMS" --help >&-
   dms: output fault
+  dms: standard output: Bad file descriptor
   [10]
 
 Standard input is closed: nothing is made.
@@ -27,6 +30,7 @@ Standard input is closed: nothing is made.
   $ rm F00001.DMS
   $ "$DMS" compile <&-
   dms: input fault
+  dms: standard input: Bad file descriptor
   [6]
   $ ls
   refused
@@ -71,9 +75,11 @@ Standard output is full.
 
   $ "$DMS" --help > /dev/full
   dms: output fault
+  dms: standard output: No space left on device
   [10]
   $ "$DMS" --version > /dev/full
   dms: output fault
+  dms: standard output: No space left on device
   [10]
   $ "$DMS" try < script > /dev/full
   dms: output fault
@@ -81,6 +87,7 @@ Standard output is full.
   $ rm F00001.DMS
   $ "$DMS" compile < schema > /dev/full
   dms: output fault
+  dms: standard output: No space left on device
   [10]
   $ bytes F00001.DMS
   01000000003e444d535300010064000a01000200270f000202035244530000000f42400103504944010a0000000000000101440000000f42400101580204000000000000
@@ -104,6 +111,7 @@ Standard error is full: each status is the same.
   $ mkdir other && cd other && mkdir F00001.DMS
   $ "$DMS" compile < ../schema
   dms: disk fault
+  dms: F00001.DMS: Is a directory
   [5]
   $ "$DMS" compile < ../schema 2> /dev/full
   [5]

@@ -9,6 +9,7 @@ The words of the command line.
          dms initialize [TAG]
          dms run < FILE
          dms print audit
+         dms COMMAND --help
          dms --help
          dms --version
   
@@ -32,13 +33,16 @@ The words of the command line.
                Opens the database in the current folder, as its last quiet point
                was, also where a program was stopped within it. Prints what the
                lines answer, and closes the database. What stands before a line
-               SYNCPOINT that was printed survives any stop.
+               SYNCPOINT that was printed survives any stop. Where standard error
+               is a terminal and standard output is none, it shows there every
+               second how many lines were answered, and the last SYNCPOINT.
   
     print audit   nothing
                Prints a line for each entry that is sealed in the audit files of
-               the current folder. Changes nothing.
+               the current folder. Changes nothing, and needs no right to write.
   
-  Statuses. At one above 0 a line on standard error says why.
+  Statuses. At one above 0 a line on standard error says why, and behind it may
+  stand what helps: the place in the text, what the system said, or what to do.
   
      0  done
      1  bad words
@@ -63,19 +67,54 @@ No line of it has more than 80 columns, and each status that the program has sta
   $ "$DMS" --help | grep -cE '^ +[0-9]+  '
   12
 
+So do `-h` and `help`. Behind a command `--help` or `-h` prints the help of that command.
+
+  $ "$DMS" --help > whole
+  $ "$DMS" -h | cmp - whole
+  $ "$DMS" help | cmp - whole
+  $ "$DMS" try --help < /dev/null
+  usage: dms try < FILE
+  
+    try        the text of a schema, a line SCRIPT, and the lines of a script
+               Runs the script over a database in memory that begins empty, and
+               prints what its lines answer. Touches no file, and keeps nothing.
+  
+  Statuses: 0, 2, 6, 7, 8 and 10. See dms --help.
+  $ "$DMS" print audit --help
+  usage: dms print audit
+  
+    print audit   nothing
+               Prints a line for each entry that is sealed in the audit files of
+               the current folder. Changes nothing, and needs no right to write.
+  
+  Statuses: 0, 3, 4, 5, 7, 9 and 10. See dms --help.
+  $ for command in try compile initialize run 'print audit'; do
+  >   "$DMS" $command --help > one
+  >   "$DMS" $command -h | cmp - one
+  >   sed '1d' one | grep -v '^Statuses' | grep -vxFf whole
+  > done
+  [1]
+  $ for command in try compile initialize run 'print audit'; do "$DMS" $command --help | awk 'length > 80'; done
+
 Words that are no command.
 
+  $ "$DMS" help try
+  dms: bad words
+  dms: see dms --help
+  [1]
+
+  $ "$DMS" print --help
+  dms: bad words
+  dms: see dms --help
+  [1]
+
+  $ "$DMS" run -h -h
+  dms: bad words
+  dms: see dms --help
+  [1]
+
+
   $ "$DMS"
-  dms: bad words
-  dms: see dms --help
-  [1]
-
-  $ "$DMS" -h
-  dms: bad words
-  dms: see dms --help
-  [1]
-
-  $ "$DMS" try --help < /dev/null
   dms: bad words
   dms: see dms --help
   [1]

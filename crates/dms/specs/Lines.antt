@@ -13,7 +13,7 @@ use Rattle.dms_status.specs.declared.status.SchemaFault.TheVariants.{Parse, Comp
 use Rattle.dms_status.specs.declared.status.Status.{Status}
 use Rattle.dms_status.specs.declared.status.Status.TheVariants.{Ok, BadWords, SchemaRefused, NoDatabase, Needed, DiskFault, InputFault, Memory, Limit, Damaged, SayFault, Exists}
 use Rattle.dms_status.specs.declared.status.NeedFault.{NeedFault}
-use Rattle.dms_status.specs.declared.status.NeedFault.TheVariants.{NoDescription, AuditMissing, AuditUnsealed, AuditForeign, NoSuchPoint, Voided, DumpPending}
+use Rattle.dms_status.specs.declared.status.NeedFault.TheVariants.{NoDescription, AuditMissing, AuditUnsealed, AuditForeign, NoSuchPoint, Voided, DumpMissing, DumpUnsealed, DumpLater}
 
 -- words, the number at their place, and words behind it
 abbrev pub around_number : List ℕ → ℕ → List ℕ → List ℕ
@@ -58,7 +58,9 @@ need_words (AuditUnsealed k) = around_number (codes "audit file ") k (codes " un
 need_words (AuditForeign k) = around_number (codes "audit file ") k (codes " of another database")
 need_words (NoSuchPoint n) = around_number (codes "no such point ") n []
 need_words (Voided n) = around_number (codes "point ") n (codes " voided")
-need_words (DumpPending d) = around_number (codes "restore by dump ") d (codes " pending")
+need_words (DumpMissing d) = around_number (codes "dump ") d (codes " missing")
+need_words (DumpUnsealed d) = around_number (codes "dump ") d (codes " unsealed")
+need_words (DumpLater d n) = around_number (codes "dump ") d (codes " is at point " ++ decimal n)
 
 -- a line of the program, with its line feed
 abbrev pub line : List ℕ → List ℕ

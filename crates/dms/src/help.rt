@@ -1,40 +1,85 @@
-/// What `--help` prints.
-pub const HELP: &str = "\
+use crate::words::Topic;
+
+/// What `--help` prints before the commands.
+pub const USAGE: &str = "\
 usage: dms try < FILE
        dms compile < FILE
        dms initialize [TAG]
        dms run < FILE
        dms print audit
+       dms COMMAND --help
        dms --help
        dms --version
 
 Commands, each with what it reads from standard input:
 
-  try        the text of a schema, a line SCRIPT, and the lines of a script
+";
+
+const TRY_USAGE: &str = "usage: dms try < FILE\n\n";
+
+const TRY: &str = "\
+\x20 try        the text of a schema, a line SCRIPT, and the lines of a script
              Runs the script over a database in memory that begins empty, and
              prints what its lines answer. Touches no file, and keeps nothing.
 
-  compile    the text of a schema
+";
+
+const TRY_STATUSES: &str = "Statuses: 0, 2, 6, 7, 8 and 10. See dms --help.\n";
+
+const COMPILE_USAGE: &str = "usage: dms compile < FILE\n\n";
+
+const COMPILE: &str = "\
+\x20 compile    the text of a schema
              Writes its description to the file F00001.DMS of the current
              folder, where no description is yet.
 
-  initialize [TAG]   nothing
+";
+
+const COMPILE_STATUSES: &str = "Statuses: 0, 2, 5, 6, 7, 10 and 11. See dms --help.\n";
+
+const INITIALIZE_USAGE: &str = "usage: dms initialize [TAG]\n\n";
+
+const INITIALIZE: &str = "\
+\x20 initialize [TAG]   nothing
              Makes the empty database of the description in F00001.DMS, with
              that tag, a number from 0 to 18446744073709551615, or 0. Audit
              files, dumps and structure files of an old database are cut to
              nothing.
 
-  run        the lines of a script
+";
+
+const INITIALIZE_STATUSES: &str = "Statuses: 0, 4, 5, 7, 10 and 11. See dms --help.\n";
+
+const RUN_USAGE: &str = "usage: dms run < FILE\n\n";
+
+const RUN: &str = "\
+\x20 run        the lines of a script
              Opens the database in the current folder, as its last quiet point
              was, also where a program was stopped within it. Prints what the
              lines answer, and closes the database. What stands before a line
-             SYNCPOINT that was printed survives any stop.
+             SYNCPOINT that was printed survives any stop. Where standard error
+             is a terminal and standard output is none, it shows there every
+             second how many lines were answered, and the last SYNCPOINT.
 
-  print audit   nothing
+";
+
+const RUN_STATUSES: &str = "Statuses: 0, 3 to 10. See dms --help.\n";
+
+const PRINT_AUDIT_USAGE: &str = "usage: dms print audit\n\n";
+
+const PRINT_AUDIT: &str = "\
+\x20 print audit   nothing
              Prints a line for each entry that is sealed in the audit files of
-             the current folder. Changes nothing.
+             the current folder. Changes nothing, and needs no right to write.
 
-Statuses. At one above 0 a line on standard error says why.
+";
+
+const PRINT_AUDIT_STATUSES: &str = "Statuses: 0, 3, 4, 5, 7, 9 and 10. See dms --help.\n";
+
+/// What `--help` prints behind the commands.
+pub const STATUSES: &str = "\
+Statuses. At one above 0 a line on standard error says why, and behind it may
+stand what helps: the place in the text, what the system said, or what to do.
 
    0  done
    1  bad words
@@ -56,3 +101,45 @@ try are in the folder examples there.
 
 /// What `--version` prints.
 pub const VERSION: &str = "dms 0.1.0\n";
+
+/// The commands in the order of the help.
+pub const TOPICS: [Topic; 5] = [
+    Topic::Try,
+    Topic::Compile,
+    Topic::Initialize,
+    Topic::Run,
+    Topic::PrintAudit,
+];
+
+/// How a command is called.
+pub fn usage_of(topic: Topic) -> &'static str {
+    match topic {
+        Topic::Try => TRY_USAGE,
+        Topic::Compile => COMPILE_USAGE,
+        Topic::Initialize => INITIALIZE_USAGE,
+        Topic::Run => RUN_USAGE,
+        Topic::PrintAudit => PRINT_AUDIT_USAGE,
+    }
+}
+
+/// What a command does.
+pub fn text_of(topic: Topic) -> &'static str {
+    match topic {
+        Topic::Try => TRY,
+        Topic::Compile => COMPILE,
+        Topic::Initialize => INITIALIZE,
+        Topic::Run => RUN,
+        Topic::PrintAudit => PRINT_AUDIT,
+    }
+}
+
+/// The statuses that a command ends with.
+pub fn statuses_of(topic: Topic) -> &'static str {
+    match topic {
+        Topic::Try => TRY_STATUSES,
+        Topic::Compile => COMPILE_STATUSES,
+        Topic::Initialize => INITIALIZE_STATUSES,
+        Topic::Run => RUN_STATUSES,
+        Topic::PrintAudit => PRINT_AUDIT_STATUSES,
+    }
+}

@@ -111,7 +111,9 @@ impl fmt::Display for NeedText {
             }
             NeedFault::NoSuchPoint(point) => write!(f, "no such point {point}"),
             NeedFault::Voided(point) => write!(f, "point {point} voided"),
-            NeedFault::DumpPending(dump) => write!(f, "restore by dump {dump} pending"),
+            NeedFault::DumpMissing(dump) => write!(f, "dump {dump} missing"),
+            NeedFault::DumpUnsealed(dump) => write!(f, "dump {dump} unsealed"),
+            NeedFault::DumpLater(dump, point) => write!(f, "dump {dump} is at point {point}"),
         }
     }
 }

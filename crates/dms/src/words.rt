@@ -9,10 +9,21 @@ use std::rt::Env;
 /// No word of a request has so many bytes.
 const LONG_WORD: usize = 64;
 
+/// A command that has a help of its own.
+#[derive(Clone, Copy, Debug, PartialEq, Eq)]
+pub enum Topic {
+    Try,
+    Compile,
+    Initialize,
+    Run,
+    PrintAudit,
+}
+
 /// What the words of the command line ask for.
 #[derive(Clone, Copy, Debug, PartialEq, Eq)]
 pub enum Request {
     Help,
+    HelpOf(Topic),
     Version,
     /// `try`, which touches no file.
     Try,
@@ -48,6 +59,28 @@ pub fn words_of(rt: &HostRuntime, alloc: Global) -> Result<Vec<String>, Status>
     Ok(words)
 }
 
+fn is_help_word(word: &str) -> bool {
+    matches!(word, "--help" | "-h")
+}
+
+/// The command whose help these words ask for: the command's words, and `--help` or `-h`.
+fn help_topic(words: &[String]) -> Option<Topic> {
+    match words {
+        [command, last] if is_help_word(last.as_str()) => match command.as_str() {
+            "try" => Some(Topic::Try),
+            "compile" => Some(Topic::Compile),
+            "initialize" => Some(Topic::Initialize),
+            "run" => Some(Topic::Run),
+            _ => None,
+        },
+        [first, second, last]
+            if first.as_str() == "print"
+                && second.as_str() == "audit"
+                && is_help_word(last.as_str()) => { Some(Topic::PrintAudit) }
+        _ => None,
+    }
+}
+
 /// What these words ask for, None where they are bad.
 pub fn request_of(words: &[String]) -> Option<Request>
     ensures try_word { result ≡ Some Request.Try ↔ IsTry (map string_bytes words.now) }
@@ -64,10 +97,15 @@ pub fn request_of(words: &[String]) -> Option<Request>
         return Some(Request::PrintAudit);
     }
     if words.len() != 1 {
-        return None;
+        return match help_topic(words) {
+            None => None,
+            Some(topic) => Some(Request::HelpOf(topic)),
+        };
     }
     match words[0].as_str() {
         "--help" => Some(Request::Help),
+        "-h" => Some(Request::Help),
+        "help" => Some(Request::Help),
         "--version" => Some(Request::Version),
         "try" => Some(Request::Try),
         "compile" => Some(Request::Compile),

@@ -2,26 +2,89 @@ ghost use Rattle.std.specs.Prelude.{false, Ok, Err, None, [], ◌≡◌, MatchRe
 ghost use Rattle.std.proofs.lemmas.Bool.{false≢true};
 ghost use Rattle.dms_calls.specs.Untold.{no_world, untold_clock};
 
+use crate::access::Access;
 use crate::listing::Listing;
+use crate::progress::Progress;
+use crate::trouble::{Subject, Trouble};
 use dms_calls::Calls;
 use dms_site::Failed;
 use std::fs::{self, Files, OpenFile, OpenOptions};
 use std::io::{self, ErrorKind, Write};
 use std::os::unix::fs::FileExt;
-use std::rt::Runtime;
+use std::rt::{Clock, Runtime};
 
 /// The current folder and standard output.
 #[derive(Drop)]
 pub struct Host<R: Files> {
     rt: R,
+    access: Access,
+    /// Why the last call that failed did so.
+    trouble: Option<Trouble>,
+    progress: Option<Progress>,
+}
+
+/// An open file of the folder, and which it is.
+#[derive(Drop)]
+pub struct NumberedFile<F> {
+    on: Subject,
+    file: F,
 }
 
 impl<R: Files> Host<R> {
-    /// The folder in which the program runs.
-    pub fn new(rt: R) -> Host<R>
+    /// The folder in which the program runs, for a command of this kind, with what shows how far it is.
+    pub fn new(rt: R, access: Access, progress: Option<Progress>) -> Host<R>
         ensures { result.rt ≡ rt }
     {
-        Host { rt }
+        Host {
+            rt,
+            access,
+            trouble: None,
+            progress,
+        }
+    }
+
+    /// Why the last call that failed did so, where one did.
+    pub fn trouble(&self) -> Option<Trouble> {
+        self.trouble
+    }
+
+    /// Its value, or that the call on this failed, which is kept.
+    fn keep<T: Drop>(&mut self, on: Subject, outcome: io::Result<T>) -> Result<T, Failed>
+        ensures { MatchResult outcome (λ value. result ≡ Ok value) (λ e. result ≡ Err (record {})) }
+    {
+        match outcome {
+            Ok(value) => Ok(value),
+            Err(e) => {
+                self.trouble = Some(Trouble::new(on, e));
+                Err(Failed)
+            }
+        }
+    }
+
+    /// The open file, or that opening it failed, which is kept.
+    fn keep_file(
+        &mut self,
+        on: Subject,
+        outcome: io::Result<R::File>,
+    ) -> Result<NumberedFile<R::File>, Failed> {
+        let file = self.keep(on, outcome)?;
+        Ok(NumberedFile { on, file })
+    }
+}
+
+impl<R: Files + Clock + Eprint> Host<R> {
+    /// Shows how far the command is, where it is time.
+    fn turn(&mut self) {
+        if let Some(progress) = &mut self.progress {
+            progress.turn(&self.rt);
+        }
+    }
+
+    /// Ends what shows how far the command is.
+    pub fn end_progress(&self) {
+        if let Some(progress) = &self.progress {
+            progress.end(&self.rt);
+        }
     }
 }
 
@@ -39,7 +102,7 @@ impl<R: Runtime + AllocGlobal> Calls for Host<R>
 where
     R::File: FileExt,
 {
-    type Handle = R::File;
+    type Handle = NumberedFile<R::File>;
 
     type Listing = Listing<R::Dir>;
 
@@ -67,54 +130,81 @@ where
 
     ghost one_name = { λ s w m n i now. absurd now };
 
-    fn open(&mut self, name: &str) -> Result<Option<R::File>, Failed> {
-        match OpenOptions::new()
+    fn open(&mut self, name: &str) -> Result<Option<NumberedFile<R::File>>, Failed> {
+        self.turn();
+        let on = Subject::of_name(name);
+        let opened = OpenOptions::new()
             .read(true)
-            .write(true)
-            .open(&self.rt, name)
-        {
-            Ok(file) => Ok(Some(file)),
+            .write(self.access == Access::Writing)
+            .open(&self.rt, name);
+        match opened {
+            Ok(file) => Ok(Some(NumberedFile { on, file })),
             Err(e) if e.kind() == ErrorKind::NotFound => Ok(None),
-            Err(_) => Err(Failed),
+            Err(e) => {
+                self.trouble = Some(Trouble::new(on, e));
+                Err(Failed)
+            }
         }
     }
 
-    fn create(&mut self, name: &str) -> Result<R::File, Failed> {
-        or_failed(
-            OpenOptions::new()
-                .read(true)
-                .write(true)
-                .create_new(true)
-                .open(&self.rt, name),
-        )
+    fn create(&mut self, name: &str) -> Result<NumberedFile<R::File>, Failed> {
+        let on = Subject::of_name(name);
+        let made = OpenOptions::new()
+            .read(true)
+            .write(true)
+            .create_new(true)
+            .open(&self.rt, name);
+        self.keep_file(on, made)
     }
 
-    fn size(&mut self, handle: &R::File) -> Result<u64, Failed> {
-        Ok(or_failed(handle.metadata())?.len())
+    fn size(&mut self, handle: &NumberedFile<R::File>) -> Result<u64, Failed> {
+        let found = handle.file.metadata();
+        Ok(self.keep(handle.on, found)?.len())
     }
 
-    fn pread(&mut self, handle: &R::File, at: u64, into: &mut [u8]) -> Result<usize, Failed> {
-        or_failed(handle.read_at(into, at))
+    fn pread(
+        &mut self,
+        handle: &NumberedFile<R::File>,
+        at: u64,
+        into: &mut [u8],
+    ) -> Result<usize, Failed> {
+        self.turn();
+        let count = handle.file.read_at(into, at);
+        self.keep(handle.on, count)
     }
 
-    fn pwrite(&mut self, handle: &R::File, at: u64, bytes: &[u8]) -> Result<usize, Failed> {
-        or_failed(handle.write_at(bytes, at))
+    fn pwrite(
+        &mut self,
+        handle: &NumberedFile<R::File>,
+        at: u64,
+        bytes: &[u8],
+    ) -> Result<usize, Failed> {
+        self.turn();
+        let count = handle.file.write_at(bytes, at);
+        self.keep(handle.on, count)
     }
 
-    fn ftruncate(&mut self, handle: &R::File, len: u64) -> Result<(), Failed> {
-        or_failed(handle.set_len(len))
+    fn ftruncate(&mut self, handle: &NumberedFile<R::File>, len: u64) -> Result<(), Failed> {
+        let cut = handle.file.set_len(len);
+        self.keep(handle.on, cut)
     }
 
-    fn fsync(&mut self, handle: &R::File) -> Result<(), Failed> {
-        or_failed(handle.sync_all())
+    fn fsync(&mut self, handle: &NumberedFile<R::File>) -> Result<(), Failed> {
+        self.turn();
+        let synced = handle.file.sync_all();
+        self.keep(handle.on, synced)
     }
 
     fn fsync_folder(&mut self) -> Result<(), Failed> {
-        or_failed(or_failed(fs::open(&self.rt, "."))?.sync_all())
+        let opened = fs::open(&self.rt, ".");
+        let folder = self.keep(Subject::Folder, opened)?;
+        let synced = folder.sync_all();
+        self.keep(Subject::Folder, synced)
     }
 
     fn list(&mut self) -> Result<Listing<R::Dir>, Failed> {
-        Ok(Listing::new(or_failed(self.rt.open_dir("."))?))
+        let opened = self.rt.open_dir(".");
+        Ok(Listing::new(self.keep(Subject::Folder, opened)?))
     }
 
     fn next_name(
@@ -127,6 +217,12 @@ where
     }
 
     fn print(&mut self, bytes: &[u8]) -> Result<usize, Failed> {
-        or_failed(io::writer(&self.rt).write(bytes))
+        self.turn();
+        let written = io::writer(&self.rt).write(bytes);
+        let count = self.keep(Subject::Output, written)?;
+        if let Some(progress) = &mut self.progress {
+            progress.read(&bytes[..count]);
+        }
+        Ok(count)
     }
 }

@@ -1,19 +1,25 @@
 //! The outside as it is: the system calls on the current folder, its lock, the standard streams and standard input.
 //!
 //! Each method of `Host` makes the call that it names, and no other. What the system does with it is trusted: no clause tells
-//! what a file holds or what an input gives.
+//! what a file holds or what an input gives. Beside it they keep what a user is shown: why a call failed, and how far a run is.
 #![tactic(auto)]
 
+mod access;
 mod descriptors;
 mod host;
 mod listing;
 mod lock;
+mod progress;
 mod stdin_source;
 #[cfg(test)]
 mod tests;
+mod trouble;
 
+pub use access::Access;
 pub use descriptors::{HeldStreams, Stream, hold_streams, reaches_database};
-pub use host::Host;
+pub use host::{Host, NumberedFile};
 pub use listing::Listing;
 pub use lock::{FolderLock, LockFault, lock_folder};
+pub use progress::Progress;
 pub use stdin_source::StdinSource;
+pub use trouble::{Subject, Trouble};

@@ -1,0 +1,9 @@
+//! Where a fault stands in the text of a schema, as a user is shown it: line and column, the line's text with a mark, and the
+//! word or sign that must stand there, where only one can. No contract speaks of it.
+#![tactic(auto)]
+
+mod hint;
+mod place;
+
+pub use hint::wanted;
+pub use place::SchemaPlace;

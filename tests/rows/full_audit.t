@@ -1,0 +1,32 @@
+An audit that is full: what is there is read by a script, and brought into a new database by another one.
+
+  $ mkdir old new && cd old
+  $ schema() { printf 'PARAMETERS (CONTROLPOINT = 10000 SYNCPOINTS);\nAUDIT TRAIL (BLOCKS = 8, FILES = %s);\nRDS RESTART DATA SET (PID ALPHA(10););\nD DATA SET (X NUMBER(4););\n' "$1"; }
+  $ schema 2 | "$DMS" compile && "$DMS" initialize
+  COMPILED 2 STRUCTURES
+  INITIALIZED AT POINT 0
+  $ transaction() { printf 'A: BEGIN-TRANSACTION NO-AUDIT RDS\nA: CREATE D\nA: PUT D X = %d\nA: STORE D\nA: END-TRANSACTION NO-AUDIT RDS SYNC\n' "$1"; }
+  $ { echo 'A: OPEN UPDATE'; for n in $(seq 20); do transaction $n; done; } > ../script
+  $ "$DMS" run < ../script > ../out
+  dms: audit file 2 full
+  dms: bring its records over to a new database; docs/GUIDE.md, A full audit
+  [8]
+  $ tail -n 1 ../out
+  69 A DONE
+
+The records, and the lines that store them.
+
+  $ { echo 'A: OPEN INQUIRY'; yes 'A: FIND NEXT D
+  > A: GET D' | head -n 50; } | "$DMS" run | sed -n 's/^[0-9]* A DONE X=/X = /p' > ../records
+  $ tail -n 1 ../records
+  X = 13
+  $ { echo 'A: OPEN UPDATE'; while read -r values; do printf 'A: BEGIN-TRANSACTION NO-AUDIT RDS\nA: CREATE D\nA: PUT D %s\nA: STORE D\nA: END-TRANSACTION NO-AUDIT RDS\n' "$values"; done < ../records; } > ../lines
+
+  $ cd ../new
+  $ schema 9900 | "$DMS" compile && "$DMS" initialize
+  COMPILED 2 STRUCTURES
+  INITIALIZED AT POINT 0
+  $ "$DMS" run < ../lines | tail -n 1
+  126 A DONE
+  $ printf 'A: OPEN INQUIRY\nA: FIND LAST D\nA: GET D\n' | "$DMS" run | tail -n 1
+  3 A DONE X=13
