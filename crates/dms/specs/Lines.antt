@@ -50,6 +50,10 @@ limit_words Lines = codes "too many lines"
 limit_words Bytes = codes "too many bytes"
 limit_words Held = codes "too many held lines"
 
+-- a dump whose point is above that of a restore
+abbrev pub later_words : ℕ → ℕ → List ℕ
+later_words d n = around_number (codes "dump ") d (codes " is at point " ++ decimal n)
+
 -- what is needed and isn't found
 abbrev pub need_words : NeedFault → List ℕ
 need_words NoDescription = codes "no description"
@@ -60,7 +64,7 @@ need_words (NoSuchPoint n) = around_number (codes "no such point ") n []
 need_words (Voided n) = around_number (codes "point ") n (codes " voided")
 need_words (DumpMissing d) = around_number (codes "dump ") d (codes " missing")
 need_words (DumpUnsealed d) = around_number (codes "dump ") d (codes " unsealed")
-need_words (DumpLater d n) = around_number (codes "dump ") d (codes " is at point " ++ decimal n)
+need_words (DumpLater d n) = later_words d n
 
 -- a line of the program, with its line feed
 abbrev pub line : List ℕ → List ℕ

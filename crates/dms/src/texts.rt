@@ -1,5 +1,5 @@
 ghost use Rattle.std.specs.Prelude.{◌≡◌, Some};
-ghost use Rattle.dms.specs.Lines.{parse_words, compile_words, need_words, lines_of};
+ghost use Rattle.dms.specs.Lines.{parse_words, compile_words, later_words, need_words, lines_of};
 ghost use Rattle.dms.specs.Numbers.{number_of};
 
 use dasdl_compile::CompileFault;
@@ -94,6 +94,19 @@ impl fmt::Display for CompileText {
     }
 }
 
+/// What is said of a dump whose point is above that of a restore.
+#[derive(Drop)]
+struct LaterText(u16, u64);
+
+impl fmt::Display for LaterText {
+    ghost output = { λ t. Some (later_words t.0 t.1) };
+
+    fn fmt<W: fmt::Write>(&self, f: &mut fmt::Formatter<W>) -> fmt::Result {
+        let (dump, point) = (self.0, self.1);
+        write!(f, "dump {dump} is at point {point}")
+    }
+}
+
 /// What is said of what a command needs and doesn't find.
 #[derive(Drop)]
 struct NeedText(NeedFault);
@@ -113,7 +126,7 @@ impl fmt::Display for NeedText {
             NeedFault::Voided(point) => write!(f, "point {point} voided"),
             NeedFault::DumpMissing(dump) => write!(f, "dump {dump} missing"),
             NeedFault::DumpUnsealed(dump) => write!(f, "dump {dump} unsealed"),
-            NeedFault::DumpLater(dump, point) => write!(f, "dump {dump} is at point {point}"),
+            NeedFault::DumpLater(dump, point) => LaterText(dump, point).fmt(f),
         }
     }
 }
