@@ -11,6 +11,7 @@ use Rattle.dms_history.specs.Entries.{Entry, Kind, begin_restore, by_halt_load, 
 use Rattle.dms_history.specs.EntryEvents.{history_of}
 use Rattle.dms_history.specs.Schemas.{schema_entries}
 use Rattle.dms_history.specs.declared.event.FileCount.{FileCount}
+use Rattle.dms_history.specs.declared.event.Row.{Row}
 use Rattle.dms_history.proofs.Order.{append_none}
 use Rattle.dms_history.proofs.Picks.{some_is}
 use Rattle.dms_history.proofs.Stops.{outcome_length}
@@ -37,10 +38,11 @@ use Rattle.dms_opening.proofs.GoneOn.{each_on}
 use Rattle.dms_wal.specs.Lifting.{last_blocks}
 use Rattle.dms_wal.specs.Marks.{last_number}
 use Rattle.dms_wal.proofs.Under.{under_control}
+use Rattle.dms_opening.specs.declared.asked.Asked.{Asked}
 use Rattle.dms_opening.specs.declared.plan.OpeningPlan.{OpeningPlan}
-use Rattle.dms_opening.specs.Plans.{SameDumps, Plans, PlansFor}
+use Rattle.dms_opening.specs.Plans.{SameDumps, Plans}
 use Rattle.dms_opening.specs.Openings.{begin_where_none, ending_entries, opening_entries, RunsFrom, MayHaveWritten, Reopens, text_of}
-use Rattle.dms_opening.specs.Carrying.{IsFitPlan, IsPlanned, IsPlannedFor, MayBegin, RunsTo}
+use Rattle.dms_opening.specs.Carrying.{IsFitPlan, IsPlanned, IsPlannedFor, WritesFor}
 use Rattle.dms_opening.proofs.LastPoint.{last_is, left_is}
 
 -- By the plan of a trail that was scanned the restore is begun, or goes on: its Begin alone stands behind the entries that there were.
@@ -70,6 +72,10 @@ count_table plan ready = record { few = ready.counts.few; small = ready.counts.s
 -- the bytes of the counts, by another name of their list
 pub bytes_are : (counts said bytes : List ℕ) → said ≡ counts → bytes ≡ pair_bytes count_file count_blocks (file_counts 30001 said) → bytes ≡ pair_bytes count_file count_blocks (file_counts 30001 counts)
 bytes_are counts said bytes same is = is ∙ ap (λ (l : List ℕ). pair_bytes count_file count_blocks (file_counts 30001 l)) same
+
+-- what is planned is what its restore writes
+pub writes_by : (v : LogView) (asked : Asked) (rows : List Row) (plan : OpeningPlan) (s : IsPlannedFor v asked rows plan) → WritesFor v s.plans.chooses.restore plan
+writes_by v asked rows plan s = record { start = s.start; plan_is = s.plans.plan_is }
 
 -- what an opening may do
 pub may_open : (v : LogView) (plan : OpeningPlan) (s : IsPlanned v plan) → IsWhole (telling v) v.files → MayOpen v plan.choice.begins plan.choice.point s.plans.chooses.restore

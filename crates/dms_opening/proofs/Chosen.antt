@@ -88,10 +88,10 @@ own_file first live next last (Reconstruct e) look rows d is none =
 -- ---- the point that is asked for
 
 -- it is there, and it is live
-record PointLives (h : History) (asked : Asked) : Type 0 where
-  point : ℕ
-  asked_is : point_asked asked (last_point h) ≡ Some point
-  lives : IsLive h.live point
+pub record PointLives (h : History) (asked : Asked) : Type 0 where
+  pub point : ℕ
+  pub asked_is : point_asked asked (last_point h) ≡ Some point
+  pub lives : IsLive h.live point
 
 lives_at : (live : List Event) (next n : ℕ) → refused_at n (judge_point live next n) ≡ None → IsLive live n
 lives_at live next n none = ((each_judged live next n).lives.0 (at_none n (judge_point live next n) none)).1
@@ -101,7 +101,7 @@ last_lives : (h : History) (next : ℕ) (k : Option ℕ) → last_point h ≡ k 
 last_lives h next None is none = absurd cc
 last_lives h next (Some n) is none = record { point = n; asked_is = is; lives = lives_at h.live next n none }
 
-own_lives : (first : ℕ) (h : History) (next : ℕ) (asked : Asked) (look : DumpLook) → judge_own first h.live next (last_point h) asked look ≡ None → PointLives h asked
+pub own_lives : (first : ℕ) (h : History) (next : ℕ) (asked : Asked) (look : DumpLook) → judge_own first h.live next (last_point h) asked look ≡ None → PointLives h asked
 own_lives first h next HaltLoad look none = last_lives h next (last_point h) refl none
 own_lives first h next (Rollback n) look none = record { point = n; asked_is = refl; lives = lives_at h.live next n none }
 own_lives first h next (Rebuild d n) look none =

@@ -15,7 +15,7 @@ use Rattle.dms_opening.proofs.Completed.{whole_is_opened}
 use Rattle.dms_opening.proofs.OneTrail.{one_first, one_total}
 
 -- a trail that was found isn't refused
-scans : (files : Files) (ps : List scan.Placed) (e : AudFault) → TrailIs files (scan.found ps) → Refuses files e → IsNoRefusal (Audit e)
+pub scans : (files : Files) (ps : List scan.Placed) (e : AudFault) → TrailIs files (scan.found ps) → Refuses files e → IsNoRefusal (Audit e)
 scans files ps aud.NoDatabase t r = absurd (apart (is_one_trail files _ _ r t))
   where
     apart : scan.no_database ≡ scan.found ps → ⊥

@@ -84,7 +84,7 @@ head_read [] h is = absurd (not_missing h is)
 head_read (gate ∷ rest) h is = by_gate (gate == 1) (head_in (gate ∷ rest)) h is
 
 -- its point is the one in the file
-dump_point : (files : Files) (d : ℕ) (h : Head) → 1 ≤ d → d ≤ 9999 → dump_read (files (20000 + d)) ≡ sealed h → (dumps_of files d).point ≡ h.point
+pub dump_point : (files : Files) (d : ℕ) (h : Head) → 1 ≤ d → d ≤ 9999 → dump_read (files (20000 + d)) ≡ sealed h → (dumps_of files d).point ≡ h.point
 unfolding dump_of
 dump_point files d h some few is =
     (λ i. (cond (low i && high i) (dump_of (files (20000 + d))) no_dump).point) ∙ ap (λ (o : Option Head). (dump_by_head o (files (20000 + d))).point) (head_read (files (20000 + d)) h is)
@@ -150,7 +150,7 @@ module _ (total first : ℕ) (files : Files) (whole : IsWhole (telling_of total 
       restore_judged first next files p p.how (pending_judged p is) (below h.live next p.point whole.stands.kept.numbered (lives_at p is).found)
       (subst (λ (q : Option Pending). DumpsInOrder (IsDumpFound first files) (dumps_of files) q) is whole.order)
 
-  judged : judge_files total first files HaltLoad ≡ None
+  pub judged : judge_files total first files HaltLoad ≡ None
   judged = λ i. or_next (begun_judged h.pending refl i) (last_judged i)
 
   same_point : (c : Choice) → Chooses (judge_files total first files HaltLoad) h HaltLoad [] c → c.point ≡ last.point

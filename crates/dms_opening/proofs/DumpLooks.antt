@@ -76,15 +76,15 @@ none_at files d out = by_test (nat_lt 0 d && nat_le d 9999) refl
     by_test false off = ap (λ b. cond b (dump_read (files (20000 + d))) missing) off
 
 -- a dump that is found has a number in this range
-record SealedAt (files : Files) (d : ℕ) (h : Head) : Type 0 where
-  some : 1 ≤ d
-  few : d ≤ 9999
-  read : dump_read (files (20000 + d)) ≡ sealed h
+pub record SealedAt (files : Files) (d : ℕ) (h : Head) : Type 0 where
+  pub some : 1 ≤ d
+  pub few : d ≤ 9999
+  pub read : dump_read (files (20000 + d)) ≡ sealed h
 
 not_found : (h : Head) → missing ≡ sealed h → ⊥
 not_found h is = absurd cc
 
-sealed_at : (files : Files) (d : ℕ) (h : Head) → dump_at files d ≡ sealed h → SealedAt files d h
+pub sealed_at : (files : Files) (d : ℕ) (h : Head) → dump_at files d ≡ sealed h → SealedAt files d h
 sealed_at files d h is = by_test (nat_lt 0 d && nat_le d 9999) refl
   where
     by_test : (b : Bool) → nat_lt 0 d && nat_le d 9999 ≡ b → SealedAt files d h

@@ -27,3 +27,4 @@ pub mod Sealings
 pub mod Growths
 pub mod AskedFor
 pub mod DumpLooks
+pub mod Behinds

@@ -129,7 +129,7 @@ module _ (files : Files) (entries : List Entry) (h : TrailHistory) (first : ℕ)
           subst (λ n. IsLive (live_of entries) n) chooses.is.point_is (pending_lives files entries h (next_of entries) p t o.0 (restore_point first (next_of entries) p.how begun p.entries p.point o.1))
 
 -- the dump that is asked for is looked at
-looked_at : (files : Files) (asked : Asked) (rows : List Row) (d : ℕ) → dump_by (how_of (kind_asked asked rows)) ≡ Some d → dump_asked files asked ≡ dump_at files d
+pub looked_at : (files : Files) (asked : Asked) (rows : List Row) (d : ℕ) → dump_by (how_of (kind_asked asked rows)) ≡ Some d → dump_asked files asked ≡ dump_at files d
 looked_at files HaltLoad rows d by = absurd cc
 looked_at files (Rollback n) rows d by = absurd cc
 looked_at files (Rebuild e n) rows d by = let same : e ≡ d = cc in ap (dump_at files) same

@@ -21,7 +21,7 @@ audit_is e f is = cc
 pub scan_has_room : (files : Files) (e : AudFault) (n : ℕ) → Refuses files e → Audit e ≡ Audit (aud.Full n) → ⊥
 scan_has_room files e n refuses full = subst (λ (f : AudFault). Refuses files f) (audit_is e (aud.Full n) full) refuses
 
-judged_has_room : (first n : ℕ) (r : Refused) → fault_of first r ≡ Audit (aud.Full n) → ⊥
+pub judged_has_room : (first n : ℕ) (r : Refused) → fault_of first r ≡ Audit (aud.Full n) → ⊥
 judged_has_room first n (at_point m no_such_point) e = absurd cc
 judged_has_room first n (at_point m audit_missing) e = absurd cc
 judged_has_room first n (at_point m voided) e = absurd cc

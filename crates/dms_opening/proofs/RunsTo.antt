@@ -36,13 +36,6 @@ module _ (a b : LogView) (right : Stored) (kind : Kind) (plan : OpeningPlan) (m 
   abbrev p : Pending
   p = any_to a plan.choice.point kind
 
-  abbrev plans : PlansFor a.end.total a.first a.files m.asked m.rows plan
-  plans = m.planned.plans
-
-  -- the restore of the plan is the one that is begun
-  restore_is : plans.chooses.restore ≡ p
-  restore_is = (plans.chooses.is.new m.begins).3 ∙ (λ i. record { entries = live_of (trail_entries a.end.total a.first a.files); point = plan.choice.point; how = how_of (sym m.kind_is i) })
-
   same : telling b ≡ telling a
   same = λ i. telling_of (total i) (first i)
 
@@ -50,10 +43,10 @@ module _ (a b : LogView) (right : Stored) (kind : Kind) (plan : OpeningPlan) (m 
     pub may_end_so : Grown a.end.total a.first a.files b.files → SameDumps a.files b.files → MayGoOn p b plan.table plan.choice.point plan.next bytes
     may_end_so grown dumps = record {
       begun = any.begun;
-      plan_is = subst (λ (q : Pending). IsPlan q b.files plan.table) restore_is (plans.plan_is b.files grown dumps);
+      plan_is = m.writes.plan_is b.files grown dumps;
       point_is = refl;
-      next_is = sym plans.next_is ∙ sym any.next_same;
-      count = λ f. counts_told plan.counts.items (count_table plan ready) bytes is f ∙ plans.counts_are f ∙ ap (λ (q : Pending). count_at q.entries q.point f) restore_is;
+      next_is = sym m.next_is ∙ sym any.next_same;
+      count = λ f. counts_told plan.counts.items (count_table plan ready) bytes is f ∙ m.counts_are f;
     }
 
     module _ (c : LogView) (schema : List ℕ) (described : schema ≡ plan.schema.items) (opened : OpenedAt p b c (schema_control schema plan.choice.point plan.next bytes))
@@ -81,7 +74,7 @@ module _ (a b : LogView) (right : Stored) (kind : Kind) (plan : OpeningPlan) (m 
         entries_are = all_sealed;
         points_are = o.points_same ∙ any.points_are;
         all_durable = o.all_durable ∙ ap length (sym o.points_same);
-        next_is = o.next_same ∙ any.next_same ∙ plans.next_is;
+        next_is = o.next_same ∙ any.next_same ∙ m.next_is;
         content_is = o.content_is ∙ any.leaves;
         written = o.written;
         only = o.only;

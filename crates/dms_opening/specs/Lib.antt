@@ -10,3 +10,4 @@ pub mod Doing
 pub mod Choices
 pub mod PointCounts
 pub mod Starts
+pub mod Behind

@@ -1,10 +1,10 @@
 //! A plan is carried out: the restore is begun, its blocks are written, and it is ended.
 
-ghost use Rattle.std.specs.Prelude.{◌≡◌, ◌≤◌, List, length, IfOk, IfErr, IsTrue};
+ghost use Rattle.std.specs.Prelude.{◌≡◌, ◌≤◌, length, IfOk, IfErr, IsTrue};
 ghost use Rattle.dms_moments.specs.Moments.{Runs};
 ghost use Rattle.dms_history.specs.Entries.{by_halt_load};
 ghost use Rattle.dms_history.specs.Events.{Stored};
-ghost use Rattle.dms_history.specs.declared.event.Row as row;
+ghost use Rattle.dms_history.specs.History.{Pending};
 ghost use Rattle.dms_audrec.specs.Seen.{how_seen};
 ghost use Rattle.dms_audrec.specs.Spelling.{IsRestoreKind, rows_of};
 ghost use Rattle.dms_audfile.specs.Counting.{CountedAt};
@@ -12,10 +12,10 @@ ghost use Rattle.dms_running.specs.AnyBegun.{BeginLeaves};
 ghost use Rattle.dms_running.specs.Standing.{IsWhole};
 ghost use Rattle.dms_restore.specs.Begins.{AnyLeaves};
 ghost use Rattle.dms_restore.specs.Logging.{LogGrows, telling, state, view};
-ghost use Rattle.dms_restore.specs.Views.{view_of};
+ghost use Rattle.dms_restore.specs.Views.{view_of, LogStarts};
 ghost use Rattle.dms_wal.specs.Closing.{IsFullTrail};
-ghost use Rattle.dms_opening.specs.declared.asked.Asked as meant;
-ghost use Rattle.dms_opening.specs.Carrying.{IsFitPlan, IsPlanned, IsPlannedFor, MayBegin, RunsTo};
+ghost use Rattle.dms_opening.specs.Carrying.{IsFitPlan, IsPlanned, WritesFor, MayBegin, RunsTo};
+ghost use Rattle.dms_opening.specs.Plans.{SameDumps};
 ghost use Rattle.dms_opening.specs.Openings.{RunsFrom, Reopens, text_of, IsFullFault, MayHaveWritten};
 
 use crate::going_on::go_on;
@@ -27,7 +27,7 @@ use dms_restore::{Log, count_bytes};
 use dms_site::Site;
 
 /// The site of a log. Makes no call of it.
-pub(crate) fn site_of<S: Site>(log: Log<S>) -> S
+pub fn site_of<S: Site>(log: Log<S>) -> S
     ensures { result ≡ log.site }
 {
     let Log {
@@ -39,7 +39,7 @@ pub(crate) fn site_of<S: Site>(log: Log<S>) -> S
 }
 
 /// Begins the restore of a plan, which is of this kind, or goes on with the pending one, writes its blocks, and ends it.
-pub(crate) fn carry_out<S: Site>(
+pub fn carry_out<S: Site>(
     planned: PlannedOpening<S>,
     how: BeginHow<'_>,
 ) -> Result<Opened<S>, (OpenFault, S)>
@@ -59,12 +59,14 @@ pub(crate) fn carry_out<S: Site>(
         → AnyLeaves v right planned.plan.choice.point (view_of S.Site o.log)) }
     ensures leaves_then { IfErr result (λ e. (right : Stored) → IsTrue S.tells → let v = view_of S.Site planned.log in MayBegin v right (how_seen how.entry) planned.plan
         → Runs v.clock (S.clock e.1) (BeginLeaves (telling v) (state v) right planned.plan.choice.point)) }
-    ensures only { IfErr result (λ e. (asked : meant.Asked) (rows : List row.Row) → IsTrue S.tells → IsPlannedFor (view_of S.Site planned.log) asked rows planned.plan → MayHaveWritten e.0) }
-    ensures full { IfErr result (λ e. (asked : meant.Asked) (rows : List row.Row) → IsTrue S.tells → IsPlannedFor (view_of S.Site planned.log) asked rows planned.plan → IsFullFault e.0 → IsFullTrail (view_of S.Site planned.log) (S.files e.1)) }
-    ensures grown { IfOk result (λ o. (asked : meant.Asked) (rows : List row.Row) → IsTrue S.tells → let v = view_of S.Site planned.log in IsPlannedFor v asked rows planned.plan
+    ensures only { IfErr result (λ e. (p : Pending) → IsTrue S.tells → WritesFor (view_of S.Site planned.log) p planned.plan → MayHaveWritten e.0) }
+    ensures full { IfErr result (λ e. (p : Pending) → IsTrue S.tells → WritesFor (view_of S.Site planned.log) p planned.plan → IsFullFault e.0 → IsFullTrail (view_of S.Site planned.log) (S.files e.1)) }
+    ensures grown { IfOk result (λ o. (p : Pending) → IsTrue S.tells → let v = view_of S.Site planned.log in WritesFor v p planned.plan
         → LogGrows 19 v (view_of S.Site o.log)) }
-    ensures grown_then { IfErr result (λ e. (asked : meant.Asked) (rows : List row.Row) → IsTrue S.tells → let v = view_of S.Site planned.log in IsPlannedFor v asked rows planned.plan
+    ensures grown_then { IfErr result (λ e. (p : Pending) → IsTrue S.tells → let v = view_of S.Site planned.log in WritesFor v p planned.plan
         → LogGrows 19 v (view v.end v.first (S.files e.1) (S.clock e.1))) }
+    ensures starts { IfOk result (λ o. (p : Pending) → IsTrue S.tells → WritesFor (view_of S.Site planned.log) p planned.plan → LogStarts (view_of S.Site o.log)) }
+    ensures dumps { IfOk result (λ o. (p : Pending) → IsTrue S.tells → WritesFor (view_of S.Site planned.log) p planned.plan → SameDumps (S.files planned.log.site) (S.files o.log.site)) }
     ensures plan { IfOk result (λ o. (o.point ≡ planned.plan.choice.point) × (o.next ≡ planned.plan.next) × (o.schema ≡ planned.plan.schema) × (o.counts ≡ planned.plan.counts)) }
     ensures kind { IfOk result (λ o. (o.log.end.total ≡ planned.log.end.total) × (o.log.end.limit ≡ planned.log.end.limit) × (o.log.first ≡ planned.log.first)) }
     ensures same { IfOk result (λ o. S.same_site planned.log.site o.log.site) }

@@ -77,7 +77,7 @@ fn number_or_zero(number: Option<u64>) -> u64
 }
 
 /// The point that is asked for, by the last one; 0 where there is none.
-fn point_of(asked: Asked, last: Option<u64>) -> u64
+pub(crate) fn point_of(asked: Asked, last: Option<u64>) -> u64
     ensures { (n : ℕ) → point_asked asked last ≡ Some n → result ≡ n }
 {
     match asked {

@@ -27,7 +27,7 @@ fn used_counts(counts: &[u32]) -> usize
 impl OpeningPlan {
     /// Leaves of the counts those of the structures of the description, and those of files behind them up to the last that has a block.
     /// Where the bytes are those of no description all are left.
-    pub(crate) fn cut_counts(&mut self, alloc: Global) -> Result<(), Memory>
+    pub fn cut_counts(&mut self, alloc: Global) -> Result<(), Memory>
         requires size { length self.old.counts.items ≡ 200 }
         ensures named { OnOk result (NamesStructures self.new.schema.items self.new.counts.items) }
         ensures same { OnOk result ((f : ℕ) → count_of self.new.counts.items f ≡ count_of self.old.counts.items f) }

@@ -8,9 +8,10 @@ ghost use Rattle.dms_audrec.specs.Reading.{counts_at};
 ghost use Rattle.dms_audfile.specs.Counting.{CountedAt};
 ghost use Rattle.dms_restore.specs.Logging.{Ends, EndsSealed, LogGrows};
 ghost use Rattle.dms_restore.specs.Parts.{SealsPart};
-ghost use Rattle.dms_restore.specs.Views.{view_of, StaysSilent, IsSameTrail};
+ghost use Rattle.dms_restore.specs.Views.{view_of, StaysSilent, LogStarts, IsSameTrail};
 ghost use Rattle.dms_restore.specs.Laying.{schema_control};
 ghost use Rattle.dms_restore.specs.Begins.{LeavesEach};
+ghost use Rattle.dms_opening.specs.Plans.{SameDumps};
 ghost use Rattle.dms_opening.specs.Starts.{MayGoOn, OpenedAt};
 ghost use Rattle.dms_restore.specs.Table.{AreBlocks, AreRuns, IsPlan};
 
@@ -43,6 +44,10 @@ pub(crate) fn go_on<S: Site>(
         → StaysSilent S.Site begun.log.site l.site) }
     ensures silent_then { IfErr result (λ e. (p : Pending) → IsTrue S.tells → MayGoOn p (view_of S.Site begun.log) table.now point next counts.now
         → StaysSilent S.Site begun.log.site e.1.site) }
+    ensures starts { IfOk result (λ l. (p : Pending) → IsTrue S.tells → IsPlan p (S.files begun.log.site) table.now → EndsSealed (view_of S.Site begun.log)
+        → LogStarts (view_of S.Site l)) }
+    ensures dumps { IfOk result (λ l. (p : Pending) → IsTrue S.tells → IsPlan p (S.files begun.log.site) table.now → EndsSealed (view_of S.Site begun.log)
+        → SameDumps (S.files begun.log.site) (S.files l.site)) }
     ensures grown { IfOk result (λ l. (p : Pending) → IsTrue S.tells → IsPlan p (S.files begun.log.site) table.now → EndsSealed (view_of S.Site begun.log)
         → LogGrows 18 (view_of S.Site begun.log) (view_of S.Site l)) }
     ensures grown_then { IfErr result (λ e. (p : Pending) → IsTrue S.tells → IsPlan p (S.files begun.log.site) table.now → EndsSealed (view_of S.Site begun.log)

@@ -2,6 +2,7 @@
 #![tactic(auto)]
 
 mod asked;
+mod behind;
 mod carrying;
 mod choosing;
 mod cutting;
@@ -20,10 +21,13 @@ mod scanning;
 mod starting;
 
 pub use asked::{Asked, DumpLook, Refusal, judge};
+pub use behind::prepare_behind;
+pub use carrying::{carry_out, site_of};
 pub use choosing::{Choice, OpenFault};
 pub use dump_looks::{DumpFound, find_begun, find_dump};
 pub use judging::PointFault;
 pub use looking::{PlannedOpening, look};
+pub use numbers::last_point;
 pub use opened::{Opened, open};
 pub use plan::{OpeningPlan, prepare, prepare_asked};
 pub use scanning::{Found, Scanned};

@@ -44,7 +44,7 @@ fn last_number(first: Option<u64>, live: &[LiveEntry]) -> Option<u64>
 }
 
 /// The last point: that of the last live Quiet or Control, or that of the pending restore where there is none.
-pub(crate) fn last_point(history: &TrailHistory) -> Option<u64>
+pub fn last_point(history: &TrailHistory) -> Option<u64>
     ensures { (files : Files) (entries : List meaning.Entry) → IsTraced files entries history.now → result ≡ last_point (history_of entries) }
 {
     last_number(pending_number(history.pending), &history.live)

@@ -1,6 +1,6 @@
 //! What is done for what is asked, and what it needs, before its first write.
 
-ghost use Rattle.std.specs.Prelude.{◌≡◌, ◌≤◌, ◌⊎◌, ℕ, [], Some, length, if◌then◌else◌, IfOk, IfErr, IsErrOf, IsTrue};
+ghost use Rattle.std.specs.Prelude.{◌≡◌, ◌≤◌, ◌⊎◌, ℕ, [], false, Some, length, if◌then◌else◌, IfOk, IfErr, IsErrOf, IsTrue};
 ghost use Rattle.dms_site.specs.Files.{Files};
 ghost use Rattle.dms_history.specs.EntryEvents.{live_of};
 ghost use Rattle.dms_history.specs.History.{Pending};
@@ -20,7 +20,7 @@ use crate::asked::Asked;
 use crate::choosing::{Choice, OpenFault, choose};
 use crate::describing::{read_schema, schema_span};
 use crate::dump_looks::{DumpFound, find_begun};
-use crate::preparing::{begin_where, pending_counts, pending_table};
+use crate::preparing::{begin_where, plan_pending};
 use dms_audfile::{AudFault, EntryPlace};
 use dms_history::Row;
 use dms_history::laws::points_have_schemas;
@@ -60,7 +60,7 @@ fn fitting(first: u32, bytes: Vec<u8>) -> Result<Vec<u8>, OpenFault>
 ///
 /// Nothing changes. Answers Disk where a call of the site failed, Memory, and Damaged of file `first` where the Schema there can't be a
 /// description's.
-fn read_description<S: Site>(
+pub(crate) fn read_description<S: Site>(
     alloc: Global,
     site: &mut S,
     first: u32,
@@ -90,14 +90,15 @@ fn read_description<S: Site>(
     }
 }
 
-/// What a restore writes, and how many blocks each of the files 30,001 to 30,200 has at its point. `found` is what its dump is found to be.
+/// What a restore writes, and how many blocks each of the files 30,001 to 30,200 has at its point. `found` is what its dump is found to be. What is kept
+/// gets the Begin of a restore that begins.
 ///
-/// Nothing changes. Answers Disk where a call of the site failed, and Memory, of a trail that was scanned.
+/// Answers Disk where a call of the site failed, and Memory, of a trail that was scanned.
 fn prepare_restore<S: Site>(
     alloc: Global,
     site: &mut S,
     choice: &Choice,
-    history: TrailHistory,
+    history: &mut TrailHistory,
     asked: Asked,
     rows: &[Row],
     found: &DumpFound,
@@ -105,28 +106,24 @@ fn prepare_restore<S: Site>(
     requires fit { IsFitFound found.now }
     ensures runs { IfOk result (λ x. AreRuns x.0.runs.items) }
     ensures blocks { IfOk result (λ x. AreBlocks x.0.told.items) }
-    ensures plan { IfOk result (λ x. IsTrue S.tells → (p : Pending) → TracesDone (S.files site.old) history asked rows.now choice.now p
-        → (files : Files) → TracesDone files history asked rows.now choice.now p → IsFoundFor files p.how found.now → IsPlan p files x.0) }
-    ensures counts { IfOk result (λ x. IsTrue S.tells → (p : Pending) → TracesDone (S.files site.old) history asked rows.now choice.now p
+    ensures plan { IfOk result (λ x. IsTrue S.tells → (p : Pending) → TracesDone (S.files site.old) history.old asked rows.now choice.now p
+        → (files : Files) → TracesDone files history.old asked rows.now choice.now p → IsFoundFor files p.how found.now → IsPlan p files x.0) }
+    ensures counts { IfOk result (λ x. IsTrue S.tells → (p : Pending) → TracesDone (S.files site.old) history.old asked rows.now choice.now p
         → (f : ℕ) → count_of x.1.items f ≡ count_at p.entries p.point f) }
     ensures size { IfOk result (λ x. length x.1.items ≡ 200) }
     ensures small { IfOk result (λ x. AllAtMost x.1.items) }
-    ensures only { IfErr result (λ e. IsTrue S.tells → (p : Pending) → TracesDone (S.files site.old) history asked rows.now choice.now p → IsPlainFault e) }
+    ensures only { IfErr result (λ e. IsTrue S.tells → (p : Pending) → TracesDone (S.files site.old) history.old asked rows.now choice.now p → IsPlainFault e) }
+    ensures kept { choice.now.begins ≡ false → history.new ≡ history.old }
     ensures reads { ReadsAlone S.Site site.old site.new }
     ensures same_site { S.same_site site.old site.new }
     ensures disk { CountedAt (IsErrOf result (OpenFault.Audit AudFault.Disk)) (S.disk_faults site.old) (S.disk_faults site.new) }
 {
-    let mut history = history;
-    match begin_where(&mut history, alloc, choice, asked, rows) {
+    match begin_where(history, alloc, choice, asked, rows) {
         Ok(()) => {}
         Err(_) => return Err(OpenFault::Audit(AudFault::Memory)),
     }
-    let counts = match pending_counts(&history, alloc, site) {
-        Ok(counts) => counts,
-        Err(fault) => return Err(OpenFault::Audit(fault)),
-    };
-    match pending_table(&history, alloc, &counts, found) {
-        Ok(table) => Ok((table, counts)),
+    match plan_pending(alloc, site, history, found) {
+        Ok(planned) => Ok(planned),
         Err(fault) => Err(OpenFault::Audit(fault)),
     }
 }
@@ -139,16 +136,17 @@ fn found_for<'a>(choice: &Choice, begun: &'a DumpFound, look: &'a DumpFound) -> 
 }
 
 /// What is done for what is asked of a trail that begins with file `first` and was scanned, and what it needs. `rows` are those of a reconstruction,
-/// `begun` is what the dump of the restore that is pending is found to be, and `look` the dump that is asked for.
+/// `begun` is what the dump of the restore that is pending is found to be, and `look` the dump that is asked for. Where a restore begins, what is kept gets
+/// its Begin.
 ///
-/// Nothing changes. Answers the first refusal of what is asked, Damaged of file `first` where the Schema at the point has no byte or more than
+/// Nothing else changes. Answers the first refusal of what is asked, Damaged of file `first` where the Schema at the point has no byte or more than
 /// 65,535, Disk where a call of the site failed, and Memory.
 pub fn prepare_asked<S: Site>(
     alloc: Global,
     site: &mut S,
     first: u32,
     places: &[EntryPlace],
-    trace: TrailTrace,
+    trace: &mut TrailTrace,
     asked: Asked,
     rows: &[Row],
     begun: &DumpFound,
@@ -157,11 +155,12 @@ pub fn prepare_asked<S: Site>(
     requires low { 10001 ≤ first }
     requires begun { IsFitFound begun.now }
     requires look { IsFitFound look.now }
-    ensures plans { IfOk result (λ plan. IsTrue S.tells → (total : ℕ) → AreFoundFor total first (S.files site.old) places.now trace asked begun.now look.now
+    ensures plans { IfOk result (λ plan. IsTrue S.tells → (total : ℕ) → AreFoundFor total first (S.files site.old) places.now trace.old asked begun.now look.now
         → PlansFor total first (S.files site.old) asked rows.now plan) }
     ensures fit { IfOk result FitsOpening }
-    ensures refused { IfErr result (λ e. IsTrue S.tells → (total : ℕ) → AreFoundFor total first (S.files site.old) places.now trace asked begun.now look.now
+    ensures refused { IfErr result (λ e. IsTrue S.tells → (total : ℕ) → AreFoundFor total first (S.files site.old) places.now trace.old asked begun.now look.now
         → RefusesFor total first (S.files site.old) asked e) }
+    ensures kept { IfOk result (λ plan. plan.choice.begins ≡ false → trace.new ≡ trace.old) }
     ensures reads { ReadsAlone S.Site site.old site.new }
     ensures same_site { S.same_site site.old site.new }
     ensures disk { CountedAt (IsErrOf result (OpenFault.Audit AudFault.Disk)) (S.disk_faults site.old) (S.disk_faults site.new) }
@@ -177,13 +176,13 @@ pub fn prepare_asked<S: Site>(
         Ok(choice) => choice,
         Err(fault) => return Err(fault),
     };
-    let schema = match read_description(alloc, site, first, places, &trace, choice.point) {
+    let schema = match read_description(alloc, site, first, places, trace, choice.point) {
         Ok(schema) => schema,
         Err(fault) => return Err(fault),
     };
     let next = trace.history.next;
     let found = found_for(&choice, begun, look);
-    match prepare_restore(alloc, site, &choice, trace.history, asked, rows, found) {
+    match prepare_restore(alloc, site, &choice, &mut trace.history, asked, rows, found) {
         Ok((table, counts)) => Ok(OpeningPlan {
             choice,
             next,
@@ -220,12 +219,13 @@ pub fn prepare<S: Site>(
         Err(fault) => return Err(OpenFault::Audit(fault)),
     };
     let none = DumpFound::Missing;
+    let mut trace = trace;
     let planned = prepare_asked(
         alloc,
         site,
         first,
         places,
-        trace,
+        &mut trace,
         Asked::HaltLoad,
         &[],
         &begun,

@@ -42,7 +42,7 @@ use Rattle.dms_running.proofs.Wholes.{agrees_whole}
 use Rattle.dms_restore.specs.Dumped.{IsDumpFound, dumps_of}
 use Rattle.dms_restore.specs.Finding.{IsFoundFrom}
 use Rattle.dms_restore.specs.Logging.{telling_of}
-use Rattle.dms_run.specs.State.{StateOf}
+use Rattle.dms_run.specs.State.{StateAt, StateOf}
 use Rattle.dms_run.specs.States.{LivesEndWith}
 use Rattle.dms_run.specs.Held.{StatesAreHeld}
 use Rattle.dms_run.proofs.Lives.{ends_with}
@@ -52,15 +52,15 @@ spelled_true : (b : Bool) (x db : Db) → some_if b x ≡ Some db → b ≡ true
 spelled_true true x db e = refl
 spelled_true false x db e = absurd cc
 
-module _ (files : Files) (n : ℕ) (desc : Described) (db : Db) (s : StateOf files n desc db) where
-  abbrev placed_trail : IsWritersTrail s.at_point.finds.trail.first s.at_point.finds.trail.last files
-  placed_trail = found_is_kept s.at_point.finds.trail.first s.at_point.finds.trail.last files s.at_point.finds.placed s.at_point.finds.trail.span.order s.at_point.finds.trail.is
+module _ (files : Files) (n : ℕ) (desc : Described) (db : Db) (s : StateAt files n desc db) where
+  abbrev pub placed_trail : IsWritersTrail s.finds.trail.first s.finds.trail.last files
+  placed_trail = found_is_kept s.finds.trail.first s.finds.trail.last files s.finds.placed s.finds.trail.span.order s.finds.trail.is
 
-  abbrev total : ℕ
+  abbrev pub total : ℕ
   total = placed_trail.total
 
-  abbrev first : ℕ
-  first = s.at_point.finds.trail.first
+  abbrev pub first : ℕ
+  first = s.finds.trail.first
 
   abbrev all : List Entry
   all = trail_entries total first files
@@ -68,15 +68,15 @@ module _ (files : Files) (n : ℕ) (desc : Described) (db : Db) (s : StateOf fil
   found : IsFoundFrom total first files
   found = record {
     finds = record {
-      placed = s.at_point.finds.placed;
-      trail = s.at_point.finds.trail;
-      are = found_are_entries files s.at_point.finds.placed s.at_point.finds.trail total placed_trail.tag placed_trail.file placed_trail.count placed_trail.writes;
+      placed = s.finds.placed;
+      trail = s.finds.trail;
+      are = found_are_entries files s.finds.placed s.finds.trail total placed_trail.tag placed_trail.file placed_trail.count placed_trail.writes;
     };
     first_is = refl;
   }
 
-  same : s.at_point.entries ≡ all
-  same = sym s.at_point.finds.are ∙ found_are_entries files s.at_point.finds.placed s.at_point.finds.trail total placed_trail.tag placed_trail.file placed_trail.count placed_trail.writes
+  same : s.entries ≡ all
+  same = sym s.finds.are ∙ found_are_entries files s.finds.placed s.finds.trail total placed_trail.tag placed_trail.file placed_trail.count placed_trail.writes
 
   abbrev live : List Event
   live = live_of all
@@ -85,23 +85,20 @@ module _ (files : Files) (n : ℕ) (desc : Described) (db : Db) (s : StateOf fil
   counted = here (dumps_of files) (history_of all) (stored_of files)
 
   fine : FineEvents live
-  fine = live_is_fine all (subst AllFine (found_are_entries files s.at_point.finds.placed s.at_point.finds.trail total placed_trail.tag placed_trail.file placed_trail.count placed_trail.writes)
-      (all_fine files s.at_point.finds.placed (entries_are_there files s.at_point.finds.placed s.at_point.finds.trail)))
+  fine = live_is_fine all (subst AllFine (found_are_entries files s.finds.placed s.finds.trail total placed_trail.tag placed_trail.file placed_trail.count placed_trail.writes)
+      (all_fine files s.finds.placed (entries_are_there files s.finds.placed s.finds.trail)))
 
   agrees : Agrees (first == 10001) all (dumps_of files) (stored_of files)
-  agrees = subst (λ (es : List Entry). Agrees (first == 10001) es (dumps_of files) (stored_of files)) same s.at_point.agrees
+  agrees = subst (λ (es : List Entry). Agrees (first == 10001) es (dumps_of files) (stored_of files)) same s.agrees
 
   lives : IsLive live n
-  lives = subst (λ (es : List Entry). IsLive (live_of es) n) same s.at_point.lives
+  lives = subst (λ (es : List Entry). IsLive (live_of es) n) same s.lives
 
   described : schema_at all n ≡ Some (spelling desc)
-  described = subst (λ (es : List Entry). schema_at es n ≡ Some (spelling desc)) same s.at_point.described
+  described = subst (λ (es : List Entry). schema_at es n ≡ Some (spelling desc)) same s.described
 
   spells : database_in desc (blocks_at live counted n) ≡ Some db
-  spells = subst (λ (es : List Entry). database_in desc (blocks_at (live_of es) (here (dumps_of files) (history_of es) (stored_of files)) n) ≡ Some db) same s.at_point.spells
-
-  last : last_point (history_of all) ≡ Some n
-  last = ap (λ (es : List Entry). last_point (history_of es)) (sym same) ∙ s.last
+  spells = subst (λ (es : List Entry). database_in desc (blocks_at (live_of es) (here (dumps_of files) (history_of es) (stored_of files)) n) ≡ Some db) same s.spells
 
   images : ImagesSized (from_control live)
   images = fine_images (from_control live) (fine_behind (opening live) (from_control live) (subst FineEvents (sym (parts live)) fine))
@@ -131,32 +128,53 @@ module _ (files : Files) (n : ℕ) (desc : Described) (db : Db) (s : StateOf fil
       let fine_front : FineEvents front = fine_until (is_point n) fc (fine_behind (opening live) fc (subst FineEvents (sym (parts live)) fine)) in
       sized_replay fc base sound.chain (sized_base front base chain there (fine_images front fine_front)) images
 
-  whole : IsWhole (telling_of total first) files
+  pub whole : IsWhole (telling_of total first) files
   whole = agrees_whole (telling_of total first) files found agrees (has_front (is_point n) is_described live lives.described)
-      (λ p is. (pending_cuts (events all) p (alone_events all agrees.alone) is).lives n lives) images sized (subst (λ (es : List Entry). DumpsInOrder (IsDumpFound first files) (dumps_of files) (history_of es).pending) same s.at_point.order)
+      (λ p is. (pending_cuts (events all) p (alone_events all agrees.alone) is).lives n lives) images sized (subst (λ (es : List Entry). DumpsInOrder (IsDumpFound first files) (dumps_of files) (history_of es).pending) same s.order)
 
-  top : (m : ℕ) → IsLive live m → m ≤ n
+-- ---- at their last point
+
+module _ (files : Files) (n : ℕ) (desc : Described) (db : Db) (s : StateOf files n desc db) where
+  abbrev at_last : StateAt files n desc db
+  at_last = s.at_point
+
+  abbrev last_first : ℕ
+  last_first = first files n desc db at_last
+
+  abbrev last_total : ℕ
+  last_total = total files n desc db at_last
+
+  abbrev entries : List Entry
+  entries = trail_entries last_total last_first files
+
+  whole_last : IsWhole (telling_of last_total last_first) files
+  whole_last = whole files n desc db at_last
+
+  last : last_point (history_of entries) ≡ Some n
+  last = ap (λ (es : List Entry). last_point (history_of es)) (sym (same files n desc db at_last)) ∙ s.last
+
+  top : (m : ℕ) → IsLive (live_of entries) m → m ≤ n
   top m at =
-      let l = (last_lives (history_of all) (next_of all) whole.stands.kept.numbered).points m at in
+      let l = (last_lives (history_of entries) (next_of entries) whole_last.stands.kept.numbered).points m at in
       omega (arith, l.not_above, some_is l.last n (sym l.is ∙ last))
 
-  ends : LivesEndWith desc (points_of (telling_of total first) files) n db
-  ends = ends_with total first files whole n desc db lives described spells top
+  ends : LivesEndWith desc (points_of (telling_of last_total last_first) files) n db
+  ends = ends_with last_total last_first files whole_last n desc db (lives files n desc db at_last) (described files n desc db at_last) (spells files n desc db at_last) top
 
 pub held : StatesAreHeld
 held files n desc db s = record {
-  total = total files n desc db s;
-  first = first files n desc db s;
+  total = last_total files n desc db s;
+  first = last_first files n desc db s;
   places = map place_in s.at_point.finds.placed;
   finds = record { entries = s.at_point.finds.placed; places_are = refl; trail = s.at_point.finds.trail; first_is = refl };
-  tag = (placed_trail files n desc db s).tag;
-  file = (placed_trail files n desc db s).file;
-  count = (placed_trail files n desc db s).count;
-  writes = (placed_trail files n desc db s).writes;
-  whole = whole files n desc db s;
+  tag = (placed_trail files n desc db s.at_point).tag;
+  file = (placed_trail files n desc db s.at_point).file;
+  count = (placed_trail files n desc db s.at_point).count;
+  writes = (placed_trail files n desc db s.at_point).writes;
+  whole = whole_last files n desc db s;
   state = ends files n desc db s;
   last = last files n desc db s;
-  lives = lives files n desc db s;
-  described = described files n desc db s;
+  lives = lives files n desc db s.at_point;
+  described = described files n desc db s.at_point;
   formed = s.at_point.well_formed;
 }

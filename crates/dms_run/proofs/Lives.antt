@@ -71,7 +71,7 @@ none_next live counted n top front p (q ∷ ps) number rises lives =
     absurd (omega (arith, above_next front p q ps rises, number, top q.number (live_next live counted front p q ps lives).lives))
 
 -- scanning finds one list of entries
-one_found : (files : Files) (xs ys : List Entry) → IsFoundWith xs files → IsFoundWith ys files → xs ≡ ys
+pub one_found : (files : Files) (xs ys : List Entry) → IsFoundWith xs files → IsFoundWith ys files → xs ≡ ys
 one_found files xs ys a b = sym a.are ∙ ap (map entry_in) (one_list (is_one_trail files (found a.placed) (found b.placed) a.trail b.trail)) ∙ b.are
   where
     one_list : found a.placed ≡ found b.placed → a.placed ≡ b.placed

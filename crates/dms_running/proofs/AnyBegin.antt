@@ -73,7 +73,7 @@ module _ (t : Telling) (telling : IsTelling t) (a : State) (right : Stored) (m :
 
     begun_front : BeginLeaves t a right m x
     begun_front = push_all (λ l. t.entries x.files ≡ es ++ l → BeginLeaves t a right m x) [] the_begin
-        (λ k is. inl (record { entries_same = is ∙ ap (λ (l : List Entry). es ++ l) (none_taken k) ∙ append-nil es; above = from_read }))
+        (λ k is. inl (record { found = found_then; entries_same = is ∙ ap (λ (l : List Entry). es ++ l) (none_taken k) ∙ append-nil es; above = from_read }))
         (λ is. inr (record {
           whole = record {
             found = found_then;

@@ -1,6 +1,5 @@
 -- The dump of a restore that is pending is in order.
 use Rattle.std.proofs.Common.{ℕ, ◌<◌, ◌≤◌, ◌≡◌, List, Option, Some, None, refl, sym, ◌∙◌, ap, subst}
-use Rattle.std.proofs.lemmas.Option.{none-some}
 use Rattle.dms_site.specs.Files.{Files}
 use Rattle.dms_history.specs.Events.{Stored, Event, How, halt_load, back_out, roll_back, rebuild, reconstruct}
 use Rattle.dms_history.specs.Places.{IsLive}
@@ -9,7 +8,7 @@ use Rattle.dms_history.specs.Pick.{Dumps, count_at, pick, content_of}
 use Rattle.dms_history.specs.Here.{outcome, restore_pick}
 use Rattle.dms_running.specs.Begun.{ByAudit}
 use Rattle.dms_running.specs.Telling.{Telling, IsTelling}
-use Rattle.dms_running.specs.FromDumps.{OrderBy, DumpsInOrder, dump_by, dump_in}
+use Rattle.dms_running.specs.FromDumps.{OrderBy, DumpsInOrder}
 
 -- a restore by the audit asks nothing of dumps
 pub audit_order : (found : ℕ → Type 0) (d : Dumps) (p : Pending) → (how : How) → ByAudit how → OrderBy found d p how
@@ -58,34 +57,3 @@ picks_audit (reconstruct d named) dumps live m st by_audit = absurd by_audit
 pub outcomes_by : (q : Pending) → ByAudit q.how → (e d : Dumps) (st : Stored) → outcome q.how e q.entries q.point st ≡ outcome q.how d q.entries q.point st
 unfolding outcome
 outcomes_by q by_audit e d st = ap (λ (s : Stored). content_of (count_at q.entries q.point) s) (picks_audit q.how e q.entries q.point st by_audit ∙ sym (picks_audit q.how d q.entries q.point st by_audit))
-
-pub audit_no_dump : (how : How) → ByAudit how → dump_by how ≡ None
-audit_no_dump halt_load by_audit = refl
-audit_no_dump back_out by_audit = refl
-audit_no_dump roll_back by_audit = refl
-audit_no_dump (rebuild d) by_audit = absurd by_audit
-audit_no_dump (reconstruct d named) by_audit = absurd by_audit
-
-found_by : (found : ℕ → Type 0) (dumps : Dumps) (p : Pending) (how : How) → ((d : ℕ) → found d → ⊥) → OrderBy found dumps p how → dump_by how ≡ None
-found_by found dumps p halt_load never order = refl
-found_by found dumps p back_out never order = refl
-found_by found dumps p roll_back never order = refl
-found_by found dumps p (rebuild d) never order = absurd (never d order.is_found)
-found_by found dumps p (reconstruct d named) never order = absurd (never d order.is_found)
-
--- while no dump is found, none is in order but where no restore by a dump is pending
-pub no_dump_found : (found : ℕ → Type 0) (dumps : Dumps) (q : Option Pending) → ((d : ℕ) → found d → ⊥) → DumpsInOrder found dumps q → dump_in q ≡ None
-no_dump_found found dumps None never order = refl
-no_dump_found found dumps (Some p) never order = found_by found dumps p p.how never order
-
-no_order_by : (found : ℕ → Type 0) (dumps : Dumps) (p : Pending) (how : How) → dump_by how ≡ None → OrderBy found dumps p how
-no_order_by found dumps p halt_load none = tt
-no_order_by found dumps p back_out none = tt
-no_order_by found dumps p roll_back none = tt
-no_order_by found dumps p (rebuild d) none = absurd (none-some d (sym none))
-no_order_by found dumps p (reconstruct d named) none = absurd (none-some d (sym none))
-
--- and where none is pending, it is in order
-pub no_dump_order : (found : ℕ → Type 0) (dumps : Dumps) (q : Option Pending) → dump_in q ≡ None → DumpsInOrder found dumps q
-no_dump_order found dumps None none = tt
-no_dump_order found dumps (Some p) none = no_order_by found dumps p p.how none

@@ -1,11 +1,9 @@
 -- Restores that take blocks from a dump.
-use Rattle.std.specs.Prelude.{ℕ, ◌≤◌, ◌≡◌, List, Option, Some, None}
+use Rattle.std.specs.Prelude.{ℕ, ◌≤◌, Option, Some, None}
 use Rattle.dms_history.specs.Events.{How, halt_load, back_out, roll_back, rebuild, reconstruct}
 use Rattle.dms_history.specs.Places.{IsLive}
 use Rattle.dms_history.specs.History.{Pending}
 use Rattle.dms_history.specs.Pick.{Dumps}
-use Rattle.dms_history.specs.Entries.{Entry}
-use Rattle.dms_history.specs.EntryEvents.{history_of}
 
 -- Dump d can serve a restore: it is found, its point is live among the entries before the Begin, and isn't above the restore's.
 pub record DumpInOrder (found : ℕ → Type 0) (dumps : Dumps) (p : Pending) (d : ℕ) : Type 0 where
@@ -36,7 +34,3 @@ dump_by (reconstruct d named) = Some d
 abbrev pub dump_in : Option Pending → Option ℕ
 dump_in None = None
 dump_in (Some p) = dump_by p.how
-
--- no restore by a dump is pending after these entries
-abbrev pub NoDumpPending : List Entry → Type 0
-NoDumpPending entries = dump_in (history_of entries).pending ≡ None

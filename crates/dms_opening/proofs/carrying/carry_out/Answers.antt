@@ -67,7 +67,7 @@ returns-in-Ok-go_on-clause-runs_to g c right tells m =
     let b : LogView = view_of g.S.Site c.in-Ok.begun.log in
     let plan = c.args.planned.plan in
     let r = c.in-Ok.ensures in
-    let start = m.planned.start in
+    let start = m.writes.start in
     let any = r.begins_any right tells m.begins m.from in
     let is = bytes_are _ _ _ c.deref.ensures.value c.count_bytes-used.ensures.bytes in
     let e = may_end_so a b right (how_seen c.args.how) plan m c.requires.ready r.kind.0 r.kind.3 any _ is (r.grown tells start).stays.kept.grown (r.dumps tells) in
@@ -81,7 +81,7 @@ returns-in-Ok-go_on-clause-leaves g c right tells m =
     let r = c.in-Ok.ensures in
     let any = r.begins_any right tells m.begins m.from in
     let is = bytes_are _ _ _ c.deref.ensures.value c.count_bytes-used.ensures.bytes in
-    let e = may_end_so a b right (how_seen c.args.how) plan m c.requires.ready r.kind.0 r.kind.3 any _ is (r.grown tells m.planned.start).stays.kept.grown (r.dumps tells) in
+    let e = may_end_so a b right (how_seen c.args.how) plan m c.requires.ready r.kind.0 r.kind.3 any _ is (r.grown tells m.writes.start).stays.kept.grown (r.dumps tells) in
     leaves_to a b right (how_seen c.args.how) plan m c.requires.ready r.kind.0 r.kind.3 any _ (r.leaves right tells m.begins m.from) (c.in-Ok-go_on.ensures.moments _ tells e)
 
 pub returns-in-Err-clause-leaves_then : goal.returns-in-Err-clause-leaves_then
@@ -97,59 +97,67 @@ returns-clause-leaves_then g c right tells m =
     let r = c.in-Ok.ensures in
     let any = r.begins_any right tells m.begins m.from in
     let is = bytes_are _ _ _ c.deref.ensures.value c.count_bytes-used.ensures.bytes in
-    let e = may_end_so a b right (how_seen c.args.how) plan m c.requires.ready r.kind.0 r.kind.3 any _ is (r.grown tells m.planned.start).stays.kept.grown (r.dumps tells) in
+    let e = may_end_so a b right (how_seen c.args.how) plan m c.requires.ready r.kind.0 r.kind.3 any _ is (r.grown tells m.writes.start).stays.kept.grown (r.dumps tells) in
     subst (λ site. Runs (g.S.Site.clock c.args.planned.log.site) (g.S.Site.clock site) (BeginLeaves (telling a) (state a) right plan.choice.point)) (sym c.site_of-in-Err-go_on.ensures)
     (leaves_to a b right (how_seen c.args.how) plan m c.requires.ready r.kind.0 r.kind.3 any _ (r.leaves right tells m.begins m.from) (c.in-Err-go_on.ensures.stopped _ tells e))
 
 pub returns-in-Err-clause-only : goal.returns-in-Err-clause-only
-returns-in-Err-clause-only g c asked rows tells s = written_at _ _ c.requires.limit c.in-Err.ensures.only
+returns-in-Err-clause-only g c p tells s = written_at _ _ c.requires.limit c.in-Err.ensures.only
 
 pub returns-clause-only : goal.returns-clause-only
-returns-clause-only g c asked rows tells s =
+returns-clause-only g c p tells s =
     let r = c.in-Ok.ensures in
     written_at _ _ (r.kind.2 ∙ c.requires.limit)
-    (c.in-Err-go_on.ensures.only s.plans.chooses.restore tells (s.plans.plan_is (g.S.Site.files c.in-Ok.begun.log.site) (r.grown tells s.start).stays.kept.grown (r.dumps tells)))
+    (c.in-Err-go_on.ensures.only p tells (s.plan_is (g.S.Site.files c.in-Ok.begun.log.site) (r.grown tells s.start).stays.kept.grown (r.dumps tells)))
 
 pub returns-in-Err-clause-full : goal.returns-in-Err-clause-full
-returns-in-Err-clause-full g c asked rows tells s full =
+returns-in-Err-clause-full g c p tells s full =
     let a : LogView = view_of g.S.Site c.args.planned.log in
     let r = c.in-Err.ensures in
     let is = as_limit _ _ c.requires.limit full in
     subst (λ site. IsFullTrail a (g.S.Site.files site)) (sym c.site_of.ensures) (full_by a _ _ c.requires.limit r.kind_then.0 r.kind_then.3 (r.full is).1 (r.ends is tells s.start))
 
 pub returns-clause-full : goal.returns-clause-full
-returns-clause-full g c asked rows tells s full =
+returns-clause-full g c p tells s full =
     let a : LogView = view_of g.S.Site c.args.planned.log in
     let r = c.in-Ok.ensures in
     let n = c.in-Err-go_on.ensures in
-    let p = s.plans.chooses.restore in
-    let table = s.plans.plan_is (g.S.Site.files c.in-Ok.begun.log.site) (r.grown tells s.start).stays.kept.grown (r.dumps tells) in
+    let table = s.plan_is (g.S.Site.files c.in-Ok.begun.log.site) (r.grown tells s.start).stays.kept.grown (r.dumps tells) in
     let limit = r.kind.2 ∙ c.requires.limit in
     let is = as_limit _ _ limit full in
     subst (λ site. IsFullTrail a (g.S.Site.files site)) (sym c.site_of-in-Err-go_on.ensures)
     (full_by a _ _ limit (n.kind_then.0 ∙ r.kind.0) (n.kind_then.3 ∙ r.kind.3) (n.full p tells table is).1 (n.ends p tells table (r.starts tells s.start) is))
 
 pub returns-in-Err-clause-grown_then : goal.returns-in-Err-clause-grown_then
-returns-in-Err-clause-grown_then g c asked rows tells s =
+returns-in-Err-clause-grown_then g c p tells s =
     let a : LogView = view_of g.S.Site c.args.planned.log in
     grows_site g.S.Site 19 a c.in-Err.log _ c.site_of.ensures (log_grows_more 1 19 a (view_of g.S.Site c.in-Err.log) (omega arith) (c.in-Err.ensures.grown_then tells s.start))
 
 pub returns-in-Ok-go_on-clause-grown : goal.returns-in-Ok-go_on-clause-grown
-returns-in-Ok-go_on-clause-grown g c asked rows tells s =
+returns-in-Ok-go_on-clause-grown g c p tells s =
     let r = c.in-Ok.ensures in
-    let p = s.plans.chooses.restore in
     let grown = r.grown tells s.start in
-    let table = s.plans.plan_is (g.S.Site.files c.in-Ok.begun.log.site) grown.stays.kept.grown (r.dumps tells) in
+    let table = s.plan_is (g.S.Site.files c.in-Ok.begun.log.site) grown.stays.kept.grown (r.dumps tells) in
     grows_sealed 1 18 (view_of g.S.Site c.args.planned.log) (view_of g.S.Site c.in-Ok.begun.log) (view_of g.S.Site c.in-Ok-go_on.log) r.kind.0 r.kind.3 (r.starts tells s.start) grown
     (c.in-Ok-go_on.ensures.grown p tells table (r.starts tells s.start))
 
 pub returns-clause-grown_then : goal.returns-clause-grown_then
-returns-clause-grown_then g c asked rows tells s =
+returns-clause-grown_then g c p tells s =
     let a : LogView = view_of g.S.Site c.args.planned.log in
     let r = c.in-Ok.ensures in
-    let p = s.plans.chooses.restore in
     let grown = r.grown tells s.start in
-    let table = s.plans.plan_is (g.S.Site.files c.in-Ok.begun.log.site) grown.stays.kept.grown (r.dumps tells) in
+    let table = s.plan_is (g.S.Site.files c.in-Ok.begun.log.site) grown.stays.kept.grown (r.dumps tells) in
     grows_site g.S.Site 19 a c.in-Err-go_on.log _ c.site_of-in-Err-go_on.ensures
     (grows_sealed 1 18 a (view_of g.S.Site c.in-Ok.begun.log) (view_of g.S.Site c.in-Err-go_on.log) r.kind.0 r.kind.3 (r.starts tells s.start) grown
     (c.in-Err-go_on.ensures.grown_then p tells table (r.starts tells s.start)))
+
+pub returns-in-Ok-go_on-clause-dumps : goal.returns-in-Ok-go_on-clause-dumps
+returns-in-Ok-go_on-clause-dumps g c p tells s f up upto =
+    let r = c.in-Ok.ensures in
+    let table = s.plan_is (g.S.Site.files c.in-Ok.begun.log.site) (r.grown tells s.start).stays.kept.grown (r.dumps tells) in
+    c.in-Ok-go_on.ensures.dumps p tells table (r.starts tells s.start) f up upto ∙ r.dumps tells f up upto
+
+pub returns-in-Ok-go_on-clause-starts : goal.returns-in-Ok-go_on-clause-starts
+returns-in-Ok-go_on-clause-starts g c p tells s =
+    let r = c.in-Ok.ensures in
+    c.in-Ok-go_on.ensures.starts p tells (s.plan_is (g.S.Site.files c.in-Ok.begun.log.site) (r.grown tells s.start).stays.kept.grown (r.dumps tells)) (r.starts tells s.start)

@@ -125,3 +125,11 @@ pub returns-in-Err-clause-grown_then : goal.returns-in-Err-clause-grown_then
 returns-in-Err-clause-grown_then g c p tells table sealed =
     let was = c.args.begun.log in
     log_grows_more 0 18 _ _ (omega arith) (c.in-Err.ensures.grown_then tells (first_low was.end was.first [] _ _ sealed))
+
+pub returns-in-Ok-clause-dumps : goal.returns-in-Ok-clause-dumps
+returns-in-Ok-clause-dumps g c = one_if_ok c.finish.result c.finish.ensures.above (λ l above p tells table sealed f up upto.
+    let r = c.in-Ok.ensures in
+    above tells (r.stays p tells table sealed) f up ∙ r.low tells f upto)
+
+pub returns-in-Ok-clause-starts : goal.returns-in-Ok-clause-starts
+returns-in-Ok-clause-starts g c = one_if_ok c.finish.result c.finish.ensures.starts (λ l starts p tells table sealed. starts tells (c.in-Ok.ensures.stays p tells table sealed))

@@ -1,6 +1,7 @@
 use Rattle.std.proofs.Common.{inl, inr, [], refl}
 use Rattle.dms_opening.specs.declared.asked.Asked.TheVariants.{HaltLoad}
 use Rattle.dms_restore.proofs.Results.{one_if_ok, two_if_ok, three_if_ok, one_if_err}
+use Rattle.dms_opening.proofs.Carries.{writes_by}
 use Rattle.dms_opening.proofs.Opens.{may_refuse, can_open, opens_at, runs_at, is_planned, whole_at, since, since_none, counted_on}
 use Rattle.dms_opening.proofs.Complete.{refuses_none}
 use Rattle.dms_opening.proofs.Growths.{grows_none, grows_by}
@@ -28,17 +29,17 @@ returns-in-Ok-clause-stopped g c = one_if_err c.carry_out.result c.carry_out.ens
 pub returns-in-Ok-clause-refused : goal.returns-in-Ok-clause-refused
 returns-in-Ok-clause-refused g c = one_if_err c.carry_out.result c.carry_out.ensures.only (λ e only tells.
     let l = c.in-Ok.ensures in
-    may_refuse _ e.0 (only HaltLoad [] tells (is_planned g.S.Site c.args.found.site c.in-Ok.planned (l.files tells) (l.starts tells) (l.plans tells))))
+    may_refuse _ e.0 (only _ tells (writes_by _ HaltLoad [] _ (is_planned g.S.Site c.args.found.site c.in-Ok.planned (l.files tells) (l.starts tells) (l.plans tells)))))
 
 pub returns-in-Ok-clause-files_then : goal.returns-in-Ok-clause-files_then
 returns-in-Ok-clause-files_then g c = one_if_err c.carry_out.result c.carry_out.ensures.only (λ e only tells other.
     let l = c.in-Ok.ensures in
-    absurd (other (only HaltLoad [] tells (is_planned g.S.Site c.args.found.site c.in-Ok.planned (l.files tells) (l.starts tells) (l.plans tells)))))
+    absurd (other (only _ tells (writes_by _ HaltLoad [] _ (is_planned g.S.Site c.args.found.site c.in-Ok.planned (l.files tells) (l.starts tells) (l.plans tells))))))
 
 pub returns-in-Ok-clause-moments_then : goal.returns-in-Ok-clause-moments_then
 returns-in-Ok-clause-moments_then g c = one_if_err c.carry_out.result c.carry_out.ensures.only (λ e only tells other.
     let l = c.in-Ok.ensures in
-    absurd (other (only HaltLoad [] tells (is_planned g.S.Site c.args.found.site c.in-Ok.planned (l.files tells) (l.starts tells) (l.plans tells)))))
+    absurd (other (only _ tells (writes_by _ HaltLoad [] _ (is_planned g.S.Site c.args.found.site c.in-Ok.planned (l.files tells) (l.starts tells) (l.plans tells))))))
 
 pub returns-in-Ok-clause-disk : goal.returns-in-Ok-clause-disk
 returns-in-Ok-clause-disk g c = one_if_err c.carry_out.result c.carry_out.ensures.disk (λ e counted. counted_on _ _ _ _ c.in-Ok.ensures.clean counted)
@@ -49,7 +50,7 @@ returns-in-Err-clause-stopped g c tells = since_none g.S.Site g.met.S.Site.count
 pub returns-in-Ok-clause-complete : goal.returns-in-Ok-clause-complete
 returns-in-Ok-clause-complete g c = one_if_err c.carry_out.result c.carry_out.ensures.only (λ e only tells total first o.
     let l = c.in-Ok.ensures in
-    refuses_none total first _ e.0 o (may_refuse _ e.0 (only HaltLoad [] tells (is_planned g.S.Site c.args.found.site c.in-Ok.planned (l.files tells) (l.starts tells) (l.plans tells)))))
+    refuses_none total first _ e.0 o (may_refuse _ e.0 (only _ tells (writes_by _ HaltLoad [] _ (is_planned g.S.Site c.args.found.site c.in-Ok.planned (l.files tells) (l.starts tells) (l.plans tells))))))
 
 pub returns-in-Err-clause-complete : goal.returns-in-Err-clause-complete
 returns-in-Err-clause-complete g c tells total first o = refuses_none total first _ _ o (c.in-Err.ensures.refused tells)
@@ -60,7 +61,7 @@ returns-in-Ok-clause-full g c = one_if_err c.carry_out.result c.carry_out.ensure
       total = c.in-Ok.planned.log.end.total;
       first = c.in-Ok.planned.log.first;
       trail = l.trail tells;
-      full = full HaltLoad [] tells (is_planned g.S.Site c.args.found.site c.in-Ok.planned (l.files tells) (l.starts tells) (l.plans tells)) is;
+      full = full _ tells (writes_by _ HaltLoad [] _ (is_planned g.S.Site c.args.found.site c.in-Ok.planned (l.files tells) (l.starts tells) (l.plans tells))) is;
     })
 
 pub returns-in-Err-clause-full : goal.returns-in-Err-clause-full
@@ -71,14 +72,14 @@ returns-in-Ok-clause-grows g c = one_if_ok c.carry_out.result c.carry_out.ensure
     let l = c.in-Ok.ensures in
     let p = c.in-Ok.planned in
     let s = is_planned g.S.Site c.args.found.site p (l.files tells) (l.starts tells) (l.plans tells) in
-    grows_by g.S.Site c.args.found.site p (l.files tells) l.moments (l.trail tells) (l.starts tells) o.log.site o.log.end o.log.first (grown HaltLoad [] tells s))
+    grows_by g.S.Site c.args.found.site p (l.files tells) l.moments (l.trail tells) (l.starts tells) o.log.site o.log.end o.log.first (grown _ tells (writes_by _ HaltLoad [] _ s)))
 
 pub returns-in-Ok-clause-grows_then : goal.returns-in-Ok-clause-grows_then
 returns-in-Ok-clause-grows_then g c = one_if_err c.carry_out.result c.carry_out.ensures.grown_then (λ e grown tells.
     let l = c.in-Ok.ensures in
     let p = c.in-Ok.planned in
     let s = is_planned g.S.Site c.args.found.site p (l.files tells) (l.starts tells) (l.plans tells) in
-    grows_by g.S.Site c.args.found.site p (l.files tells) l.moments (l.trail tells) (l.starts tells) e.1 p.log.end p.log.first (grown HaltLoad [] tells s))
+    grows_by g.S.Site c.args.found.site p (l.files tells) l.moments (l.trail tells) (l.starts tells) e.1 p.log.end p.log.first (grown _ tells (writes_by _ HaltLoad [] _ s)))
 
 pub returns-in-Err-clause-grows_then : goal.returns-in-Err-clause-grows_then
 returns-in-Err-clause-grows_then g c tells = grows_none g.S.Site c.args.found.site _ (c.in-Err.ensures.files_then tells) c.in-Err.ensures.moments_then

@@ -1,6 +1,7 @@
 use Rattle.std.proofs.Common.{[], refl}
 use Rattle.dms_opening.specs.declared.asked.Asked.TheVariants.{HaltLoad}
 use Rattle.dms_restore.proofs.Results.{one_if_ok, two_if_ok, three_if_ok, one_if_err}
+use Rattle.dms_opening.proofs.Carries.{writes_by}
 use Rattle.dms_opening.proofs.Opens.{opens_at, runs_at, is_planned, whole_at, since}
 use Rattle.dms_opening.proofs.Growths.{grows_by}
 use Rattle.dms_opening.proofs.Looks.{same_none}
@@ -23,22 +24,22 @@ returns-clause-stopped g c = one_if_err c.carry_out.result c.carry_out.ensures.s
     since g.S.Site c.args.self.log.site c.args.self refl g.met.S.Site.counts_now (same_none _) refl l.trail e.1 (run tells refl (is_planned g.S.Site c.args.self.log.site c.args.self refl l.starts l.plans)))
 
 pub returns-clause-only : goal.returns-clause-only
-returns-clause-only g c = one_if_err c.carry_out.result c.carry_out.ensures.only (λ e only tells l. only HaltLoad [] tells (is_planned g.S.Site c.args.self.log.site c.args.self refl l.starts l.plans))
+returns-clause-only g c = one_if_err c.carry_out.result c.carry_out.ensures.only (λ e only tells l. only _ tells (writes_by _ HaltLoad [] _ (is_planned g.S.Site c.args.self.log.site c.args.self refl l.starts l.plans)))
 
 pub returns-clause-full : goal.returns-clause-full
 returns-clause-full g c = one_if_err c.carry_out.result c.carry_out.ensures.full (λ e full tells l is. record {
   total = c.args.self.log.end.total;
   first = c.args.self.log.first;
   trail = l.trail;
-  full = full HaltLoad [] tells (is_planned g.S.Site c.args.self.log.site c.args.self refl l.starts l.plans) is;
+  full = full _ tells (writes_by _ HaltLoad [] _ (is_planned g.S.Site c.args.self.log.site c.args.self refl l.starts l.plans)) is;
 })
 
 pub returns-clause-grows : goal.returns-clause-grows
 returns-clause-grows g c = one_if_ok c.carry_out.result c.carry_out.ensures.grown (λ o grown tells l.
     let p = c.args.self in
-    grows_by g.S.Site p.log.site p refl (same_none _) l.trail l.starts o.log.site o.log.end o.log.first (grown HaltLoad [] tells (is_planned g.S.Site p.log.site p refl l.starts l.plans)))
+    grows_by g.S.Site p.log.site p refl (same_none _) l.trail l.starts o.log.site o.log.end o.log.first (grown _ tells (writes_by _ HaltLoad [] _ (is_planned g.S.Site p.log.site p refl l.starts l.plans))))
 
 pub returns-clause-grows_then : goal.returns-clause-grows_then
 returns-clause-grows_then g c = one_if_err c.carry_out.result c.carry_out.ensures.grown_then (λ e grown tells l.
     let p = c.args.self in
-    grows_by g.S.Site p.log.site p refl (same_none _) l.trail l.starts e.1 p.log.end p.log.first (grown HaltLoad [] tells (is_planned g.S.Site p.log.site p refl l.starts l.plans)))
+    grows_by g.S.Site p.log.site p refl (same_none _) l.trail l.starts e.1 p.log.end p.log.first (grown _ tells (writes_by _ HaltLoad [] _ (is_planned g.S.Site p.log.site p refl l.starts l.plans))))
