@@ -29,8 +29,8 @@ one_as s number old new a z ks kinds b refused same is h =
     subst (λ (k : List ItemKind). IfListed (list_of_set a k s) (λ xs. OneChanged k s number old new xs (list_of_set z k s) refused)) same
     (subst (λ (t : Bool). IfListed (list_of_set a ks s) (λ xs. OneChanged ks s number old new xs (list_of_set z ks s) t)) is h)
 
-pub three_more : (k : ℕ) → 3 * k + 3 ≡ 3 * (k + 1)
-three_more k = omega arith
+pub two_more : (k : ℕ) → 2 * k + 2 ≡ 2 * (k + 1)
+two_more k = omega arith
 
-pub three_all : (k n : ℕ) → k + 1 ≤ n → (3 * k + 3) + (3 * n - (3 * k + 3)) ≡ 3 * n
-three_all k n le = omega (arith, le)
+pub two_all : (k n : ℕ) → k + 1 ≤ n → (2 * k + 2) + (2 * n - (2 * k + 2)) ≡ 2 * n
+two_all k n le = omega (arith, le)

@@ -14,12 +14,13 @@ use Rattle.dms_key.specs.KeyBytes.{kind_of, key_bytes, key_width, part_bytes, pa
 use Rattle.dms_key.specs.KeyOrder.{fits_length, turned_length}
 use Rattle.dms_desc.specs.Keys.{key_of}
 use Rattle.dms_desc.specs.Kinds.{takes}
+use Rattle.dms_lists.specs.declared.form.ListForm.{ListForm}
 use Rattle.dms_sets.specs.Entries.{entry_bytes}
 use Rattle.dms_sets.specs.Padded.{entry_width}
 use Rattle.dms_chain.specs.Lists.{with_entry, without, with_in, without_in, pad_bound, first_from}
 use Rattle.dms_sets.specs.Prefixes.{starts}
 use Rattle.dms_desc.specs.Sorted.{that_passes}
-use Rattle.dms_sets.specs.Changes.{ListsOf, IsEntryWidth, OnlyList, OnlyRoomy, PartFits, PartsFit, HasEntry, entry_in, front_in, is_seen}
+use Rattle.dms_sets.specs.Changes.{IfListed, ListsOf, IsEntryWidth, OnlyList, OnlyRoomy, PartFits, PartsFit, HasEntry, entry_in, front_in, is_seen}
 
 part_long : (o : Option ItemKind) (d : Bool) (v : Value) → PartFits o v → length (part_bytes o d v) ≡ part_width o
 part_long None d v f = absurd f
@@ -74,11 +75,17 @@ bound_is kinds s rec f =
     let four : 4 ≡ entry_width kinds s.parts - length (front_in kinds s rec) = omega (arith, long) in
     ap (λ n. front_in kinds s rec ++ replicate n 0) four
 
-pub put_only : (o : Option (List ℕ)) (q : List ℕ) (n w : ℕ) (a b : ListsOf) → o ≡ Some q → length q ≡ w → OnlyRoomy (with_entry q) n (length q) a b → OnlyRoomy (with_in o) n w a b
-put_only o q n w a b is long h = subst (λ (p : Option (List ℕ)). OnlyRoomy (with_in p) n w a b) (sym is) (subst (λ v. OnlyRoomy (with_entry q) n v a b) long h)
+pub put_only : (o : Option (List ℕ)) (q : List ℕ) (n : ℕ) (form k : ListForm) (w : ℕ) (a b : ListsOf) → o ≡ Some q → form ≡ k → length q ≡ w → OnlyRoomy (with_entry q) n form (length q) a b → OnlyRoomy (with_in o) n k w a b
+put_only o q n form k w a b is same long h =
+    subst (λ (p : Option (List ℕ)). OnlyRoomy (with_in p) n k w a b) (sym is) (subst (λ v. OnlyRoomy (with_entry q) n k v a b) long (subst (λ (f : ListForm). OnlyRoomy (with_entry q) n f (length q) a b) same h))
 
-pub taken_only : (o : Option (List ℕ)) (q : List ℕ) (n w : ℕ) (a b : ListsOf) → o ≡ Some q → length q ≡ w → OnlyList (without q) n (length q) a b → OnlyList (without_in o) n w a b
-taken_only o q n w a b is long h = subst (λ (p : Option (List ℕ)). OnlyList (without_in p) n w a b) (sym is) (subst (λ v. OnlyList (without q) n v a b) long h)
+pub taken_only : (o : Option (List ℕ)) (q : List ℕ) (n : ℕ) (form k : ListForm) (w : ℕ) (a b : ListsOf) → o ≡ Some q → form ≡ k → length q ≡ w → OnlyList (without q) n form (length q) a b → OnlyList (without_in o) n k w a b
+taken_only o q n form k w a b is same long h =
+    subst (λ (p : Option (List ℕ)). OnlyList (without_in p) n k w a b) (sym is) (subst (λ v. OnlyList (without q) n k v a b) long (subst (λ (f : ListForm). OnlyList (without q) n f (length q) a b) same h))
+
+-- what holds of a list in its form, where its entries have this width
+pub listed_as : (ls : ListsOf) (n : ℕ) (form k : ListForm) (v w : ℕ) (P : List (List ℕ) → Type 0) → form ≡ k → v ≡ w → IfListed (ls n form v) P → IfListed (ls n k w) P
+listed_as ls n form k v w P same long h = subst (λ (f : ListForm). IfListed (ls n f w) P) same (subst (λ u. IfListed (ls n form u) P) long h)
 
 -- what the first entry not below the bound says
 pub seen_none : (kinds : List ItemKind) (s : Shape) (rec : Record) (xs : List (List ℕ)) → HasEntry kinds s rec.values → first_from (Some (front_in kinds s rec ++ 0 ∷ 0 ∷ 0 ∷ 0 ∷ [])) xs ≡ None → false ≡ is_seen kinds s rec xs

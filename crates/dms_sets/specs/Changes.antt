@@ -14,15 +14,17 @@ use Rattle.dms_desc.specs.Keys.{key_of}
 use Rattle.dms_desc.specs.Kinds.{takes}
 use Rattle.dms_desc.specs.Sorted.{that_passes}
 use Rattle.dms_chain.specs.Lists.{pad_bound, first_from, with_in, without_in}
+use Rattle.dms_lists.specs.declared.form.ListForm.{ListForm}
+use Rattle.dms_lists.specs.Forms.{form_of}
 use Rattle.dms_sets.specs.Entries.{entry_bytes}
 use Rattle.dms_sets.specs.Prefixes.{starts}
 use Rattle.dms_sets.specs.Padded.{entry_width}
 
 -- ---- lists by structure
 
--- the entries of each list, by the structure's number and the width of its entries, where they are known
+-- the entries of each list, by the structure's number, the form in which they are kept and their width, where they are known
 abbrev pub ListsOf : Type 0
-ListsOf = ℕ → ℕ → Option (List (List ℕ))
+ListsOf = ℕ → ListForm → ℕ → Option (List (List ℕ))
 
 -- a width that entries may have
 abbrev pub IsEntryWidth : ℕ → Type 0
@@ -33,36 +35,36 @@ abbrev pub IfListed : Option (List (List ℕ)) → (List (List ℕ) → Type 0) 
 IfListed o P = (xs : List (List ℕ)) → o ≡ Some xs → P xs
 
 -- one list is changed so, where it is known, and the lists of all other structures are as they were
-pub record OnlyList (f : List (List ℕ) → List (List ℕ)) (n w : ℕ) (a b : ListsOf) : Type 0 where
-  pub here : (xs : List (List ℕ)) → a n w ≡ Some xs → b n w ≡ Some (f xs)
-  pub others : (m v : ℕ) → (m == n) ≡ false → b m v ≡ a m v
+pub record OnlyList (f : List (List ℕ) → List (List ℕ)) (n : ℕ) (form : ListForm) (w : ℕ) (a b : ListsOf) : Type 0 where
+  pub here : (xs : List (List ℕ)) → a n form w ≡ Some xs → b n form w ≡ Some (f xs)
+  pub others : (m : ℕ) (k : ListForm) (v : ℕ) → (m == n) ≡ false → b m k v ≡ a m k v
 
 -- One more entry keeps the file of a list within 1,048,576 blocks.
 abbrev pub HasRoom : List (List ℕ) → Type 0
 HasRoom xs = length xs + 2 ≤ 1048576
 
 -- the same, where the list is known and has room for one more entry
-pub record OnlyRoomy (f : List (List ℕ) → List (List ℕ)) (n w : ℕ) (a b : ListsOf) : Type 0 where
-  pub here : (xs : List (List ℕ)) → a n w ≡ Some xs → HasRoom xs → b n w ≡ Some (f xs)
-  pub others : (m v : ℕ) → (m == n) ≡ false → b m v ≡ a m v
+pub record OnlyRoomy (f : List (List ℕ) → List (List ℕ)) (n : ℕ) (form : ListForm) (w : ℕ) (a b : ListsOf) : Type 0 where
+  pub here : (xs : List (List ℕ)) → a n form w ≡ Some xs → HasRoom xs → b n form w ≡ Some (f xs)
+  pub others : (m : ℕ) (k : ListForm) (v : ℕ) → (m == n) ≡ false → b m k v ≡ a m k v
 
 -- ---- one set
 
 -- the list of a set
 abbrev pub list_of_set : ListsOf → List ItemKind → Shape → Option (List (List ℕ))
-list_of_set ls kinds s = ls s.number (entry_width kinds s.parts)
+list_of_set ls kinds s = ls s.number (form_of s) (entry_width kinds s.parts)
 
 -- one list is changed so, where it is known
 abbrev pub ListChanged : (List (List ℕ) → List (List ℕ)) → List ItemKind → Shape → ListsOf → ListsOf → Type 0
-ListChanged f kinds s a b = OnlyList f s.number (entry_width kinds s.parts) a b
+ListChanged f kinds s a b = OnlyList f s.number (form_of s) (entry_width kinds s.parts) a b
 
 -- the same, where it has room for one more entry
 abbrev pub ListGrown : (List (List ℕ) → List (List ℕ)) → List ItemKind → Shape → ListsOf → ListsOf → Type 0
-ListGrown f kinds s a b = OnlyRoomy f s.number (entry_width kinds s.parts) a b
+ListGrown f kinds s a b = OnlyRoomy f s.number (form_of s) (entry_width kinds s.parts) a b
 
 -- the lists of all other structures are as they were
 abbrev pub OtherListsStay : Shape → ListsOf → ListsOf → Type 0
-OtherListsStay s a b = (m v : ℕ) → (m == s.number) ≡ false → b m v ≡ a m v
+OtherListsStay s a b = (m : ℕ) (k : ListForm) (v : ℕ) → (m == s.number) ≡ false → b m k v ≡ a m k v
 
 -- the structure is a set or automatic subset of this data set
 abbrev pub is_over : Shape → ℕ → Bool

@@ -18,6 +18,7 @@ use Rattle.dms_desc.specs.Lookups.{structure_of, items_of}
 use Rattle.dms_desc.specs.Sorted.{that_passes}
 use Rattle.dms_model.specs.Stores.{is_closed}
 use Rattle.dms_chain.specs.Lists.{with_in, without_in, pad_bound, first_from}
+use Rattle.dms_lists.specs.Forms.{form_of}
 use Rattle.dms_sets.specs.declared.answer.SetAnswer.TheVariants.{Done, Duplicate}
 use Rattle.dms_sets.specs.Answers.{clash_seen, closed_is, is_blocked, old_entry}
 use Rattle.dms_sets.specs.Changes.{ListsOf, OneChanged, has_number, OtherListsStay, is_over, list_of_set, entry_opt, refuses, front_in, is_seen}
@@ -186,10 +187,10 @@ module _ (desc : Described) (db : Db) (set number : ℕ) (old new : Option Recor
       let refused : is_refused desc db set number old new s ≡ false = ap (λ t. t && refuses (kinds_over desc s) s new (without_in (entry_opt (kinds_over desc s) s number old) (entries_of desc db s))) h ∙ sym one.answer in
       record {
         done = λ j t lt is kept. elim (cases_lt j k) [
-          | inl low ↦ others t.number (entry_width (kinds_over desc t) t.parts) (number_off j k t s (λ e. omega (arith, low, e)) is at) ∙ u.done j t low is kept
-          | inr high ↦ subst (λ (x : Shape). b x.number (entry_width (kinds_over desc x) x.parts) ≡ Some (entries_of desc (db_with db set number new) x)) (same_at j k t s (omega (arith, lt, high)) is at) here
+          | inl low ↦ others t.number (form_of t) (entry_width (kinds_over desc t) t.parts) (number_off j k t s (λ e. omega (arith, low, e)) is at) ∙ u.done j t low is kept
+          | inr high ↦ subst (λ (x : Shape). b x.number (form_of x) (entry_width (kinds_over desc x) x.parts) ≡ Some (entries_of desc (db_with db set number new) x)) (same_at j k t s (omega (arith, lt, high)) is at) here
         ];
-        left = λ j t le is kept. others t.number (entry_width (kinds_over desc t) t.parts) (number_off j k t s (λ e. omega (arith, le, e)) is at) ∙ u.left j t (omega (arith, le)) is kept;
+        left = λ j t le is kept. others t.number (form_of t) (entry_width (kinds_over desc t) t.parts) (number_off j k t s (λ e. omega (arith, le, e)) is at) ∙ u.left j t (omega (arith, le)) is kept;
         none = λ j t lt is. elim (cases_lt j k) [
           | inl low ↦ u.none j t low is
           | inr high ↦ subst (λ (x : Shape). is_refused desc db set number old new x ≡ false) (same_at j k t s (omega (arith, lt, high)) is at) refused

@@ -6,12 +6,13 @@ use crate::Lists;
 use dms_base::Bytes;
 use dms_block::{BlockFault, Blocks, Overlay};
 use dms_desc::file_of;
+use dms_lists::ListForm;
 use std::alloc::Global;
 
-/// Ordered lists, each in the file of its structure, as they are seen through an overlay. A file of more than
-/// 1,048,576 blocks is no list.
+/// Ordered lists, each in the file of its structure and kept in its form, as they are seen through an overlay. A file
+/// of more than 1,048,576 blocks is no list.
 impl<B: Blocks> Lists for Overlay<B> {
-    ghost listed = { λ o n w. seen_list o n w };
+    ghost listed = { λ o n form w. seen_list o n form w };
 
     ghost usable = { λ o n. Usable o n };
 
@@ -35,38 +36,52 @@ impl<B: Blocks> Lists for Overlay<B> {
 
     ghost calm_wider = { λ p q n a b wider h. laws.calm_wider p q n a b wider h };
 
-    fn insert(&mut self, alloc: Global, structure: u16, entry: &[u8]) -> Result<bool, BlockFault> {
+    fn insert(
+        &mut self,
+        alloc: Global,
+        structure: u16,
+        form: ListForm,
+        entry: &[u8],
+    ) -> Result<bool, BlockFault> {
         let file = file_of(structure);
         if self.count(file) > 1_048_576 {
             return Err(BlockFault::Damaged(file, 0));
         }
-        dms_ordlist::insert(self, alloc, file, entry)
+        dms_lists::insert(self, alloc, form, file, entry)
     }
 
-    fn remove(&mut self, alloc: Global, structure: u16, entry: &[u8]) -> Result<bool, BlockFault> {
+    fn remove(
+        &mut self,
+        alloc: Global,
+        structure: u16,
+        form: ListForm,
+        entry: &[u8],
+    ) -> Result<bool, BlockFault> {
         let file = file_of(structure);
         if self.count(file) > 1_048_576 {
             return Err(BlockFault::Damaged(file, 0));
         }
-        dms_ordlist::remove(self, alloc, file, entry)
+        dms_lists::remove(self, alloc, form, file, entry)
     }
 
     fn first_from(
         &mut self,
         alloc: Global,
         structure: u16,
+        form: ListForm,
         from: &[u8],
     ) -> Result<Option<Bytes>, BlockFault> {
-        dms_ordlist::first_from(self, alloc, file_of(structure), from)
+        dms_lists::first_from(self, alloc, form, file_of(structure), from)
     }
 
     fn last_to(
         &mut self,
         alloc: Global,
         structure: u16,
+        form: ListForm,
         to: &[u8],
     ) -> Result<Option<Bytes>, BlockFault> {
-        dms_ordlist::last_to(self, alloc, file_of(structure), to)
+        dms_lists::last_to(self, alloc, form, file_of(structure), to)
     }
 
     fn entry_count(

@@ -10,6 +10,7 @@ use crate::entry::{entry, front};
 use dms_base::{Bytes, ItemKind, Memory};
 use dms_block::BlockFault;
 use dms_desc::{Record, Structure};
+use dms_lists::form_of;
 use std::alloc::Global;
 
 // Whether bytes begin with a prefix.
@@ -46,7 +47,7 @@ fn take_out<L: Lists>(
     ensures below { IfErr result (λ e. IfListed (list_of_set (L.listed lists.old) kinds.now (shape_of s.now)) (λ xs. L.below e lists.old lists.new)) }
 {
     if let Some(entry) = entry(alloc, s, kinds, number, rec)? {
-        lists.remove(alloc, s.number, entry.as_slice())?;
+        lists.remove(alloc, s.number, form_of(s), entry.as_slice())?;
     }
     Ok(())
 }
@@ -69,7 +70,7 @@ fn put_in<L: Lists>(
     ensures below { IfErr result (λ e. IfListed (list_of_set (L.listed lists.old) kinds.now (shape_of s.now)) (λ xs. L.below e lists.old lists.new)) }
 {
     if let Some(entry) = entry(alloc, s, kinds, number, rec)? {
-        lists.insert(alloc, s.number, entry.as_slice())?;
+        lists.insert(alloc, s.number, form_of(s), entry.as_slice())?;
     }
     Ok(())
 }
@@ -87,13 +88,13 @@ fn is_taken<L: Lists>(
     ensures seen { IfOk result (λ b. IfListed (list_of_set (L.listed lists.old) kinds.now (shape_of s.now)) (λ xs. b ≡ is_seen kinds.now (shape_of s.now) rec.now xs)) }
     ensures list { OnOk result (L.listed lists.new ≡ L.listed lists.old) }
     ensures usable { OnOk result ((n : ℕ) → L.usable lists.old n → L.usable lists.new n) }
-    ensures calm { OnOk result (L.calm (λ m. m == s.now.number) 1 lists.old lists.new) }
-    ensures fails { IfErr result (λ e. L.fails e 1 lists.old lists.new) }
+    ensures calm { OnOk result (L.calm (λ m. m == s.now.number) 0 lists.old lists.new) }
+    ensures fails { IfErr result (λ e. L.fails e 0 lists.old lists.new) }
     ensures below { IfErr result (λ e. IfListed (list_of_set (L.listed lists.old) kinds.now (shape_of s.now)) (λ xs. L.below e lists.old lists.new)) }
 {
     let front = front(alloc, s, kinds, rec)?;
     let bound = bound(alloc, &front)?;
-    match lists.first_from(alloc, s.number, bound.as_slice())? {
+    match lists.first_from(alloc, s.number, form_of(s), bound.as_slice())? {
         None => Ok(false),
         Some(found) => Ok(starts(front.as_slice(), found.as_slice())),
     }
@@ -112,8 +113,8 @@ pub fn refuses<L: Lists>(
     ensures answer { IfOk result (λ b. IfListed (list_of_set (L.listed lists.old) kinds.now (shape_of s.now)) (λ xs. b ≡ refuses kinds.now (shape_of s.now) (Some rec.now) xs)) }
     ensures list { OnOk result (L.listed lists.new ≡ L.listed lists.old) }
     ensures usable { OnOk result ((n : ℕ) → L.usable lists.old n → L.usable lists.new n) }
-    ensures calm { OnOk result (L.calm (λ m. m == s.now.number) 1 lists.old lists.new) }
-    ensures fails { IfErr result (λ e. L.fails e 1 lists.old lists.new) }
+    ensures calm { OnOk result (L.calm (λ m. m == s.now.number) 0 lists.old lists.new) }
+    ensures fails { IfErr result (λ e. L.fails e 0 lists.old lists.new) }
     ensures below { IfErr result (λ e. IfListed (list_of_set (L.listed lists.old) kinds.now (shape_of s.now)) (λ xs. L.below e lists.old lists.new)) }
 {
     if s.duplicates || !s.takes(rec.values.as_slice()) {
@@ -159,8 +160,8 @@ fn put_new<L: Lists>(
     ensures entered { IfOk result (λ refused. Enters kinds.now (shape_of s.now) number (Some rec.now) (L.listed lists.old) (L.listed lists.new) refused) }
     ensures others { OnOk result (OtherListsStay (shape_of s.now) (L.listed lists.old) (L.listed lists.new)) }
     ensures usable { OnOk result ((n : ℕ) → L.usable lists.old n → L.usable lists.new n) }
-    ensures calm { OnOk result (L.calm (λ m. m == s.now.number) 2 lists.old lists.new) }
-    ensures fails { IfErr result (λ e. L.fails e 2 lists.old lists.new) }
+    ensures calm { OnOk result (L.calm (λ m. m == s.now.number) 1 lists.old lists.new) }
+    ensures fails { IfErr result (λ e. L.fails e 1 lists.old lists.new) }
     ensures below { IfErr result (λ e. IfListed (list_of_set (L.listed lists.old) kinds.now (shape_of s.now)) (λ xs. L.below e lists.old lists.new)) }
 {
     if refuses(lists, alloc, s, kinds, rec)? {
@@ -184,8 +185,8 @@ fn enter<L: Lists>(
     ensures entered { IfOk result (λ refused. Enters kinds.now (shape_of s.now) number (option_copied new.entry) (L.listed lists.old) (L.listed lists.new) refused) }
     ensures others { OnOk result (OtherListsStay (shape_of s.now) (L.listed lists.old) (L.listed lists.new)) }
     ensures usable { OnOk result ((n : ℕ) → L.usable lists.old n → L.usable lists.new n) }
-    ensures calm { OnOk result (L.calm (λ m. m == s.now.number) 2 lists.old lists.new) }
-    ensures fails { IfErr result (λ e. L.fails e 2 lists.old lists.new) }
+    ensures calm { OnOk result (L.calm (λ m. m == s.now.number) 1 lists.old lists.new) }
+    ensures fails { IfErr result (λ e. L.fails e 1 lists.old lists.new) }
     ensures below { IfErr result (λ e. IfListed (list_of_set (L.listed lists.old) kinds.now (shape_of s.now)) (λ xs. L.below e lists.old lists.new)) }
 {
     match new {
@@ -211,8 +212,8 @@ pub fn change_one<L: Lists>(
         (L.listed lists.old) (L.listed lists.new) refused) }
     ensures others { OnOk result (OtherListsStay (shape_of s.now) (L.listed lists.old) (L.listed lists.new)) }
     ensures usable { OnOk result ((n : ℕ) → L.usable lists.old n → L.usable lists.new n) }
-    ensures calm { OnOk result (L.calm (λ m. m == s.now.number) 3 lists.old lists.new) }
-    ensures fails { IfErr result (λ e. L.fails e 3 lists.old lists.new) }
+    ensures calm { OnOk result (L.calm (λ m. m == s.now.number) 2 lists.old lists.new) }
+    ensures fails { IfErr result (λ e. L.fails e 2 lists.old lists.new) }
     ensures below { IfErr result (λ e. IfListed (list_of_set (L.listed lists.old) kinds.now (shape_of s.now)) (λ xs. L.below e lists.old lists.new)) }
 {
     leave(lists, alloc, s, kinds, number, old)?;

@@ -41,8 +41,8 @@ pub fn change<L: Lists>(
     requires new { MayEnter (as_described desc.now) set (option_copied new) }
     ensures kept { IfOk result (KeepsListed (as_described desc.now) set number (option_copied old.entry) (option_copied new.entry) (L.listed lists.old) (L.listed lists.new)) }
     ensures usable { OnOk result ((n : ℕ) → L.usable lists.old n → L.usable lists.new n) }
-    ensures calm { OnOk result (L.calm (has_number (as_described desc.now).structures set) (3 * length desc.now.structures) lists.old lists.new) }
-    ensures fails { IfErr result (λ e. L.fails e (3 * length desc.now.structures) lists.old lists.new) }
+    ensures calm { OnOk result (L.calm (has_number (as_described desc.now).structures set) (2 * length desc.now.structures) lists.old lists.new) }
+    ensures fails { IfErr result (λ e. L.fails e (2 * length desc.now.structures) lists.old lists.new) }
     ensures below { IfErr result (λ e. IfJudged (as_described desc.now) set number (option_copied old.entry) (option_copied new.entry) (L.listed lists.old) (λ db. L.below e lists.old lists.new)) }
 {
     let kinds = kinds_of(alloc, desc.items_of(set))?;

@@ -6,6 +6,7 @@ use Rattle.std.specs.List.{list_all}
 use Rattle.std.proofs.lemmas.Bool.{cases_eq, cases_lt, and_from, and_parts, true≢false}
 use Rattle.std.proofs.lemmas.List.{length-replicate, take-replicate, drop-replicate}
 use Rattle.std.proofs.lemmas.Nat.{div-add-mod'}
+use Rattle.std.proofs.lemmas.Bool.Decides.{nat_tests}
 use Rattle.std.proofs.Math.Nat as nat
 use Rattle.dms_desc.specs.Shape.{Shape}
 use Rattle.dms_fields.specs.Fields.{lay_bytes}
@@ -20,7 +21,7 @@ use Rattle.dms_layout.specs.ReadLaws.{used_fits, free_is, free_again, are_zeros}
 use Rattle.dms_desc.specs.Files.{file_of}
 use Rattle.dms_slots.specs.SlotBlocks.{per_block, block_of, place_of, is_slot, are_slots, is_block, slot_chunks, slots_by, slots_in, or_free, slot_at, block_at, slot_put, MayPutSlot}
 use Rattle.dms_slots.specs.SlotBlockLaws.{bad_block, place_bad, slot_there, slot_past, slots_length, some_at, none_at}
-use Rattle.dms_slots.specs.Written.{room, block_written}
+use Rattle.dms_slots.specs.Written.{room, block_written, cut_written}
 
 -- ---- lists
 
@@ -223,3 +224,84 @@ put_used s c number slot kinds fits may = put_here s c number (slot_bytes s.item
 pub put_free : (s : Shape) (c : Content) (number : ℕ) → MayPutSlot s c number
     → slot_at s (slot_put s number (replicate (slot_width s.items) 0) c (file_of s.number)) number ≡ Free
 put_free s c number may = put_here s c number (replicate (slot_width s.items) 0) may (free_fine s) ∙ free_again s
+
+-- ---- what a slot that isn't free leaves
+
+bad_apart : Bad ≡ Free → ⊥
+bad_apart h = absurd (cc h)
+
+module _ (s : Shape) (c : Content) (number : ℕ) (bytes : List ℕ) (may : MayPutSlot s c number) (width : length bytes ≡ slot_width s.items) where
+  abbrev was : List ℕ
+  was = block_at (c (file_of s.number)) (block_of s.items number)
+
+  abbrev is : List ℕ
+  is = lay_bytes (place_of s.items number * slot_width s.items) bytes (block_at (c (file_of s.number)) (block_of s.items number))
+
+  has : 0 < per_block s.items
+  has = some_slot (slot_width s.items) may.fits (omega arith)
+
+  was_block : is_block s was ≡ true
+  was_block = good_block s (c (file_of s.number)) number has may.sound
+
+  -- bytes that are no slot make no block
+  no_block : slot_of s bytes ≡ Bad → is_block s is ≡ false
+  unfolding slots_in is_block
+  no_block bad = by (is_block s is) refl
+    where
+      p : ℕ
+      p = place_of s.items number
+
+      low : p < per_block s.items
+      low = nat.mod-lt (number - 1) has
+
+      long : per_block s.items * slot_width s.items ≤ length was
+      long =
+          let size : length was ≡ 1024 = grind (arith, nat_tests, (and_parts (length was == 1024) (are_slots s (per_block s.items) was) was_block).0) in
+          omega (arith, size, room s)
+
+      by : (b : Bool) → is_block s is ≡ b → is_block s is ≡ false
+      by false e = e
+      by true e =
+          let cut = ap (λ b. slots_by b s is) e ∙ cut_written s (per_block s.items) p bytes was low long width ∙ ap (λ b. set (slots_by b s was) p (slot_of s bytes)) (sym was_block) in
+          let there : p < length (slots_in s was) = subst (λ n. p < n) (sym (slots_length s was)) low in
+          bad_block s is p low (ap (λ l. or_free (slice_get l p)) cut ∙ ap or_free (set_here (slots_in s was) p (slot_of s bytes) there) ∙ bad)
+
+  -- no slot is free that wasn't
+  pub put_taken : slot_of s bytes ≢ Free → (other : ℕ) → 1 ≤ other → slot_at s (c (file_of s.number)) other ≢ Free → slot_at s (slot_put s number bytes c (file_of s.number)) other ≢ Free
+  put_taken taken other low used = by (slot_of s bytes) refl
+    where
+      b : ℕ
+      b = block_of s.items number
+
+      over : List ℕ → SlotRead
+      over x = or_free (slice_get (slots_in s x) (place_of s.items other))
+
+      start : slot_at s (slot_put s number bytes c (file_of s.number)) other ≡ over (block_at (put_block b is (c (file_of s.number))) (block_of s.items other))
+      start = ap (λ x. slot_at s x other) (in_file c (file_of s.number) b is) ∙ slot_is s _ other has
+
+      kept : (r : SlotRead) → slot_of s bytes ≡ r → r ≢ Bad → slot_at s (slot_put s number bytes c (file_of s.number)) other ≢ Free
+      kept r e fine = elim (cases_eq other number) [
+        | inl same ↦ λ free. taken (sym (put_here s c number bytes may (λ bad. fine (sym e ∙ bad))) ∙ ap (λ k. slot_at s (slot_put s number bytes c (file_of s.number)) k) (sym same) ∙ free)
+        | inr apart ↦ λ free. used (sym (put_other s c number bytes may (λ bad. fine (sym e ∙ bad)) other low apart) ∙ free)
+      ]
+
+      spoilt : slot_of s bytes ≡ Bad → slot_at s (slot_put s number bytes c (file_of s.number)) other ≢ Free
+      spoilt bad = elim (cases_eq (block_of s.items other) b) [
+        | inl same ↦ λ free. bad_apart
+            (place_bad s is (place_of s.items other) (nat.mod-lt (other - 1) has) (no_block bad)
+            ∙ sym (ap (λ k. over (block_at (put_block b is (c (file_of s.number))) k)) same ∙ ap over (at_laid b is (c (file_of s.number)) may.next)) ∙ sym start ∙ free)
+        | inr off ↦ λ free. used (slot_is s (c (file_of s.number)) other has ∙ ap over (sym (off_laid b (block_of s.items other) is (c (file_of s.number)) may.next off)) ∙ sym start ∙ free)
+      ]
+
+      by : (r : SlotRead) → slot_of s bytes ≡ r → slot_at s (slot_put s number bytes c (file_of s.number)) other ≢ Free
+      by Free e = absurd (taken e)
+      by (Used slot) e = kept (Used slot) e (λ h. absurd (cc h))
+      by Bad e = spoilt e
+
+not_zeros : (n : ℕ) (l : List ℕ) → 1 ∷ l ≡ replicate n 0 → ⊥
+not_zeros zero l h = absurd (cc h)
+not_zeros (suc n) l h = absurd (cc h)
+
+-- the spelling of a record isn't free
+pub spelled_taken : (s : Shape) (slot : Slot) → slot_of s (slot_bytes s.items slot) ≢ Free
+spelled_taken s slot = λ e. not_zeros (slot_width s.items) _ (free_is s (slot_bytes s.items slot) e)

@@ -6,7 +6,8 @@ use Rattle.std.specs.Option.{option_copied, option_map}
 use Rattle.std.specs.declared.option.Option.{Option}
 use Rattle.std.specs.FinMap.{entries}
 use Rattle.std.proofs.lemmas.Bool.Decides.{nat_tests}
-use Rattle.std.proofs.lemmas.Bool.{and_from, and_right}
+use Rattle.std.proofs.lemmas.Bool.{and_from, and_parts, and_right}
+use Rattle.std.proofs.lemmas.Option.{same_Some}
 use Rattle.dms_block.specs.declared.blocks.Blocks.{Ghosts}
 use Rattle.dms_block.specs.declared.overlay.Overlay.{Overlay}
 use Rattle.dms_block.specs.Content.{Content}
@@ -20,15 +21,16 @@ use Rattle.dms_desc.specs.Shape.{Shape, Described, shape_of}
 use Rattle.dms_desc.specs.declared.structure.Structure.{Structure}
 use Rattle.dms_desc.specs.Sorted.{first, last, sort}
 use Rattle.dms_model.specs.declared.spot.Spot.{Spot}
-use Rattle.dms_model.specs.Db.{Place, SubsetEntry}
+use Rattle.dms_model.specs.Db.{Db, Place, SubsetEntry}
 use Rattle.dms_model.specs.Fitting.{population_of}
 use Rattle.dms_model.specs.Members.{first_member, first_of, is_after_bound, is_before, is_before_bound, last_member, last_of, members, names, spot_of, spots_of}
 use Rattle.dms_model.specs.Stores.{TellsOf}
 use Rattle.dms_model.specs.Valid.{is_data_set}
 use Rattle.dms_desc.specs.Files.{file_of}
+use Rattle.dms_lists.specs.Forms.{form_of, look_reads}
 use Rattle.dms_store.specs.Finding.{BadSlot, number_at, served_at}
 use Rattle.dms_store.specs.Lifted.{IsUsable, db_of}
-use Rattle.dms_store.specs.Listed.{BadPath, most_reads}
+use Rattle.dms_store.specs.Listed.{BadPath, IfIndexed, form_at, most_reads}
 use Rattle.dms_store.specs.Noted.{tells_if}
 use Rattle.dms_store.specs.Serving.{IsServed}
 use Rattle.dms_store.specs.Spelled.{db_in}
@@ -78,6 +80,16 @@ module _ {desc : Described} (path : ℕ) {s : Shape} (served : IsServed desc) (a
   pub there_is : structure_of desc s.number ≡ Some s
   there_is = ap (structure_of desc) number_is ∙ at
 
+  -- a data set isn't kept in a tree
+  pub set_few : kinds.is_data_set s ≡ true → (db : Option Db) (P : List (List ℕ) → Type 0) → IfIndexed desc path db P
+  set_few h db P t d there kept tree told =
+      let same : s ≡ t = same_Some s t (sym at ∙ there) in
+      let low : kinds.is_data_set t ≡ true = ap (λ (x : Shape). kinds.is_data_set x) (sym same) ∙ h in
+      let two = and_parts (nat_lt 2 t.kind) (nat_lt t.kind 5) kept in
+      let above : 2 < t.kind = grind (arith, nat_tests, two.0) in
+      let below : t.kind < 3 = grind (arith, nat_tests, low) in
+      absurd (omega (arith, above, below))
+
   pub set_here : kinds.is_data_set s ≡ true → is_data_set (structure_of desc path) ≡ true
   set_here h =
       let low = (served_at desc path s served at).low in
@@ -92,12 +104,13 @@ module _ {desc : Described} (path : ℕ) {s : Shape} (served : IsServed desc) (a
 
   module _ {B : Type 0} {g : Ghosts B} (o : Overlay B g) where
     pub set_reads : kinds.is_data_set s ≡ true → population_of (structure_of desc path) ≡ most_reads desc path o
-    set_reads h = sym (ap (λ b. cond b (population_of (structure_of desc path)) (2 + seen_counts o (file_of path))) (set_here h))
+    set_reads h = sym (ap (λ b. cond b (population_of (structure_of desc path)) (1 + look_reads (form_at (structure_of desc path)) (seen_counts o (file_of path)))) (set_here h))
 
-    pub kept_reads : kinds.is_data_set s ≡ false → 2 + seen_counts o (file_of s.number) ≡ most_reads desc path o
+    pub kept_reads : kinds.is_data_set s ≡ false → 1 + look_reads (form_of s) (seen_counts o (file_of s.number)) ≡ most_reads desc path o
     kept_reads off =
         let no_set : is_data_set (structure_of desc path) ≡ false = ap is_data_set at ∙ off_both (nat_lt 0 s.kind) (nat_lt s.kind 3) off in
-        ap (λ n. 2 + seen_counts o (file_of n)) number_is ∙ sym (ap (λ b. cond b (population_of (structure_of desc path)) (2 + seen_counts o (file_of path))) no_set)
+        (λ i. 1 + look_reads (form_at (sym at i)) (seen_counts o (file_of (number_is i))))
+        ∙ sym (ap (λ b. cond b (population_of (structure_of desc path)) (1 + look_reads (form_at (structure_of desc path)) (seen_counts o (file_of path)))) no_set)
       where
         off_both : (a b : Bool) → b ≡ false → (a && b) ≡ false
         off_both true b h = h

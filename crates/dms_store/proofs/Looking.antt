@@ -1,5 +1,5 @@
 -- Looks at the list of a set: the bytes of bounds, and what is found.
-use Rattle.std.proofs.Common.{◌≡◌, ◌∙◌, ◌+◌, ◌-◌, ◌≤◌, ℕ, List, [], ◌∷◌, ◌++◌, Bool, true, false, cond, IfSome, Some, None, refl, sym, ap, length, length-append, replicate, arith}
+use Rattle.std.proofs.Common.{◌≡◌, ◌∙◌, ◌+◌, ◌-◌, ◌≤◌, ℕ, List, [], ◌∷◌, ◌++◌, Bool, true, false, cond, IfSome, Some, None, sym, ap, length, length-append, replicate, arith}
 use Rattle.std.specs.declared.option.Option.{Option}
 use Rattle.std.specs.Int.{w32, to_be_bytes}
 use Rattle.std.specs.Cmp.Lexicographic.{nat_list_cmp_total}
@@ -14,12 +14,10 @@ use Rattle.dms_desc.specs.declared.bound.Bound.TheVariants.{Start, End, At, From
 use Rattle.dms_desc.specs.declared.structure.KeyPart.{KeyPart}
 use Rattle.dms_key.specs.KeyBytes.{KeyHasKinds, key_bytes}
 use Rattle.dms_key.specs.KeyOrder.{key_most}
-use Rattle.dms_chain.specs.ListIn.{list_in}
 use Rattle.dms_chain.specs.Lists.{first, first_from, has_entry, is_same, last, last_to, or_else, pad_bound}
 use Rattle.dms_sets.specs.Entries.{IsSetKey, entry_bytes, whole_width}
 use Rattle.dms_sets.specs.Padded.{entry_width, from_bytes, to_bytes}
 use Rattle.dms_store.specs.Listed.{MayLook}
-use Rattle.dms_store.specs.SpelledLaws.{nothing_listed}
 
 -- ---- the bytes of a bound
 
@@ -60,14 +58,6 @@ module _ (kinds : List ItemKind) (ps : List KeyPart) (owner : ℕ) where
   to_long (From key) q may is = ap length (sym (same_Some _ q is)) ∙ key_long key may.0
 
 -- ---- what is found
-
-some_list : (xs ys : List (List ℕ)) → ◌≡◌ {A = Option (List (List ℕ))} (Some xs) (Some ys) → ys ≡ xs
-some_list xs ys h = cc
-
--- a file of no blocks has no entry
-pub none_listed : (w : ℕ) (bs xs : List (List ℕ)) → length bs ≡ 0 → list_in w bs ≡ Some xs → xs ≡ []
-none_listed w [] xs none is = some_list [] xs (sym (nothing_listed w) ∙ is)
-none_listed w (b ∷ bs) xs none is = absurd (omega (arith, none))
 
 here : (x q : List ℕ) (xs : List (List ℕ)) → ◌≡◌ {A = Option (List ℕ)} (Some x) (Some q) → has_entry q (x ∷ xs) ≡ true
 here x q xs h = or_left (is_same q x) (has_entry q xs) (ap (is_same q) (same_Some x q h) ∙ (eq_by_cmp_equiv nat_list_cmp_total).refl q)

@@ -1,5 +1,5 @@
 -- The members of a set by one look at its list, and the cause of each fault.
-use Rattle.std.proofs.Common.{◌≡◌, ◌∙◌, ◌<◌, ◌≤◌, ℕ, List, Bool, true, false, IfSome, IsTrue, Some, None, refl, sym, ap, subst, inl, inr, arith}
+use Rattle.std.proofs.Common.{◌≡◌, ◌∙◌, ◌+◌, ◌^◌, ◌<◌, ◌≤◌, ℕ, List, Bool, true, false, length, IfSome, IsTrue, Some, None, refl, sym, ap, subst, inl, inr, arith}
 use Rattle.std.specs.Prelude.{◌&&◌, nat_lt}
 use Rattle.std.specs.declared.option.Option.{Option}
 use Rattle.std.specs.declared.result.Result.{Result}
@@ -7,6 +7,7 @@ use Rattle.std.specs.declared.result.Result.TheVariants.{Ok, Err}
 use Rattle.std.specs.FinMap.{entries}
 use Rattle.std.proofs.lemmas.Bool.Decides.{nat_tests}
 use Rattle.std.proofs.lemmas.Bool.{and_parts}
+use Rattle.std.proofs.lemmas.Option.{same_Some}
 use Rattle.dms_block.specs.declared.block_fault.BlockFault.{BlockFault}
 use Rattle.dms_block.specs.declared.blocks.Blocks.{Ghosts}
 use Rattle.dms_block.specs.declared.overlay.Overlay.{Overlay}
@@ -23,10 +24,10 @@ use Rattle.dms_model.specs.Fitting.{MayStart}
 use Rattle.dms_model.specs.Members.{first_member, last_member}
 use Rattle.dms_model.specs.Stores.{Tells, TellsOf}
 use Rattle.dms_model.specs.Valid.{is_data_set}
-use Rattle.dms_chain.specs.ListIn.{list_in}
 use Rattle.dms_chain.specs.Lists.{first_from, has_entry, last_to}
-use Rattle.dms_chain.specs.Seen.{IfList, NoList}
 use Rattle.dms_chain.specs.SeenLaws.{causes_since}
+use Rattle.dms_lists.specs.declared.form.ListForm.TheVariants.{Tree}
+use Rattle.dms_lists.specs.Forms.{IfKept, NoKept, form_of, kept_in}
 use Rattle.dms_sets.specs.Finds.{spot_by}
 use Rattle.dms_sets.specs.Listing.{AllPlaces}
 use Rattle.dms_sets.specs.Padded.{entry_width, from_bytes, to_bytes}
@@ -34,11 +35,12 @@ use Rattle.dms_sets.specs.Puts.{all_small}
 use Rattle.dms_sets.specs.Sets.{IsSmall, entries_of, kinds_over}
 use Rattle.dms_sets.specs.Spots.{all_fit}
 use Rattle.dms_desc.specs.Files.{file_of}
+use Rattle.dms_tree.specs.Looks.{IfDigits, ReadsFew}
 use Rattle.dms_store.specs.Files.{list_at}
 use Rattle.dms_store.specs.Finding.{BadSlot, bad_since, number_at, seen_below}
 use Rattle.dms_store.specs.Lifted.{IsUsable, db_of}
 use Rattle.dms_store.specs.LiftedLaws.{db_same}
-use Rattle.dms_store.specs.Listed.{BadEntry, BadPath, MayLook}
+use Rattle.dms_store.specs.Listed.{BadEntry, BadPath, IfIndexed, MayLook}
 use Rattle.dms_store.specs.Noted.{tells_if}
 use Rattle.dms_store.specs.Serving.{IsServed}
 use Rattle.dms_store.specs.SetPaths.{first_look, served_formed, last_look, may_look, set_at}
@@ -83,7 +85,7 @@ module _ (desc : Described) (s : Shape) (served : IsServed desc) (at : structure
   width = entry_width (kinds_over desc s) s.parts
 
   -- the list of a set's file
-  listed_in : (c : Content) → is_spelled desc c ≡ true → list_in width (file_in c s) ≡ Some (entries_of desc (db_in desc c) s)
+  listed_in : (c : Content) → is_spelled desc c ≡ true → kept_in (form_of s) width (file_in c s) ≡ Some (entries_of desc (db_in desc c) s)
   listed_in c spelt = list_at desc c s.number s spelt at (no_data_set s kept) kept
 
   all_small_in : (c : Content) (d : Db) → database_in desc c ≡ Some d → AllPlaces IsSmall (entries d.records)
@@ -92,14 +94,14 @@ module _ (desc : Described) (s : Shape) (served : IsServed desc) (at : structure
 
   module _ (told : Bool) (c : Content) (owner : ℕ) (bound : Bound) (may : MayStart desc s.number owner bound) (q : Option (List ℕ)) (r : Result (Option Spot) BlockFault) where
     -- the member of the entry that was found is the first one behind the bound
-    pub first_found : (IsTrue told → (xs : List (List ℕ)) → list_in width (file_in c s) ≡ Some xs → q ≡ first_from (from_bytes (kinds_over desc s) s.parts owner bound) xs)
+    pub first_found : (IsTrue told → (xs : List (List ℕ)) → kept_in (form_of s) width (file_in c s) ≡ Some xs → q ≡ first_from (from_bytes (kinds_over desc s) s.parts owner bound) xs)
         → Tells (db_of desc told c) r (λ d. spot_by s d owner q) → Tells (db_of desc told c) r (λ d. first_member desc d s.number owner bound)
     first_found found tells =
         tells_as told desc c (λ d. spot_by s d owner q) (λ d. first_member desc d s.number owner bound) r tells
         (λ t spelt. ap (spot_by s (db_in desc c) owner) (found t (entries_of desc (db_in desc c) s) (listed_in c spelt)) ∙ sym (first_look desc s.number s c served at kept spelt owner bound may))
 
     -- or the last one before it
-    pub last_found : (IsTrue told → (xs : List (List ℕ)) → list_in width (file_in c s) ≡ Some xs → q ≡ last_to (to_bytes (kinds_over desc s) s.parts owner bound) xs)
+    pub last_found : (IsTrue told → (xs : List (List ℕ)) → kept_in (form_of s) width (file_in c s) ≡ Some xs → q ≡ last_to (to_bytes (kinds_over desc s) s.parts owner bound) xs)
         → Tells (db_of desc told c) r (λ d. spot_by s d owner q) → Tells (db_of desc told c) r (λ d. last_member desc d s.number owner bound)
     last_found found tells =
         tells_as told desc c (λ d. spot_by s d owner q) (λ d. last_member desc d s.number owner bound) r tells
@@ -111,15 +113,15 @@ module _ (desc : Described) (s : Shape) (served : IsServed desc) (at : structure
     same_file : overlay_content o (file_of s.number) ≡ file_in (under o).content s
     same_file = ap (λ (c : Content). c (file_of s.number)) (seen_below o usable.none)
 
-    told_list : (d : Db) → db_of desc (under o).told (under o).content ≡ Some d → list_in width (overlay_content o (file_of s.number)) ≡ Some (entries_of desc d s)
+    told_list : (d : Db) → db_of desc (under o).told (under o).content ≡ Some d → kept_in (form_of s) width (overlay_content o (file_of s.number)) ≡ Some (entries_of desc d s)
     told_list d told =
         let c = (under o).content in
         let spelt = (told_spelled desc (under o).told c d told).1 in
         let is : db_in desc c ≡ d = (spells desc c d (db_told (under o).told desc c d told)).is in
-        ap (list_in width) same_file ∙ listed_in c spelt ∙ ap (λ (x : Db). Some (entries_of desc x s)) is
+        ap (kept_in (form_of s) width) same_file ∙ listed_in c spelt ∙ ap (λ (x : Db). Some (entries_of desc x s)) is
 
     -- a file that is no list
-    pub bad_list : (f b : ℕ) → NoList o (file_of s.number) width f b → BadPath desc s.number o f b
+    pub bad_list : (f b : ℕ) → NoKept (form_of s) o (file_of s.number) width f b → BadPath desc s.number o f b
     bad_list f b bad = record {
       file = inl bad.0;
       there = subst (λ (n : ℕ). b < seen_counts o n) (sym bad.0) bad.1;
@@ -142,7 +144,7 @@ module _ (desc : Described) (s : Shape) (served : IsServed desc) (at : structure
         }
 
     -- an entry that stands for no record, or a block of the data set
-    pub bad_entry : (q : List ℕ) → 1 ≤ seen_counts o (file_of s.number) → IfList o (file_of s.number) width (λ xs. has_entry q xs ≡ true) → (f b : ℕ) → BadEntry desc s q o f b → BadPath desc s.number o f b
+    pub bad_entry : (q : List ℕ) → 1 ≤ seen_counts o (file_of s.number) → IfKept (form_of s) o (file_of s.number) width (λ xs. has_entry q xs ≡ true) → (f b : ℕ) → BadEntry desc s q o f b → BadPath desc s.number o f b
     bad_entry q some listed f b (inl bad) = slot_path f b bad
     bad_entry q some listed f b (inr bad) = record {
       file = inl bad.0;
@@ -153,7 +155,7 @@ module _ (desc : Described) (s : Shape) (served : IsServed desc) (at : structure
     }
 
     -- the same after reads
-    pub bad_later : {T : Type 0} {n : ℕ} {x : T} (o' : Overlay B g) (q : List ℕ) → ReadsOverlay n (Ok x) o o' → 1 ≤ seen_counts o (file_of s.number) → IfList o (file_of s.number) width (λ xs. has_entry q xs ≡ true)
+    pub bad_later : {T : Type 0} {n : ℕ} {x : T} (o' : Overlay B g) (q : List ℕ) → ReadsOverlay n (Ok x) o o' → 1 ≤ seen_counts o (file_of s.number) → IfKept (form_of s) o (file_of s.number) width (λ xs. has_entry q xs ≡ true)
         → (f b : ℕ) → BadEntry desc s q o' f b → BadPath desc s.number o f b
     bad_later o' q reads some listed f b (inl bad) = bad_entry q some listed f b (inl (bad.0, bad.1, bad_since bad.0 o o' reads f b bad.2))
     bad_later o' q reads some listed f b (inr bad) =
@@ -162,33 +164,43 @@ module _ (desc : Described) (s : Shape) (served : IsServed desc) (at : structure
     -- ---- the same, of a call that is given the kinds of the items
 
     module _ (ks : List ItemKind) (is : ks ≡ kinds_over desc s) where
-      pub list_path : (f b : ℕ) → NoList o (file_of s.number) (entry_width ks s.parts) f b → BadPath desc s.number o f b
-      list_path f b bad = bad_list f b (subst (λ (xs : List ItemKind). NoList o (file_of s.number) (entry_width xs s.parts) f b) is bad)
+      pub list_path : (f b : ℕ) → NoKept (form_of s) o (file_of s.number) (entry_width ks s.parts) f b → BadPath desc s.number o f b
+      list_path f b bad = bad_list f b (subst (λ (xs : List ItemKind). NoKept (form_of s) o (file_of s.number) (entry_width xs s.parts) f b) is bad)
 
       pub entry_path : {T : Type 0} {n : ℕ} {x : T} (o' : Overlay B g) (q : List ℕ) → ReadsOverlay n (Ok x) o o' → 1 ≤ seen_counts o (file_of s.number)
-          → IfList o (file_of s.number) (entry_width ks s.parts) (λ xs. has_entry q xs ≡ true) → (f b : ℕ) → BadEntry desc s q o' f b → BadPath desc s.number o f b
+          → IfKept (form_of s) o (file_of s.number) (entry_width ks s.parts) (λ xs. has_entry q xs ≡ true) → (f b : ℕ) → BadEntry desc s q o' f b → BadPath desc s.number o f b
       entry_path o' q reads some listed f b bad =
-          bad_later o' q reads some (subst (λ (xs : List ItemKind). IfList o (file_of s.number) (entry_width xs s.parts) (λ ys. has_entry q ys ≡ true)) is listed) f b bad
+          bad_later o' q reads some (subst (λ (xs : List ItemKind). IfKept (form_of s) o (file_of s.number) (entry_width xs s.parts) (λ ys. has_entry q ys ≡ true)) is listed) f b bad
 
       -- the cause of a fault at the entry that a look found
       pub fault_path : {n : ℕ} (x : Option (List ℕ)) (p q : List ℕ) (o' last : Overlay B g) (r : Result (Option Spot) BlockFault) → x ≡ Some p → q ≡ p → IfSome x (λ e. 1 ≤ seen_counts o (file_of s.number))
-          → IfList o (file_of s.number) (entry_width ks s.parts) (λ xs. IfSome x (λ e. has_entry e xs ≡ true)) → ReadsOverlay n (Ok x) o o' → (under o').faults ≡ (under o).faults
+          → IfKept (form_of s) o (file_of s.number) (entry_width ks s.parts) (λ xs. IfSome x (λ e. has_entry e xs ≡ true)) → ReadsOverlay n (Ok x) o o' → (under o').faults ≡ (under o).faults
           → HasCausesOr (BadEntry desc s q o') r (under o') (under last) → HasCausesOr (BadPath desc s.number o) r (under o) (under last)
       fault_path x p q o' last r found same there listed reads still causes =
           let some : 1 ≤ seen_counts o (file_of s.number) = rw found at there in
-          let entry : IfList o (file_of s.number) (entry_width ks s.parts) (λ xs. has_entry q xs ≡ true) =
-          subst (λ (e : List ℕ). IfList o (file_of s.number) (entry_width ks s.parts) (λ xs. has_entry e xs ≡ true)) (sym same) (rw found at listed) in
+          let entry : IfKept (form_of s) o (file_of s.number) (entry_width ks s.parts) (λ xs. has_entry q xs ≡ true) =
+          subst (λ (e : List ℕ). IfKept (form_of s) o (file_of s.number) (entry_width ks s.parts) (λ xs. has_entry e xs ≡ true)) (sym same) (rw found at listed) in
           causes_since (BadEntry desc s q o') (BadPath desc s.number o) r o o' last (entry_path o' q reads some entry) still reads causes
 
+      -- how many blocks a look at a tree and the read of a record read
+      pub few_path : (o' last : Overlay B g) → (form_of s ≡ Tree → IfKept (form_of s) o (file_of s.number) (entry_width ks s.parts) (λ xs. IfDigits xs (λ digits. ReadsFew (2 + digits) o o')))
+          → (under last).uses.reads ≤ (under o').uses.reads + 1 → IfIndexed desc s.number (db_of desc (under o).told (under o).content) (λ xs. IfDigits xs (λ digits. ReadsFew (3 + digits) o last))
+      few_path o' last few more t d there kept tree told digits low =
+          let same : s ≡ t = same_Some s t (sym at ∙ there) in
+          let list = ap (λ (x : List ItemKind). kept_in (form_of s) (entry_width x s.parts) (overlay_content o (file_of s.number))) is ∙ told_list d told in
+          let small : length (entries_of desc d s) < 2 ^ digits = subst (λ (x : Shape). length (entries_of desc d x) < 2 ^ digits) (sym same) low in
+          let looked = few (ap (λ (x : Shape). form_of x) same ∙ tree) (told_spelled desc (under o).told (under o).content d told).0 (entries_of desc d s) list digits small in
+          omega (arith, looked, more)
+
       module _ (owner : ℕ) (bound : Bound) (may : MayStart desc s.number owner bound) (q : Option (List ℕ)) (r : Result (Option Spot) BlockFault) where
-        pub first_path : (MayLook ks s.parts bound → IfList o (file_of s.number) (entry_width ks s.parts) (λ xs. q ≡ first_from (from_bytes ks s.parts owner bound) xs))
+        pub first_path : (MayLook ks s.parts bound → IfKept (form_of s) o (file_of s.number) (entry_width ks s.parts) (λ xs. q ≡ first_from (from_bytes ks s.parts owner bound) xs))
             → Tells (db_of desc (under o).told (under o).content) r (λ d. spot_by s d owner q) → Tells (db_of desc (under o).told (under o).content) r (λ d. first_member desc d s.number owner bound)
         first_path found tells =
-            let given = subst (λ (ts : List ItemKind). MayLook ts s.parts bound → IfList o (file_of s.number) (entry_width ts s.parts) (λ xs. q ≡ first_from (from_bytes ts s.parts owner bound) xs)) is found in
-            first_found (under o).told (under o).content owner bound may q r (λ t xs at_list. given (may_look desc s.number s served at owner bound may) t xs (ap (list_in width) same_file ∙ at_list)) tells
+            let given = subst (λ (ts : List ItemKind). MayLook ts s.parts bound → IfKept (form_of s) o (file_of s.number) (entry_width ts s.parts) (λ xs. q ≡ first_from (from_bytes ts s.parts owner bound) xs)) is found in
+            first_found (under o).told (under o).content owner bound may q r (λ t xs at_list. given (may_look desc s.number s served at owner bound may) t xs (ap (kept_in (form_of s) width) same_file ∙ at_list)) tells
 
-        pub last_path : (MayLook ks s.parts bound → IfList o (file_of s.number) (entry_width ks s.parts) (λ xs. q ≡ last_to (to_bytes ks s.parts owner bound) xs))
+        pub last_path : (MayLook ks s.parts bound → IfKept (form_of s) o (file_of s.number) (entry_width ks s.parts) (λ xs. q ≡ last_to (to_bytes ks s.parts owner bound) xs))
             → Tells (db_of desc (under o).told (under o).content) r (λ d. spot_by s d owner q) → Tells (db_of desc (under o).told (under o).content) r (λ d. last_member desc d s.number owner bound)
         last_path found tells =
-            let given = subst (λ (ts : List ItemKind). MayLook ts s.parts bound → IfList o (file_of s.number) (entry_width ts s.parts) (λ xs. q ≡ last_to (to_bytes ts s.parts owner bound) xs)) is found in
-            last_found (under o).told (under o).content owner bound may q r (λ t xs at_list. given (may_look desc s.number s served at owner bound may) t xs (ap (list_in width) same_file ∙ at_list)) tells
+            let given = subst (λ (ts : List ItemKind). MayLook ts s.parts bound → IfKept (form_of s) o (file_of s.number) (entry_width ts s.parts) (λ xs. q ≡ last_to (to_bytes ts s.parts owner bound) xs)) is found in
+            last_found (under o).told (under o).content owner bound may q r (λ t xs at_list. given (may_look desc s.number s served at owner bound may) t xs (ap (kept_in (form_of s) width) same_file ∙ at_list)) tells

@@ -1,5 +1,5 @@
 -- The words of the calls that store one record: where it is to stand, and what they leave where a database is told.
-use Rattle.std.specs.Prelude.{◌≡◌, ◌≤◌, ◌+◌, ℕ, true, IsTrue, Some, None}
+use Rattle.std.specs.Prelude.{◌≡◌, ◌≢◌, ◌≤◌, ◌+◌, ℕ, true, IsTrue, Some, None}
 use Rattle.std.specs.declared.option.Option.{Option}
 use Rattle.std.specs.declared.result.Result.{Result}
 use Rattle.dms_block.specs.declared.block_fault.BlockFault.{BlockFault}
@@ -11,13 +11,16 @@ use Rattle.dms_desc.specs.Lookups.{structure_of}
 use Rattle.dms_desc.specs.Shape.{Shape, Described, as_described, shape_of}
 use Rattle.dms_desc.specs.declared.record.Record.{Record}
 use Rattle.dms_layout.specs.declared.slot.Slot.{Slot}
+use Rattle.dms_layout.specs.declared.slot.SlotRead.TheVariants.{Bad}
+use Rattle.dms_desc.specs.Files.{file_of}
+use Rattle.dms_store.specs.Taken.{IfStoredAs, StoresNext, TakenStay}
 use Rattle.dms_model.specs.Db.{Db}
 use Rattle.dms_model.specs.Fitting.{RecordFits}
 use Rattle.dms_model.specs.Stores.{with_links_of}
 use Rattle.dms_model.specs.Valid.{is_data_set}
 use Rattle.dms_model.specs.declared.put.Put.{Put}
 use Rattle.dms_slots.specs.Seen.{count_of}
-use Rattle.dms_slots.specs.SlotBlocks.{block_of, slot_opt}
+use Rattle.dms_slots.specs.SlotBlocks.{block_of, slot_at, slot_opt}
 use Rattle.dms_store.specs.Lifted.{IsUsable}
 use Rattle.dms_store.specs.Owning.{AreSlots, IfOwned}
 use Rattle.dms_store.specs.Putting.{AnswersOver}
@@ -82,6 +85,18 @@ module _ {B : Type 0} {g : Ghosts B} where
   -- the same of what is stored for a record where this slot stands
   abbrev pub LeavesStored : Address → Option Slot → Record → Overlay B g → Put → Db → Type 0
   LeavesStored at o rec b p db = LeavesEntered at (with_links_of at.set.now.items (rec_opt (slot_opt o)) rec) b p db o rec
+
+  -- the block of the number isn't a bad one
+  abbrev pub StandsSound : Address → Overlay B g → Type 0
+  StandsSound at a = IsTrue (under a).told → slot_at (shape_at at) (overlay_content a (file_of at.set.now.number)) at.number ≢ Bad
+
+  -- where the record is stored it is under its number, and no slot is freed
+  abbrev pub StoresAt : Address → Overlay B g → Overlay B g → Put → Type 0
+  StoresAt at a b p = IsTrue (under a).told → IfStoredAs p (λ n. (n ≡ at.number) × TakenStay (desc_at at) (overlay_content a) (overlay_content b))
+
+  -- the same of a data set, where a new record has the next number
+  abbrev pub NextTold : Described → ℕ → Option ℕ → Overlay B g → Overlay B g → Put → Type 0
+  NextTold desc set number a b p = IsTrue (under a).told → StoresNext desc set number (overlay_content a) (overlay_content b) p
 
   -- the answer is that of storing the record
   abbrev pub AnswersTold : Described → Overlay B g → Overlay B g → ℕ → Option ℕ → Record → Put → Type 0

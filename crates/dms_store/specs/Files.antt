@@ -11,7 +11,7 @@ use Rattle.dms_desc.specs.Lookups.{structure_of}
 use Rattle.dms_desc.specs.Shape.{Shape, Described}
 use Rattle.dms_model.specs.Db.{Db}
 use Rattle.dms_model.specs.Valid.{is_data_set}
-use Rattle.dms_chain.specs.ListIn.{list_in}
+use Rattle.dms_lists.specs.Forms.{form_of, kept_in}
 use Rattle.dms_sets.specs.Padded.{entry_width}
 use Rattle.dms_sets.specs.Sets.{entries_of, kinds_over}
 use Rattle.dms_desc.specs.Files.{file_of}
@@ -47,7 +47,7 @@ slots_at desc c n s spelt at is_set =
     let bs = file_in c s in
     let db = db_in desc c in
     and_parts (list_all (is_block s) bs) (slots_stand desc db s 1 (slots_of s bs))
-    (sym (ap (λ b. cond b (list_all (is_block s) bs && slots_stand desc db s 1 (slots_of s bs)) (cond (is_set_or_automatic s) (is_list_of (list_in (entry_width (kinds_over desc s) s.parts) bs) (entries_of desc db s)) (has_none bs))) is_set)
+    (sym (ap (λ b. cond b (list_all (is_block s) bs && slots_stand desc db s 1 (slots_of s bs)) (cond (is_set_or_automatic s) (is_list_of (kept_in (form_of s) (entry_width (kinds_over desc s) s.parts) bs) (entries_of desc db s)) (has_none bs))) is_set)
     ∙ file_at desc c n s spelt at)
 
 lists_same : (xs ys : List (List ℕ)) → lists_eq xs ys ≡ true → xs ≡ ys
@@ -64,13 +64,13 @@ list_same (Some xs) ys h = ap (λ (zs : List (List ℕ)). Some zs) (lists_same x
 
 -- that of a set or automatic subset is the list of its entries
 pub list_at : (desc : Described) (c : Content) (n : ℕ) (s : Shape) → is_spelled desc c ≡ true → structure_of desc n ≡ Some s → is_data_set (Some s) ≡ false → is_set_or_automatic s ≡ true
-    → list_in (entry_width (kinds_over desc s) s.parts) (file_in c s) ≡ Some (entries_of desc (db_in desc c) s)
+    → kept_in (form_of s) (entry_width (kinds_over desc s) s.parts) (file_in c s) ≡ Some (entries_of desc (db_in desc c) s)
 list_at desc c n s spelt at no_set kept =
     let bs = file_in c s in
     let db = db_in desc c in
-    list_same (list_in (entry_width (kinds_over desc s) s.parts) bs) (entries_of desc db s)
-    (sym (ap (λ b. cond b (list_all (is_block s) bs && slots_stand desc db s 1 (slots_of s bs)) (cond (is_set_or_automatic s) (is_list_of (list_in (entry_width (kinds_over desc s) s.parts) bs) (entries_of desc db s)) (has_none bs))) no_set
-    ∙ ap (λ b. cond b (is_list_of (list_in (entry_width (kinds_over desc s) s.parts) bs) (entries_of desc db s)) (has_none bs)) kept)
+    list_same (kept_in (form_of s) (entry_width (kinds_over desc s) s.parts) bs) (entries_of desc db s)
+    (sym (ap (λ b. cond b (list_all (is_block s) bs && slots_stand desc db s 1 (slots_of s bs)) (cond (is_set_or_automatic s) (is_list_of (kept_in (form_of s) (entry_width (kinds_over desc s) s.parts) bs) (entries_of desc db s)) (has_none bs))) no_set
+    ∙ ap (λ b. cond b (is_list_of (kept_in (form_of s) (entry_width (kinds_over desc s) s.parts) bs) (entries_of desc db s)) (has_none bs)) kept)
     ∙ file_at desc c n s spelt at)
 
 -- ---- whole blocks

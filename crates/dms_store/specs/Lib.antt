@@ -25,6 +25,7 @@ pub mod PuttingMoved
 pub mod PuttingAfter
 pub mod PuttingMany
 pub mod Whole
+pub mod TreeWhole
 pub mod PuttingLaws
 pub mod PuttingOwners
 pub mod Owning
@@ -39,3 +40,5 @@ pub mod PuttingJudged
 pub mod PuttingNumbers
 pub mod PuttingPlaced
 pub mod PuttingStore
+pub mod Taken
+pub mod TakenLaws

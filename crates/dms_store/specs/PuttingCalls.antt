@@ -52,7 +52,7 @@ module _ {B : Type 0} {g : Ghosts B} where
     causes = causes_or_on (λ f k. ⊤) (λ f k. ⊤) r (under a) (under b) (under c) (λ f k h. h) same reads.looks.passes.lasts reads.looks.same next.causes;
   }
 
-  pub enters_write : {U : Type 0} {k : ℕ} (p : ℕ → Bool) (n m w : ℕ) (P : ℕ → ℕ → Type 0) (r : Result U BlockFault) (a b c : Overlay B g) → ((x y z : B) → g.same_blocks x y → g.same_blocks y z → g.same_blocks x z) → (under a).sound → 3 * n + w ≤ m
+  pub enters_write : {U : Type 0} {k : ℕ} (p : ℕ → Bool) (n m w : ℕ) (P : ℕ → ℕ → Type 0) (r : Result U BlockFault) (a b c : Overlay B g) → ((x y z : B) → g.same_blocks x y → g.same_blocks y z → g.same_blocks x z) → (under a).sound → 22 * n + w ≤ m
       → Calm p n a b → WritesOverlay k w r b c → HasCausesOr P r (under b) (under c) → WritesAtMost m r a c
   enters_write {k = k} p n m w P r a b c onward sound le calm writes causes =
       let first = calm.looks sound in

@@ -56,7 +56,7 @@ fresh_least m set k low none = gap_least 1 k (records_of m set) (none_rows set k
 -- ---- slots
 
 -- each slot before the first free one is taken
-taken_before : (rs : List SlotRead) (i : ℕ) → i < before_free rs → ((r : SlotRead) → or_free (slice_get rs i) ≡ r → r ≢ Free)
+pub taken_before : (rs : List SlotRead) (i : ℕ) → i < before_free rs → ((r : SlotRead) → or_free (slice_get rs i) ≡ r → r ≢ Free)
 taken_before [] i low r is = absurd (omega (arith, low))
 taken_before (Free ∷ rs) i low r is = absurd (omega (arith, low))
 taken_before (Used slot ∷ rs) zero low r is = λ e. let h : Used slot ≡ Free = is ∙ e in absurd (cc h)

@@ -18,7 +18,7 @@ use Rattle.dms_layout.specs.declared.slot.Slot.{Slot}
 use Rattle.dms_model.specs.Db.{Db, Place, place_cmp}
 use Rattle.dms_model.specs.Stores.{with_links_of, linked_from, values_of, kept_owner}
 use Rattle.dms_model.specs.Valid.{is_data_set, owner_stands}
-use Rattle.dms_chain.specs.ListIn.{list_in}
+use Rattle.dms_lists.specs.Forms.{form_of, kept_in}
 use Rattle.dms_sets.specs.Changes.{has_number, is_over}
 use Rattle.dms_sets.specs.Padded.{entry_width}
 use Rattle.dms_sets.specs.Sets.{entries_of, kinds_over}
@@ -34,13 +34,14 @@ use Rattle.dms_store.specs.Serving.{IsServed}
 use Rattle.dms_store.specs.SetPaths.{served_formed}
 use Rattle.dms_store.specs.Spelled.{counted_in, file_in, has_none, is_whole, links_stand, owned_in, database_in}
 use Rattle.dms_store.specs.SpelledLaws.{RecordStands, links_still, spelled_stands}
-use Rattle.dms_store.specs.Whole.{blocks_whole, list_whole}
+use Rattle.dms_store.specs.TreeWhole.{kept_whole}
+use Rattle.dms_store.specs.Whole.{blocks_whole}
 use Rattle.dms_desc.specs.Kinds.{is_set_or_automatic}
 use Rattle.dms_desc_bytes.specs.Finding.{owner_in as owner_of}
 
 -- The files of the sets and automatic subsets of a data set are the lists of this database, and all other files are as they were.
 pub record ListsPut (desc : Described) (db : Db) (set : ℕ) (c d : Content) : Type 0 where
-  pub kept : (n : ℕ) (s : Shape) → structure_of desc n ≡ Some s → is_set_or_automatic s ≡ true → (list_in (entry_width (kinds_over desc s) s.parts) (file_in d s) ≡ Some (entries_of desc db s)) × (length (file_in d s) ≤ 1048576)
+  pub kept : (n : ℕ) (s : Shape) → structure_of desc n ≡ Some s → is_set_or_automatic s ≡ true → (kept_in (form_of s) (entry_width (kinds_over desc s) s.parts) (file_in d s) ≡ Some (entries_of desc db s)) × (length (file_in d s) ≤ 1048576)
   pub still : (n : ℕ) → has_number desc.structures set n ≡ false → d (file_of n) ≡ c (file_of n)
 
 -- ---- structures that are over no data set
@@ -258,7 +259,7 @@ module _ (desc : Described) (served : IsServed desc) (db : Db) (c e d : Content)
 
     lists_after : ListsSpell desc after d
     lists_after = record {
-      kept = λ n t at off kept. ap (list_in (entry_width (kinds_over desc t) t.parts)) (file_off n t at off) ∙ (lists.kept n t at kept).0;
+      kept = λ n t at off kept. ap (kept_in (form_of t) (entry_width (kinds_over desc t) t.parts)) (file_off n t at off) ∙ (lists.kept n t at kept).0;
       manual = λ n t at off none. ap has_none (file_off n t at off ∙ file_still desc after set c e n t served lists at none) ∙ files.lists.manual n t at off none;
     }
 
@@ -319,7 +320,7 @@ module _ (desc : Described) (served : IsServed desc) (db : Db) (c e d : Content)
               of_old (change.files (file_of t.number) (λ f. apart (omega (arith, f, number_t, number_is))) ∙ file_still desc after set c e n t served lists at (no_kept t is))
         ]
         by false true is g =
-            here (ap (list_all is_whole) (file_off n t at is) ∙ list_whole (entry_width (kinds_over desc t) t.parts) (file_in e t) (entries_of desc after t) (lists.kept n t at g).0)
+            here (ap (list_all is_whole) (file_off n t at is) ∙ kept_whole (form_of t) (entry_width (kinds_over desc t) t.parts) (file_in e t) (entries_of desc after t) (lists.kept n t at g).0)
         by false false is g = of_old (file_off n t at is ∙ file_still desc after set c e n t served lists at g)
 
     fit_after : SlotsFit desc d

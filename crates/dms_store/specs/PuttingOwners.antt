@@ -20,7 +20,7 @@ use Rattle.dms_layout.specs.declared.slot.SlotRead.TheVariants.{Free, Used, Bad}
 use Rattle.dms_model.specs.Db.{Db, Place, place_cmp}
 use Rattle.dms_model.specs.Stores.{kept_owner, with_links_of}
 use Rattle.dms_model.specs.Valid.{is_data_set, owner_stands}
-use Rattle.dms_chain.specs.ListIn.{list_in}
+use Rattle.dms_lists.specs.Forms.{form_of, kept_in}
 use Rattle.dms_sets.specs.Padded.{entry_width}
 use Rattle.dms_sets.specs.Sets.{kinds_over}
 use Rattle.dms_desc.specs.Files.{file_of}
@@ -105,7 +105,7 @@ module _ (desc : Described) (db : Db) (own : ℕ → ℕ → ℕ) (c d : Content
 
   lists_after : ListsSpell desc db d
   lists_after = record {
-    kept = λ n t there off kept. ap (list_in (entry_width (kinds_over desc t) t.parts)) (file_off n t there off) ∙ files.lists.kept n t there off kept;
+    kept = λ n t there off kept. ap (kept_in (form_of t) (entry_width (kinds_over desc t) t.parts)) (file_off n t there off) ∙ files.lists.kept n t there off kept;
     manual = λ n t there off none. ap has_none (file_off n t there off) ∙ files.lists.manual n t there off none;
   }
 

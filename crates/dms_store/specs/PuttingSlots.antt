@@ -18,7 +18,7 @@ use Rattle.dms_layout.specs.declared.slot.SlotRead.{SlotRead}
 use Rattle.dms_layout.specs.declared.slot.SlotRead.TheVariants.{Free, Used, Bad}
 use Rattle.dms_model.specs.Db.{Db, Place, place_cmp}
 use Rattle.dms_model.specs.Valid.{is_data_set, owner_stands}
-use Rattle.dms_chain.specs.ListIn.{list_in}
+use Rattle.dms_lists.specs.Forms.{form_of, kept_in}
 use Rattle.dms_sets.specs.Padded.{entry_width}
 use Rattle.dms_sets.specs.Sets.{entries_of, kinds_over}
 use Rattle.dms_slots.specs.FileWritten.{all_good, some_slot}
@@ -56,7 +56,7 @@ pub record RecordsStand (desc : Described) (db : Db) (own : ℕ → ℕ → ℕ)
 
 -- the files of all other structures have its entries
 pub record ListsSpell (desc : Described) (db : Db) (c : Content) : Type 0 where
-  pub kept : (n : ℕ) (s : Shape) → structure_of desc n ≡ Some s → is_data_set (Some s) ≡ false → is_set_or_automatic s ≡ true → list_in (entry_width (kinds_over desc s) s.parts) (file_in c s) ≡ Some (entries_of desc db s)
+  pub kept : (n : ℕ) (s : Shape) → structure_of desc n ≡ Some s → is_data_set (Some s) ≡ false → is_set_or_automatic s ≡ true → kept_in (form_of s) (entry_width (kinds_over desc s) s.parts) (file_in c s) ≡ Some (entries_of desc db s)
   pub manual : (n : ℕ) (s : Shape) → structure_of desc n ≡ Some s → is_data_set (Some s) ≡ false → is_set_or_automatic s ≡ false → has_none (file_in c s) ≡ true
 
 -- whole blocks, not too many of them, and none where there is no structure
@@ -171,7 +171,7 @@ files_stand desc c served spelt = record {
 
 manual_by : (desc : Described) (db : Db) (s : Shape) (bs : List (List ℕ)) → is_data_set (Some s) ≡ false → is_set_or_automatic s ≡ false → file_spells desc db s bs ≡ true → has_none bs ≡ true
 manual_by desc db s bs no_set no_list h =
-    let list = is_list_of (list_in (entry_width (kinds_over desc s) s.parts) bs) (entries_of desc db s) in
+    let list = is_list_of (kept_in (form_of s) (entry_width (kinds_over desc s) s.parts) bs) (entries_of desc db s) in
     sym (ap (λ b. cond b (list_all (is_block s) bs && slots_stand desc db s 1 (slots_of s bs)) (cond (is_set_or_automatic s) list (has_none bs))) no_set ∙ ap (λ b. cond b list (has_none bs)) no_list) ∙ h
 
 lists_spell : (desc : Described) (c : Content) → is_spelled desc c ≡ true → ListsSpell desc (db_in desc c) c
@@ -244,18 +244,18 @@ module _ (desc : Described) (db : Db) (own : ℕ → ℕ → ℕ) (c : Content) 
   file_again : (b k : Bool) (n : ℕ) (s : Shape) → is_data_set (Some s) ≡ b → is_set_or_automatic s ≡ k → structure_of desc n ≡ Some s → RecordsStand desc db own c → ListsSpell desc db c → ((m : ℕ) → own s.number m ≡ owned_in desc db s.number m) → file_spells desc db s (file_in c s) ≡ true
   file_again true k n s is_set is at slots lists owned =
       let bs = file_in c s in
-      let list = is_list_of (list_in (entry_width (kinds_over desc s) s.parts) bs) (entries_of desc db s) in
+      let list = is_list_of (kept_in (form_of s) (entry_width (kinds_over desc s) s.parts) bs) (entries_of desc db s) in
       let file = slots.each n s at is_set in
       let all = slots_again n s at file owned in
       ap (λ b. cond b (list_all (is_block s) bs && slots_stand desc db s 1 (slots_of s bs)) (cond (is_set_or_automatic s) list (has_none bs))) is_set ∙ (λ i. file.blocks i && all i)
   file_again false true n s no_set kept at slots lists owned =
       let bs = file_in c s in
-      let list = is_list_of (list_in (entry_width (kinds_over desc s) s.parts) bs) (entries_of desc db s) in
+      let list = is_list_of (kept_in (form_of s) (entry_width (kinds_over desc s) s.parts) bs) (entries_of desc db s) in
       ap (λ b. cond b (list_all (is_block s) bs && slots_stand desc db s 1 (slots_of s bs)) (cond (is_set_or_automatic s) list (has_none bs))) no_set ∙ ap (λ b. cond b list (has_none bs)) kept
       ∙ ap (λ o. is_list_of o (entries_of desc db s)) (lists.kept n s at no_set kept) ∙ lists_itself (entries_of desc db s)
   file_again false false n s no_set no_list at slots lists owned =
       let bs = file_in c s in
-      let list = is_list_of (list_in (entry_width (kinds_over desc s) s.parts) bs) (entries_of desc db s) in
+      let list = is_list_of (kept_in (form_of s) (entry_width (kinds_over desc s) s.parts) bs) (entries_of desc db s) in
       ap (λ b. cond b (list_all (is_block s) bs && slots_stand desc db s 1 (slots_of s bs)) (cond (is_set_or_automatic s) list (has_none bs))) no_set ∙ ap (λ b. cond b list (has_none bs)) no_list
       ∙ lists.manual n s at no_set no_list
 

@@ -64,10 +64,10 @@ told_db desc true c d h = (refl, h)
 told_db desc false c d h = absurd (cc)
 
 -- a data set is one of the structures
-pub some_structure : (desc : Described) (set : ℕ) → IsDataSet desc set → 9 * length desc.structures + 2 ≤ 64 * length desc.structures
+pub some_structure : (desc : Described) (set : ℕ) → IsDataSet desc set → 44 * length desc.structures + 2 ≤ 64 * length desc.structures
 some_structure desc set is = by desc.structures refl
   where
-    by : (ss : List Shape) → desc.structures ≡ ss → 9 * length desc.structures + 2 ≤ 64 * length desc.structures
+    by : (ss : List Shape) → desc.structures ≡ ss → 44 * length desc.structures + 2 ≤ 64 * length desc.structures
     by [] none = absurd (not_set desc set (nothing set (set == 0) none) is)
       where
         nothing : (n : ℕ) (b : Bool) → desc.structures ≡ [] → cond b None (slice_get desc.structures (n - 1)) ≡ None
@@ -75,7 +75,7 @@ some_structure desc set is = by desc.structures refl
         nothing n false e = ap (λ (xs : List Shape). slice_get xs (n - 1)) e
     by (s ∷ ss) some = omega (arith, ap length some)
 
-pub few_structures : (desc : Described) (ss : List Structure) (set : ℕ) → desc.structures ≡ map shape_of ss → IsDataSet desc set → 9 * length ss + 2 ≤ 64 * length desc.structures
+pub few_structures : (desc : Described) (ss : List Structure) (set : ℕ) → desc.structures ≡ map shape_of ss → IsDataSet desc set → 44 * length ss + 2 ≤ 64 * length desc.structures
 few_structures desc ss set are is = omega (arith, some_structure desc set is, ap (λ (l : List Shape). length l) are, length-map ss shape_of)
 
 module _ {B : Type 0} {g : Ghosts B} (desc : Described) (found found' : ℕ) (o o' : Overlay B g) where

@@ -17,7 +17,7 @@ use Rattle.dms_layout.specs.declared.slot.SlotRead.TheVariants.{Free, Used, Bad}
 use Rattle.dms_model.specs.Valid.{is_data_set, link_stands, owner_stands}
 use Rattle.dms_model.specs.Db.{Db, SubsetEntry, Place, Records}
 use Rattle.dms_desc.specs.Lookups.{structure_of, items_of}
-use Rattle.dms_chain.specs.ListIn.{list_in}
+use Rattle.dms_lists.specs.Forms.{form_of, kept_in}
 use Rattle.dms_sets.specs.Padded.{entry_width}
 use Rattle.dms_sets.specs.Sets.{entries_of, kinds_over}
 use Rattle.dms_desc.specs.Files.{file_of}
@@ -120,11 +120,11 @@ abbrev pub has_none : List (List ℕ) → Bool
 has_none [] = true
 has_none (b ∷ bs) = false
 
--- The file of a structure: one of slots that stand, the ordered list of the entries of a set or automatic subset, or no block for a manual subset.
+-- The file of a structure: one of slots that stand, the entries of a set or automatic subset in its form, or no block for a manual subset.
 abbrev pub file_spells : Described → Db → Shape → List (List ℕ) → Bool
 file_spells desc db s bs =
     if is_data_set (Some s) then list_all (is_block s) bs && slots_stand desc db s 1 (slots_of s bs)
-    else (if is_set_or_automatic s then is_list_of (list_in (entry_width (kinds_over desc s) s.parts) bs) (entries_of desc db s) else has_none bs)
+    else (if is_set_or_automatic s then is_list_of (kept_in (form_of s) (entry_width (kinds_over desc s) s.parts) bs) (entries_of desc db s) else has_none bs)
 
 abbrev pub files_spell : Described → Db → Content → List Shape → Bool
 files_spell desc db c [] = true

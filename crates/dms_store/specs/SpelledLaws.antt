@@ -29,8 +29,9 @@ use Rattle.dms_laws.specs.Sound.{IsFlat}
 use Rattle.dms_model.specs.Valid.{is_data_set, link_stands, owner_stands, refers}
 use Rattle.dms_model.specs.Db.{Db, Place, Records, place_cmp, empty_db}
 use Rattle.dms_desc.specs.Lookups.{structure_of, items_of}
-use Rattle.dms_chain.specs.ListIn.{list_in}
 use Rattle.dms_chain.specs.Lists.{empty_keys}
+use Rattle.dms_lists.specs.FormLaws.{nothing_kept}
+use Rattle.dms_lists.specs.Forms.{form_of, kept_in}
 use Rattle.dms_sets.specs.Listing.{listing}
 use Rattle.dms_sets.specs.Padded.{entry_width}
 use Rattle.dms_sets.specs.Sets.{entries_of, kinds_over, entry_of}
@@ -74,16 +75,12 @@ pub no_manual : (desc : Described) (c : Content) → (db_in desc c).entries ≡ 
 unfolding db_in
 no_manual desc c = refl
 
-pub nothing_listed : (w : ℕ) → list_in w [] ≡ Some []
-unfolding list_in
-nothing_listed w = refl
-
 file_empty : (desc : Described) (s : Shape) → file_spells desc empty_db s [] ≡ true
 file_empty desc s =
-    elim (is_data_set (Some s)) as (λ b. cond b true (cond (is_set_or_automatic s) (is_list_of (list_in (entry_width (kinds_over desc s) s.parts) []) (entries_of desc empty_db s)) true) ≡ true) [
+    elim (is_data_set (Some s)) as (λ b. cond b true (cond (is_set_or_automatic s) (is_list_of (kept_in (form_of s) (entry_width (kinds_over desc s) s.parts) []) (entries_of desc empty_db s)) true) ≡ true) [
       | true ↦ refl
-      | false ↦ elim (is_set_or_automatic s) as (λ b. cond b (is_list_of (list_in (entry_width (kinds_over desc s) s.parts) []) (entries_of desc empty_db s)) true ≡ true) [
-        | true ↦ (λ i. is_list_of (nothing_listed (entry_width (kinds_over desc s) s.parts) i) (no_entries desc s i))
+      | false ↦ elim (is_set_or_automatic s) as (λ b. cond b (is_list_of (kept_in (form_of s) (entry_width (kinds_over desc s) s.parts) []) (entries_of desc empty_db s)) true ≡ true) [
+        | true ↦ (λ i. is_list_of (nothing_kept (form_of s) (entry_width (kinds_over desc s) s.parts) i) (no_entries desc s i))
         | false ↦ refl
       ]
     ]
@@ -233,7 +230,7 @@ turn_stands : (b : Bool) (desc : Described) (db : Db) (c : Content) (s : Shape) 
 turn_stands true desc db c s rest data_set is kinds small h all =
     let bs = file_in c s in
     let file : (list_all (is_block s) bs && slots_stand desc db s 1 (slots_of s bs)) ≡ true =
-    sym (ap (λ b. cond b (list_all (is_block s) bs && slots_stand desc db s 1 (slots_of s bs)) (cond (is_set_or_automatic s) (is_list_of (list_in (entry_width (kinds_over desc s) s.parts) bs) (entries_of desc db s)) (has_none bs))) data_set) ∙ h in
+    sym (ap (λ b. cond b (list_all (is_block s) bs && slots_stand desc db s 1 (slots_of s bs)) (cond (is_set_or_automatic s) (is_list_of (kept_in (form_of s) (entry_width (kinds_over desc s) s.parts) bs) (entries_of desc db s)) (has_none bs))) data_set) ∙ h in
     all_append (StandsAt desc db) (rows_from s.number 1 (slots_of s bs)) rest
     (rows_stand desc db s is data_set kinds small 1 (slots_of s bs) (omega arith) (file_fits s bs) (and_parts (list_all (is_block s) bs) (slots_stand desc db s 1 (slots_of s bs)) file).1) all
 turn_stands false desc db c s rest data_set is kinds small h all = all

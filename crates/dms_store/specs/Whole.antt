@@ -78,7 +78,7 @@ fewer_stand (suc k) m xs once low high none = elim (cases_eq m (suc k)) [
   | inr apart ↦ omega (arith, once (suc k), fewer_stand k m xs once low (omega (arith, high, apart)) none)
 ]
 
-each_stands : (xs : List ℕ) → ((n : ℕ) → times n xs ≤ 1) → ((n : ℕ) → 0 < times n xs → (1 ≤ n) × (n ≤ length xs)) → (m : ℕ) → 1 ≤ m → m ≤ length xs → 0 < times m xs
+pub each_stands : (xs : List ℕ) → ((n : ℕ) → times n xs ≤ 1) → ((n : ℕ) → 0 < times n xs → (1 ≤ n) × (n ≤ length xs)) → (m : ℕ) → 1 ≤ m → m ≤ length xs → 0 < times m xs
 each_stands xs once within m low high = by (times m xs) refl
   where
     by : (t : ℕ) → times m xs ≡ t → 0 < times m xs
@@ -87,14 +87,14 @@ each_stands xs once within m low high = by (times m xs) refl
 
 -- ---- what a block spells is whole
 
-filled_whole : (bytes : List ℕ) → length bytes ≤ 1024 → length (fill_block bytes) ≡ 1024
+pub filled_whole : (bytes : List ℕ) → length bytes ≤ 1024 → length (fill_block bytes) ≡ 1024
 unfolding fill_block
 filled_whole bytes few = omega (arith, few, length-append bytes (replicate (1024 - length bytes) 0), length-replicate {A = ℕ} (1024 - length bytes) 0)
 
-two_long : (n : ℕ) → length (to_be_bytes w16 n) ≡ 2
+pub two_long : (n : ℕ) → length (to_be_bytes w16 n) ≡ 2
 two_long n = refl
 
-four_long : (n : ℕ) → length (to_be_bytes w32 n) ≡ 4
+pub four_long : (n : ℕ) → length (to_be_bytes w32 n) ≡ 4
 four_long n = refl
 
 head_long : (first free : ℕ) → length (head_bytes first free) ≡ 1024
@@ -124,7 +124,7 @@ free_by : (t : Bool) (b : List ℕ) (next : ℕ) (x : ℕ × Unit {0}) → bytes
 free_by true b next x tested is = ap length ((bytes_eq-Decides b (free_bytes next)).0 tested) ∙ free_long next
 free_by false b next x tested is = absurd (cc is)
 
-free_whole : (b : List ℕ) (x : ℕ × Unit {0}) → free_in b ≡ Some x → length b ≡ 1024
+pub free_whole : (b : List ℕ) (x : ℕ × Unit {0}) → free_in b ≡ Some x → length b ≡ 1024
 unfolding free_in
 free_whole b x is = free_by _ b (from_be_bytes w32 (take 4 (drop 1 b))) x refl is
 
@@ -137,7 +137,7 @@ leaf_same : (width : ℕ) (b : List ℕ) (x : ℕ × List (List ℕ)) → leaf_i
 unfolding leaf_in
 leaf_same width b x is = leaf_by _ width (from_be_bytes w32 (take 4 (drop 3 b))) (entry_chunks width (from_be_bytes w16 (take 2 (drop 1 b))) (drop 7 b)) b x refl is
 
-leaf_whole : (width : ℕ) (b : List ℕ) (x : ℕ × List (List ℕ)) → leaf_in width b ≡ Some x → length b ≡ 1024
+pub leaf_whole : (width : ℕ) (b : List ℕ) (x : ℕ × List (List ℕ)) → leaf_in width b ≡ Some x → length b ≡ 1024
 leaf_whole width b x is =
     let leaf = leaf_is width b x.0 x.1 is in
     ap length (leaf_same width b x is) ∙ leaf_long x.0 x.1 (wide_room width x.1 leaf.wide leaf.holds.room)
@@ -145,7 +145,7 @@ leaf_whole width b x is =
 -- ---- and so is each block of a list
 
 -- a block whose number is one of a chain's says what stands there
-chain_at : {A : Type 0} (reads : List ℕ → Option (ℕ × A)) (look : ℕ → Option (List ℕ)) (ls : List (ℕ × A)) (behind n : ℕ) (b : List ℕ) → ((x : ℕ × A) → reads b ≡ Some x → length b ≡ 1024) → BlockChain reads look ls behind → 0 < times n (numbers ls) → look n ≡ Some b → length b ≡ 1024
+pub chain_at : {A : Type 0} (reads : List ℕ → Option (ℕ × A)) (look : ℕ → Option (List ℕ)) (ls : List (ℕ × A)) (behind n : ℕ) (b : List ℕ) → ((x : ℕ × A) → reads b ≡ Some x → length b ≡ 1024) → BlockChain reads look ls behind → 0 < times n (numbers ls) → look n ≡ Some b → length b ≡ 1024
 chain_at reads look [] behind n b whole chain some at = absurd (omega (arith, some))
 chain_at reads look (l ∷ ls) behind n b whole chain some at = elim (cases_eq l.0 n) [
   | inl same ↦ whole _ (sym (ap (said_by reads) (ap look same ∙ at)) ∙ chain.1)
@@ -180,7 +180,7 @@ module _ (width count : ℕ) (look : ℕ → Option (List ℕ)) (ls : List Leaf)
   one_whole zero b at low = head_whole b _ (sym (ap (said_by head_in) at) ∙ list.head)
   one_whole (suc n) b at low = by_chain (suc n) b at (each_stands all all_once all_within (suc n) (omega arith) (omega (arith, low, all_long))) _ refl
 
-whole_by : (bs : List (List ℕ)) → ((n : ℕ) (b : List ℕ) → slice_get bs n ≡ Some b → length b ≡ 1024) → list_all is_whole bs ≡ true
+pub whole_by : (bs : List (List ℕ)) → ((n : ℕ) (b : List ℕ) → slice_get bs n ≡ Some b → length b ≡ 1024) → list_all is_whole bs ≡ true
 whole_by [] each = refl
 whole_by (b ∷ bs) each =
     let long = each 0 b refl in

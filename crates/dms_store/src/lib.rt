@@ -7,6 +7,7 @@ mod bounds;
 mod entries;
 mod finding;
 mod getting;
+mod known;
 mod laws;
 mod linking;
 mod listed;

@@ -9,6 +9,7 @@ ghost use Rattle.dms_slots.specs.SlotBlocks.{block_of};
 ghost use Rattle.dms_store.specs.Lifted.{Serves};
 ghost use Rattle.dms_store.specs.Owning.{AreSlots, CountsOwner, IfOwned, Raises, is_owner};
 ghost use Rattle.dms_store.specs.PuttingCalls.{WritesAtMost};
+ghost use Rattle.dms_store.specs.Taken.{FreesNone};
 
 use dms_block::{BlockFault, Blocks, Overlay};
 use dms_desc::{Description, Structure};
@@ -75,6 +76,7 @@ pub fn count_owner<B: Blocks>(
     ensures writes { WritesAtMost 1 result over.old over.new }
     ensures below { IsTrue (under over.old).told → IfOwned set (AreSlots (as_described desc.now) (overlay_content over.old)) → HasCausesOr (λ f b. ⊥) result (under over.old) (under over.new) }
     ensures counted { IfOk result (CountsOwner (as_described desc.now) set owner over.old over.new) }
+    ensures taken { IfOk result (λ done. FreesNone (as_described desc.now) over.old over.new) }
 {
     if set == 0 {
         return Ok(true);

@@ -6,8 +6,10 @@ ghost use Rattle.dms_desc.specs.Shape.{as_described, shape_of};
 ghost use Rattle.dms_model.specs.Fitting.{IsStructure, SpotFits};
 ghost use Rattle.dms_sets.specs.Sets.{kinds_over};
 ghost use Rattle.dms_desc.specs.Files.{file_of};
-ghost use Rattle.dms_store.specs.Lifted.{IsUsable};
-ghost use Rattle.dms_store.specs.Listed.{BadPath, FindsFirst, FindsLast, most_reads};
+ghost use Rattle.dms_lists.specs.Forms.{form_of, look_reads};
+ghost use Rattle.dms_store.specs.Lifted.{IsUsable, db_under};
+ghost use Rattle.dms_store.specs.Listed.{BadPath, FindsFirst, FindsLast, IfIndexed, most_reads};
+ghost use Rattle.dms_tree.specs.Looks.{IfDigits, ReadsFew};
 ghost use Rattle.dms_desc.specs.Kinds.{is_set_or_automatic};
 
 use crate::entries::member_at;
@@ -46,7 +48,8 @@ fn first_listed<B: Blocks>(
     requires owner { owner < 2 ^ 32 }
     ensures found { FindsFirst (as_described desc.now) s.now.number owner from.now over.old result }
     ensures fits { IfOk result (λ o. IfSome o (SpotFits (as_described desc.now) s.now.number)) }
-    ensures reads { ReadsOverlay (2 + seen_counts over.old (file_of s.now.number)) result over.old over.new }
+    ensures few { IfIndexed (as_described desc.now) s.now.number (db_under (as_described desc.now) over.old) (λ xs. IfDigits xs (λ digits. ReadsFew (3 + digits) over.old over.new)) }
+    ensures reads { ReadsOverlay (1 + look_reads (form_of (shape_of s.now)) (seen_counts over.old (file_of s.now.number))) result over.old over.new }
     ensures causes { HasCausesOr (BadPath (as_described desc.now) s.now.number over.old) result (under over.old) (under over.new) }
 {
     let kinds = kinds_over(alloc, desc, s)?;
@@ -82,7 +85,7 @@ fn last_listed<B: Blocks>(
     requires owner { owner < 2 ^ 32 }
     ensures found { FindsLast (as_described desc.now) s.now.number owner to.now over.old result }
     ensures fits { IfOk result (λ o. IfSome o (SpotFits (as_described desc.now) s.now.number)) }
-    ensures reads { ReadsOverlay (2 + seen_counts over.old (file_of s.now.number)) result over.old over.new }
+    ensures reads { ReadsOverlay (1 + look_reads (form_of (shape_of s.now)) (seen_counts over.old (file_of s.now.number))) result over.old over.new }
     ensures causes { HasCausesOr (BadPath (as_described desc.now) s.now.number over.old) result (under over.old) (under over.new) }
 {
     let kinds = kinds_over(alloc, desc, s)?;
@@ -117,6 +120,7 @@ pub fn first_from<B: Blocks>(
     requires owner { owner < 2 ^ 32 }
     ensures found { FindsFirst (as_described desc.now) path owner from.now over.old result }
     ensures fits { IfOk result (λ o. IfSome o (SpotFits (as_described desc.now) path)) }
+    ensures few { IfIndexed (as_described desc.now) path (db_under (as_described desc.now) over.old) (λ xs. IfDigits xs (λ digits. ReadsFew (3 + digits) over.old over.new)) }
     ensures reads { ReadsOverlay (most_reads (as_described desc.now) path over.old) result over.old over.new }
     ensures causes { HasCausesOr (BadPath (as_described desc.now) path over.old) result (under over.old) (under over.new) }
 {

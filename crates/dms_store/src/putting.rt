@@ -9,12 +9,16 @@ ghost use Rattle.dms_layout.specs.Slots.{SlotFits};
 ghost use Rattle.dms_model.specs.Db.{Db};
 ghost use Rattle.dms_model.specs.Fitting.{IsDataSet, IsNumber, PutFits, RecordFits};
 ghost use Rattle.dms_model.specs.Valid.{is_data_set};
-ghost use Rattle.dms_store.specs.Addressed.{AnswersTold, FaultsBelow, FitsAt, IfFound, IfPlaced, IfSpelt, JudgesAt, LeavesEntered, LeavesSlots, LeavesStored, LeavesUncounted, MayWrite, desc_at, shape_at};
+ghost use Rattle.dms_store.specs.Addressed.{AnswersTold, FaultsBelow, FitsAt, IfFound, IfPlaced, IfSpelt, JudgesAt, LeavesEntered, LeavesSlots, LeavesStored, LeavesUncounted, MayWrite, NextTold, StandsSound, StoresAt, desc_at, shape_at};
 ghost use Rattle.dms_store.specs.Lifted.{IsUsable};
 ghost use Rattle.dms_store.specs.Putting.{Answers, FullStored};
 ghost use Rattle.dms_store.specs.PuttingCalls.{WritesAtMost, HandsDown};
 ghost use Rattle.dms_store.specs.PuttingLaws.{PutsFree, Replaces, db_put};
 ghost use Rattle.dms_store.specs.Spelled.{database_in};
+ghost use Rattle.dms_store.specs.PuttingEnters.{IfStored};
+ghost use Rattle.dms_store.specs.Taken.{AreTakenIn, IfStoredAs, TakenStay, TakesNext};
+ghost use Rattle.dms_slots.specs.Seen.{blocks_of};
+ghost use Rattle.dms_slots.specs.SlotBlocks.{AreTaken};
 
 use crate::address::Address;
 use crate::linking::slot_after;
@@ -24,7 +28,7 @@ use dms_desc::{Description, Record, Structure};
 use dms_layout::Slot;
 use dms_model::Put;
 use dms_sets::{SetAnswer, change};
-use dms_slots::{read_slot, take_least, write_slot};
+use dms_slots::{next_free, read_slot, write_slot};
 use std::alloc::Global;
 
 /// A law: where a content spells a database, and the lists of the sets over a disjoint data set and the slot of a
@@ -43,13 +47,15 @@ fn write_at<B: Blocks>(
     slot: &Slot,
 ) -> Result<Put, BlockFault>
     requires place { MayWrite at.now over.old }
+    requires sound { StandsSound at.now over.old }
     requires old { IfSome (option_copied old) (FitsAt at.now) }
     requires new { FitsAt at.now slot.now.rec }
     ensures fits { IfOk result (PutFits (desc_at at.now) at.now.set.now.number) }
-    ensures enters { WritesAtMost (9 * length at.now.desc.now.structures + 1) result over.old over.new }
+    ensures enters { WritesAtMost (44 * length at.now.desc.now.structures + 1) result over.old over.new }
     ensures below { IfPlaced at.now (option_copied old.entry) slot.now over.old (λ db o rec. FaultsBelow result over.old over.new) }
     ensures slots { IfOk result (λ p. IfPlaced at.now (option_copied old.entry) slot.now over.old (λ db o rec. LeavesSlots at.now over.new p)) }
     ensures entered { IfOk result (λ p. IfPlaced at.now (option_copied old.entry) slot.now over.old (LeavesUncounted at.now slot.now.rec over.new p)) }
+    ensures taken { IfOk result (StoresAt at.now over.old over.new) }
 {
     match change(
         over,
@@ -77,11 +83,13 @@ fn write_new<B: Blocks>(
     slot: &Slot,
 ) -> Result<Put, BlockFault>
     requires place { MayWrite at.now over.old }
+    requires sound { StandsSound at.now over.old }
     requires new { FitsAt at.now slot.now.rec }
     ensures fits { IfOk result (PutFits (desc_at at.now) at.now.set.now.number) }
-    ensures enters { WritesAtMost (9 * length at.now.desc.now.structures + 2) result over.old over.new }
+    ensures enters { WritesAtMost (44 * length at.now.desc.now.structures + 2) result over.old over.new }
     ensures below { IfPlaced at.now None slot.now over.old (λ db o rec. FaultsBelow result over.old over.new) }
     ensures entered { IfOk result (λ p. IfPlaced at.now None slot.now over.old (LeavesEntered at.now slot.now.rec over.new p)) }
+    ensures taken { IfOk result (StoresAt at.now over.old over.new) }
 {
     match write_at(over, alloc, at, None, slot) {
         Err(e) => Err(e),
@@ -106,12 +114,14 @@ fn store_at<B: Blocks>(
     rec: &Record,
 ) -> Result<Put, BlockFault>
     requires place { MayWrite at.now over.old }
+    requires sound { StandsSound at.now over.old }
     requires old { IfSome (option_copied old) (SlotFits (shape_at at.now)) }
     requires new { FitsAt at.now rec.now }
     ensures fits { IfOk result (PutFits (desc_at at.now) at.now.set.now.number) }
-    ensures enters { WritesAtMost (9 * length at.now.desc.now.structures + 2) result over.old over.new }
+    ensures enters { WritesAtMost (44 * length at.now.desc.now.structures + 2) result over.old over.new }
     ensures below { IfFound at.now (option_copied old.entry) over.old (λ db. FaultsBelow result over.old over.new) }
     ensures entered { IfOk result (λ p. IfFound at.now (option_copied old.entry) over.old (LeavesStored at.now (option_copied old.entry) rec.now over.new p)) }
+    ensures taken { IfOk result (StoresAt at.now over.old over.new) }
 {
     let slot = slot_after(alloc, at.set, old, rec)?;
     match old {
@@ -133,9 +143,10 @@ fn judge<B: Blocks>(
     requires above { at.now.number ≡ at.now.set.now.population + 1 }
     requires new { FitsAt at.now rec.now }
     ensures fits { IfOk result (PutFits (desc_at at.now) at.now.set.now.number) }
-    ensures enters { WritesAtMost (9 * length at.now.desc.now.structures + 2) result over.old over.new }
+    ensures enters { WritesAtMost (44 * length at.now.desc.now.structures + 2) result over.old over.new }
     ensures below { IfSpelt (desc_at at.now) over.old (λ db. FaultsBelow result over.old over.new) }
     ensures judged { IfOk result (λ p. IfSpelt (desc_at at.now) over.old (JudgesAt at.now rec.now p)) }
+    ensures unstored { IfOk result (λ p. IfStored p ⊥) }
 {
     let slot = slot_after(alloc, at.set, None, rec)?;
     match change(
@@ -160,17 +171,20 @@ fn put_new<B: Blocks>(
     desc: &Description,
     s: &Structure,
     rec: &Record,
+    taken: u64,
 ) -> Result<Put, BlockFault>
     requires usable { IsUsable (as_described desc.now) over.old }
     requires at { structure_of (as_described desc.now) s.now.number ≡ Some (shape_of s.now) }
     requires set { is_data_set (Some (shape_of s.now)) ≡ true }
     requires new { RecordFits (as_described desc.now) s.now.number rec.now }
+    requires known { IsTrue (under over.old).told → AreTaken (shape_of s.now) (blocks_of (shape_of s.now) over.old) taken }
     ensures fits { IfOk result (PutFits (as_described desc.now) s.now.number) }
-    ensures enters { WritesAtMost (9 * length desc.now.structures + 2) result over.old over.new }
+    ensures enters { WritesAtMost (44 * length desc.now.structures + 2) result over.old over.new }
     ensures below { IfSpelt (as_described desc.now) over.old (λ db. FaultsBelow result over.old over.new) }
     ensures answers { IfOk result (AnswersTold (as_described desc.now) over.old over.new s.now.number None rec.now) }
+    ensures taken { IfOk result (NextTold (as_described desc.now) s.now.number None over.old over.new) }
 {
-    match take_least(over, alloc, s) {
+    match next_free(over, alloc, s, taken) {
         Err(e) => Err(e),
         Ok(None) => {
             let number = u64::from(s.population) + 1;
@@ -213,9 +227,10 @@ fn put_old<B: Blocks>(
     requires most { at.now.number ≤ at.now.set.now.population }
     requires new { FitsAt at.now rec.now }
     ensures fits { IfOk result (PutFits (desc_at at.now) at.now.set.now.number) }
-    ensures enters { WritesAtMost (9 * length at.now.desc.now.structures + 2) result over.old over.new }
+    ensures enters { WritesAtMost (44 * length at.now.desc.now.structures + 2) result over.old over.new }
     ensures below { IfSpelt (desc_at at.now) over.old (λ db. FaultsBelow result over.old over.new) }
     ensures answers { IfOk result (AnswersTold (desc_at at.now) over.old over.new at.now.set.now.number (Some at.now.number) rec.now) }
+    ensures taken { IfOk result (StoresAt at.now over.old over.new) }
 {
     match read_slot(over, alloc, at.set, at.number) {
         Err(e) => Err(e),
@@ -232,20 +247,23 @@ fn enter<B: Blocks>(
     set: u16,
     number: Option<u64>,
     rec: &Record,
+    taken: u64,
 ) -> Result<Put, BlockFault>
     requires usable { IsUsable (as_described desc.now) over.old }
     requires set { IsDataSet (as_described desc.now) set }
     requires number { IfSome number (IsNumber (as_described desc.now) set) }
     requires fits { RecordFits (as_described desc.now) set rec.now }
+    requires known { IsTrue (under over.old).told → AreTakenIn (as_described desc.now) set (under over.old).content taken }
     ensures fits { IfOk result (PutFits (as_described desc.now) set) }
-    ensures enters { WritesAtMost (9 * length desc.now.structures + 2) result over.old over.new }
+    ensures enters { WritesAtMost (44 * length desc.now.structures + 2) result over.old over.new }
     ensures below { IfSpelt (as_described desc.now) over.old (λ db. FaultsBelow result over.old over.new) }
     ensures answers { IfOk result (AnswersTold (as_described desc.now) over.old over.new set number rec.now) }
+    ensures taken { IfOk result (NextTold (as_described desc.now) set number over.old over.new) }
 {
     match desc.structure(set) {
         None => Ok(Put::Full),
         Some(s) => match number {
-            None => put_new(over, alloc, desc, s, rec),
+            None => put_new(over, alloc, desc, s, rec, taken),
             Some(number) => put_old(
                 over,
                 alloc,
@@ -262,7 +280,8 @@ fn enter<B: Blocks>(
 
 /// Stores a new record of a data set under the least free number, with null links, which its owner counts from then on;
 /// or replaces all items but the links of the record with this number, which keeps its owner. What is written reaches the
-/// blocks in one call, and only where the record is stored.
+/// blocks in one call, and only where the record is stored. The first `taken` numbers of the data set are not free: the
+/// least free one is searched from there.
 pub fn put<B: Blocks>(
     over: &mut Overlay<B>,
     alloc: Global,
@@ -270,21 +289,25 @@ pub fn put<B: Blocks>(
     set: u16,
     number: Option<u64>,
     rec: &Record,
+    taken: u64,
 ) -> Result<Put, BlockFault>
     requires usable { IsUsable (as_described desc.now) over.old }
     requires set { IsDataSet (as_described desc.now) set }
     requires number { IfSome number (IsNumber (as_described desc.now) set) }
     requires fits { RecordFits (as_described desc.now) set rec.now }
+    requires known { IsTrue (under over.old).told → AreTakenIn (as_described desc.now) set (under over.old).content taken }
     ensures fits { IfOk result (PutFits (as_described desc.now) set) }
     ensures written { overlay_changes over.new ≡ [] }
-    ensures hands_down { HandsDown (9 * length desc.now.structures + 2) result over.old over.new }
+    ensures hands_down { HandsDown (44 * length desc.now.structures + 2) result over.old over.new }
     ensures below { IfSpelt (as_described desc.now) over.old (λ db. FaultsBelow result over.old over.new) }
     ensures full { IfFull result (λ f. f ≡ (B.pace over.old.below).last) }
     ensures stored { IsTrue (under over.old).told → FullStored (as_described desc.now) (under over.old).content set number rec.now result }
     ensures answers { IfOk result (λ p. IsTrue (under over.old).told
         → Answers (as_described desc.now) (under over.old).content (under over.new).content set number rec.now p) }
+    ensures next { IfOk result (λ p. IsTrue (under over.old).told → IfStoredAs p (TakesNext (as_described desc.now) set number (under over.old).content)) }
+    ensures taken { IfOk result (λ p. IsTrue (under over.old).told → TakenStay (as_described desc.now) (under over.old).content (under over.new).content) }
 {
-    match enter(over, alloc, desc, set, number, rec) {
+    match enter(over, alloc, desc, set, number, rec, taken) {
         Err(e) => {
             over.forget();
             Err(e)

@@ -1,20 +1,10 @@
-ghost use Rattle.std.specs.Prelude.{◌≡◌, ◌<◌, ◌+◌, ◌^◌, ◌++◌, [], ◌∷◌, Some, IfOk, IfSome, IfErr, OnOk, IsErrOf, IsOkUnless, ◌*◌, length, true};
-ghost use Rattle.dms_block.specs.Faults.{IfFull, Undamaged};
-ghost use Rattle.dms_block.specs.Held.{is_due};
-ghost use Rattle.dms_block.specs.Texts.{Prints};
+ghost use Rattle.std.specs.Prelude.{IsTrue};
+ghost use Rattle.std.proofs.Props.{props};
 ghost use Rattle.dms_desc.specs.Shape.{as_described};
-ghost use Rattle.dms_model.specs.Db.{Db};
-ghost use Rattle.dms_model.specs.Fitting.{IsDataSet, IsNumber, IsStructure, MayStart, PutFits, RecordFits, SpotFits};
-ghost use Rattle.dms_model.specs.Members.{first_member, last_member};
-ghost use Rattle.dms_model.specs.Points.{StoreLeaves};
-ghost use Rattle.dms_model.specs.Seen.{GoesBack, HasStoreCauses, IfPointsTold, IsMute, IsSilent, Keeps, KeepsPoints, QuietMade, PointsDurable, SaysPart, Syncs};
-ghost use Rattle.dms_store.specs.Lifted.{IsUsable, Serves};
-ghost use Rattle.dms_model.specs.Stores.{Tells};
-ghost use Rattle.dms_store.specs.Looked.{Looked};
-ghost use Rattle.dms_store.specs.PuttingStore.{ChangesAtMost, FullWhere, Stores};
-ghost use Rattle.dms_store.specs.Storing.{seen_by};
-ghost use Rattle.std.specs.FinMap.{get};
+ghost use Rattle.dms_store.specs.Taken.{AreKnown};
+ghost use Rattle.dms_store.specs.TakenLaws.{AreKnown-prop};
 
+use crate::known::Known;
 use crate::note::note;
 use crate::{getting, paths, putting};
 use dms_base::Memory;
@@ -30,9 +20,31 @@ pub struct BlockStore<B: Blocks> {
     pub over: Overlay<B>,
     /// How often it answered that a block is damaged. The count stands still at its type's end.
     pub found: u64,
+    /// Which record numbers are known to be taken.
+    pub known: Known,
+    pub ghost taken: { IsTrue (B.held over.below).told → AreKnown (as_described desc) known.counts (B.held over.below).content } by { Prim.hlevel (props, AreKnown-prop) },
+    pub ghost marked: { IsTrue (B.held over.below).told → AreKnown (as_described desc) known.marked (B.held over.below).mark } by { Prim.hlevel (props, AreKnown-prop) },
 }
 
 impl<B: Blocks> BlockStore<B> {
+    ghost use Rattle.std.specs.Prelude.{◌≡◌, ◌<◌, ◌+◌, ◌^◌, ◌++◌, [], ◌∷◌, Some, IfOk, IfSome, IfErr, OnOk, IsErrOf, IsOkUnless, ◌*◌, length, true};
+    ghost use Rattle.dms_block.specs.Faults.{IfFull, Undamaged};
+    ghost use Rattle.dms_block.specs.Held.{is_due};
+    ghost use Rattle.dms_block.specs.Texts.{Prints};
+    ghost use Rattle.dms_model.specs.Db.{Db};
+    ghost use Rattle.dms_model.specs.Fitting.{IsDataSet, IsNumber, IsStructure, MayStart, PutFits, RecordFits, SpotFits};
+    ghost use Rattle.dms_model.specs.Members.{first_member, last_member};
+    ghost use Rattle.dms_model.specs.Points.{StoreLeaves};
+    ghost use Rattle.dms_model.specs.Seen.{GoesBack, HasStoreCauses, IfPointsTold, IsMute, IsSilent, Keeps, KeepsPoints, QuietMade, PointsDurable, SaysPart, Syncs};
+    ghost use Rattle.dms_store.specs.Lifted.{IsUsable, Serves};
+    ghost use Rattle.dms_model.specs.Stores.{Tells};
+    ghost use Rattle.dms_store.specs.Looked.{Looked};
+    ghost use Rattle.dms_store.specs.PuttingStore.{ChangesAtMost, FullWhere, Stores};
+    ghost use Rattle.dms_store.specs.Storing.{seen_by};
+    ghost use Rattle.dms_store.specs.Listed.{IfIndexed};
+    ghost use Rattle.dms_tree.specs.Looks.{IfDigits, ReadsFew};
+    ghost use Rattle.std.specs.FinMap.{get};
+
     /// The database that blocks spell, under a copy of the description. Where memory is refused the blocks come back.
     pub fn new(alloc: Global, desc: &Description, below: B) -> Result<BlockStore<B>, (Memory, B)>
         ensures desc { IfOk result (λ s. as_described s.desc ≡ as_described desc.now) }
@@ -46,6 +58,7 @@ impl<B: Blocks> BlockStore<B> {
                 desc,
                 over: Overlay::new(alloc, below),
                 found: 0,
+                known: Known::nothing(),
             }),
             Err(e) => Err((e, below)),
         }
@@ -74,12 +87,14 @@ impl<B: Blocks> BlockStore<B> {
         ensures same { B.same_blocks self.old.over.below self.new.over.below }
     {
         let found = getting::get(&mut self.over, alloc, &self.desc, set, number);
+        self.known.keep(&found);
         note(&mut self.found, found)
     }
 
     /// The first member of a structure, for an owner (0 where it is disjoint), behind a bound. It is the database's where
     /// the owner is below 2^32 - 1 and the bound's key fits the structure's, with a member's number below 2^32 - 1. A
-    /// manual subset has no member yet.
+    /// manual subset has no member yet. Over an INDEX SEQUENTIAL set it reads at most three blocks more than so many
+    /// binary digits as are enough for the number of its entries.
     pub fn first_from(
         &mut self,
         alloc: Global,
@@ -93,10 +108,12 @@ impl<B: Blocks> BlockStore<B> {
         ensures desc { self.new.desc ≡ self.old.desc }
         ensures found { MayStart (as_described self.old.desc) path owner from.now → Tells (seen_by self.old).db result (λ d. first_member (as_described self.old.desc) d path owner from.now) }
         ensures fits { IfOk result (λ o. IfSome o (SpotFits (as_described self.old.desc) path)) }
+        ensures few { IfIndexed (as_described self.old.desc) path (seen_by self.old).db (λ xs. IfDigits xs (λ digits. ReadsFew (3 + digits) self.old.over self.new.over)) }
         ensures looked { Looked result (seen_by self.old) (seen_by self.new) }
         ensures same { B.same_blocks self.old.over.below self.new.over.below }
     {
         let found = paths::first_from(&mut self.over, alloc, &self.desc, path, owner, from);
+        self.known.keep(&found);
         note(&mut self.found, found)
     }
 
@@ -120,6 +137,7 @@ impl<B: Blocks> BlockStore<B> {
         ensures same { B.same_blocks self.old.over.below self.new.over.below }
     {
         let found = paths::last_to(&mut self.over, alloc, &self.desc, path, owner, to);
+        self.known.keep(&found);
         note(&mut self.found, found)
     }
 
@@ -143,7 +161,9 @@ impl<B: Blocks> BlockStore<B> {
         ensures no_point { let s = seen_by self.old in IfFull result (λ f. IfPointsTold s (StoreLeaves s.whole s.clock (seen_by self.new).clock s.durable s.points s.next s.said)) }
         ensures causes { HasStoreCauses result (seen_by self.old) (seen_by self.new) }
     {
-        note(&mut self.found, self.over.below.quiet())
+        let made = self.over.below.quiet();
+        self.known.mark(&made);
+        note(&mut self.found, made)
     }
 
     /// Makes all quiet points so far durable. Takes no memory. The audit may have no room only where a control point is due.
@@ -161,7 +181,9 @@ impl<B: Blocks> BlockStore<B> {
         ensures due { IfFull result (λ f. is_due (seen_by self.old).pace.every (seen_by self.old).effort.syncs ≡ true) }
         ensures causes { HasStoreCauses result (seen_by self.old) (seen_by self.new) }
     {
-        note(&mut self.found, self.over.below.sync())
+        let made = self.over.below.sync();
+        self.known.keep(&made);
+        note(&mut self.found, made)
     }
 
     /// Goes back to the last quiet point, or to the database that it began with.
@@ -179,7 +201,9 @@ impl<B: Blocks> BlockStore<B> {
         ensures full { IfFull result (λ f. f ≡ 9999) }
         ensures causes { HasStoreCauses result (seen_by self.old) (seen_by self.new) }
     {
-        note(&mut self.found, self.over.below.back_out(alloc))
+        let gone = self.over.below.back_out(alloc);
+        self.known.go_back(&gone);
+        note(&mut self.found, gone)
     }
 
     /// Prints. Takes no memory of its own. A failed call prints the first bytes or none.
@@ -194,7 +218,9 @@ impl<B: Blocks> BlockStore<B> {
         ensures effort { (seen_by self.new).effort ≡ (seen_by self.old).effort }
         ensures causes { HasStoreCauses result (seen_by self.old) (seen_by self.new) }
     {
-        note(&mut self.found, self.over.below.say(bytes))
+        let said = self.over.below.say(bytes);
+        self.known.keep(&said);
+        note(&mut self.found, said)
     }
 
     /// Stores a new record of a data set under the least free number, with null links, which its owner counts from then
@@ -219,7 +245,9 @@ impl<B: Blocks> BlockStore<B> {
         ensures changed { ChangesAtMost (64 * length (as_described self.old.desc).structures) result (seen_by self.old) (seen_by self.new) }
         ensures same { B.same_blocks self.old.over.below self.new.over.below }
     {
-        let stored = putting::put(&mut self.over, alloc, &self.desc, set, number, rec);
+        let taken = self.known.of(set);
+        let stored = putting::put(&mut self.over, alloc, &self.desc, set, number, rec, taken);
+        self.known.note_put(set, number, &stored);
         note(&mut self.found, stored)
     }
 }

@@ -9,13 +9,13 @@ use Rattle.dms_sets.proofs.one.change_one.Goals as goal
 
 pub returns-in_err-leave-clause-fails : goal.returns-in_err-leave-clause-fails
 returns-in_err-leave-clause-fails g c =
-    if_that _ _ _ c.from_residual.ensures.1 (g.met.L.Lists.fails_then _ (λ m. m == c.args.s.now.number) 2 1 _ _ _ (g.met.L.Lists.calm_none (λ m. m == c.args.s.now.number) 2 c.args.lists.now) c.in_err-leave.ensures.fails)
+    if_that _ _ _ c.from_residual.ensures.1 (g.met.L.Lists.fails_then _ (λ m. m == c.args.s.now.number) 1 1 _ _ _ (g.met.L.Lists.calm_none (λ m. m == c.args.s.now.number) 1 c.args.lists.now) c.in_err-leave.ensures.fails)
 
 pub returns-clause-calm : goal.returns-clause-calm
-returns-clause-calm g c = IfOk-weaker _ _ _ (λ x h. g.met.L.Lists.calm_then _ 1 2 _ _ _ c.in_ok-leave.ensures.calm h) c.enter.ensures.calm
+returns-clause-calm g c = IfOk-weaker _ _ _ (λ x h. g.met.L.Lists.calm_then _ 1 1 _ _ _ c.in_ok-leave.ensures.calm h) c.enter.ensures.calm
 
 pub returns-clause-fails : goal.returns-clause-fails
-returns-clause-fails g c = IfErr-weaker _ _ _ (λ e h. g.met.L.Lists.fails_then e _ 1 2 _ _ _ c.in_ok-leave.ensures.calm h) c.enter.ensures.fails
+returns-clause-fails g c = IfErr-weaker _ _ _ (λ e h. g.met.L.Lists.fails_then e _ 1 1 _ _ _ c.in_ok-leave.ensures.calm h) c.enter.ensures.fails
 
 pub returns-clause-below : goal.returns-clause-below
 returns-clause-below g c =

@@ -2,8 +2,9 @@ use Rattle.std.proofs.Common.{sym, ap, ◌∙◌, ◌++◌, ◌∷◌, [], Some,
 use Rattle.dms_desc.specs.Shape.{shape_of}
 use Rattle.dms_chain.specs.Lists.{first_from}
 use Rattle.dms_sets.specs.Prefixes.{starts}
-use Rattle.dms_sets.specs.Changes.{IsEntryWidth, IfListed}
-use Rattle.dms_sets.specs.ChangeLaws.{front_whole, bound_long, seen_none, seen_some}
+use Rattle.dms_lists.specs.Forms.{form_of}
+use Rattle.dms_sets.specs.Changes.{IsEntryWidth}
+use Rattle.dms_sets.specs.ChangeLaws.{front_whole, bound_long, listed_as, seen_none, seen_some}
 use Rattle.dms_sets.proofs.Faults.{if_that}
 use Rattle.dms_sets.proofs.one.is_taken.Goals as goal
 
@@ -17,14 +18,14 @@ returns-in_err-first_from-clause-below g c =
     let is = c.as_slice.ensures ∙ c.in_ok-bound.ensures ∙ ap (λ b. b ++ 0 ∷ 0 ∷ 0 ∷ 0 ∷ []) c.in_ok-front.ensures in
     let long = bound_long c.args.kinds.now (shape_of c.args.s.now) c.args.rec.now c.requires.fits in
     if_that _ _ _ c.from_residual-in_err-first_from.ensures.1
-    (subst (λ v. IfListed (g.L.Lists.listed c.args.lists.now c.args.s.now.number v) (λ xs. g.L.Lists.below c.in_err-first_from.field-0.0 c.args.lists.now c.first_from.new.self)) (ap length is ∙ long) c.in_err-first_from.ensures.below)
+    (listed_as (g.L.Lists.listed c.args.lists.now) c.args.s.now.number c.form_of.result (form_of (shape_of c.args.s.now)) _ _ (λ xs. g.L.Lists.below c.in_err-first_from.field-0.0 c.args.lists.now c.first_from.new.self) c.form_of.ensures (ap length is ∙ long) c.in_err-first_from.ensures.below)
 
 pub returns-in-None-clause-seen : goal.returns-in-None-clause-seen
 returns-in-None-clause-seen g c xs h =
     let is = c.as_slice.ensures ∙ c.in_ok-bound.ensures ∙ ap (λ b. b ++ 0 ∷ 0 ∷ 0 ∷ 0 ∷ []) c.in_ok-front.ensures in
     let long = bound_long c.args.kinds.now (shape_of c.args.s.now) c.args.rec.now c.requires.fits in
     seen_none c.args.kinds.now (shape_of c.args.s.now) c.args.rec.now xs c.requires.fits
-    (ap (λ b. first_from (Some b) xs) (sym is) ∙ sym (c.in_ok-first_from.ensures.found xs (ap (g.L.Lists.listed c.args.lists.now c.args.s.now.number) (ap length is ∙ long) ∙ h)) ∙ c.in-None.is)
+    (ap (λ b. first_from (Some b) xs) (sym is) ∙ sym (c.in_ok-first_from.ensures.found xs ((λ i. g.L.Lists.listed c.args.lists.now c.args.s.now.number (c.form_of.ensures i) ((ap length is ∙ long) i)) ∙ h)) ∙ c.in-None.is)
 
 pub returns-clause-seen : goal.returns-clause-seen
 returns-clause-seen g c xs h =
@@ -33,4 +34,4 @@ returns-clause-seen g c xs h =
     c.starts.ensures
     ∙ (λ i. starts ((c.as_slice-in-Some.ensures ∙ c.in_ok-front.ensures) i) (c.as_slice-in-Some-2.ensures i))
     ∙ seen_some c.args.kinds.now (shape_of c.args.s.now) c.args.rec.now xs _ c.requires.fits
-    (ap (λ b. first_from (Some b) xs) (sym is) ∙ sym (c.in_ok-first_from.ensures.found xs (ap (g.L.Lists.listed c.args.lists.now c.args.s.now.number) (ap length is ∙ long) ∙ h)) ∙ c.in-Some.is)
+    (ap (λ b. first_from (Some b) xs) (sym is) ∙ sym (c.in_ok-first_from.ensures.found xs ((λ i. g.L.Lists.listed c.args.lists.now c.args.s.now.number (c.form_of.ensures i) ((ap length is ∙ long) i)) ∙ h)) ∙ c.in-Some.is)

@@ -1,7 +1,8 @@
 use Rattle.std.proofs.Common.{sym, ap, ◌∙◌, length, subst}
 use Rattle.dms_desc.specs.Shape.{shape_of}
-use Rattle.dms_sets.specs.Changes.{IsEntryWidth, IfListed}
-use Rattle.dms_sets.specs.ChangeLaws.{entry_whole, entry_long, taken_only}
+use Rattle.dms_lists.specs.Forms.{form_of}
+use Rattle.dms_sets.specs.Changes.{IsEntryWidth}
+use Rattle.dms_sets.specs.ChangeLaws.{entry_whole, entry_long, listed_as, taken_only}
 use Rattle.dms_sets.proofs.Faults.{if_that}
 use Rattle.dms_sets.proofs.one.take_out.Goals as goal
 
@@ -13,11 +14,11 @@ remove-requires-clause-width g c =
 pub returns-in_ok-remove-clause-list : goal.returns-in_ok-remove-clause-list
 returns-in_ok-remove-clause-list g c =
     let is = sym c.in_ok-entry.ensures ∙ c.in-Some.is in
-    taken_only _ _ _ _ _ _ is (entry_long c.args.kinds.now (shape_of c.args.s.now) c.args.number c.args.rec.now _ c.requires.fits is) (rw (sym c.as_slice.ensures) c.in_ok-remove.ensures.list)
+    taken_only _ _ _ _ _ _ _ _ is c.form_of.ensures (entry_long c.args.kinds.now (shape_of c.args.s.now) c.args.number c.args.rec.now _ c.requires.fits is) (rw (sym c.as_slice.ensures) c.in_ok-remove.ensures.list)
 
 pub returns-in_err-remove-clause-below : goal.returns-in_err-remove-clause-below
 returns-in_err-remove-clause-below g c =
     let is = sym c.in_ok-entry.ensures ∙ c.in-Some.is in
     let long = entry_long c.args.kinds.now (shape_of c.args.s.now) c.args.number c.args.rec.now _ c.requires.fits is in
     if_that _ _ _ c.from_residual-in_err-remove.ensures.1
-    (subst (λ v. IfListed (g.L.Lists.listed c.args.lists.now c.args.s.now.number v) (λ xs. g.L.Lists.below c.in_err-remove.field-0.0 c.args.lists.now c.remove.new.self)) (ap length c.as_slice.ensures ∙ long) c.in_err-remove.ensures.below)
+    (listed_as (g.L.Lists.listed c.args.lists.now) c.args.s.now.number c.form_of.result (form_of (shape_of c.args.s.now)) _ _ (λ xs. g.L.Lists.below c.in_err-remove.field-0.0 c.args.lists.now c.remove.new.self) c.form_of.ensures (ap length c.as_slice.ensures ∙ long) c.in_err-remove.ensures.below)

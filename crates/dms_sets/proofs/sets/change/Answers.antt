@@ -9,7 +9,7 @@ use Rattle.dms_sets.specs.Sets.{entries_of, kinds_over}
 use Rattle.dms_sets.specs.Told.{Upto}
 use Rattle.dms_sets.specs.ToldLaws.{kinds_same, number_over, over_kept, upto_skip, upto_step, upto_end, upto_refused}
 use Rattle.dms_sets.proofs.Faults.{if_that}
-use Rattle.dms_sets.proofs.Turns.{shape_at, low_at, shapes_long, one_as, three_more, three_all}
+use Rattle.dms_sets.proofs.Turns.{shape_at, low_at, shapes_long, one_as, two_more, two_all}
 use Rattle.dms_sets.proofs.sets.change.Goals as goal
 use Rattle.dms_sets.proofs.sets.change.Goals.{then-is_over+in_ok-change_one+else-branch, else-is_over}
 
@@ -36,11 +36,11 @@ returns-in_err-change_one-clause-fails g c =
     let k = c.loop-s.s-index in
     let n = length c.args.desc.now.structures in
     let low = low_at c.as_slice-s-items.result.now c.args.desc.now.structures k c.as_slice-s-items.ensures c.loop-s-test.true in
-    let more : 3 * n - (3 * k + 3) + (3 * k + 3) ≡ 3 * n = omega (arith, low) in
+    let more : 2 * n - (2 * k + 2) + (2 * k + 2) ≡ 2 * n = omega (arith, low) in
     if_that _ _ _ c.from_residual-in_err-change_one.ensures.1
     (subst (λ m. g.L.Lists.fails c.in_err-change_one.field-0.0 m c.args.lists.now c.change_one.new.lists) more
-    (g.met.L.Lists.fails_then _ q (3 * n - (3 * k + 3)) (3 * k + 3) _ _ _ (g.met.L.Lists.calm_none q (3 * n - (3 * k + 3)) c.args.lists.now)
-    (g.met.L.Lists.fails_then _ q (3 * k) 3 _ _ _ c.loop-s.invariant.1 c.in_err-change_one.ensures.fails)))
+    (g.met.L.Lists.fails_then _ q (2 * n - (2 * k + 2)) (2 * k + 2) _ _ _ (g.met.L.Lists.calm_none q (2 * n - (2 * k + 2)) c.args.lists.now)
+    (g.met.L.Lists.fails_then _ q (2 * k) 2 _ _ _ c.loop-s.invariant.1 c.in_err-change_one.ensures.fails)))
 
 pub returns-in_err-change_one-clause-below : goal.returns-in_err-change_one-clause-below
 returns-in_err-change_one-clause-below g c =
@@ -54,7 +54,7 @@ returns-in_err-change_one-clause-below g c =
     subst (λ ks. IfListed (list_of_set (g.L.Lists.listed c.loop-s.lists) ks s) (λ xs. g.L.Lists.below c.in_err-change_one.field-0.0 c.loop-s.lists c.change_one.new.lists)) kinds c.in_err-change_one.ensures.below in
     if_that _ _ _ c.from_residual-in_err-change_one.ensures.1
     (λ db judged are.
-    g.met.L.Lists.below_then _ q (3 * c.loop-s.s-index) _ _ _ c.loop-s.invariant.1
+    g.met.L.Lists.below_then _ q (2 * c.loop-s.s-index) _ _ _ c.loop-s.invariant.1
     (below (entries_of desc db s) ((c.loop-s.invariant.2 db judged are).left c.loop-s.s-index s (omega arith) at (over_kept s c.args.set over))))
 
 pub returns-then-branch-clause-kept : goal.returns-then-branch-clause-kept
@@ -74,12 +74,12 @@ returns-then-branch-clause-calm g c =
     let k = c.loop-s.s-index in
     let n = length c.args.desc.now.structures in
     let low = low_at c.as_slice-s-items.result.now c.args.desc.now.structures k c.as_slice-s-items.ensures c.loop-s-test.true in
-    let more = three_all k n low in
+    let more = two_all k n low in
     let at = shape_at c.as_slice-s-items.result.now c.args.desc.now.structures k c.s-item.result c.as_slice-s-items.ensures c.loop-s-test.true c.s-item.is in
     let over : is_over (shape_of c.s-item.result) c.args.set ≡ true = sym c.is_over.ensures ∙ c.if-is_over.true in
-    let one = g.met.L.Lists.calm_wider (λ m. m == c.s-item.result.number) q 3 _ _ (λ m is. number_over (as_described c.args.desc.now).structures k (shape_of c.s-item.result) c.args.set m at over is) c.in_ok-change_one.ensures.calm in
+    let one = g.met.L.Lists.calm_wider (λ m. m == c.s-item.result.number) q 2 _ _ (λ m is. number_over (as_described c.args.desc.now).structures k (shape_of c.s-item.result) c.args.set m at over is) c.in_ok-change_one.ensures.calm in
     subst (λ m. g.L.Lists.calm q m c.args.lists.now c.change_one.new.lists) more
-    (g.met.L.Lists.calm_then q (3 * k + 3) (3 * n - (3 * k + 3)) _ _ _ (g.met.L.Lists.calm_then q (3 * k) 3 _ _ _ c.loop-s.invariant.1 one) (g.met.L.Lists.calm_none q (3 * n - (3 * k + 3)) _))
+    (g.met.L.Lists.calm_then q (2 * k + 2) (2 * n - (2 * k + 2)) _ _ _ (g.met.L.Lists.calm_then q (2 * k) 2 _ _ _ c.loop-s.invariant.1 one) (g.met.L.Lists.calm_none q (2 * n - (2 * k + 2)) _))
 
 pub loop-s-preserved : goal.loop-s-preserved
 loop-s-preserved g c =
@@ -94,10 +94,10 @@ loop-s-preserved g c =
       | then-is_over+in_ok-change_one+else-branch w ↦
           (let over : is_over s c.args.set ≡ true = sym c.is_over.ensures ∙ w.if-is_over.true in
           let kinds : w.as_slice.result.now ≡ kinds_over desc s = w.as_slice.ensures.value ∙ c.in_ok-kinds.ensures ∙ ap kinds_of c.items_of.ensures ∙ sym (kinds_same desc s c.args.set over) in
-          let one = g.met.L.Lists.calm_wider (λ m. m == c.s-item.result.number) q 3 _ _ (λ m is. number_over desc.structures k s c.args.set m at over is) w.in_ok-change_one.ensures.calm in (
+          let one = g.met.L.Lists.calm_wider (λ m. m == c.s-item.result.number) q 2 _ _ (λ m is. number_over desc.structures k s c.args.set m at over is) w.in_ok-change_one.ensures.calm in (
             λ n u. subst (λ z. g.L.Lists.usable z n) (sym w.lists-is) (w.in_ok-change_one.ensures.usable n (c.loop-s.invariant.0 n u)),
-            subst (λ z. g.L.Lists.calm q (3 * (k + 1)) c.args.lists.now z) (sym w.lists-is)
-                (subst (λ m. g.L.Lists.calm q m c.args.lists.now w.change_one.new.lists) (three_more k) (g.met.L.Lists.calm_then q (3 * k) 3 _ _ _ c.loop-s.invariant.1 one)),
+            subst (λ z. g.L.Lists.calm q (2 * (k + 1)) c.args.lists.now z) (sym w.lists-is)
+                (subst (λ m. g.L.Lists.calm q m c.args.lists.now w.change_one.new.lists) (two_more k) (g.met.L.Lists.calm_then q (2 * k) 2 _ _ _ c.loop-s.invariant.1 one)),
             λ db judged are.
                 subst (λ z. Upto desc db c.args.set c.args.number old new (k + 1) (g.L.Lists.listed z)) (sym w.lists-is)
                 (upto_step desc db c.args.set c.args.number old new judged k s (g.L.Lists.listed c.loop-s.lists) (g.L.Lists.listed w.change_one.new.lists) at over
@@ -107,8 +107,8 @@ loop-s-preserved g c =
       | else-is_over w ↦
           (let off : is_over s c.args.set ≡ false = sym c.is_over.ensures ∙ w.if-is_over.false in (
             λ n u. subst (λ z. g.L.Lists.usable z n) (sym w.lists-is) (c.loop-s.invariant.0 n u),
-            subst (λ z. g.L.Lists.calm q (3 * (k + 1)) c.args.lists.now z) (sym w.lists-is)
-                (subst (λ m. g.L.Lists.calm q m c.args.lists.now c.loop-s.lists) (three_more k) (g.met.L.Lists.calm_then q (3 * k) 3 _ _ _ c.loop-s.invariant.1 (g.met.L.Lists.calm_none q 3 _))),
+            subst (λ z. g.L.Lists.calm q (2 * (k + 1)) c.args.lists.now z) (sym w.lists-is)
+                (subst (λ m. g.L.Lists.calm q m c.args.lists.now c.loop-s.lists) (two_more k) (g.met.L.Lists.calm_then q (2 * k) 2 _ _ _ c.loop-s.invariant.1 (g.met.L.Lists.calm_none q 2 _))),
             λ db judged are.
                 subst (λ z. Upto desc db c.args.set c.args.number old new (k + 1) (g.L.Lists.listed z)) (sym w.lists-is)
                 (upto_skip desc db c.args.set c.args.number old new judged k s (g.L.Lists.listed c.loop-s.lists) at off (c.loop-s.invariant.2 db judged are)),

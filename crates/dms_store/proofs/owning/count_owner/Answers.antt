@@ -8,10 +8,11 @@ use Rattle.dms_desc.specs.Shape.{as_described, shape_of}
 use Rattle.dms_desc.specs.declared.structure.Structure.{Structure}
 use Rattle.dms_slots.specs.Seen.{BadAt}
 use Rattle.dms_slots.specs.SlotBlocks.{block_of}
-use Rattle.dms_store.specs.Finding.{served_at}
+use Rattle.dms_store.specs.Finding.{number_at, served_at}
 use Rattle.dms_store.specs.Owning.{counts, counts_none, file_served, is_one, none_bad_slot, owner_low, owner_most, owner_set, some_owner}
 use Rattle.dms_store.specs.PuttingCalls.{enters_none}
 use Rattle.dms_store.specs.PuttingSlots.{StandsFiles}
+use Rattle.dms_store.specs.TakenLaws.{raised_stays, same_stays}
 use Rattle.dms_store.proofs.owning.count_owner.Goals as goal
 
 pub returns-in-None-clause-counted : goal.returns-in-None-clause-counted
@@ -85,3 +86,23 @@ returns-else-not-is_owner-clause-counted g c =
     let s = shape_of c.in-Some.s.now in
     let at : structure_of desc c.args.set ≡ Some s = sym c.structure.ensures ∙ ap (λ (o : Option (Bor Structure)). option_map shape_of (option_copied o)) c.in-Some.is in
     counts desc c.requires.serves.served db own (overlay_content c.args.over.now) files c.args.set c.args.owner c.if-set-eq0.false (may c.if-set-eq0.false) s done (overlay_content c.raise.new.over) at (h told)) c.raise.ensures.raised
+
+pub returns-in-None-clause-taken : goal.returns-in-None-clause-taken
+returns-in-None-clause-taken g c told = same_stays (as_described c.args.desc.now) (overlay_content c.args.over.now) (overlay_content c.args.over.now) refl
+
+pub returns-then-not-is_owner-clause-taken : goal.returns-then-not-is_owner-clause-taken
+returns-then-not-is_owner-clause-taken g c told = same_stays (as_described c.args.desc.now) (overlay_content c.args.over.now) (overlay_content c.args.over.now) refl
+
+pub returns-then-set-eq0-clause-taken : goal.returns-then-set-eq0-clause-taken
+returns-then-set-eq0-clause-taken g c told = same_stays (as_described c.args.desc.now) (overlay_content c.args.over.now) (overlay_content c.args.over.now) refl
+
+pub returns-else-not-is_owner-clause-taken : goal.returns-else-not-is_owner-clause-taken
+returns-else-not-is_owner-clause-taken g c =
+    IfOk-weaker c.raise.result _ _ (λ done h told.
+    let desc = as_described c.args.desc.now in
+    let s = shape_of c.in-Some.s.now in
+    let served = c.requires.serves.served in
+    let at : structure_of desc c.args.set ≡ Some s = sym c.structure.ensures ∙ ap (λ (o : Option (Bor Structure)). option_map shape_of (option_copied o)) c.in-Some.is in
+    let here : structure_of desc s.number ≡ Some s = ap (structure_of desc) (number_at desc c.args.set s served at) ∙ at in
+    let low = owner_low s c.args.owner (sym c.is_owner.ensures ∙ c.if-not-is_owner.false) in
+    raised_stays desc s c.args.owner done (overlay_content c.args.over.now) (overlay_content c.raise.new.over) served here low (h told)) c.raise.ensures.raised

@@ -1,4 +1,4 @@
-use Rattle.std.proofs.Common.{◌∙◌, ℕ, IfOk, IfSome, refl, subst, sym}
+use Rattle.std.proofs.Common.{◌∙◌, ◌+◌, ◌≤◌, arith, ℕ, IfOk, IfSome, refl, subst, sym}
 use Rattle.dms_block.specs.Held.{HasCausesOr}
 use Rattle.dms_block.specs.HeldLaws.{causes_or_on, lasts_none, same_none}
 use Rattle.dms_block.specs.View.{ReadsOverlay, under}
@@ -6,10 +6,11 @@ use Rattle.dms_desc.specs.Shape.{as_described}
 use Rattle.dms_model.specs.Fitting.{MayStart, SpotFits}
 use Rattle.dms_model.specs.Members.{first_member}
 use Rattle.dms_model.specs.Stores.{Tells}
+use Rattle.dms_tree.specs.Looks.{IfDigits, ReadsFew}
 use Rattle.dms_store.specs.Finding.{BadSlot}
 use Rattle.dms_store.specs.Lifted.{db_of}
-use Rattle.dms_store.specs.Listed.{BadPath}
-use Rattle.dms_store.proofs.ByKind.{first_manual, found_shape, kept_here, kept_reads, number_is, set_here, set_reads, slots_path, there_is}
+use Rattle.dms_store.specs.Listed.{BadPath, IfIndexed}
+use Rattle.dms_store.proofs.ByKind.{first_manual, found_shape, kept_here, kept_reads, number_is, set_few, set_here, set_reads, slots_path, there_is}
 use Rattle.dms_store.proofs.paths.first_from.Goals as goal
 
 pub first_record-requires-clause-path : goal.first_record-requires-clause-path
@@ -61,3 +62,19 @@ pub returns-else-is_manual-clause-causes : goal.returns-else-is_manual-clause-ca
 returns-else-is_manual-clause-causes g c =
     let o = c.args.over.now in
     subst (λ (n : ℕ). HasCausesOr (BadPath (as_described c.args.desc.now) n o) c.first_listed.result (under o) (under c.first_listed.new.over)) (number_is c.args.path c.requires.usable.serves.served (found_shape c.structure.ensures c.in-Some.is)) c.first_listed.ensures.causes
+
+pub returns-in-None-clause-few : goal.returns-in-None-clause-few
+returns-in-None-clause-few g c s d there kept tree told digits low = omega arith
+
+pub returns-then-is_data_set-clause-few : goal.returns-then-is_data_set-clause-few
+returns-then-is_data_set-clause-few g c =
+    set_few c.args.path c.requires.usable.serves.served (found_shape c.structure.ensures c.in-Some.is) (sym c.is_data_set.ensures ∙ c.if-is_data_set.true) _ (λ xs. IfDigits xs (λ digits. ReadsFew (3 + digits) c.args.over.now c.first_record.new.over))
+
+pub returns-then-is_manual-clause-few : goal.returns-then-is_manual-clause-few
+returns-then-is_manual-clause-few g c s d there kept tree told digits low = omega arith
+
+pub returns-else-is_manual-clause-few : goal.returns-else-is_manual-clause-few
+returns-else-is_manual-clause-few g c =
+    let o = c.args.over.now in
+    subst (λ (n : ℕ). IfIndexed (as_described c.args.desc.now) n (db_of (as_described c.args.desc.now) (under o).told (under o).content) (λ xs. IfDigits xs (λ digits. ReadsFew (3 + digits) o c.first_listed.new.over)))
+    (number_is c.args.path c.requires.usable.serves.served (found_shape c.structure.ensures c.in-Some.is)) c.first_listed.ensures.few

@@ -6,7 +6,7 @@ use Rattle.dms_desc.specs.Shape.{as_described, shape_of}
 use Rattle.dms_model.specs.declared.spot.Spot.{Spot}
 use Rattle.dms_model.specs.Stores.{Tells}
 use Rattle.dms_chain.specs.Lists.{first_from}
-use Rattle.dms_chain.specs.Seen.{IfList, NoList}
+use Rattle.dms_lists.specs.Forms.{IfKept, NoKept, form_of, look_reads}
 use Rattle.dms_chain.specs.SeenLaws.{causes_err}
 use Rattle.dms_sets.specs.Finds.{spot_by}
 use Rattle.dms_sets.specs.Padded.{entry_width, from_bytes}
@@ -15,7 +15,7 @@ use Rattle.dms_desc.specs.Files.{file_of}
 use Rattle.dms_store.specs.Lifted.{db_of}
 use Rattle.dms_store.specs.LiftedLaws.{db_same}
 use Rattle.dms_store.specs.Listed.{BadPath, MayLook}
-use Rattle.dms_store.proofs.Members.{fault_path, first_path, list_path, tells_none}
+use Rattle.dms_store.proofs.Members.{fault_path, few_path, first_path, list_path, tells_none}
 use Rattle.dms_store.proofs.paths.first_listed.Goals as goal
 
 pub returns-in-Err-clause-causes : goal.returns-in-Err-clause-causes
@@ -25,7 +25,7 @@ returns-in-Err-clause-causes g c =
     let s = shape_of c.args.s.now in
     let ks = c.as_slice.result.now in
     let is : ks ≡ kinds_over desc s = c.as_slice.ensures.value ∙ c.in_ok-kinds.ensures in
-    causes_err (Option Bytes) (Option Spot) (NoList o (file_of s.number) (entry_width ks s.parts)) (BadPath desc s.number o) c.in-Err.e (under o) (under c.first_entry.new.over)
+    causes_err (Option Bytes) (Option Spot) (NoKept (form_of s) o (file_of s.number) (entry_width ks s.parts)) (BadPath desc s.number o) c.in-Err.e (under o) (under c.first_entry.new.over)
     (λ f n h. list_path desc s c.requires.usable.serves.served c.requires.there c.requires.kept o c.requires.usable ks is f n h) c.in-Err.ensures.causes
 
 pub returns-in-Ok-None-clause-found : goal.returns-in-Ok-None-clause-found
@@ -50,7 +50,7 @@ returns-clause-found g c may =
     let reads = c.in-Ok-Some.ensures.reads in
     let same = db_same desc (under o).told (under o').told (under o).content (under o').content reads.looks.passes.lasts.told reads.looks.same.content in
     first_path desc s c.requires.usable.serves.served c.requires.there c.requires.kept o c.requires.usable ks is c.args.owner c.args.from.now may (Some q) c.member_at.result
-    (subst (λ (p : List ℕ). MayLook ks s.parts c.args.from.now → IfList o (file_of s.number) (entry_width ks s.parts) (λ xs. Some p ≡ first_from (from_bytes ks s.parts c.args.owner c.args.from.now) xs))
+    (subst (λ (p : List ℕ). MayLook ks s.parts c.args.from.now → IfKept (form_of s) o (file_of s.number) (entry_width ks s.parts) (λ xs. Some p ≡ first_from (from_bytes ks s.parts c.args.owner c.args.from.now) xs))
     (sym c.as_slice-in-Ok-Some-2.ensures) (rw c.in-Ok-Some.field-0-is at c.in-Ok-Some.ensures.found))
     (subst (λ d. Tells d c.member_at.result (λ e. spot_by s e c.args.owner (Some q))) same c.member_at.ensures.found)
 
@@ -63,6 +63,18 @@ returns-clause-causes g c =
 
 pub returns-clause-reads : goal.returns-clause-reads
 returns-clause-reads g c =
-    let k = seen_counts c.args.over.now (file_of c.args.s.now.number) in
-    let le : (1 + k) + 1 ≤ 2 + k = omega arith in
-    reads_more (2 + k) le (reads_on c.member_at.result g.met.B.Blocks.same_then c.in-Ok-Some.ensures.reads c.member_at.ensures.reads)
+    let k = look_reads (form_of (shape_of c.args.s.now)) (seen_counts c.args.over.now (file_of c.args.s.now.number)) in
+    let le : k + 1 ≤ 1 + k = omega arith in
+    reads_more (1 + k) le (reads_on c.member_at.result g.met.B.Blocks.same_then c.in-Ok-Some.ensures.reads c.member_at.ensures.reads)
+
+pub returns-in-Err-clause-few : goal.returns-in-Err-clause-few
+returns-in-Err-clause-few g c = few_path (as_described c.args.desc.now) (shape_of c.args.s.now) c.requires.usable.serves.served c.requires.there c.requires.kept c.args.over.now c.requires.usable c.as_slice.result.now (c.as_slice.ensures.value ∙ c.in_ok-kinds.ensures) c.first_entry.new.over c.first_entry.new.over c.in-Err.ensures.few (omega arith)
+
+pub returns-in-Ok-None-clause-few : goal.returns-in-Ok-None-clause-few
+returns-in-Ok-None-clause-few g c = few_path (as_described c.args.desc.now) (shape_of c.args.s.now) c.requires.usable.serves.served c.requires.there c.requires.kept c.args.over.now c.requires.usable c.as_slice.result.now (c.as_slice.ensures.value ∙ c.in_ok-kinds.ensures) c.first_entry.new.over c.first_entry.new.over c.in-Ok-None.ensures.few (omega arith)
+
+pub returns-clause-few : goal.returns-clause-few
+returns-clause-few g c = few_path (as_described c.args.desc.now) (shape_of c.args.s.now) c.requires.usable.serves.served c.requires.there c.requires.kept c.args.over.now c.requires.usable c.as_slice.result.now (c.as_slice.ensures.value ∙ c.in_ok-kinds.ensures) c.first_entry.new.over c.member_at.new.over c.in-Ok-Some.ensures.few c.member_at.ensures.reads.looks.uses.reads
+
+pub returns-in_err-kinds-clause-few : goal.returns-in_err-kinds-clause-few
+returns-in_err-kinds-clause-few g c t d there kept tree told digits low = omega arith

@@ -6,7 +6,7 @@ use Rattle.dms_desc.specs.Shape.{as_described, shape_of}
 use Rattle.dms_model.specs.declared.spot.Spot.{Spot}
 use Rattle.dms_model.specs.Stores.{Tells}
 use Rattle.dms_chain.specs.Lists.{last_to}
-use Rattle.dms_chain.specs.Seen.{IfList, NoList}
+use Rattle.dms_lists.specs.Forms.{IfKept, NoKept, form_of, look_reads}
 use Rattle.dms_chain.specs.SeenLaws.{causes_err}
 use Rattle.dms_sets.specs.Finds.{spot_by}
 use Rattle.dms_sets.specs.Padded.{entry_width, to_bytes}
@@ -25,7 +25,7 @@ returns-in-Err-clause-causes g c =
     let s = shape_of c.args.s.now in
     let ks = c.as_slice.result.now in
     let is : ks ≡ kinds_over desc s = c.as_slice.ensures.value ∙ c.in_ok-kinds.ensures in
-    causes_err (Option Bytes) (Option Spot) (NoList o (file_of s.number) (entry_width ks s.parts)) (BadPath desc s.number o) c.in-Err.e (under o) (under c.last_entry.new.over)
+    causes_err (Option Bytes) (Option Spot) (NoKept (form_of s) o (file_of s.number) (entry_width ks s.parts)) (BadPath desc s.number o) c.in-Err.e (under o) (under c.last_entry.new.over)
     (λ f n h. list_path desc s c.requires.usable.serves.served c.requires.there c.requires.kept o c.requires.usable ks is f n h) c.in-Err.ensures.causes
 
 pub returns-in-Ok-None-clause-found : goal.returns-in-Ok-None-clause-found
@@ -50,7 +50,7 @@ returns-clause-found g c may =
     let reads = c.in-Ok-Some.ensures.reads in
     let same = db_same desc (under o).told (under o').told (under o).content (under o').content reads.looks.passes.lasts.told reads.looks.same.content in
     last_path desc s c.requires.usable.serves.served c.requires.there c.requires.kept o c.requires.usable ks is c.args.owner c.args.to.now may (Some q) c.member_at.result
-    (subst (λ (p : List ℕ). MayLook ks s.parts c.args.to.now → IfList o (file_of s.number) (entry_width ks s.parts) (λ xs. Some p ≡ last_to (to_bytes ks s.parts c.args.owner c.args.to.now) xs))
+    (subst (λ (p : List ℕ). MayLook ks s.parts c.args.to.now → IfKept (form_of s) o (file_of s.number) (entry_width ks s.parts) (λ xs. Some p ≡ last_to (to_bytes ks s.parts c.args.owner c.args.to.now) xs))
     (sym c.as_slice-in-Ok-Some-2.ensures) (rw c.in-Ok-Some.field-0-is at c.in-Ok-Some.ensures.found))
     (subst (λ d. Tells d c.member_at.result (λ e. spot_by s e c.args.owner (Some q))) same c.member_at.ensures.found)
 
@@ -63,6 +63,6 @@ returns-clause-causes g c =
 
 pub returns-clause-reads : goal.returns-clause-reads
 returns-clause-reads g c =
-    let k = seen_counts c.args.over.now (file_of c.args.s.now.number) in
-    let le : (1 + k) + 1 ≤ 2 + k = omega arith in
-    reads_more (2 + k) le (reads_on c.member_at.result g.met.B.Blocks.same_then c.in-Ok-Some.ensures.reads c.member_at.ensures.reads)
+    let k = look_reads (form_of (shape_of c.args.s.now)) (seen_counts c.args.over.now (file_of c.args.s.now.number)) in
+    let le : k + 1 ≤ 1 + k = omega arith in
+    reads_more (1 + k) le (reads_on c.member_at.result g.met.B.Blocks.same_then c.in-Ok-Some.ensures.reads c.member_at.ensures.reads)

@@ -1,8 +1,9 @@
-use Rattle.std.proofs.Common.{◌∙◌, ◌<◌, ◌^◌, IfSome, Option, Some, ap, subst, sym, arith}
+use Rattle.std.proofs.Common.{◌≡◌, ◌∙◌, ◌<◌, IsTrue, ◌^◌, IfSome, Option, Some, ap, subst, sym, arith}
 use Rattle.std.proofs.lemmas.Result.{IfOk-weaker}
 use Rattle.dms_block.specs.Content.{Content}
 use Rattle.dms_block.specs.HeldLaws.{causes_or_on}
 use Rattle.dms_block.specs.View.{overlay_content, under}
+use Rattle.dms_block.specs.ViewLaws.{seen_still}
 use Rattle.dms_desc.specs.Shape.{as_described, shape_of}
 use Rattle.dms_layout.specs.Slots.{SlotFits}
 use Rattle.dms_layout.specs.declared.slot.Slot.{Slot}
@@ -15,6 +16,8 @@ use Rattle.dms_store.specs.Finding.{seen_below}
 use Rattle.dms_store.specs.PuttingCalls.{enters_on}
 use Rattle.dms_store.specs.PuttingJudged.{gone_answers, old_answers, owner_old}
 use Rattle.dms_store.specs.PuttingPlaced.{few_numbers, found_on, none_bad}
+use Rattle.dms_store.specs.Taken.{TakenStay}
+use Rattle.dms_store.specs.TakenLaws.{same_stays, stored_weaker, then_stays, told_before, used_good}
 use Rattle.dms_store.proofs.putting.put_old.Goals as goal
 
 pub returns-in-Err-clause-below : goal.returns-in-Err-clause-below
@@ -61,3 +64,25 @@ returns-in-Ok-Some-clause-answers g c =
     let found = found_on desc a b c.requires.usable db told spelt reads s c.args.at.now.number (Some c.in-Ok-Some.old) was in
     old_answers desc c.requires.usable.serves.served db (under a).content (overlay_content c.store_at.new.over) s.number s c.args.rec.now spelt c.requires.at c.requires.set c.requires.new c.args.at.now.number c.in-Ok-Some.old p c.requires.low small was fits
     (h db found (owner_old db s c.in-Ok-Some.old c.args.rec.now))) c.store_at.ensures.entered
+
+pub store_at-requires-clause-sound : goal.store_at-requires-clause-sound
+store_at-requires-clause-sound g c told_b =
+    let s = shape_of c.args.at.now.set.now in
+    let reads = c.in-Ok-Some.ensures.reads in
+    let told : IsTrue (under c.args.over.now).told = told_before reads.looks.passes.lasts told_b in
+    let was = c.in-Ok-Some.ensures.slot told ∙ ap slot_opt c.in-Ok-Some.field-0-is in
+    λ bad. used_good c.in-Ok-Some.old (sym was ∙ ap (λ (x : Content). slot_at s (x (file_of s.number)) c.args.at.now.number) (sym (seen_still reads told)) ∙ bad)
+
+pub returns-in-Ok-Some-clause-taken : goal.returns-in-Ok-Some-clause-taken
+returns-in-Ok-Some-clause-taken g c =
+    IfOk-weaker c.store_at.result _ _ (λ p h told.
+    let desc = as_described c.args.at.now.desc.now in
+    let a = c.args.over.now in
+    let b = c.read_slot.new.b in
+    let z = c.store_at.new.over in
+    let reads = c.in-Ok-Some.ensures.reads in
+    let told_b : IsTrue (under b).told = reads.looks.passes.lasts.told ∙ told in
+    let n = c.args.at.now.number in
+    stored_weaker p (λ k. (k ≡ n) × TakenStay desc (overlay_content b) (overlay_content z)) (λ k. (k ≡ n) × TakenStay desc (overlay_content a) (overlay_content z))
+    (λ k both. (both.0, then_stays desc (overlay_content a) (overlay_content b) (overlay_content z) (same_stays desc (overlay_content a) (overlay_content b) (seen_still reads told)) both.1))
+    (h told_b)) c.store_at.ensures.taken

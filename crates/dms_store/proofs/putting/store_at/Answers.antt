@@ -59,7 +59,7 @@ returns-in-None-clause-entered g c =
 
 pub returns-clause-enters : goal.returns-clause-enters
 returns-clause-enters g c =
-    let n = 9 * length c.args.at.now.desc.now.structures in
+    let n = 44 * length c.args.at.now.desc.now.structures in
     enters_more (n + 1) (n + 2) c.write_at.result c.args.over.now c.write_at.new.over (omega arith) c.write_at.ensures.enters
 
 pub returns-clause-entered : goal.returns-clause-entered

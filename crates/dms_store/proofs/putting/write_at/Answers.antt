@@ -1,8 +1,10 @@
-use Rattle.std.proofs.Common.{◌∙◌, ◌+◌, ◌*◌, IsTrue, Some, subst, length, arith}
+use Rattle.std.proofs.Common.{◌∙◌, ◌+◌, ◌*◌, ◌≤◌, IsTrue, Some, refl, subst, length, arith}
 use Rattle.std.specs.Option.{option_copied}
 use Rattle.std.specs.declared.result.Result.TheVariants.{Ok, Err}
 use Rattle.dms_block.specs.HeldLaws.{causes_or_on}
-use Rattle.dms_block.specs.View.{under}
+use Rattle.dms_block.specs.View.{overlay_content, under}
+use Rattle.dms_block.specs.ViewLaws.{counts_seen}
+use Rattle.dms_desc.specs.Files.{file_of}
 use Rattle.dms_desc.specs.Shape.{as_described, shape_of}
 use Rattle.dms_sets.specs.Changes.{has_number}
 use Rattle.dms_sets.specs.Keeping.{seen_list}
@@ -13,6 +15,7 @@ use Rattle.dms_store.specs.Finding.{served_at}
 use Rattle.dms_store.specs.PuttingCalls.{enters_as, enters_err, enters_write}
 use Rattle.dms_store.specs.PuttingEnters.{lists_usable, may_enter, set_off}
 use Rattle.dms_store.specs.PuttingPlaced.{few_numbers, listed_at, not_bad, number_fits, refused_at, slots_at, stands_at, uncounted_at, values_all}
+use Rattle.dms_store.specs.TakenLaws.{calm_may, calm_stays, put_stays, then_stays}
 use Rattle.dms_store.proofs.putting.write_at.Goals as goal
 
 pub change-requires-clause-usable : goal.change-requires-clause-usable
@@ -66,9 +69,9 @@ pub returns-in-Err-write_slot-clause-enters : goal.returns-in-Err-write_slot-cla
 returns-in-Err-write_slot-clause-enters g c =
     let desc = as_described c.args.at.now.desc.now in
     let s = shape_of c.args.at.now.set.now in
-    let n = 3 * length c.args.at.now.desc.now.structures in
-    enters_err {T = Unit {0}} (9 * length c.args.at.now.desc.now.structures + 1) c.in-Err-write_slot.e c.args.over.now c.write_slot.new.b
-    (enters_write (has_number desc.structures s.number) n (9 * length c.args.at.now.desc.now.structures + 1) 1 (BadAt s (block_of s.items c.args.at.now.number) c.change.new.lists) (Err c.in-Err-write_slot.e) c.args.over.now c.change.new.lists c.write_slot.new.b
+    let n = 2 * length c.args.at.now.desc.now.structures in
+    enters_err {T = Unit {0}} (44 * length c.args.at.now.desc.now.structures + 1) c.in-Err-write_slot.e c.args.over.now c.write_slot.new.b
+    (enters_write (has_number desc.structures s.number) n (44 * length c.args.at.now.desc.now.structures + 1) 1 (BadAt s (block_of s.items c.args.at.now.number) c.change.new.lists) (Err c.in-Err-write_slot.e) c.args.over.now c.change.new.lists c.write_slot.new.b
     g.met.B.Blocks.same_then c.requires.place.usable.sound (omega arith) c.in-Ok-Done.ensures.calm c.in-Err-write_slot.ensures.writes c.in-Err-write_slot.ensures.causes)
 
 pub returns-in-Err-write_slot-clause-below : goal.returns-in-Err-write_slot-clause-below
@@ -76,7 +79,7 @@ returns-in-Err-write_slot-clause-below g c db o rec p =
     let desc = as_described c.args.at.now.desc.now in
     let s = shape_of c.args.at.now.set.now in
     let agrees = g.met.B.Blocks.agrees c.args.over.now.below c.requires.place.usable.sound in
-    let n = 3 * length c.args.at.now.desc.now.structures in
+    let n = 2 * length c.args.at.now.desc.now.structures in
     let first = c.in-Ok-Done.ensures.calm.looks c.requires.place.usable.sound in
     causes_or_on {T = Unit {0}} (BadAt s (block_of s.items c.args.at.now.number) c.change.new.lists) (λ f k. ⊥) (Err c.in-Err-write_slot.e) (under c.args.over.now) (under c.change.new.lists) (under c.write_slot.new.b)
     (λ f k bad. not_bad desc c.args.over.now c.requires.place.usable agrees s c.args.at.now.number c.requires.place.there c.requires.place.set c.requires.place.low c.requires.place.most c.args.slot.now c.requires.new (option_copied c.args.old) db o rec p c.change.new.lists n (block_of s.items c.args.at.now.number) f k c.in-Ok-Done.ensures.calm bad)
@@ -86,9 +89,9 @@ pub returns-in-Ok-clause-enters : goal.returns-in-Ok-clause-enters
 returns-in-Ok-clause-enters g c =
     let desc = as_described c.args.at.now.desc.now in
     let s = shape_of c.args.at.now.set.now in
-    let n = 3 * length c.args.at.now.desc.now.structures in
-    enters_as (9 * length c.args.at.now.desc.now.structures + 1) _ c.args.over.now c.write_slot.new.b
-    (enters_write (has_number desc.structures s.number) n (9 * length c.args.at.now.desc.now.structures + 1) 1 (BadAt s (block_of s.items c.args.at.now.number) c.change.new.lists) (Ok tt) c.args.over.now c.change.new.lists c.write_slot.new.b
+    let n = 2 * length c.args.at.now.desc.now.structures in
+    enters_as (44 * length c.args.at.now.desc.now.structures + 1) _ c.args.over.now c.write_slot.new.b
+    (enters_write (has_number desc.structures s.number) n (44 * length c.args.at.now.desc.now.structures + 1) 1 (BadAt s (block_of s.items c.args.at.now.number) c.change.new.lists) (Ok tt) c.args.over.now c.change.new.lists c.write_slot.new.b
     g.met.B.Blocks.same_then c.requires.place.usable.sound (omega arith) c.in-Ok-Done.ensures.calm c.in-Ok.ensures.writes c.in-Ok.ensures.causes)
 
 pub returns-in-Ok-clause-slots : goal.returns-in-Ok-clause-slots
@@ -96,7 +99,7 @@ returns-in-Ok-clause-slots g c db o rec p apart =
     let desc = as_described c.args.at.now.desc.now in
     let s = shape_of c.args.at.now.set.now in
     let agrees = g.met.B.Blocks.agrees c.args.over.now.below c.requires.place.usable.sound in
-    let n = 3 * length c.args.at.now.desc.now.structures in
+    let n = 2 * length c.args.at.now.desc.now.structures in
     let calm = c.in-Ok-Done.ensures.calm in
     let told : IsTrue (under c.change.new.lists).told = calm.told ∙ p.told in
     slots_at desc c.args.over.now c.requires.place.usable agrees s c.args.at.now.number c.requires.place.there c.requires.place.set c.requires.place.low c.requires.place.most c.args.slot.now c.requires.new (option_copied c.args.old) db o rec p c.change.new.lists c.write_slot.new.b n calm
@@ -107,7 +110,7 @@ returns-in-Ok-clause-entered g c db o rec p owner =
     let desc = as_described c.args.at.now.desc.now in
     let s = shape_of c.args.at.now.set.now in
     let agrees = g.met.B.Blocks.agrees c.args.over.now.below c.requires.place.usable.sound in
-    let n = 3 * length c.args.at.now.desc.now.structures in
+    let n = 2 * length c.args.at.now.desc.now.structures in
     let calm = c.in-Ok-Done.ensures.calm in
     let told : IsTrue (under c.change.new.lists).told = calm.told ∙ p.told in
     uncounted_at desc c.args.over.now c.requires.place.usable agrees s c.args.at.now.number c.requires.place.there c.requires.place.set c.requires.place.low c.requires.place.most c.args.slot.now c.requires.new (option_copied c.args.old) db o rec p c.change.new.lists c.write_slot.new.b n calm
@@ -118,3 +121,23 @@ returns-in-Ok-clause-entered g c db o rec p owner =
 
 pub returns-in-Ok-clause-fits : goal.returns-in-Ok-clause-fits
 returns-in-Ok-clause-fits g c = number_fits (as_described c.args.at.now.desc.now) c.args.at.now.set.now.number c.args.at.now.number (shape_of c.args.at.now.set.now) c.requires.place.there c.requires.place.low c.requires.place.most
+
+pub returns-in-Ok-clause-taken : goal.returns-in-Ok-clause-taken
+returns-in-Ok-clause-taken g c told =
+    let desc = as_described c.args.at.now.desc.now in
+    let s = shape_of c.args.at.now.set.now in
+    let n = c.args.at.now.number in
+    let a = c.args.over.now in
+    let b = c.change.new.lists in
+    let z = c.write_slot.new.b in
+    let served = c.requires.place.usable.serves.served in
+    let agrees = g.met.B.Blocks.agrees a.below c.requires.place.usable.sound in
+    let calm = c.in-Ok-Done.ensures.calm in
+    let told_b : IsTrue (under b).told = calm.told ∙ told in
+    let next : block_of s.items n ≤ length (overlay_content a (file_of s.number)) = omega (arith, c.requires.place.next, counts_seen a agrees told (file_of s.number)) in
+    let may = calm_may desc served s c.requires.place.there c.requires.place.set n a b told (2 * length c.args.at.now.desc.now.structures) calm c.requires.place.low next (c.requires.sound told) in
+    let values = values_all desc s.number s c.args.slot.now.rec c.requires.place.there c.requires.new in (
+      refl,
+      then_stays desc (overlay_content a) (overlay_content b) (overlay_content z) (calm_stays desc served s c.requires.place.there c.requires.place.set n a b told (2 * length c.args.at.now.desc.now.structures) calm)
+          (put_stays desc s n c.args.slot.now (overlay_content b) (overlay_content z) served c.requires.place.there may values (c.in-Ok.ensures.seen told_b)),
+    )

@@ -1,4 +1,4 @@
-use Rattle.std.proofs.Common.{◌+◌, ◌*◌, Bool, IsTrue, length, refl, subst, arith}
+use Rattle.std.proofs.Common.{◌≡◌, ◌+◌, ◌*◌, Bool, IsTrue, length, refl, subst, arith}
 use Rattle.std.specs.declared.option.Option.TheVariants.{None}
 use Rattle.std.specs.declared.result.Result.TheVariants.{Ok, Err}
 use Rattle.dms_block.specs.View.{overlay_content, under}
@@ -13,11 +13,13 @@ use Rattle.dms_store.specs.PuttingCalls.{causes_then, enters_as, enters_err, ent
 use Rattle.dms_store.specs.PuttingEnters.{IfStored, IsUncounted}
 use Rattle.dms_store.specs.PuttingPlaced.{counted_at, may_count_at}
 use Rattle.dms_store.specs.Spelled.{owned_in}
+use Rattle.dms_store.specs.Taken.{IfStoredAs, TakenStay}
+use Rattle.dms_store.specs.TakenLaws.{then_stays}
 use Rattle.dms_store.proofs.putting.write_new.Goals as goal
 
 pub returns-in-Err-clause-enters : goal.returns-in-Err-clause-enters
 returns-in-Err-clause-enters g c =
-    let n = 9 * length c.args.at.now.desc.now.structures in
+    let n = 44 * length c.args.at.now.desc.now.structures in
     enters_more (n + 1) (n + 2) (Err c.in-Err.e) c.args.over.now c.write_at.new.over (omega arith) c.in-Err.ensures.enters
 
 pub count_owner-requires-clause-sound : goal.count_owner-requires-clause-sound
@@ -29,17 +31,17 @@ count_owner-requires-clause-serves g c =
 
 pub returns-in-Ok-Duplicate-clause-enters : goal.returns-in-Ok-Duplicate-clause-enters
 returns-in-Ok-Duplicate-clause-enters g c =
-    let n = 9 * length c.args.at.now.desc.now.structures in
+    let n = 44 * length c.args.at.now.desc.now.structures in
     enters_more (n + 1) (n + 2) (Ok (Duplicate c.in-Ok-Duplicate.set)) c.args.over.now c.write_at.new.over (omega arith) (enters_as (n + 1) _ c.args.over.now c.write_at.new.over c.in-Ok-Duplicate.ensures.enters)
 
 pub returns-in-Ok-Full-clause-enters : goal.returns-in-Ok-Full-clause-enters
 returns-in-Ok-Full-clause-enters g c =
-    let n = 9 * length c.args.at.now.desc.now.structures in
+    let n = 44 * length c.args.at.now.desc.now.structures in
     enters_more (n + 1) (n + 2) (Ok Full) c.args.over.now c.write_at.new.over (omega arith) (enters_as (n + 1) _ c.args.over.now c.write_at.new.over c.in-Ok-Full.ensures.enters)
 
 pub returns-in-Err-count_owner-clause-enters : goal.returns-in-Err-count_owner-clause-enters
 returns-in-Err-count_owner-clause-enters g c =
-    let n = 9 * length c.args.at.now.desc.now.structures in
+    let n = 44 * length c.args.at.now.desc.now.structures in
     enters_err {T = Bool} (n + 2) c.in-Err-count_owner.e c.args.over.now c.count_owner.new.over
     (enters_then (n + 1) 1 (n + 2) (Err c.in-Err-count_owner.e) c.args.over.now c.write_at.new.over c.count_owner.new.over g.met.B.Blocks.same_then (omega arith) c.in-Ok-Stored.ensures.enters c.in-Err-count_owner.ensures.writes)
 
@@ -47,7 +49,7 @@ pub returns-in-Err-count_owner-clause-below : goal.returns-in-Err-count_owner-cl
 returns-in-Err-count_owner-clause-below g c db o rec p =
     let desc = as_described c.args.at.now.desc.now in
     let s = shape_of c.args.at.now.set.now in
-    let n = 9 * length c.args.at.now.desc.now.structures in
+    let n = 44 * length c.args.at.now.desc.now.structures in
     let y = c.write_at.new.over in
     let enters = c.in-Ok-Stored.ensures.enters in
     let told : IsTrue (under y).told = enters_told (n + 1) c.args.over.now y enters p.told in
@@ -57,7 +59,7 @@ returns-in-Err-count_owner-clause-below g c db o rec p =
 
 pub returns-in-Ok-false-clause-enters : goal.returns-in-Ok-false-clause-enters
 returns-in-Ok-false-clause-enters g c =
-    let n = 9 * length c.args.at.now.desc.now.structures in
+    let n = 44 * length c.args.at.now.desc.now.structures in
     enters_as (n + 2) _ c.args.over.now c.count_owner.new.over
     (enters_then (n + 1) 1 (n + 2) (Ok c.in-Ok-false.field-0) c.args.over.now c.write_at.new.over c.count_owner.new.over g.met.B.Blocks.same_then (omega arith) c.in-Ok-Stored.ensures.enters c.in-Ok-false.ensures.writes)
 
@@ -65,7 +67,7 @@ pub returns-in-Ok-false-clause-entered : goal.returns-in-Ok-false-clause-entered
 returns-in-Ok-false-clause-entered g c db o rec p owner =
     let desc = as_described c.args.at.now.desc.now in
     let s = shape_of c.args.at.now.set.now in
-    let n = 9 * length c.args.at.now.desc.now.structures in
+    let n = 44 * length c.args.at.now.desc.now.structures in
     let a = c.args.over.now in
     let y = c.write_at.new.over in
     let agrees = g.met.B.Blocks.agrees a.below c.requires.place.usable.sound in
@@ -77,7 +79,7 @@ returns-in-Ok-false-clause-entered g c db o rec p owner =
 
 pub returns-in-Ok-true-clause-enters : goal.returns-in-Ok-true-clause-enters
 returns-in-Ok-true-clause-enters g c =
-    let n = 9 * length c.args.at.now.desc.now.structures in
+    let n = 44 * length c.args.at.now.desc.now.structures in
     enters_as (n + 2) _ c.args.over.now c.count_owner.new.over
     (enters_then (n + 1) 1 (n + 2) (Ok c.in-Ok-true.field-0) c.args.over.now c.write_at.new.over c.count_owner.new.over g.met.B.Blocks.same_then (omega arith) c.in-Ok-Stored.ensures.enters c.in-Ok-true.ensures.writes)
 
@@ -85,7 +87,7 @@ pub returns-in-Ok-true-clause-entered : goal.returns-in-Ok-true-clause-entered
 returns-in-Ok-true-clause-entered g c db o rec p owner =
     let desc = as_described c.args.at.now.desc.now in
     let s = shape_of c.args.at.now.set.now in
-    let n = 9 * length c.args.at.now.desc.now.structures in
+    let n = 44 * length c.args.at.now.desc.now.structures in
     let a = c.args.over.now in
     let y = c.write_at.new.over in
     let agrees = g.met.B.Blocks.agrees a.below c.requires.place.usable.sound in
@@ -94,3 +96,13 @@ returns-in-Ok-true-clause-entered g c db o rec p owner =
     let may = may_count_at desc a c.requires.place.usable agrees s c.args.at.now.number c.requires.place.there c.requires.place.set c.requires.place.low c.requires.place.most c.args.slot.now c.requires.new None db o rec p refl owner in
     let counted = (c.in-Ok-true.ensures.counted (with_record db s.number c.args.at.now.number c.args.slot.now.rec) (owned_in desc db) told u.2 (λ apart. may)).1 in
     (u.0, u.1, counted_at desc a c.requires.place.usable agrees s c.args.at.now.number c.requires.place.there c.requires.place.set c.requires.place.low c.requires.place.most c.args.slot.now c.requires.new None db o rec p refl owner (overlay_content c.count_owner.new.over) counted)
+
+pub returns-in-Ok-true-clause-taken : goal.returns-in-Ok-true-clause-taken
+returns-in-Ok-true-clause-taken g c told =
+    let desc = as_described c.args.at.now.desc.now in
+    let a = c.args.over.now in
+    let y = c.write_at.new.over in
+    let z = c.count_owner.new.over in
+    let told_y : IsTrue (under y).told = enters_told (44 * length c.args.at.now.desc.now.structures + 1) a y c.in-Ok-Stored.ensures.enters told in
+    let stored = subst (λ (q : Put). IfStoredAs q (λ n. (n ≡ c.args.at.now.number) × TakenStay desc (overlay_content a) (overlay_content y))) c.in-Ok-Stored.field-0-is (c.in-Ok-Stored.ensures.taken told) in
+    (stored.0, then_stays desc (overlay_content a) (overlay_content y) (overlay_content z) stored.1 (c.in-Ok-true.ensures.taken told_y))
