@@ -1,10 +1,9 @@
 -- What entering a record answers, by the list of the subset and by the database.
-use Rattle.std.proofs.Common.{◌≡◌, ◌∙◌, ◌≤◌, ℕ, List, [], ◌∷◌, ◌++◌, Bool, true, false, cond, Some, None, refl, sym, ap, subst, length, length-append, append-nil, filter, arith}
-use Rattle.std.specs.Prelude.{◌&&◌, ◌==◌, ◌||◌, nat_le, not, is_some}
+use Rattle.std.proofs.Common.{◌≡◌, ◌∙◌, ℕ, List, Bool, true, false, cond, Some, None, refl, sym, ap, length, filter, arith}
+use Rattle.std.specs.Prelude.{◌&&◌, ◌==◌, ◌||◌, nat_le, not}
 use Rattle.std.specs.List.{AllByRecursion, list_any}
 use Rattle.std.specs.declared.option.Option.{Option}
-use Rattle.std.specs.FinMap.{entries, entries_sorted, get, get-entries, keys}
-use Rattle.std.specs.Int.{w32, to_be_bytes}
+use Rattle.std.specs.FinMap.{entries, get}
 use Rattle.std.specs.Cmp.Lexicographic.{nat_list_cmp_total}
 use Rattle.std.proofs.lemmas.Bool.Decides.{nat_tests}
 use Rattle.std.proofs.lemmas.Cmp.{eq_by_cmp_equiv}
@@ -12,11 +11,8 @@ use Rattle.dms_base.specs.declared.kind.ItemKind.{ItemKind}
 use Rattle.dms_desc.specs.Keys.{key_of}
 use Rattle.dms_desc.specs.Lookups.{structure_of}
 use Rattle.dms_desc.specs.Shape.{Shape, Described}
-use Rattle.dms_desc.specs.Sorted.{that_passes}
 use Rattle.dms_desc.specs.declared.record.Record.{Record}
-use Rattle.dms_key.specs.ByteOrder.{high_first_length}
-use Rattle.dms_key.specs.KeyBytes.{key_bytes, key_width}
-use Rattle.dms_model.specs.Db.{Db, Place, Records}
+use Rattle.dms_model.specs.Db.{Db, Place}
 use Rattle.dms_model.specs.MemberLaws.{equal_of}
 use Rattle.dms_model.specs.Stores.{has_equal, is_full, values_of}
 use Rattle.dms_model.specs.Uses.{clashes_for, enter_answer, has_entry, is_in_subset}
@@ -24,15 +20,10 @@ use Rattle.dms_model.specs.Valid.{AreRising}
 use Rattle.dms_model.specs.declared.put.Put.TheVariants.{Stored, Duplicate, Full}
 use Rattle.dms_chain.specs.Lists.{bytes_cmp, bytes_same, empty_keys, first_from, is_same, keys_rise, pad_bound}
 use Rattle.dms_chain.specs.Lists as list
-use Rattle.dms_sets.specs.Changes.{front_in, is_seen}
-use Rattle.dms_sets.specs.Clashes.{key_front}
-use Rattle.dms_sets.specs.Entries.{IsSetKey, whole_width}
-use Rattle.dms_sets.specs.Listing.{listing, listing_of}
-use Rattle.dms_sets.specs.Padded.{IsSetEntry, all_with, entry_width, look_is}
-use Rattle.dms_sets.specs.Prefixes.{any_first, first_starts, starts}
-use Rattle.dms_sets.specs.Sets.{keys_with_opt, kinds_over}
-use Rattle.dms_sets.specs.Spots.{StandsAmong, all_found}
-use Rattle.dms_manual.specs.Entered.{IsSmallPair, as_member, entered, entered_get, manual_of, member_entry, place_told}
+use Rattle.dms_sets.specs.Changes.{is_seen}
+use Rattle.dms_sets.specs.Entries.{IsSetKey}
+use Rattle.dms_sets.specs.Sets.{kinds_over}
+use Rattle.dms_manual.specs.Entered.{IsSmallPair, as_member, entered, entered_get, manual_of, place_told}
 use Rattle.dms_manual.specs.Entering.{entry_put, in_the_way}
 use Rattle.dms_manual.specs.Counted.{NamesRecord, counted_manual}
 use Rattle.dms_manual.specs.EnteringLaws.{manual_takes}
@@ -40,6 +31,7 @@ use Rattle.dms_manual.specs.Listed.{bytes_for}
 use Rattle.dms_manual.specs.Moves.{SmallIn, told}
 use Rattle.dms_manual.specs.Named.{has_of}
 use Rattle.dms_manual.specs.Refused.{any_at, any_entry, any_from, same_bool, seen_manual}
+use Rattle.dms_manual.specs.Seen.{entered_fit, seen_over}
 
 -- ---- the entry itself
 
@@ -71,34 +63,6 @@ module _ (desc : Described) (s : Shape) (db : Db) (o n : ℕ) (r : Record) (at :
   pub has_manual : list.has_entry (bytes_for (kinds_over desc s) s o n r) (manual_of desc db s) ≡ has_entry db s.number o n
   has_manual = any_entry kinds s (is_same mine) (entered s db) ∙ same_bool _ _ to_db to_list
 
--- ---- all entries have the form
-
-module _ (kinds : List ItemKind) (s : Shape) where
-  -- a member whose owner and number are small, and whose key fits
-  record MemberFits (e : Place × Record) : Type 0 where
-    pair : IsSmallPair e.0
-    key : IsSetKey kinds s.parts (key_of s.parts e.1.values)
-
-  shaped_all : (es : List (Place × Record)) → AllByRecursion MemberFits es → AllByRecursion (IsSetEntry (key_width kinds s.parts)) (keys (listing (member_entry kinds s) es))
-  shaped_all [] all = subst (AllByRecursion (IsSetEntry (key_width kinds s.parts))) (sym empty_keys) tt
-  shaped_all (e ∷ es) all =
-      let q = bytes_for kinds s e.0.0 e.0.1 e.1 in
-      let one : IsSetEntry (key_width kinds s.parts) q = record {
-        owner = e.0.0;
-        key = key_bytes kinds s.parts (key_of s.parts e.1.values);
-        number = e.0.1;
-        is = refl;
-        small_owner = all.0.pair.0;
-        small = all.0.pair.1;
-        long = whole_width kinds s.parts (key_of s.parts e.1.values) all.0.key;
-      } in
-      subst (AllByRecursion (IsSetEntry (key_width kinds s.parts))) (sym (keys_with_opt (member_entry kinds s e.0 e.1) (listing (member_entry kinds s) es)))
-      (all_with (IsSetEntry (key_width kinds s.parts)) q one (keys (listing (member_entry kinds s) es)) (shaped_all es all.1))
-
-all_members : (P : Place × Record → Type 0) (m : Records) (es : List (Place × Record)) → AllByRecursion (StandsAmong (entries m)) es → ((k : Place) (r : Record) → get m k ≡ Some r → P (k, r)) → AllByRecursion P es
-all_members P m [] found h = tt
-all_members P m (e ∷ es) found h = (h e.0 e.1 (get-entries m e.0 ∙ found.0), all_members P m es found.1 h)
-
 -- ---- an entry with the owner and key
 
 module _ (desc : Described) (s : Shape) (db : Db) (o n : ℕ) (r : Record) (kind : s.kind ≡ 5) (small : SmallIn s db) (here : IsSmallPair (o, n)) (at : get db.records (s.set, n) ≡ Some r)
@@ -109,41 +73,11 @@ module _ (desc : Described) (s : Shape) (db : Db) (o n : ℕ) (r : Record) (kind
   abbrev member : Record
   member = record r { owner = o }
 
-  abbrev the_front : List ℕ
-  the_front = key_front of_kinds s.parts o (key_of s.parts r.values)
-
   manual : (s.kind == 5) ≡ true
   manual = grind (arith, nat_tests, kind)
 
-  fits_one : (k : Place) (x : Record) → get (entered s db) k ≡ Some x → MemberFits of_kinds s (k, x)
-  fits_one k x h = by (has_entry db s.number k.0 k.1) (get db.records (s.set, k.1)) refl refl (sym (entered_get s db k.0 k.1) ∙ h)
-    where
-      by : (b : Bool) (y : Option Record) → has_entry db s.number k.0 k.1 ≡ b → get db.records (s.set, k.1) ≡ y → cond b (as_member k.0 y) None ≡ Some x → MemberFits of_kinds s (k, x)
-      by true None e f g = absurd (cc g)
-      by true (Some y) e f g = record { pair = small.each k.0 k.1 e; key = subst (λ (z : Record). IsSetKey of_kinds s.parts (key_of s.parts z.values)) (of_same y g) (fit k.1 y f) }
-        where
-          of_same : (y : Record) → ◌≡◌ {A = Option Record} (Some (record y { owner = k.0 })) (Some x) → record y { owner = k.0 } ≡ x
-          of_same y h = cc
-      by false y e f g = absurd (cc g)
-
-  shaped : AllByRecursion (IsSetEntry (key_width of_kinds s.parts)) (manual_of desc db s)
-  shaped = shaped_all of_kinds s (entries (entered s db)) (all_members (MemberFits of_kinds s) (entered s db) (entries (entered s db)) (all_found (entries (entered s db)) (entries_sorted (entered s db))) fits_one)
-
-  front_same : the_front ≡ front_in of_kinds s member
-  front_same = ap (λ (x : List ℕ). to_be_bytes w32 o ++ x) (append-nil (key_bytes of_kinds s.parts (key_of s.parts r.values)))
-
-  front_low : length the_front ≤ entry_width of_kinds s.parts
-  front_low =
-      let bytes = key_bytes of_kinds s.parts (key_of s.parts r.values) in
-      omega (arith, length-append (to_be_bytes w32 o) (bytes ++ []), length-append bytes [], high_first_length 4 o, whole_width of_kinds s.parts (key_of s.parts r.values) (fit n r at))
-
   seen_is : is_seen of_kinds s member (manual_of desc db s) ≡ (has_entry db s.number o n || has_equal s db.entries (Some n) member (entries db.records))
-  seen_is =
-      ap (λ (p : List ℕ). is_some (that_passes (starts p) (first_from (Some (pad_bound (entry_width of_kinds s.parts) p)) (manual_of desc db s)))) (sym front_same)
-      ∙ ap is_some (sym (look_is (key_width of_kinds s.parts) the_front (manual_of desc db s) front_low shaped))
-      ∙ ap is_some (sym (first_starts the_front (manual_of desc db s) (keys_rise (listing_of (member_entry of_kinds s) (entered s db)))))
-      ∙ sym (any_first (starts the_front) (manual_of desc db s))
-      ∙ seen_manual desc s db o n r manual small here.0 at fit
+  seen_is = seen_over of_kinds s (entered s db) (entered_fit of_kinds s db small fit) member (fit n r at) ∙ seen_manual desc s db o n r manual small here.0 at fit
 
   -- An entry is in the way where the database has it, or a clash.
   pub way_is : in_the_way (kinds_over desc s) s n (record r { owner = o }) (manual_of desc db s) ≡ (has_entry db s.number o n || clashes_for (Some s) db o n)

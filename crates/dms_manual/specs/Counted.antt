@@ -48,7 +48,7 @@ module _ (kinds : List ItemKind) (s : Shape) where
   none_same k r (e ∷ es) small all below =
       (λ i. not_same k r e (is_same (bytes_for kinds s k.0 k.1 r) (bytes_for kinds s e.0.0 e.0.1 e.1)) small all.0 (first_true _ _ below) refl i || none_same k r es small all.1 (second_true _ _ below) i)
 
-  listing_long : (es : List (Place × Record)) → AllPlaces IsSmallPair es → T (is_sorted place_cmp es) → length (keys (listing (member_entry kinds s) es)) ≡ length es
+  pub listing_long : (es : List (Place × Record)) → AllPlaces IsSmallPair es → T (is_sorted place_cmp es) → length (keys (listing (member_entry kinds s) es)) ≡ length es
   listing_long [] all order = ap (λ (x : List (List ℕ)). length x) empty_keys
   listing_long (e ∷ es) all order =
       let q = bytes_for kinds s e.0.0 e.0.1 e.1 in

@@ -16,6 +16,10 @@ use Rattle.dms_desc.specs.Shape.{Shape}
 use Rattle.dms_desc.specs.declared.record.Record.{Record}
 use Rattle.dms_model.specs.declared.put.Put.TheVariants.{Stored, Duplicate, Full}
 use Rattle.dms_chain.specs.Lists.{bytes_cmp, has_entry, with_entry, without}
+use Rattle.dms_lists.specs.declared.form.ListForm.{ListForm}
+use Rattle.dms_lists.specs.declared.form.ListForm.TheVariants.{List as OneChain}
+use Rattle.dms_lists.specs.FormLaws.{manual_form}
+use Rattle.dms_lists.specs.Forms.{form_of}
 use Rattle.dms_sets.specs.ChangeLaws.{entry_long}
 use Rattle.dms_sets.specs.Changes.{HasEntry, HasRoom, IfListed, ListsOf, OnlyList, OnlyRoomy, entry_in, refuses}
 use Rattle.dms_sets.specs.Padded.{entry_width}
@@ -39,32 +43,34 @@ module _ (kinds : List ItemKind) (s : Shape) (number : ℕ) (rec : Record) (q : 
   wide : length q ≡ entry_width kinds s.parts
   wide = entry_long kinds s number rec q fits is
 
-  pub put_made : (a b : ListsOf) (new : Bool) → IfListed (a s.number (length q)) (λ xs. new ≡ not (has_entry q xs)) → OnlyRoomy (with_entry q) s.number (length q) a b → Puts kinds s number rec a b new
-  put_made a b new answer list xs h =
-      let there : a s.number (length q) ≡ Some xs = ap (a s.number) wide ∙ h in
+  pub put_made : (form : ListForm) → form ≡ form_of s → (a b : ListsOf) (new : Bool) → IfListed (a s.number form (length q)) (λ xs. new ≡ not (has_entry q xs)) → OnlyRoomy (with_entry q) s.number form (length q) a b → Puts kinds s number rec a b new
+  put_made form at a b new answer list xs h =
+      let there : a s.number form (length q) ≡ Some xs = (λ i. a s.number (at i) (wide i)) ∙ h in
+      let here : b s.number (form_of s) (entry_width kinds s.parts) ≡ b s.number form (length q) = sym (λ i. b s.number (at i) (wide i)) in
       let same = sym (bytes_are kinds s number rec q kind is) in
       record {
         answer = subst (λ (x : List ℕ). new ≡ not (has_entry x xs)) same (answer xs there);
-        done = λ room. subst (λ (x : List ℕ). b s.number (entry_width kinds s.parts) ≡ Some (with_entry x xs)) same (ap (b s.number) (sym wide) ∙ list.here xs there room);
+        done = λ room. subst (λ (x : List ℕ). b s.number (form_of s) (entry_width kinds s.parts) ≡ Some (with_entry x xs)) same (here ∙ list.here xs there room);
       }
 
-  pub taken_out : (a b : ListsOf) (was : Bool) → IfListed (a s.number (length q)) (λ xs. was ≡ has_entry q xs) → OnlyList (without q) s.number (length q) a b → Takes kinds s number rec a b was
-  taken_out a b was answer list xs h =
-      let there : a s.number (length q) ≡ Some xs = ap (a s.number) wide ∙ h in
+  pub taken_out : (form : ListForm) → form ≡ form_of s → (a b : ListsOf) (was : Bool) → IfListed (a s.number form (length q)) (λ xs. was ≡ has_entry q xs) → OnlyList (without q) s.number form (length q) a b → Takes kinds s number rec a b was
+  taken_out form at a b was answer list xs h =
+      let there : a s.number form (length q) ≡ Some xs = (λ i. a s.number (at i) (wide i)) ∙ h in
+      let here : b s.number (form_of s) (entry_width kinds s.parts) ≡ b s.number form (length q) = sym (λ i. b s.number (at i) (wide i)) in
       let same = sym (bytes_are kinds s number rec q kind is) in
       record {
         answer = subst (λ (x : List ℕ). was ≡ has_entry x xs) same (answer xs there);
-        done = subst (λ (x : List ℕ). b s.number (entry_width kinds s.parts) ≡ Some (without x xs)) same (ap (b s.number) (sym wide) ∙ list.here xs there);
+        done = subst (λ (x : List ℕ). b s.number (form_of s) (entry_width kinds s.parts) ≡ Some (without x xs)) same (here ∙ list.here xs there);
       }
 
-  -- the same of the bytes that a call is given
-  pub put_given : (p : List ℕ) → p ≡ q → (a b : ListsOf) (new : Bool) → IfListed (a s.number (length p)) (λ xs. new ≡ not (has_entry p xs)) → OnlyRoomy (with_entry p) s.number (length p) a b → Puts kinds s number rec a b new
+  -- the same of the bytes that a call is given, over the list of a manual subset
+  pub put_given : (p : List ℕ) → p ≡ q → (a b : ListsOf) (new : Bool) → IfListed (a s.number OneChain (length p)) (λ xs. new ≡ not (has_entry p xs)) → OnlyRoomy (with_entry p) s.number OneChain (length p) a b → Puts kinds s number rec a b new
   put_given p same a b new answer list =
-      put_made a b new (subst (λ (x : List ℕ). IfListed (a s.number (length x)) (λ xs. new ≡ not (has_entry x xs))) same answer) (subst (λ (x : List ℕ). OnlyRoomy (with_entry x) s.number (length x) a b) same list)
+      put_made OneChain (sym (manual_form s kind)) a b new (subst (λ (x : List ℕ). IfListed (a s.number OneChain (length x)) (λ xs. new ≡ not (has_entry x xs))) same answer) (subst (λ (x : List ℕ). OnlyRoomy (with_entry x) s.number OneChain (length x) a b) same list)
 
-  pub taken_given : (p : List ℕ) → p ≡ q → (a b : ListsOf) (was : Bool) → IfListed (a s.number (length p)) (λ xs. was ≡ has_entry p xs) → OnlyList (without p) s.number (length p) a b → Takes kinds s number rec a b was
+  pub taken_given : (p : List ℕ) → p ≡ q → (a b : ListsOf) (was : Bool) → IfListed (a s.number OneChain (length p)) (λ xs. was ≡ has_entry p xs) → OnlyList (without p) s.number OneChain (length p) a b → Takes kinds s number rec a b was
   taken_given p same a b was answer list =
-      taken_out a b was (subst (λ (x : List ℕ). IfListed (a s.number (length x)) (λ xs. was ≡ has_entry x xs)) same answer) (subst (λ (x : List ℕ). OnlyList (without x) s.number (length x) a b) same list)
+      taken_out OneChain (sym (manual_form s kind)) a b was (subst (λ (x : List ℕ). IfListed (a s.number OneChain (length x)) (λ xs. was ≡ has_entry x xs)) same answer) (subst (λ (x : List ℕ). OnlyList (without x) s.number OneChain (length x) a b) same list)
 
 not_twice : (r h n : Bool) → r ≡ false → n ≡ not h → not n ≡ (r || h)
 not_twice r h n off is = ap not is ∙ by h ∙ ap (λ b. b || h) (sym off)

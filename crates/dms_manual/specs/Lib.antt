@@ -4,8 +4,14 @@ pub mod Listed
 pub mod Entering
 pub mod EnteringLaws
 pub mod Refused
+pub mod Seen
 pub mod Named
 pub mod Naming
 pub mod Counted
 pub mod Answered
 pub mod Judged
+pub mod Following
+pub mod Followed
+pub mod FollowedAll
+pub mod Members
+pub mod CountedFor

@@ -109,7 +109,7 @@ moved (o ∷ os) n v m = insert (moved os n v m) (o, n) (record v { owner = o })
 abbrev pub is_among : ℕ → List ℕ → Bool
 is_among p os = list_any (λ o. p == o) os
 
-moved_get : (os : List ℕ) (n : ℕ) (v : Record) (m : Records) (p k : ℕ) → get (moved os n v m) (p, k) ≡ cond (is_among p os && (k == n)) (Some (record v { owner = p })) (get m (p, k))
+pub moved_get : (os : List ℕ) (n : ℕ) (v : Record) (m : Records) (p k : ℕ) → get (moved os n v m) (p, k) ≡ cond (is_among p os && (k == n)) (Some (record v { owner = p })) (get m (p, k))
 moved_get [] n v m p k = refl
 moved_get (o ∷ os) n v m p k =
     get-insert places_total (moved os n v m) (o, n) (record v { owner = o }) (p, k)
@@ -133,7 +133,7 @@ moved_get (o ∷ os) n v m p k =
     by false b x y = ap (λ c. cond c (Some (record v { owner = o })) (cond (is_among p os && b) (Some (record v { owner = p })) (get m (p, k)))) (tie false b x y)
 
 -- the owners of a record's entries
-owners_are : (subset p n : ℕ) (es : List SubsetEntry) → is_among p (owners_named subset n es) ≡ list_any (names subset p n) es
+pub owners_are : (subset p n : ℕ) (es : List SubsetEntry) → is_among p (owners_named subset n es) ≡ list_any (names subset p n) es
 owners_are subset p n [] = refl
 owners_are subset p n (e ∷ es) = by ((e.subset == subset) && (e.number == n)) refl (owners_are subset p n es)
   where

@@ -76,7 +76,7 @@ module _ {A : Type 0} (p : A → Bool) where
       by true rest = refl
       by false rest = ap (λ c. p y || c) rest ∙ or_swap (p y) (p x) (list_any p ys)
 
-  any_where : (q : A → Bool) (ys : List A) → list_any p (filter q ys) ≡ list_any (λ y. q y && p y) ys
+  pub any_where : (q : A → Bool) (ys : List A) → list_any p (filter q ys) ≡ list_any (λ y. q y && p y) ys
   any_where q [] = refl
   any_where q (y ∷ ys) = by (q y) (any_where q ys)
     where
@@ -84,11 +84,11 @@ module _ {A : Type 0} (p : A → Bool) where
       by true rest = ap (λ c. p y || c) rest
       by false rest = rest
 
-  any_as : (q : A → Bool) (ys : List A) → ((y : A) → p y ≡ q y) → list_any p ys ≡ list_any q ys
+  pub any_as : (q : A → Bool) (ys : List A) → ((y : A) → p y ≡ q y) → list_any p ys ≡ list_any q ys
   any_as q [] h = refl
   any_as q (y ∷ ys) h = λ i. h y i || any_as q ys h i
 
-none_any : {A : Type 0} (ys : List A) → list_any (λ (y : A). false) ys ≡ false
+pub none_any : {A : Type 0} (ys : List A) → list_any (λ (y : A). false) ys ≡ false
 none_any [] = refl
 none_any (y ∷ ys) = none_any ys
 

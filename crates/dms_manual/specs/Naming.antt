@@ -14,6 +14,8 @@ use Rattle.dms_model.specs.Db.{Db, SubsetEntry}
 use Rattle.dms_model.specs.Uses.{is_entered}
 use Rattle.dms_model.specs.Valid.{is_manual}
 use Rattle.dms_base.specs.declared.kind.ItemKind.{ItemKind}
+use Rattle.dms_lists.specs.declared.form.ListForm.TheVariants.{List as OneChain}
+use Rattle.dms_lists.specs.FormLaws.{manual_form}
 use Rattle.dms_sets.specs.Changes.{IfListed, ListsOf, list_of_set}
 use Rattle.dms_sets.specs.Entries.{kinds_of}
 use Rattle.dms_sets.specs.Padded.{entry_width}
@@ -53,6 +55,18 @@ pub record ManualStands (desc : Described) (db : Db) (set number : ℕ) : Type 0
   pub numbered : (k : ℕ) (s : Shape) → slice_get desc.structures k ≡ Some s → s.number ≡ k + 1
   pub entries : AllByRecursion (IsOfManual desc) db.entries
   pub small : OfStructures desc (λ s. is_manual_over s set ≡ true → SmallIn s db)
+
+-- the list of a manual subset, which is never kept in a tree
+abbrev pub manual_list : ListsOf → List ItemKind → Shape → Option (List (List ℕ))
+manual_list ls kinds s = ls s.number OneChain (entry_width kinds s.parts)
+
+pub manual_kept : (s : Shape) → s.kind ≡ 5 → (ls : ListsOf) (kinds : List ItemKind) → manual_list ls kinds s ≡ list_of_set ls kinds s
+manual_kept s kind ls kinds = sym (λ i. ls s.number (manual_form s kind i) (entry_width kinds s.parts))
+
+pub manual_listed : (s : Shape) (set : ℕ) → is_manual_over s set ≡ true → (ls : ListsOf) (kinds : List ItemKind) → manual_list ls kinds s ≡ list_of_set ls kinds s
+manual_listed s set h ls kinds =
+    let kind : s.kind ≡ 5 = grind (arith, nat_tests, h) in
+    manual_kept s kind ls kinds
 
 -- the lists of the manual subsets of a data set are those of a database
 abbrev pub AreManual : Described → Db → ℕ → ListsOf → Type 0
@@ -192,6 +206,6 @@ module _ (desc : Described) (db : Db) (set number : ℕ) where
 
   -- what a look at one list answered
   pub shown_in : ManualStands desc db set number → number < 2 ^ 32 → (k : ℕ) (s : Shape) → slice_get desc.structures k ≡ Some s → is_manual_over s set ≡ true → (ls : ListsOf) (ks : List ItemKind) (b : Bool) → ks ≡ kinds_over desc s
-      → list_of_set ls (kinds_over desc s) s ≡ Some (manual_of desc db s) → IfListed (list_of_set ls ks s) (λ xs. b ≡ list_any (tells number) xs) → b ≡ list_any (names_record s.number number) db.entries
+      → list_of_set ls (kinds_over desc s) s ≡ Some (manual_of desc db s) → IfListed (manual_list ls ks s) (λ xs. b ≡ list_any (tells number) xs) → b ≡ list_any (names_record s.number number) db.entries
   shown_in stands low k s at manual ls ks b same there answer =
-      answer (manual_of desc db s) (ap (λ (x : List ItemKind). list_of_set ls x s) same ∙ there) ∙ shown_is desc db set number stands low k s at manual
+      answer (manual_of desc db s) (manual_listed s set manual ls ks ∙ ap (λ (x : List ItemKind). list_of_set ls x s) same ∙ there) ∙ shown_is desc db set number stands low k s at manual

@@ -96,17 +96,37 @@ equal_any s manual number rec (e ∷ es) = by (is_equal_to s manual number rec e
     by true rest = refl
     by false rest = rest
 
-number_same : (a b : ℕ) → (a == b) ≡ true → a ≡ b
+pub number_same : (a b : ℕ) → (a == b) ≡ true → a ≡ b
 number_same a b h = grind (arith, nat_tests, h)
 
-number_itself : (a : ℕ) → (a == a) ≡ true
+pub number_itself : (a : ℕ) → (a == a) ≡ true
 number_itself a = grind (arith, nat_tests)
 
-other_is : (n m : ℕ) → (m == n) ≡ false → not (n == m) ≡ true
+pub other_is : (n m : ℕ) → (m == n) ≡ false → not (n == m) ≡ true
 other_is n m h = grind (arith, nat_tests, h)
 
-over_manual : (s : Shape) → (s.kind == 5) ≡ true → over s ≡ s.set
+pub over_manual : (s : Shape) → (s.kind == 5) ≡ true → over s ≡ s.set
 over_manual s h = grind (arith, nat_tests, h)
+
+-- the record behind a member
+pub record Behind (s : Shape) (db : Db) (p m : ℕ) (x : Record) : Type 0 where
+  pub has : has_entry db s.number p m ≡ true
+  pub rec : Record
+  pub stands : get db.records (s.set, m) ≡ Some rec
+  pub is : record rec { owner = p } ≡ x
+
+pub behind : (s : Shape) (db : Db) (p m : ℕ) (x : Record) → get (entered s db) (p, m) ≡ Some x → Behind s db p m x
+behind s db p m x h = by (has_entry db s.number p m) (get db.records (s.set, m)) refl refl (sym (entered_get s db p m) ∙ h)
+  where
+    by : (b : Bool) (y : Option Record) → has_entry db s.number p m ≡ b → get db.records (s.set, m) ≡ y → cond b (as_member p y) None ≡ Some x → Behind s db p m x
+    by true None e f k = absurd (cc)
+    by true (Some y) e f k = record { has = e; rec = y; stands = f; is = same_Some (record y { owner = p }) x k }
+    by false y e f k = absurd (cc)
+
+pub belongs_is : (s : Shape) (db : Db) (o m : ℕ) (y : Record) → (s.kind == 5) ≡ true → belongs s db.entries o ((s.set, m), y) ≡ has_entry db s.number o m
+belongs_is s db o m y manual =
+    let set : (over s == s.set) ≡ true = ap (λ k. k == s.set) (over_manual s manual) ∙ number_itself s.set in
+    (λ i. set i && cond (manual i) (list_any (names s.number o m) db.entries) ((o == y.owner) && takes s y.values))
 
 module _ (desc : Described) (s : Shape) (db : Db) (o n : ℕ) (r : Record) (manual : (s.kind == 5) ≡ true) (small : SmallIn s db) (owned : o < 2 ^ 32) (at : get db.records (s.set, n) ≡ Some r)
     (fit : (m : ℕ) (x : Record) → get db.records (s.set, m) ≡ Some x → IsSetKey (kinds_over desc s) s.parts (key_of s.parts x.values)) where
@@ -122,35 +142,15 @@ module _ (desc : Described) (s : Shape) (db : Db) (o n : ℕ) (r : Record) (manu
   abbrev shows : Place × Record → Bool
   shows e = starts front (bytes_for kinds s e.0.0 e.0.1 e.1)
 
-  -- the record behind a member
-  record Behind (p m : ℕ) (x : Record) : Type 0 where
-    has : has_entry db s.number p m ≡ true
-    rec : Record
-    stands : get db.records (s.set, m) ≡ Some rec
-    is : record rec { owner = p } ≡ x
-
-  behind : (p m : ℕ) (x : Record) → get (entered s db) (p, m) ≡ Some x → Behind p m x
-  behind p m x h = by (has_entry db s.number p m) (get db.records (s.set, m)) refl refl (sym (entered_get s db p m) ∙ h)
-    where
-      by : (b : Bool) (y : Option Record) → has_entry db s.number p m ≡ b → get db.records (s.set, m) ≡ y → cond b (as_member p y) None ≡ Some x → Behind p m x
-      by true None e f k = absurd (cc)
-      by true (Some y) e f k = record { has = e; rec = y; stands = f; is = same_Some (record y { owner = p }) x k }
-      by false y e f k = absurd (cc)
-
   shows_is : (p m : ℕ) (x y : Record) → has_entry db s.number p m ≡ true → get db.records (s.set, m) ≡ Some y → record y { owner = p } ≡ x → shows ((p, m), x) ≡ ((o == p) && is_eq (key_cmp s.parts (key_of s.parts r.values) (key_of s.parts y.values)))
   shows_is p m x y has stands is =
       ap (λ (z : Record). shows ((p, m), z)) (sym is)
       ∙ front_is kinds s.parts o p (key_of s.parts r.values) (key_of s.parts y.values) m owned (small.each p m has).0 (fit n r at) (fit m y stands)
 
-  belongs_is : (m : ℕ) (y : Record) → belongs s db.entries o ((s.set, m), y) ≡ has_entry db s.number o m
-  belongs_is m y =
-      let set : (over s == s.set) ≡ true = ap (λ k. k == s.set) (over_manual s manual) ∙ number_itself s.set in
-      (λ i. set i && cond (manual i) (list_any (names s.number o m) db.entries) ((o == y.owner) && takes s y.values))
-
   to_db : list_any shows (entries (entered s db)) ≡ true → (has_entry db s.number o n || has_equal s db.entries (Some n) mine (entries db.records)) ≡ true
   to_db h =
       let f = any_from shows (entered s db) h in
-      let b = behind f.place.0 f.place.1 f.rec f.at in
+      let b = behind s db f.place.0 f.place.1 f.rec f.at in
       let both = and_parts (o == f.place.0) (is_eq (key_cmp s.parts (key_of s.parts r.values) (key_of s.parts b.rec.values))) (sym (shows_is f.place.0 f.place.1 f.rec b.rec b.has b.stands b.is) ∙ f.holds) in
       let owner = number_same o f.place.0 both.0 in
       by f.place.1 b.rec (f.place.1 == n) refl (ap (λ w. has_entry db s.number w f.place.1) owner ∙ b.has) b.stands both.1
@@ -165,7 +165,7 @@ module _ (desc : Described) (s : Shape) (db : Db) (o n : ℕ) (r : Record) (manu
       by m y false e has stands key =
           let other = other_is n m e in
           let turned = sym ((eq_by_cmp_equiv (key_total 0 s.parts)).symm (key_of s.parts r.values) (key_of s.parts y.values)) ∙ key in
-          let member = belongs_is m y ∙ has in
+          let member = belongs_is s db o m y manual ∙ has in
           let holds : is_equal_to s db.entries (Some n) mine ((s.set, m), y) ≡ true = (λ i. (member i && other i) && turned i) in
           ap (λ c. has_entry db s.number o n || c) (equal_any s db.entries (Some n) mine (entries db.records) ∙ any_at (is_equal_to s db.entries (Some n) mine) db.records (s.set, m) y stands holds)
           ∙ or_true (has_entry db s.number o n)

@@ -7,6 +7,7 @@ use crate::widths::entry_width;
 use dms_base::ItemKind;
 use dms_block::BlockFault;
 use dms_desc::{Record, Structure};
+use dms_lists::ListForm;
 use dms_model::Put;
 use dms_sets::{Lists, record_entry, refuses};
 use std::alloc::Global;
@@ -32,7 +33,7 @@ fn put_entry<L: Lists>(
 {
     match record_entry(alloc, s, kinds, number, rec)? {
         None => Ok(false),
-        Some(entry) => lists.insert(alloc, s.number, entry.as_slice()),
+        Some(entry) => lists.insert(alloc, s.number, ListForm::List, entry.as_slice()),
     }
 }
 
@@ -86,7 +87,7 @@ pub fn leave<L: Lists>(
 {
     match record_entry(alloc, s, kinds, number, rec)? {
         None => Ok(false),
-        Some(entry) => lists.remove(alloc, s.number, entry.as_slice()),
+        Some(entry) => lists.remove(alloc, s.number, ListForm::List, entry.as_slice()),
     }
 }
 

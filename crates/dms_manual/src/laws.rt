@@ -1,15 +1,18 @@
 ghost use Rattle.std.specs.Prelude.{◌≡◌, ◌^◌, ◌<◌, ℕ, true, false, Some};
 ghost use Rattle.std.specs.FinMap.{get};
 ghost use Rattle.dms_desc.specs.Shape.{Shape, Described};
+ghost use Rattle.dms_desc.specs.declared.bound.Bound.{Bound};
 ghost use Rattle.dms_desc.specs.declared.record.Record.{Record};
 ghost use Rattle.dms_model.specs.Db.{Db};
 ghost use Rattle.dms_model.specs.Uses.{after_leave, enter_answer, has_entry};
 ghost use Rattle.dms_chain.specs.Lists.{with_entry, without};
 ghost use Rattle.dms_sets.specs.Sets.{kinds_over};
+ghost use Rattle.dms_manual.specs.CountedFor.{EntriesRise, TellsAsMany};
 ghost use Rattle.dms_manual.specs.Entered.{IsSmallPair, manual_of};
 ghost use Rattle.dms_manual.specs.Entering.{entry_put};
 ghost use Rattle.dms_manual.specs.Judged.{IfMember, IfTold, NamesIn};
 ghost use Rattle.dms_manual.specs.Listed.{SameIn, bytes_for};
+ghost use Rattle.dms_manual.specs.Members.{FirstByEntries, LastByEntries};
 ghost use Rattle.dms_manual.specs.Moves.{SmallIn, with_entry_of};
 
 /// A law: the list of a manual subset, after an entry that didn't stand came, is the old one with the bytes of that
@@ -35,4 +38,17 @@ pub fn answers_by_the_list()
 /// entry of the subset that names the record.
 pub fn lists_name_records()
     ensures { (desc : Described) (s : Shape) (db : Db) (n : ℕ) (r : Record) → get db.records (s.set, n) ≡ Some r → SmallIn s db → n < 2 ^ 32 → NamesIn desc s db n }
+{}
+
+/// A law: the list of a manual subset has as many entries that end with a record's number as the database has entries of
+/// the subset that name the record.
+pub fn lists_count_records()
+    ensures { (desc : Described) (s : Shape) (db : Db) (n : ℕ) → SmallIn s db → n < 2 ^ 32 → EntriesRise s db → TellsAsMany desc s db n }
+{}
+
+/// A law: the first member of a manual subset behind a bound is that of the first entry of its list not below the
+/// bound's bytes, and the last member before a bound that of the last entry below them, where the entry is the owner's.
+pub fn members_by_entries()
+    ensures first { (desc : Described) (db : Db) (path : ℕ) (s : Shape) (o : ℕ) (b : Bound) → FirstByEntries desc db path s o b }
+    ensures last { (desc : Described) (db : Db) (path : ℕ) (s : Shape) (o : ℕ) (b : Bound) → LastByEntries desc db path s o b }
 {}

@@ -1,19 +1,43 @@
-ghost use Rattle.std.specs.Prelude.{◌≡◌, ◌==◌, ◌^◌, ◌<◌, ◌≤◌, ℕ, true, length, IfOk, IfErr, OnOk};
+ghost use Rattle.std.specs.Prelude.{◌≡◌, ◌==◌, ◌^◌, ◌<◌, ◌≤◌, ℕ, true, length, IfOk, IfErr, OnOk, filter};
 ghost use Rattle.std.specs.List.{list_any};
 ghost use Rattle.dms_desc.specs.Shape.{as_described, shape_of};
 ghost use Rattle.dms_model.specs.Uses.{is_entered};
-ghost use Rattle.dms_sets.specs.Changes.{IfListed, list_of_set};
+ghost use Rattle.dms_sets.specs.Changes.{IfListed};
 ghost use Rattle.dms_sets.specs.Padded.{entry_width};
 ghost use Rattle.dms_sets.specs.Told.{OfStructures};
 ghost use Rattle.dms_manual.specs.Named.{tells};
-ghost use Rattle.dms_manual.specs.Naming.{HasWidth, IfManual, has_manual, is_manual_over};
+ghost use Rattle.dms_manual.specs.Naming.{HasWidth, IfManual, has_manual, is_manual_over, manual_list};
 
 use crate::widths::entry_width;
-use dms_base::ItemKind;
+use dms_base::{Bytes, ItemKind};
 use dms_block::BlockFault;
 use dms_desc::{Description, Structure};
 use dms_sets::{Lists, kinds_of};
 use std::alloc::Global;
+
+/// The entries of the record with this number in the list of a manual subset, in their order. It may read the whole
+/// list.
+pub(crate) fn entries_naming<L: Lists>(
+    lists: &mut L,
+    alloc: Global,
+    s: &Structure,
+    kinds: &[ItemKind],
+    number: u64,
+) -> Result<Vec<Bytes>, BlockFault>
+    requires usable { L.usable lists.old s.now.number }
+    requires small { number < 2 ^ 32 }
+    requires width { entry_width kinds.now (shape_of s.now).parts ≤ 104 }
+    ensures found { IfOk result (λ v. IfListed (manual_list (L.listed lists.old) kinds.now (shape_of s.now)) (λ xs. v.items ≡ filter (tells number) xs)) }
+    ensures list { OnOk result (L.listed lists.new ≡ L.listed lists.old) }
+    ensures usable { OnOk result ((n : ℕ) → L.usable lists.old n → L.usable lists.new n) }
+    ensures calm { OnOk result (L.calm (λ m. m == s.now.number) 0 lists.old lists.new) }
+    ensures fails { IfErr result (λ e. L.fails e 0 lists.old lists.new) }
+    ensures below { IfErr result (λ e. IfListed (manual_list (L.listed lists.old) kinds.now (shape_of s.now)) (λ xs. L.below e lists.old lists.new)) }
+{
+    let width = entry_width(kinds, s.parts.as_slice());
+    let tail = (number as u32).to_be_bytes();
+    lists.ending(alloc, s.number, width, &tail)
+}
 
 /// Whether the list of a manual subset has an entry of the record with this number. It may read the whole list.
 pub fn names_record<L: Lists>(
@@ -26,21 +50,19 @@ pub fn names_record<L: Lists>(
     requires usable { L.usable lists.old s.now.number }
     requires small { number < 2 ^ 32 }
     requires width { entry_width kinds.now (shape_of s.now).parts ≤ 104 }
-    ensures answer { IfOk result (λ b. IfListed (list_of_set (L.listed lists.old) kinds.now (shape_of s.now)) (λ xs. b ≡ list_any (tells number) xs)) }
+    ensures answer { IfOk result (λ b. IfListed (manual_list (L.listed lists.old) kinds.now (shape_of s.now)) (λ xs. b ≡ list_any (tells number) xs)) }
     ensures list { OnOk result (L.listed lists.new ≡ L.listed lists.old) }
     ensures usable { OnOk result ((n : ℕ) → L.usable lists.old n → L.usable lists.new n) }
     ensures calm { OnOk result (L.calm (λ m. m == s.now.number) 1 lists.old lists.new) }
     ensures fails { IfErr result (λ e. L.fails e 1 lists.old lists.new) }
-    ensures below { IfErr result (λ e. IfListed (list_of_set (L.listed lists.old) kinds.now (shape_of s.now)) (λ xs. L.below e lists.old lists.new)) }
+    ensures below { IfErr result (λ e. IfListed (manual_list (L.listed lists.old) kinds.now (shape_of s.now)) (λ xs. L.below e lists.old lists.new)) }
 {
-    let width = entry_width(kinds, s.parts.as_slice());
-    let tail = (number as u32).to_be_bytes();
-    let found = lists.ending(alloc, s.number, width, &tail)?;
+    let found = entries_naming(lists, alloc, s, kinds, number)?;
     Ok(!found.is_empty())
 }
 
 /// Whether a structure is a manual subset of a data set.
-fn is_manual_over(s: &Structure, set: u16) -> bool
+pub(crate) fn is_manual_over(s: &Structure, set: u16) -> bool
     ensures { result ≡ is_manual_over (shape_of s.now) set }
 {
     s.kind == 5 && s.set == set

@@ -8,17 +8,17 @@ use Rattle.dms_manual.proofs.entering.enter.Goals as goal
 
 pub returns-in_err-refuses-clause-fails : goal.returns-in_err-refuses-clause-fails
 returns-in_err-refuses-clause-fails g c =
-    if_that _ _ _ c.from_residual.ensures.1 (g.met.L.Lists.fails_then _ (λ m. m == c.args.s.now.number) 1 1 _ _ _ (g.met.L.Lists.calm_none (λ m. m == c.args.s.now.number) 1 c.args.lists.now) c.in_err-refuses.ensures.fails)
+    if_that _ _ _ c.from_residual.ensures.1 (g.met.L.Lists.fails_then _ (λ m. m == c.args.s.now.number) 2 0 _ _ _ (g.met.L.Lists.calm_none (λ m. m == c.args.s.now.number) 2 c.args.lists.now) c.in_err-refuses.ensures.fails)
 
 pub returns-then-branch-clause-calm : goal.returns-then-branch-clause-calm
-returns-then-branch-clause-calm g c = g.met.L.Lists.calm_then (λ m. m == c.args.s.now.number) 1 1 _ _ _ c.in_ok-refuses.ensures.calm (g.met.L.Lists.calm_none (λ m. m == c.args.s.now.number) 1 c.refuses.new.lists)
+returns-then-branch-clause-calm g c = g.met.L.Lists.calm_then (λ m. m == c.args.s.now.number) 0 2 _ _ _ c.in_ok-refuses.ensures.calm (g.met.L.Lists.calm_none (λ m. m == c.args.s.now.number) 2 c.refuses.new.lists)
 
 pub returns-in_err-new-clause-fails : goal.returns-in_err-new-clause-fails
 returns-in_err-new-clause-fails g c =
-    if_that _ _ _ c.from_residual-in_err-new.ensures.1 (g.met.L.Lists.fails_then _ (λ m. m == c.args.s.now.number) 1 1 _ _ _ c.in_ok-refuses.ensures.calm c.in_err-new.ensures.fails)
+    if_that _ _ _ c.from_residual-in_err-new.ensures.1 (g.met.L.Lists.fails_then _ (λ m. m == c.args.s.now.number) 1 1 _ _ _ (g.met.L.Lists.calm_then (λ m. m == c.args.s.now.number) 0 1 _ _ _ c.in_ok-refuses.ensures.calm (g.met.L.Lists.calm_none (λ m. m == c.args.s.now.number) 1 c.refuses.new.lists)) c.in_err-new.ensures.fails)
 
 pub returns-clause-calm : goal.returns-clause-calm
-returns-clause-calm g c = g.met.L.Lists.calm_then (λ m. m == c.args.s.now.number) 1 1 _ _ _ c.in_ok-refuses.ensures.calm c.in_ok-new.ensures.calm
+returns-clause-calm g c = g.met.L.Lists.calm_then (λ m. m == c.args.s.now.number) 1 1 _ _ _ (g.met.L.Lists.calm_then (λ m. m == c.args.s.now.number) 0 1 _ _ _ c.in_ok-refuses.ensures.calm (g.met.L.Lists.calm_none (λ m. m == c.args.s.now.number) 1 c.refuses.new.lists)) c.in_ok-new.ensures.calm
 
 pub returns-clause-made : goal.returns-clause-made
 returns-clause-made g c xs h =

@@ -1,6 +1,9 @@
 use Rattle.std.proofs.Common.{sym, ap, ◌∙◌, length, subst}
 use Rattle.std.specs.Prelude.{IfErr}
 use Rattle.dms_desc.specs.Shape.{shape_of}
+use Rattle.dms_lists.specs.declared.form.ListForm.{ListForm}
+use Rattle.dms_lists.specs.FormLaws.{manual_form}
+use Rattle.dms_lists.specs.Forms.{form_of}
 use Rattle.dms_sets.specs.Changes.{IsEntryWidth, IfListed}
 use Rattle.dms_sets.specs.ChangeLaws.{entry_whole, entry_long}
 use Rattle.dms_manual.specs.EnteringLaws.{both_ok, taken_given}
@@ -20,4 +23,6 @@ pub returns-in-Some-clause-below : goal.returns-in-Some-clause-below
 returns-in-Some-clause-below g c =
     let is = sym c.in_ok-entry.ensures ∙ c.in-Some.is in
     let long = entry_long c.args.kinds.now (shape_of c.args.s.now) c.args.number c.args.rec.now _ c.requires.fits is in
-    subst (λ v. IfErr c.remove.result (λ e. IfListed (g.L.Lists.listed c.args.lists.now c.args.s.now.number v) (λ xs. g.L.Lists.below e c.args.lists.now c.remove.new.self))) (ap length c.as_slice.ensures ∙ long) c.remove.ensures.below
+    let s = shape_of c.args.s.now in
+    subst (λ v. IfErr c.remove.result (λ e. IfListed (g.L.Lists.listed c.args.lists.now s.number (form_of s) v) (λ xs. g.L.Lists.below e c.args.lists.now c.remove.new.self))) (ap length c.as_slice.ensures ∙ long)
+    (subst (λ (f : ListForm). IfErr c.remove.result (λ e. IfListed (g.L.Lists.listed c.args.lists.now s.number f (length c.as_slice.result.now)) (λ xs. g.L.Lists.below e c.args.lists.now c.remove.new.self))) (sym (manual_form s c.requires.kind)) c.remove.ensures.below)

@@ -9,7 +9,7 @@ use Rattle.dms_sets.specs.Sets.{kinds_over}
 use Rattle.dms_sets.proofs.Faults.{if_that}
 use Rattle.dms_sets.proofs.Turns.{low_at, shape_at, shapes_long}
 use Rattle.dms_manual.specs.Entered.{manual_of}
-use Rattle.dms_manual.specs.Naming.{NoneUpto, entered_none, entered_one, has_manual, is_manual_over, kinds_are, none_more, none_skip, number_manual, shown_in}
+use Rattle.dms_manual.specs.Naming.{NoneUpto, entered_none, entered_one, has_manual, is_manual_over, kinds_are, manual_list, manual_listed, none_more, none_skip, number_manual, shown_in}
 use Rattle.dms_manual.proofs.naming.is_entered.Goals as goal
 use Rattle.dms_manual.proofs.naming.is_entered.Goals.{then-is_manual_over+in_ok-names_record+else-branch, else-is_manual_over}
 
@@ -44,12 +44,12 @@ returns-in_err-names_record-clause-below g c =
     let desc = as_described c.args.desc.now in
     let over : is_manual_over s c.args.set ≡ true = sym c.is_manual_over.ensures ∙ c.if-is_manual_over.true in
     let kinds : c.as_slice.result.now ≡ kinds_over desc s = c.as_slice.ensures.value ∙ c.in_ok-kinds.ensures ∙ ap kinds_of c.items_of.ensures ∙ sym (kinds_are desc s c.args.set over) in
-    let below : IfListed (list_of_set (g.L.Lists.listed c.loop-s.lists) (kinds_over desc s) s) (λ xs. g.L.Lists.below c.in_err-names_record.field-0.0 c.loop-s.lists c.names_record.new.lists) =
-    subst (λ ks. IfListed (list_of_set (g.L.Lists.listed c.loop-s.lists) ks s) (λ xs. g.L.Lists.below c.in_err-names_record.field-0.0 c.loop-s.lists c.names_record.new.lists)) kinds c.in_err-names_record.ensures.below in
+    let below : IfListed (manual_list (g.L.Lists.listed c.loop-s.lists) (kinds_over desc s) s) (λ xs. g.L.Lists.below c.in_err-names_record.field-0.0 c.loop-s.lists c.names_record.new.lists) =
+    subst (λ ks. IfListed (manual_list (g.L.Lists.listed c.loop-s.lists) ks s) (λ xs. g.L.Lists.below c.in_err-names_record.field-0.0 c.loop-s.lists c.names_record.new.lists)) kinds c.in_err-names_record.ensures.below in
     if_that _ _ _ c.from_residual-in_err-names_record.ensures.1
     (λ db stands are.
     g.met.L.Lists.below_then _ q c.loop-s.s-index _ _ _ c.loop-s.invariant.1
-    (below (manual_of desc db s) (ap (λ ls. list_of_set ls (kinds_over desc s) s) c.loop-s.invariant.2 ∙ are c.loop-s.s-index s at over)))
+    (below (manual_of desc db s) (manual_listed s c.args.set over (g.L.Lists.listed c.loop-s.lists) (kinds_over desc s) ∙ ap (λ ls. list_of_set ls (kinds_over desc s) s) c.loop-s.invariant.2 ∙ are c.loop-s.s-index s at over)))
 
 pub returns-then-branch-clause-answer : goal.returns-then-branch-clause-answer
 returns-then-branch-clause-answer g c db stands are =
