@@ -1,0 +1,3 @@
+pub mod Restores
+pub mod RollbackDoes
+pub mod RebuildDoes

@@ -1,0 +1,191 @@
+//! A database is restored, over a site of which no other file than the audit's and the structures' is written meanwhile.
+
+ghost use Rattle.std.specs.Prelude.{◌≡◌, ◌≤◌, ℕ, IfOk, IfErr, IsTrue};
+ghost use Rattle.dms_audfile.specs.Counting.{CountedAt};
+ghost use Rattle.dms_opening.specs.Openings.{IsTrailFound};
+ghost use Rattle.dms_recovery.specs.Wanting.{chosen_point};
+ghost use Rattle.dms_runtop.specs.Command.{KeepsTrail};
+ghost use Rattle.dms_runtop.specs.Full.{HasNoRoom};
+ghost use Rattle.dms_runtop.specs.Guard.{StaysBeside};
+ghost use Rattle.dms_statelaws.specs.SiteLaws.{RollsSince, RollsEnd, RebuildsSince, RebuildsEnd};
+ghost use Rattle.dms_goback.specs.Restores.{IsOfRestoring, IsRestoreRefused, NeverRefusesRestore};
+
+use dms_opening::Found;
+use dms_recovery::{Recovered, Wanted, rebuild, roll_back};
+use dms_runtop::{RunSite, status_of_open};
+use dms_site::Site;
+use dms_status::Status;
+use std::alloc::Global;
+use std::marker::{Brand, PhantomData};
+
+/// Rolls a database back to a point, and names the status where that fails.
+fn roll_within<S: Site>(alloc: Global, site: S, point: u64) -> Result<Recovered<S>, (Status, S)>
+    ensures moments { IfOk result (λ r. IsTrue S.tells → RollsSince S.Site site r.site point) }
+    ensures stopped { IfErr result (λ e. IsTrue S.tells → RollsSince S.Site site e.1 point) }
+    ensures ends { IfOk result (λ r. IsTrue S.tells → RollsEnd S.Site site r.site point) }
+    ensures trail { IfOk result (λ r. IsTrue S.tells → KeepsTrail S.Site site r.site) }
+    ensures trail_then { IfErr result (λ e. IsTrue S.tells → KeepsTrail S.Site site e.1) }
+    ensures refused { IfErr result (λ e. IsTrue S.tells → IsRestoreRefused S.Site (Wanted.Rollback point) site e.1 e.0) }
+    ensures complete { IfErr result (λ e. IsTrue S.tells → NeverRefusesRestore (Wanted.Rollback point) (S.files site) e.0) }
+    ensures full { IfErr result (λ e. HasNoRoom S.Site site e.1 e.0) }
+    ensures statuses { IfErr result (λ e. IsOfRestoring e.0) }
+    ensures same { IfOk result (λ r. S.same_site site r.site) }
+    ensures same_then { IfErr result (λ e. S.same_site site e.1) }
+    ensures said { IfOk result (λ r. S.said r.site ≡ S.said site) }
+    ensures said_then { IfErr result (λ e. S.said e.1 ≡ S.said site) }
+    ensures clean { IfOk result (λ r. (S.disk_faults r.site ≡ S.disk_faults site) × (S.say_faults r.site ≡ S.say_faults site)) }
+    ensures disk { IfErr result (λ e. CountedAt (e.0 ≡ Status.DiskFault) (S.disk_faults site) (S.disk_faults e.1)) }
+    ensures say_faults { IfErr result (λ e. S.say_faults e.1 ≡ S.say_faults site) }
+{
+    match roll_back(alloc, Found { site }, point) {
+        Ok(recovered) => Ok(recovered),
+        Err((fault, site)) => Err((status_of_open(fault), site)),
+    }
+}
+
+/// Rebuilds a database from a dump, and names the status where that fails.
+fn rebuild_within<S: Site>(
+    alloc: Global,
+    site: S,
+    dump: u16,
+    point: Option<u64>,
+) -> Result<Recovered<S>, (Status, S)>
+    requires some { 1 ≤ dump }
+    requires few { dump ≤ 9999 }
+    ensures moments { IfOk result (λ r. IsTrue S.tells → RebuildsSince S.Site site r.site dump point) }
+    ensures stopped { IfErr result (λ e. IsTrue S.tells → RebuildsSince S.Site site e.1 dump point) }
+    ensures ends { IfOk result (λ r. IsTrue S.tells → RebuildsEnd S.Site site r.site dump point) }
+    ensures point { IfOk result (λ r. IsTrue S.tells → (total first : ℕ) → IsTrailFound total first (S.files site) → r.point ≡ chosen_point total first (S.files site) point) }
+    ensures trail { IfOk result (λ r. IsTrue S.tells → KeepsTrail S.Site site r.site) }
+    ensures trail_then { IfErr result (λ e. IsTrue S.tells → KeepsTrail S.Site site e.1) }
+    ensures refused { IfErr result (λ e. IsTrue S.tells → IsRestoreRefused S.Site (Wanted.Rebuild dump point) site e.1 e.0) }
+    ensures complete { IfErr result (λ e. IsTrue S.tells → NeverRefusesRestore (Wanted.Rebuild dump point) (S.files site) e.0) }
+    ensures full { IfErr result (λ e. HasNoRoom S.Site site e.1 e.0) }
+    ensures statuses { IfErr result (λ e. IsOfRestoring e.0) }
+    ensures same { IfOk result (λ r. S.same_site site r.site) }
+    ensures same_then { IfErr result (λ e. S.same_site site e.1) }
+    ensures said { IfOk result (λ r. S.said r.site ≡ S.said site) }
+    ensures said_then { IfErr result (λ e. S.said e.1 ≡ S.said site) }
+    ensures clean { IfOk result (λ r. (S.disk_faults r.site ≡ S.disk_faults site) × (S.say_faults r.site ≡ S.say_faults site)) }
+    ensures disk { IfErr result (λ e. CountedAt (e.0 ≡ Status.DiskFault) (S.disk_faults site) (S.disk_faults e.1)) }
+    ensures say_faults { IfErr result (λ e. S.say_faults e.1 ≡ S.say_faults site) }
+{
+    match rebuild(alloc, Found { site }, dump, point) {
+        Ok(recovered) => Ok(recovered),
+        Err((fault, site)) => Err((status_of_open(fault), site)),
+    }
+}
+
+/// The site below a guarded one that was restored.
+fn bared<S: Site>(recovered: Recovered<RunSite<S, Brand>>) -> Recovered<S>
+    ensures site { result.site ≡ recovered.site.site }
+    ensures point { result.point ≡ recovered.point }
+{
+    let Recovered { site, point } = recovered;
+    let RunSite {
+        site,
+        refused: _,
+        by: _by,
+    } = site;
+    Recovered { site, point }
+}
+
+/// Rolls a database back to a point, where no other file than the audit's and the structures' is written.
+pub(crate) fn roll_guarded<S: Site>(
+    alloc: Global,
+    site: S,
+    point: u64,
+) -> Result<Recovered<S>, (Status, S)>
+    ensures moments { IfOk result (λ r. IsTrue S.tells → RollsSince S.Site site r.site point) }
+    ensures stopped { IfErr result (λ e. IsTrue S.tells → RollsSince S.Site site e.1 point) }
+    ensures ends { IfOk result (λ r. IsTrue S.tells → RollsEnd S.Site site r.site point) }
+    ensures trail { IfOk result (λ r. IsTrue S.tells → KeepsTrail S.Site site r.site) }
+    ensures trail_then { IfErr result (λ e. IsTrue S.tells → KeepsTrail S.Site site e.1) }
+    ensures beside { IfOk result (λ r. StaysBeside S.Site site r.site) }
+    ensures beside_then { IfErr result (λ e. StaysBeside S.Site site e.1) }
+    ensures refused { IfErr result (λ e. IsTrue S.tells → IsRestoreRefused S.Site (Wanted.Rollback point) site e.1 e.0) }
+    ensures complete { IfErr result (λ e. IsTrue S.tells → NeverRefusesRestore (Wanted.Rollback point) (S.files site) e.0) }
+    ensures full { IfErr result (λ e. HasNoRoom S.Site site e.1 e.0) }
+    ensures statuses { IfErr result (λ e. IsOfRestoring e.0) }
+    ensures same { IfOk result (λ r. S.same_site site r.site) }
+    ensures same_then { IfErr result (λ e. S.same_site site e.1) }
+    ensures said { IfOk result (λ r. S.said r.site ≡ S.said site) }
+    ensures said_then { IfErr result (λ e. S.said e.1 ≡ S.said site) }
+    ensures clean { IfOk result (λ r. (S.disk_faults r.site ≡ S.disk_faults site) × (S.say_faults r.site ≡ S.say_faults site)) }
+    ensures disk { IfErr result (λ e. CountedAt (e.0 ≡ Status.DiskFault) (S.disk_faults site) (S.disk_faults e.1)) }
+    ensures say_faults { IfErr result (λ e. S.say_faults e.1 ≡ S.say_faults site) }
+{
+    let by: PhantomData<Brand> = PhantomData;
+    let guarded = RunSite {
+        site,
+        refused: 0,
+        by,
+    };
+    match roll_within(alloc, guarded, point) {
+        Ok(recovered) => Ok(bared(recovered)),
+        Err((status, guarded)) => {
+            let RunSite {
+                site,
+                refused,
+                by: _by,
+            } = guarded;
+            // No restore comes to a call that is refused: nothing below writes such a file.
+            if refused > 0 {
+                return Err((Status::Memory, site));
+            }
+            Err((status, site))
+        }
+    }
+}
+
+/// Rebuilds a database from a dump, where no other file than the audit's and the structures' is written.
+pub(crate) fn rebuild_guarded<S: Site>(
+    alloc: Global,
+    site: S,
+    dump: u16,
+    point: Option<u64>,
+) -> Result<Recovered<S>, (Status, S)>
+    requires some { 1 ≤ dump }
+    requires few { dump ≤ 9999 }
+    ensures moments { IfOk result (λ r. IsTrue S.tells → RebuildsSince S.Site site r.site dump point) }
+    ensures stopped { IfErr result (λ e. IsTrue S.tells → RebuildsSince S.Site site e.1 dump point) }
+    ensures ends { IfOk result (λ r. IsTrue S.tells → RebuildsEnd S.Site site r.site dump point) }
+    ensures point { IfOk result (λ r. IsTrue S.tells → (total first : ℕ) → IsTrailFound total first (S.files site) → r.point ≡ chosen_point total first (S.files site) point) }
+    ensures trail { IfOk result (λ r. IsTrue S.tells → KeepsTrail S.Site site r.site) }
+    ensures trail_then { IfErr result (λ e. IsTrue S.tells → KeepsTrail S.Site site e.1) }
+    ensures beside { IfOk result (λ r. StaysBeside S.Site site r.site) }
+    ensures beside_then { IfErr result (λ e. StaysBeside S.Site site e.1) }
+    ensures refused { IfErr result (λ e. IsTrue S.tells → IsRestoreRefused S.Site (Wanted.Rebuild dump point) site e.1 e.0) }
+    ensures complete { IfErr result (λ e. IsTrue S.tells → NeverRefusesRestore (Wanted.Rebuild dump point) (S.files site) e.0) }
+    ensures full { IfErr result (λ e. HasNoRoom S.Site site e.1 e.0) }
+    ensures statuses { IfErr result (λ e. IsOfRestoring e.0) }
+    ensures same { IfOk result (λ r. S.same_site site r.site) }
+    ensures same_then { IfErr result (λ e. S.same_site site e.1) }
+    ensures said { IfOk result (λ r. S.said r.site ≡ S.said site) }
+    ensures said_then { IfErr result (λ e. S.said e.1 ≡ S.said site) }
+    ensures clean { IfOk result (λ r. (S.disk_faults r.site ≡ S.disk_faults site) × (S.say_faults r.site ≡ S.say_faults site)) }
+    ensures disk { IfErr result (λ e. CountedAt (e.0 ≡ Status.DiskFault) (S.disk_faults site) (S.disk_faults e.1)) }
+    ensures say_faults { IfErr result (λ e. S.say_faults e.1 ≡ S.say_faults site) }
+{
+    let by: PhantomData<Brand> = PhantomData;
+    let guarded = RunSite {
+        site,
+        refused: 0,
+        by,
+    };
+    match rebuild_within(alloc, guarded, dump, point) {
+        Ok(recovered) => Ok(bared(recovered)),
+        Err((status, guarded)) => {
+            let RunSite {
+                site,
+                refused,
+                by: _by,
+            } = guarded;
+            // No restore comes to a call that is refused: nothing below writes such a file.
+            if refused > 0 {
+                return Err((Status::Memory, site));
+            }
+            Err((status, site))
+        }
+    }
+}

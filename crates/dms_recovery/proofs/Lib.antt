@@ -1,0 +1,13 @@
+pub mod Cut
+pub mod Found
+pub mod Beginning
+pub mod Orders
+pub mod Ended
+pub mod Rounds
+pub mod Seen
+pub mod Looked
+pub mod Answered
+pub mod Rolled
+pub mod Twice
+pub mod Behind
+pub mod Missing

@@ -1,0 +1,6 @@
+pub mod Standing
+pub mod Dumps
+pub mod Stopping
+pub mod Statements
+pub mod Laws
+pub mod SiteLaws
