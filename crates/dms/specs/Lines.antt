@@ -11,7 +11,7 @@ use Rattle.dms_status.specs.declared.status.LimitKind.TheVariants.{AuditFile, Li
 use Rattle.dms_status.specs.declared.status.SchemaFault.{SchemaFault}
 use Rattle.dms_status.specs.declared.status.SchemaFault.TheVariants.{Parse, Compile}
 use Rattle.dms_status.specs.declared.status.Status.{Status}
-use Rattle.dms_status.specs.declared.status.Status.TheVariants.{Ok, BadWords, SchemaRefused, NoDatabase, Needed, DiskFault, InputFault, Memory, Limit, Damaged, SayFault, Exists}
+use Rattle.dms_status.specs.declared.status.Status.TheVariants.{Ok, BadWords, SchemaRefused, NoDatabase, Needed, DiskFault, InputFault, Memory, Limit, Damaged, SayFault, Exists, BadStatement}
 use Rattle.dms_status.specs.declared.status.NeedFault.{NeedFault}
 use Rattle.dms_status.specs.declared.status.NeedFault.TheVariants.{NoDescription, AuditMissing, AuditUnsealed, AuditForeign, NoSuchPoint, Voided, DumpMissing, DumpUnsealed, DumpLater}
 
@@ -83,6 +83,7 @@ status_lines (Limit kind) = line (limit_words kind)
 status_lines (Damaged f b) = line (around_number (codes "file ") f (around_number (codes " block ") b (codes " damaged")))
 status_lines SayFault = line (codes "output fault")
 status_lines Exists = line (codes "exists already")
+status_lines (BadStatement p) = line (around_number (codes "bad statement at ") p [])
 
 -- what is said of each ending
 abbrev pub lines_of : Ending → List ℕ

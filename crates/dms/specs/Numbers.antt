@@ -3,7 +3,7 @@ use Rattle.std.specs.Prelude.{ℕ}
 use Rattle.dms.specs.declared.texts.Ending.{Ending}
 use Rattle.dms.specs.declared.texts.Ending.TheVariants.{Command, InUse}
 use Rattle.dms_status.specs.declared.status.Status.{Status}
-use Rattle.dms_status.specs.declared.status.Status.TheVariants.{Ok, BadWords, SchemaRefused, NoDatabase, Needed, DiskFault, InputFault, Memory, Limit, Damaged, SayFault, Exists}
+use Rattle.dms_status.specs.declared.status.Status.TheVariants.{Ok, BadWords, SchemaRefused, NoDatabase, Needed, DiskFault, InputFault, Memory, Limit, Damaged, SayFault, Exists, BadStatement}
 
 -- the number of each status
 abbrev pub status_number : Status → ℕ
@@ -19,6 +19,7 @@ status_number (Limit l) = 8
 status_number (Damaged f b) = 9
 status_number SayFault = 10
 status_number Exists = 11
+status_number (BadStatement p) = 12
 
 -- the number of each ending: a folder in use counts as a fault of the disk
 abbrev pub number_of : Ending → ℕ

@@ -65,7 +65,10 @@ impl fmt::Display for Advice {
                 "dms: standard output is a file of a database; print to another place\n",
             ),
             Ending::Command(Status::Exists) => {
-                f.write_str("dms: make another database in another folder\n")
+                f.write_str("dms: take another folder, or for a dump another number\n")
+            }
+            Ending::Command(Status::BadStatement(_)) => {
+                f.write_str("dms: the statements are in docs/GUIDE.md, Dumps\n")
             }
             Ending::Command(_) => Ok(()),
         }

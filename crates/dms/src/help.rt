@@ -6,6 +6,7 @@ usage: dms try < FILE
        dms compile < FILE
        dms initialize [TAG]
        dms run < FILE
+       dms utility < FILE
        dms print audit
        dms COMMAND --help
        dms --help
@@ -65,6 +66,19 @@ const RUN: &str = "\
 
 const RUN_STATUSES: &str = "Statuses: 0, 3 to 10. See dms --help.\n";
 
+const UTILITY_USAGE: &str = "usage: dms utility < FILE\n\n";
+
+const UTILITY: &str = "\
+\x20 utility    one statement, as DUMP TO 1
+             DUMP TO d opens the database in the current folder, as run does,
+             and writes a copy of its blocks, dump d, a number from 1 to 9999,
+             to a file of its own: dump 1 to F20001.DMS. A dump that is there
+             already is not written over.
+
+";
+
+const UTILITY_STATUSES: &str = "Statuses: 0, 3 to 12. See dms --help.\n";
+
 const PRINT_AUDIT_USAGE: &str = "usage: dms print audit\n\n";
 
 const PRINT_AUDIT: &str = "\
@@ -93,7 +107,8 @@ stand what helps: the place in the text, what the system said, or what to do.
    8  the script is too long, or holds too many lines, or the audit is full
    9  a block of an audit file or of a structure file is damaged
   10  printing failed
-  11  the description or the database is there already
+  11  the description, the database or the dump is there already
+  12  the statement is bad
 
 The guide is docs/GUIDE.md in the repository of the program, and examples for
 try are in the folder examples there.
@@ -103,11 +118,12 @@ try are in the folder examples there.
 pub const VERSION: &str = "dms 0.1.0\n";
 
 /// The commands in the order of the help.
-pub const TOPICS: [Topic; 5] = [
+pub const TOPICS: [Topic; 6] = [
     Topic::Try,
     Topic::Compile,
     Topic::Initialize,
     Topic::Run,
+    Topic::Utility,
     Topic::PrintAudit,
 ];
 
@@ -118,6 +134,7 @@ pub fn usage_of(topic: Topic) -> &'static str {
         Topic::Compile => COMPILE_USAGE,
         Topic::Initialize => INITIALIZE_USAGE,
         Topic::Run => RUN_USAGE,
+        Topic::Utility => UTILITY_USAGE,
         Topic::PrintAudit => PRINT_AUDIT_USAGE,
     }
 }
@@ -129,6 +146,7 @@ pub fn text_of(topic: Topic) -> &'static str {
         Topic::Compile => COMPILE,
         Topic::Initialize => INITIALIZE,
         Topic::Run => RUN,
+        Topic::Utility => UTILITY,
         Topic::PrintAudit => PRINT_AUDIT,
     }
 }
@@ -140,6 +158,7 @@ pub fn statuses_of(topic: Topic) -> &'static str {
         Topic::Compile => COMPILE_STATUSES,
         Topic::Initialize => INITIALIZE_STATUSES,
         Topic::Run => RUN_STATUSES,
+        Topic::Utility => UTILITY_STATUSES,
         Topic::PrintAudit => PRINT_AUDIT_STATUSES,
     }
 }

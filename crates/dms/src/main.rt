@@ -157,11 +157,17 @@ fn run(rt: &HostRuntime, held: &io::Result<HeldStreams>) -> Outcome {
         return Outcome::new(Ending::Command(Status::BadWords));
     };
     match request {
-        Request::Compile | Request::Initialize | Request::PrintAudit | Request::Run
+        Request::Compile
+        | Request::Initialize
+        | Request::PrintAudit
+        | Request::Run
+        | Request::Utility
             if held.is_err() => { Outcome::new(Ending::Command(Status::DiskFault)) }
-        Request::Compile | Request::Initialize | Request::PrintAudit | Request::Run => {
-            call_locked(rt, request, words.as_slice())
-        }
+        Request::Compile
+        | Request::Initialize
+        | Request::PrintAudit
+        | Request::Run
+        | Request::Utility => call_locked(rt, request, words.as_slice()),
         _ if is_database(rt, Stream::Output) => Outcome::new(Ending::Command(Status::SayFault)),
         Request::Try => call_try(rt, words.as_slice()),
         Request::Help => printed(print_help(rt)),

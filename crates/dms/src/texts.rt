@@ -35,6 +35,7 @@ pub fn code_of(ending: &Ending) -> u8
         Ending::Command(Status::Damaged(_, _)) => 9,
         Ending::Command(Status::SayFault) => 10,
         Ending::Command(Status::Exists) => 11,
+        Ending::Command(Status::BadStatement(_)) => 12,
     }
 }
 
@@ -170,6 +171,9 @@ impl fmt::Display for Ending {
             }
             Ending::Command(Status::SayFault) => f.write_str("dms: output fault\n"),
             Ending::Command(Status::Exists) => f.write_str("dms: exists already\n"),
+            Ending::Command(Status::BadStatement(place)) => {
+                writeln!(f, "dms: bad statement at {place}")
+            }
         }
     }
 }

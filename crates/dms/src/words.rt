@@ -1,5 +1,5 @@
 ghost use Rattle.std.specs.Prelude.{◌≡◌, ◌⊎◌, ◌↔◌, IfErr, None, Some, map, string_bytes};
-ghost use Rattle.dms_top.specs.Words.{IsTry, IsCompile, IsPrintAudit, IsRun, IsInitialize, IsCommand};
+ghost use Rattle.dms_top.specs.Words.{IsTry, IsCompile, IsPrintAudit, IsRun, IsUtility, IsInitialize, IsCommand};
 
 use dms_top::{Status, initialize_tag, is_print_audit};
 use std::alloc::Global;
@@ -16,6 +16,7 @@ pub enum Topic {
     Compile,
     Initialize,
     Run,
+    Utility,
     PrintAudit,
 }
 
@@ -32,6 +33,7 @@ pub enum Request {
     /// `print audit`, which reads the files alone.
     PrintAudit,
     Run,
+    Utility,
 }
 
 /// The words behind the program's name. BadWords where one is long or no UTF-8, Memory where memory is refused.
@@ -71,6 +73,7 @@ fn help_topic(words: &[String]) -> Option<Topic> {
             "compile" => Some(Topic::Compile),
             "initialize" => Some(Topic::Initialize),
             "run" => Some(Topic::Run),
+            "utility" => Some(Topic::Utility),
             _ => None,
         },
         [first, second, last]
@@ -87,6 +90,7 @@ pub fn request_of(words: &[String]) -> Option<Request>
     ensures compile_word { result ≡ Some Request.Compile ↔ IsCompile (map string_bytes words.now) }
     ensures print_words { result ≡ Some Request.PrintAudit ↔ IsPrintAudit (map string_bytes words.now) }
     ensures run_word { result ≡ Some Request.Run ↔ IsRun (map string_bytes words.now) }
+    ensures utility_word { result ≡ Some Request.Utility ↔ IsUtility (map string_bytes words.now) }
     ensures initialize_words { result ≡ Some Request.Initialize ↔ IsInitialize (map string_bytes words.now) }
     ensures bad { result ≡ None → IsCommand (map string_bytes words.now) → ⊥ }
 {
@@ -110,6 +114,7 @@ pub fn request_of(words: &[String]) -> Option<Request>
         "try" => Some(Request::Try),
         "compile" => Some(Request::Compile),
         "run" => Some(Request::Run),
+        "utility" => Some(Request::Utility),
         _ => None,
     }
 }

@@ -8,7 +8,7 @@ use Rattle.dms_runner.specs.declared.run.RunFault.TheVariants as run
 use Rattle.dms_status.specs.declared.status.LimitKind.{LimitKind}
 use Rattle.dms_status.specs.declared.status.LimitKind.TheVariants as limit
 use Rattle.dms_status.specs.declared.status.Status.{Status}
-use Rattle.dms_status.specs.declared.status.Status.TheVariants.{Ok, BadWords, SchemaRefused, NoDatabase, Needed, InputFault, Memory, Limit, Damaged, SayFault, DiskFault, Exists}
+use Rattle.dms_status.specs.declared.status.Status.TheVariants.{Ok, BadWords, SchemaRefused, NoDatabase, Needed, InputFault, Memory, Limit, Damaged, SayFault, DiskFault, Exists, BadStatement}
 use Rattle.dms_runtop.specs.Both.{first_of, second_of}
 use Rattle.dms_runtop.specs.Faults.{is_structure_file, damaged_status, run_status}
 use Rattle.dms_runtop.specs.Statuses.{IsOfAuditLimit, IsOfClosing, IsOfScript}
@@ -178,6 +178,7 @@ IsUndone (Damaged f b) = f ≤ 30000
 IsUndone SayFault = ⊥
 IsUndone DiskFault = Unit {0}
 IsUndone Exists = ⊥
+IsUndone (BadStatement p) = ⊥
 
 pub undone_ok : (s : Status) → IsUndone s → s ≡ Ok → ⊥
 undone_ok s undone is = subst IsUndone is undone

@@ -8,7 +8,7 @@ use Rattle.dms_opening.specs.declared.choosing.OpenFault.{OpenFault}
 use Rattle.dms_opening.specs.declared.choosing.OpenFault.TheVariants.{Audit, NoSuchPoint, Voided, DumpMissing, DumpUnsealed, DumpDamaged, DumpLater}
 use Rattle.dms_opening.specs.Openings.{MayHaveWritten, IsNoRefusal}
 use Rattle.dms_status.specs.declared.status.Status.{Status}
-use Rattle.dms_status.specs.declared.status.Status.TheVariants.{Ok, BadWords, SchemaRefused, NoDatabase, Needed, InputFault, Memory, Limit, Damaged, SayFault, DiskFault, Exists}
+use Rattle.dms_status.specs.declared.status.Status.TheVariants.{Ok, BadWords, SchemaRefused, NoDatabase, Needed, InputFault, Memory, Limit, Damaged, SayFault, DiskFault, Exists, BadStatement}
 use Rattle.dms_runtop.specs.Faults.{open_status}
 use Rattle.dms_runtop.specs.Statuses.{IsRefusal, IsOfScript, IsOfRun}
 use Rattle.dms_runtop.proofs.Endings.{damage_is}
@@ -39,6 +39,7 @@ script_refuses (Damaged f b) of is = absurd (omega (arith, of.0, is))
 script_refuses SayFault of is = is
 script_refuses DiskFault of is = is
 script_refuses Exists of is = of
+script_refuses (BadStatement p) of is = of
 
 -- what a script ends with is no refusal
 pub script_no_refusal : (s : Status) → (s ≡ Ok) ⊎ IsOfScript s → IsRefusal s → ⊥
@@ -58,6 +59,7 @@ script_of_run (Damaged f b) of = of.1
 script_of_run SayFault of = tt
 script_of_run DiskFault of = tt
 script_of_run Exists of = of
+script_of_run (BadStatement p) of = of
 
 ok_of_run : IsOfRun Ok
 ok_of_run = tt

@@ -5,7 +5,7 @@ use Rattle.dms_status.specs.declared.status.NeedFault.TheVariants.{NoDescription
 use Rattle.dms_status.specs.declared.status.LimitKind.{LimitKind}
 use Rattle.dms_status.specs.declared.status.LimitKind.TheVariants.{AuditFile, Lines, Bytes, Held}
 use Rattle.dms_status.specs.declared.status.Status.{Status}
-use Rattle.dms_status.specs.declared.status.Status.TheVariants.{Ok, BadWords, SchemaRefused, NoDatabase, Needed, InputFault, Memory, Limit, Damaged, SayFault, DiskFault, Exists}
+use Rattle.dms_status.specs.declared.status.Status.TheVariants.{Ok, BadWords, SchemaRefused, NoDatabase, Needed, InputFault, Memory, Limit, Damaged, SayFault, DiskFault, Exists, BadStatement}
 
 -- the last audit file
 abbrev pub IsOfAuditLimit : LimitKind → Type 0
@@ -28,6 +28,7 @@ IsOfClosing (Damaged f b) = ⊥
 IsOfClosing SayFault = ⊥
 IsOfClosing DiskFault = ⊤
 IsOfClosing Exists = ⊥
+IsOfClosing (BadStatement p) = ⊥
 
 -- what a fault of a script's run ends with
 abbrev pub IsOfScript : Status → Type 0
@@ -43,6 +44,7 @@ IsOfScript (Damaged f b) = (30000 < f) × (f ≤ 30200)
 IsOfScript SayFault = ⊤
 IsOfScript DiskFault = ⊤
 IsOfScript Exists = ⊥
+IsOfScript (BadStatement p) = ⊥
 
 -- what an opening needs and doesn't find
 abbrev pub IsOfOpening : NeedFault → Type 0
@@ -70,6 +72,7 @@ IsOfRun (Damaged f b) = f ≤ 30200
 IsOfRun SayFault = ⊤
 IsOfRun DiskFault = ⊤
 IsOfRun Exists = ⊥
+IsOfRun (BadStatement p) = ⊥
 
 -- the statuses with which an opening alone is refused: no database, a need, or a damaged block that is none of a structure file
 abbrev pub IsRefusal : Status → Type 0
@@ -85,3 +88,4 @@ IsRefusal (Damaged f b) = f ≤ 30000
 IsRefusal SayFault = ⊥
 IsRefusal DiskFault = ⊥
 IsRefusal Exists = ⊥
+IsRefusal (BadStatement p) = ⊥

@@ -70,4 +70,6 @@ pub enum Status {
     DiskFault,
     /// What is to be made is there already.
     Exists,
+    /// The text of a statement is none; this is its first bad place, counted in bytes from 1.
+    BadStatement(u32),
 }

@@ -123,6 +123,12 @@ tag_run ws tag is says = not_some tag (sym (ap initialize_tag is) ∙ says)
     not_some : (tag : ℕ) → None ≡ Some tag → ⊥
     not_some tag e = absurd cc
 
+pub tag_utility : (ws : List (List ℕ)) (tag : ℕ) → ws ≡ codes "utility" ∷ [] → initialize_tag ws ≡ Some tag → ⊥
+tag_utility ws tag is says = not_some tag (sym (ap initialize_tag is) ∙ says)
+  where
+    not_some : (tag : ℕ) → None ≡ Some tag → ⊥
+    not_some tag e = absurd cc
+
 pub same_tag : (o : Option ℕ) (a b : ℕ) → Some a ≡ o → o ≡ Some b → a ≡ b
 same_tag o a b one two = one_of (one ∙ two)
   where

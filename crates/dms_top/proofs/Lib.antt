@@ -14,3 +14,5 @@ pub mod Trying
 pub mod Words
 pub mod WholeInput
 mod Running
+mod Utility
+mod Commands

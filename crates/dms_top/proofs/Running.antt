@@ -1,6 +1,6 @@
 -- The statuses of `run`.
 use Rattle.dms_status.specs.declared.status.Status.{Status}
-use Rattle.dms_status.specs.declared.status.Status.TheVariants.{Ok, BadWords, SchemaRefused, NoDatabase, Needed, InputFault, Memory, Limit, Damaged, SayFault, DiskFault, Exists}
+use Rattle.dms_status.specs.declared.status.Status.TheVariants.{Ok, BadWords, SchemaRefused, NoDatabase, Needed, InputFault, Memory, Limit, Damaged, SayFault, DiskFault, Exists, BadStatement}
 use Rattle.dms_runtop.specs.Statuses.{IsOfRun}
 use Rattle.dms_top.specs.Words.{IsUntouched}
 
@@ -18,3 +18,4 @@ never_untouched (Damaged f b) of is = is
 never_untouched SayFault of is = is
 never_untouched DiskFault of is = is
 never_untouched Exists of is = is
+never_untouched (BadStatement p) of is = of

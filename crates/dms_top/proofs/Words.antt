@@ -74,3 +74,27 @@ compile_no_print ws one two = apart (ap first_byte (sym one ∙ two))
   where
     apart : ◌≡◌ {A = ℕ} 99 112 → ⊥
     apart e = absurd (omega (arith, e))
+
+pub try_no_utility : (ws : List (List ℕ)) → ws ≡ codes "try" ∷ [] → ws ≡ codes "utility" ∷ [] → ⊥
+try_no_utility ws one two = apart (ap first_byte (sym one ∙ two))
+  where
+    apart : ◌≡◌ {A = ℕ} 116 117 → ⊥
+    apart e = absurd (omega (arith, e))
+
+pub compile_no_utility : (ws : List (List ℕ)) → ws ≡ codes "compile" ∷ [] → ws ≡ codes "utility" ∷ [] → ⊥
+compile_no_utility ws one two = apart (ap first_byte (sym one ∙ two))
+  where
+    apart : ◌≡◌ {A = ℕ} 99 117 → ⊥
+    apart e = absurd (omega (arith, e))
+
+pub print_no_utility : (ws : List (List ℕ)) → ws ≡ codes "print" ∷ codes "audit" ∷ [] → ws ≡ codes "utility" ∷ [] → ⊥
+print_no_utility ws one two = apart (ap first_byte (sym one ∙ two))
+  where
+    apart : ◌≡◌ {A = ℕ} 112 117 → ⊥
+    apart e = absurd (omega (arith, e))
+
+pub run_no_utility : (ws : List (List ℕ)) → ws ≡ codes "run" ∷ [] → ws ≡ codes "utility" ∷ [] → ⊥
+run_no_utility ws one two = apart (ap first_byte (sym one ∙ two))
+  where
+    apart : ◌≡◌ {A = ℕ} 114 117 → ⊥
+    apart e = absurd (omega (arith, e))

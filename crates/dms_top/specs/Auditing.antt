@@ -14,7 +14,7 @@ use Rattle.dms_audprint.specs.declared.fault.PrintFault.TheVariants.{Audit, Say}
 use Rattle.dms_status.specs.declared.status.NeedFault.{NeedFault}
 use Rattle.dms_status.specs.declared.status.NeedFault.TheVariants.{NoDescription, AuditMissing, AuditUnsealed, AuditForeign, NoSuchPoint, Voided, DumpMissing, DumpUnsealed, DumpLater}
 use Rattle.dms_status.specs.declared.status.Status.{Status}
-use Rattle.dms_status.specs.declared.status.Status.TheVariants.{Ok, BadWords, SchemaRefused, NoDatabase, Needed, InputFault, Memory, Limit, Damaged, SayFault, DiskFault, Exists}
+use Rattle.dms_status.specs.declared.status.Status.TheVariants.{Ok, BadWords, SchemaRefused, NoDatabase, Needed, InputFault, Memory, Limit, Damaged, SayFault, DiskFault, Exists, BadStatement}
 use Rattle.dms_top.specs.Words.{ComesUnsaid}
 
 -- the need of an audit file
@@ -43,6 +43,7 @@ IsOfPrinting (Damaged f b) = ⊤
 IsOfPrinting SayFault = ⊤
 IsOfPrinting DiskFault = ⊤
 IsOfPrinting Exists = ⊥
+IsOfPrinting (BadStatement p) = ⊥
 
 -- that need is what scanning the trail of these files refuses
 abbrev pub NeedsAudit : Files → NeedFault → Type 0
@@ -70,6 +71,7 @@ JudgesTrail files (Damaged f b) = TrailIs files (damaged f b)
 JudgesTrail files SayFault = ⊤
 JudgesTrail files DiskFault = ⊤
 JudgesTrail files Exists = ⊤
+JudgesTrail files (BadStatement p) = ⊤
 
 -- The status behind printing the audit. Nothing is sealed then, so no file is full; that is told as want of memory.
 abbrev pub audit_status : {T : Type 0} → Result T PrintFault → Status

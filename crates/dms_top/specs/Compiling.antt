@@ -10,7 +10,7 @@ use Rattle.dms_site.specs.declared.source.Source as source
 use Rattle.dms_site.specs.Files.{Files, Left, Only, Same}
 use Rattle.dms_status.specs.declared.status.SchemaFault.{SchemaFault}
 use Rattle.dms_status.specs.declared.status.Status.{Status}
-use Rattle.dms_status.specs.declared.status.Status.TheVariants.{Ok, BadWords, SchemaRefused, NoDatabase, Needed, InputFault, Memory, Limit, Damaged, SayFault, DiskFault, Exists}
+use Rattle.dms_status.specs.declared.status.Status.TheVariants.{Ok, BadWords, SchemaRefused, NoDatabase, Needed, InputFault, Memory, Limit, Damaged, SayFault, DiskFault, Exists, BadStatement}
 use Rattle.dms_top.specs.Judging.{judge_schema}
 use Rattle.dms_top.specs.Premises.{OfInput, OfSchema, OfSealed, OfNoSchema}
 use Rattle.dms_top.specs.Words.{IsOfCompile, IsPast}
@@ -33,6 +33,7 @@ SaysLine (Limit l) line old new = new ≡ old
 SaysLine SayFault line old new = (k : ℕ) × (new ≡ old ++ take k line)
 SaysLine DiskFault line old new = new ≡ old
 SaysLine Exists line old new = new ≡ old
+SaysLine (BadStatement p) line old new = new ≡ old
 
 -- the statuses of `compile` with which something was said, or may have been
 abbrev pub IsSpoken : Status → Type 0
@@ -48,6 +49,7 @@ IsSpoken (Limit l) = ⊥
 IsSpoken SayFault = ⊤
 IsSpoken DiskFault = ⊥
 IsSpoken Exists = ⊥
+IsSpoken (BadStatement p) = ⊥
 
 -- the statuses of `compile` that come before a file is changed
 abbrev pub IsBefore : Status → Type 0
@@ -63,6 +65,7 @@ IsBefore (Limit l) = ⊤
 IsBefore SayFault = ⊥
 IsBefore DiskFault = ⊥
 IsBefore Exists = ⊤
+IsBefore (BadStatement p) = ⊤
 
 -- the statuses of the work on the description file
 abbrev pub IsOfFile : Status → Type 0
@@ -78,6 +81,7 @@ IsOfFile (Limit l) = ⊥
 IsOfFile SayFault = ⊤
 IsOfFile DiskFault = ⊤
 IsOfFile Exists = ⊤
+IsOfFile (BadStatement p) = ⊥
 
 -- Each outcome that a stop on the way left is one that it could leave at the old moment, or there the description file is no
 -- sealed description, or exactly that of some description, and the other files are these.

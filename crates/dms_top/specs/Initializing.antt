@@ -9,7 +9,7 @@ use Rattle.dms_site.specs.Files.{Only, Same}
 use Rattle.dms_status.specs.declared.status.NeedFault.{NeedFault}
 use Rattle.dms_status.specs.declared.status.NeedFault.TheVariants.{NoDescription, AuditMissing, AuditUnsealed, AuditForeign, NoSuchPoint, Voided, DumpMissing, DumpUnsealed, DumpLater}
 use Rattle.dms_status.specs.declared.status.Status.{Status}
-use Rattle.dms_status.specs.declared.status.Status.TheVariants.{Ok, BadWords, SchemaRefused, NoDatabase, Needed, InputFault, Memory, Limit, Damaged, SayFault, DiskFault, Exists}
+use Rattle.dms_status.specs.declared.status.Status.TheVariants.{Ok, BadWords, SchemaRefused, NoDatabase, Needed, InputFault, Memory, Limit, Damaged, SayFault, DiskFault, Exists, BadStatement}
 use Rattle.dms_top.specs.Compiling.{IsBefore, IsSpoken, SaysLine}
 use Rattle.dms_top.specs.Premises.{OfSealed}
 use Rattle.dms_top.specs.State.{BecomesNewSite, StandsNew}
@@ -43,6 +43,7 @@ IsOfCreation (Damaged f b) = ⊥
 IsOfCreation SayFault = ⊤
 IsOfCreation DiskFault = ⊤
 IsOfCreation Exists = ⊤
+IsOfCreation (BadStatement p) = ⊥
 
 -- What `initialize` with this tag promises of a site before and after it, and of the status.
 pub record InitializeDoes {S : Type 0} (g : Ghosts S) (tag : ℕ) (old new : S) (status : Status) : Type 0 where

@@ -1,5 +1,5 @@
 -- What the clauses of the commands are said of: the words of the command, the input, and the counts of failures.
-use Rattle.std.specs.Prelude.{ℕ, ◌≡◌, List, Some, map}
+use Rattle.std.specs.Prelude.{ℕ, ◌≡◌, ◌⊎◌, List, Some, map}
 use Rattle.std.specs.String.{string_bytes}
 use Rattle.std.specs.declared.string.String.{String}
 use Rattle.std.specs.declared.alloc.Global.{Global}
@@ -12,7 +12,7 @@ use Rattle.dms_site.specs.Files.{Files}
 use Rattle.dms_status.specs.declared.status.SchemaFault.{SchemaFault}
 use Rattle.dms_top.specs.Judging.{judge_schema}
 use Rattle.dms_top.specs.Schema.{schema_text}
-use Rattle.dms_top.specs.Words.{IsTry, IsCompile, IsPrintAudit, IsReading, IsRun, initialize_tag}
+use Rattle.dms_top.specs.Words.{IsTry, IsCompile, IsPrintAudit, IsReading, IsRun, IsUtility, initialize_tag}
 
 -- it holds where the words are those of `try`
 abbrev pub OnTry : List (String Global) → Type 0 → Type 0
@@ -30,9 +30,13 @@ OnPrintAudit words P = IsPrintAudit (map string_bytes words) → P
 abbrev pub OnRun : List (String Global) → Type 0 → Type 0
 OnRun words P = IsRun (map string_bytes words) → P
 
--- it holds where the words are not those of `run`
+-- it holds where the words are those of `utility`
+abbrev pub OnUtility : List (String Global) → Type 0 → Type 0
+OnUtility words P = IsUtility (map string_bytes words) → P
+
+-- it holds where the words are neither those of `run` nor those of `utility`
 abbrev pub OnOthers : List (String Global) → Type 0 → Type 0
-OnOthers words P = (IsRun (map string_bytes words) → ⊥) → P
+OnOthers words P = (IsRun (map string_bytes words) ⊎ IsUtility (map string_bytes words) → ⊥) → P
 
 -- it holds of the tag that the words say, where they are those of `initialize`
 abbrev pub OnInitialize : List (String Global) → (ℕ → Type 0) → Type 0

@@ -4,7 +4,7 @@ use Rattle.std.specs.Str.{bytes_eq}
 use Rattle.dms_status.specs.declared.status.LimitKind.{LimitKind}
 use Rattle.dms_status.specs.declared.status.LimitKind.TheVariants.{AuditFile, Lines, Bytes, Held}
 use Rattle.dms_status.specs.declared.status.Status.{Status}
-use Rattle.dms_status.specs.declared.status.Status.TheVariants.{Ok, BadWords, SchemaRefused, NoDatabase, Needed, InputFault, Memory, Limit, Damaged, SayFault, DiskFault, Exists}
+use Rattle.dms_status.specs.declared.status.Status.TheVariants.{Ok, BadWords, SchemaRefused, NoDatabase, Needed, InputFault, Memory, Limit, Damaged, SayFault, DiskFault, Exists, BadStatement}
 
 -- the word `try`
 abbrev pub IsTry : List (List ℕ) → Type 0
@@ -22,9 +22,13 @@ IsPrintAudit words = words ≡ codes "print" ∷ codes "audit" ∷ []
 abbrev pub IsRun : List (List ℕ) → Type 0
 IsRun words = words ≡ codes "run" ∷ []
 
+-- the word `utility`
+abbrev pub IsUtility : List (List ℕ) → Type 0
+IsUtility words = words ≡ codes "utility" ∷ []
+
 -- the words of a command that reads its input
 abbrev pub IsReading : List (List ℕ) → Type 0
-IsReading words = IsTry words ⊎ (IsCompile words ⊎ IsRun words)
+IsReading words = IsTry words ⊎ (IsCompile words ⊎ (IsRun words ⊎ IsUtility words))
 
 -- plain digits alone
 abbrev pub are_digits : List ℕ → Bool
@@ -58,7 +62,7 @@ IsInitialize words = IsSome (initialize_tag words)
 
 -- the forms that are built
 abbrev pub IsCommand : List (List ℕ) → Type 0
-IsCommand words = IsTry words ⊎ (IsCompile words ⊎ (IsPrintAudit words ⊎ (IsRun words ⊎ IsInitialize words)))
+IsCommand words = IsTry words ⊎ (IsCompile words ⊎ (IsPrintAudit words ⊎ (IsRun words ⊎ (IsUtility words ⊎ IsInitialize words))))
 
 -- the statuses that come only where the schema was taken
 abbrev pub IsPast : Status → Type 0
@@ -74,6 +78,7 @@ IsPast (Limit l) = ⊤
 IsPast SayFault = ⊤
 IsPast DiskFault = ⊤
 IsPast Exists = ⊤
+IsPast (BadStatement p) = ⊥
 
 -- the statuses that come before anything is printed
 abbrev pub ComesUnsaid : Status → Type 0
@@ -89,6 +94,7 @@ ComesUnsaid (Limit l) = ⊥
 ComesUnsaid SayFault = ⊥
 ComesUnsaid DiskFault = ⊥
 ComesUnsaid Exists = ⊤
+ComesUnsaid (BadStatement p) = ⊤
 
 -- the statuses that come before a call on the site is made
 abbrev pub IsUntouched : Status → Type 0
@@ -104,6 +110,7 @@ IsUntouched (Limit l) = ⊥
 IsUntouched SayFault = ⊥
 IsUntouched DiskFault = ⊥
 IsUntouched Exists = ⊥
+IsUntouched (BadStatement p) = ⊤
 
 -- a limit of the script
 abbrev pub IsOfLines : LimitKind → Type 0
@@ -126,6 +133,7 @@ IsOfTry (Limit l) = IsOfLines l
 IsOfTry SayFault = ⊤
 IsOfTry DiskFault = ⊥
 IsOfTry Exists = ⊥
+IsOfTry (BadStatement p) = ⊥
 
 -- the statuses of `compile`
 abbrev pub IsOfCompile : Status → Type 0
@@ -141,3 +149,4 @@ IsOfCompile (Limit l) = ⊥
 IsOfCompile SayFault = ⊤
 IsOfCompile DiskFault = ⊤
 IsOfCompile Exists = ⊤
+IsOfCompile (BadStatement p) = ⊥

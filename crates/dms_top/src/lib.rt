@@ -15,4 +15,4 @@ mod whole;
 pub use audit_run::is_print_audit;
 pub use dms_status::{LimitKind, NeedFault, SchemaFault, Status};
 pub use tags::initialize_tag;
-pub use top::{dms, is_run};
+pub use top::{dms, is_run, is_utility};

@@ -5,9 +5,10 @@ ghost use Rattle.dms_runtop.specs.RunDoes.{RunDoes};
 ghost use Rattle.dms_top.specs.Auditing.{AuditDoes};
 ghost use Rattle.dms_top.specs.Compiling.{CompileDoes, IsBefore};
 ghost use Rattle.dms_top.specs.Initializing.{InitializeDoes};
-ghost use Rattle.dms_top.specs.Premises.{OnTry, OnCompile, OnInitialize, OnPrintAudit, OnOthers, OnReading, OnRun, OnUnread, OfInput};
+ghost use Rattle.dms_top.specs.Premises.{OnTry, OnCompile, OnInitialize, OnPrintAudit, OnOthers, OnReading, OnRun, OnUnread, OnUtility, OfInput};
 ghost use Rattle.dms_top.specs.Trying.{TryDoes};
-ghost use Rattle.dms_top.specs.Words.{IsTry, IsCompile, IsRun, IsCommand, IsUntouched};
+ghost use Rattle.dms_top.specs.Words.{IsTry, IsCompile, IsRun, IsUtility, IsCommand, IsUntouched};
+ghost use Rattle.dms_utility.specs.UtilityDoes.{UtilityDoes};
 
 use crate::audit_run::{is_print_audit, print_trail};
 use crate::compile_run::compile_input;
@@ -21,6 +22,7 @@ use dms_feed::Feed;
 use dms_runtop::run_command;
 use dms_site::{Site, Source};
 use dms_status::{SchemaFault, Status};
+use dms_utility::utility_command;
 use std::alloc::Global;
 
 fn is_try(words: &[String]) -> bool
@@ -40,6 +42,13 @@ pub fn is_run(words: &[String]) -> bool
     ensures { IsTrue result ↔ IsRun (map string_bytes words.now) }
 {
     words.len() == 1 && words[0].as_str() == "run"
+}
+
+/// Whether the words are `utility`.
+pub fn is_utility(words: &[String]) -> bool
+    ensures { IsTrue result ↔ IsUtility (map string_bytes words.now) }
+{
+    words.len() == 1 && words[0].as_str() == "utility"
 }
 
 /// `try`: reads the text of a schema, a line SCRIPT and the lines of a script, and prints what the lines answer over a
@@ -77,7 +86,8 @@ fn try_input<S: Site, I: Source>(alloc: Global, site: &mut S, input: &mut I) -> 
 }
 
 /// Does what the words say: `try` runs a script over a database in memory, `compile` makes the description file, `initialize`
-/// the empty database of that description, `run` runs a script over that database, and `print audit` prints the entries of its audit.
+/// the empty database of that description, `run` runs a script over that database, `utility` carries out a statement on it, and `print audit`
+/// prints the entries of its audit.
 pub fn dms<S: Site, I: Source>(
     alloc: Global,
     words: &[String],
@@ -98,7 +108,7 @@ pub fn dms<S: Site, I: Source>(
     ensures disk { CountedAt (result ≡ Status.DiskFault) (S.disk_faults site.old) (S.disk_faults site.new) }
     // status 10 comes where printing failed, once, and else that count stays
     ensures say { CountedAt (result ≡ Status.SayFault) (S.say_faults site.old) (S.say_faults site.new) }
-    // at the statuses that come before a file is changed the files are as they were; `run` says below what it does
+    // at the statuses that come before a file is changed the files are as they were; `run` and `utility` say below what they do
     ensures before { OnOthers words.now (IsBefore result → IsTrue S.tells → S.files site.new ≡ S.files site.old) }
     // the site is the one that was lent
     ensures same_site { S.same_site site.old site.new }
@@ -113,6 +123,7 @@ pub fn dms<S: Site, I: Source>(
     ensures compile_does { OnCompile words.now (CompileDoes S.Site I.Source site.old site.new input.old result) }
     ensures initialize_does { OnInitialize words.now (λ tag. InitializeDoes S.Site tag site.old site.new result) }
     ensures audit_does { OnPrintAudit words.now (AuditDoes S.Site site.old site.new result) }
+    ensures utility_does { OnUtility words.now (UtilityDoes S.Site I.Source site.old site.new input.old input.new result) }
     // of the state that is told
     ensures run_does { OnRun words.now (RunDoes S.Site I.Source state site.old site.new input.old input.new result) }
 {
@@ -127,6 +138,9 @@ pub fn dms<S: Site, I: Source>(
     }
     if is_run(words) {
         return run_command(alloc, site, input);
+    }
+    if is_utility(words) {
+        return utility_command(alloc, site, input);
     }
     match initialize_tag(words) {
         Some(tag) => initialize_database(alloc, site, tag),

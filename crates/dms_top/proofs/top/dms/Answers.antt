@@ -1,8 +1,12 @@
-use Rattle.std.proofs.Common.{subst, inl, inr, ℕ}
+use Rattle.std.proofs.Common.{subst, inl, inr, refl, ℕ}
+use Rattle.dms_runtop.specs.Statuses.{IsOfRun}
+use Rattle.dms_utility.specs.Statuses.{IsOfUtility}
 use Rattle.dms_top.specs.Initializing.{InitializeDoes}
-use Rattle.dms_top.proofs.Digits.{no_tag, tag_try, tag_compile, tag_print, tag_run, same_tag}
+use Rattle.dms_top.proofs.Commands.{no_bad_words, of_command, of_none, of_tag, print_unread, tag_unread}
+use Rattle.dms_top.proofs.Digits.{no_tag, tag_try, tag_compile, tag_print, tag_run, tag_utility, same_tag}
 use Rattle.dms_top.proofs.Running.{never_untouched}
-use Rattle.dms_top.proofs.Words.{not_both, try_no_compile, try_no_print, try_no_run, compile_no_print, compile_no_run, print_no_run}
+use Rattle.dms_top.proofs.Utility.{only_read}
+use Rattle.dms_top.proofs.Words.{not_both, try_no_compile, try_no_print, try_no_run, try_no_utility, compile_no_print, compile_no_run, compile_no_utility, print_no_run, print_no_utility, run_no_utility}
 use Rattle.dms_top.proofs.top.dms.Goals as goal
 
 pub returns-then-is_try-clause-untaken : goal.returns-then-is_try-clause-untaken
@@ -12,10 +16,65 @@ pub returns-then-is_compile-clause-untaken : goal.returns-then-is_compile-clause
 returns-then-is_compile-clause-untaken g c = λ unread. absurd (unread (inr (inl (c.is_compile.ensures.0 c.if-is_compile.true))))
 
 pub returns-then-is_run-clause-untaken : goal.returns-then-is_run-clause-untaken
-returns-then-is_run-clause-untaken g c = λ unread. absurd (unread (inr (inr (c.is_run.ensures.0 c.if-is_run.true))))
+returns-then-is_run-clause-untaken g c = λ unread. absurd (unread (inr (inr (inl (c.is_run.ensures.0 c.if-is_run.true)))))
+
+pub returns-then-is_utility-clause-untaken : goal.returns-then-is_utility-clause-untaken
+returns-then-is_utility-clause-untaken g c = λ unread. absurd (unread (inr (inr (inr (c.is_utility.ensures.0 c.if-is_utility.true)))))
 
 pub returns-then-is_run-clause-untouched : goal.returns-then-is_run-clause-untouched
 returns-then-is_run-clause-untouched g c = λ is. absurd (never_untouched c.run_command.result c.run_command.ensures.does.statuses is)
+
+pub returns-then-is_utility-clause-untouched : goal.returns-then-is_utility-clause-untouched
+returns-then-is_utility-clause-untouched g c = λ is. c.utility_command.ensures.does.untouched (only_read c.utility_command.result c.utility_command.ensures.does.statuses is)
+
+pub returns-then-is_run-clause-before : goal.returns-then-is_run-clause-before
+returns-then-is_run-clause-before g c = λ other. absurd (other (inl (c.is_run.ensures.0 c.if-is_run.true)))
+
+pub returns-then-is_utility-clause-before : goal.returns-then-is_utility-clause-before
+returns-then-is_utility-clause-before g c = λ other. absurd (other (inr (c.is_utility.ensures.0 c.if-is_utility.true)))
+
+pub returns-then-is_print_audit-clause-before : goal.returns-then-is_print_audit-clause-before
+returns-then-is_print_audit-clause-before g c = λ other early tells. c.print_trail.ensures.does.files tells
+
+pub returns-then-is_try-clause-before : goal.returns-then-is_try-clause-before
+returns-then-is_try-clause-before g c = λ other early tells. c.try_input.ensures.does.files tells
+
+pub returns-then-is_utility-clause-end : goal.returns-then-is_utility-clause-end
+returns-then-is_utility-clause-end g c = λ reads. c.utility_command.ensures.end
+
+pub returns-then-is_print_audit-clause-end : goal.returns-then-is_print_audit-clause-end
+returns-then-is_print_audit-clause-end g c = λ reads. absurd (print_unread _ (c.is_print_audit.ensures.0 c.if-is_print_audit.true) reads)
+
+pub returns-in-Some-clause-end : goal.returns-in-Some-clause-end
+returns-in-Some-clause-end g c = λ reads. absurd (tag_unread _ c.in-Some.tag c.in-Some.ensures reads)
+
+-- bad words are those of no command
+
+pub returns-then-is_try-clause-words : goal.returns-then-is_try-clause-words
+returns-then-is_try-clause-words g c = of_command _ c.try_input.result c.try_input.ensures.words (inl (c.is_try.ensures.0 c.if-is_try.true))
+
+pub returns-then-is_compile-clause-words : goal.returns-then-is_compile-clause-words
+returns-then-is_compile-clause-words g c = of_command _ c.compile_input.result c.compile_input.ensures.words (inr (inl (c.is_compile.ensures.0 c.if-is_compile.true)))
+
+pub returns-then-is_print_audit-clause-words : goal.returns-then-is_print_audit-clause-words
+returns-then-is_print_audit-clause-words g c = of_command _ c.print_trail.result c.print_trail.ensures.words (inr (inr (inl (c.is_print_audit.ensures.0 c.if-is_print_audit.true))))
+
+pub returns-then-is_run-clause-words : goal.returns-then-is_run-clause-words
+returns-then-is_run-clause-words g c =
+    of_command _ c.run_command.result (no_bad_words IsOfRun c.run_command.result (λ none. none) c.run_command.ensures.does.statuses) (inr (inr (inr (inl (c.is_run.ensures.0 c.if-is_run.true)))))
+
+pub returns-then-is_utility-clause-words : goal.returns-then-is_utility-clause-words
+returns-then-is_utility-clause-words g c =
+    of_command _ c.utility_command.result (no_bad_words IsOfUtility c.utility_command.result (λ none. none) c.utility_command.ensures.does.statuses) (inr (inr (inr (inr (inl (c.is_utility.ensures.0 c.if-is_utility.true))))))
+
+pub returns-in-Some-clause-words : goal.returns-in-Some-clause-words
+returns-in-Some-clause-words g c = of_command _ c.initialize_database.result c.initialize_database.ensures.words (of_tag _ c.in-Some.tag c.in-Some.ensures)
+
+pub returns-in-None-clause-words : goal.returns-in-None-clause-words
+returns-in-None-clause-words g c = (
+  λ bad. of_none _ c.is_try.result c.is_compile.result c.is_print_audit.result c.is_run.result c.is_utility.result c.is_try.ensures.1 c.if-is_try.false c.is_compile.ensures.1 c.if-is_compile.false c.is_print_audit.ensures.1 c.if-is_print_audit.false c.is_run.ensures.1 c.if-is_run.false c.is_utility.ensures.1 c.if-is_utility.false c.in-None.ensures,
+  λ none. refl,
+)
 
 -- the words are those of one command
 
@@ -98,7 +157,45 @@ pub returns-in-Some-clause-initialize_does : goal.returns-in-Some-clause-initial
 returns-in-Some-clause-initialize_does g c tag is =
     subst (λ (t : ℕ). InitializeDoes g.S.Site t c.args.site.now c.initialize_database.new.site c.initialize_database.result) (same_tag _ c.in-Some.tag tag c.in-Some.ensures is) c.initialize_database.ensures.does
 
+pub returns-then-is_try-clause-utility_does : goal.returns-then-is_try-clause-utility_does
+returns-then-is_try-clause-utility_does g c = λ is. absurd (try_no_utility _ (c.is_try.ensures.0 c.if-is_try.true) is)
+
+pub returns-then-is_compile-clause-utility_does : goal.returns-then-is_compile-clause-utility_does
+returns-then-is_compile-clause-utility_does g c = λ is. absurd (compile_no_utility _ (c.is_compile.ensures.0 c.if-is_compile.true) is)
+
+pub returns-then-is_print_audit-clause-utility_does : goal.returns-then-is_print_audit-clause-utility_does
+returns-then-is_print_audit-clause-utility_does g c = λ is. absurd (print_no_utility _ (c.is_print_audit.ensures.0 c.if-is_print_audit.true) is)
+
+pub returns-then-is_run-clause-utility_does : goal.returns-then-is_run-clause-utility_does
+returns-then-is_run-clause-utility_does g c = λ is. absurd (run_no_utility _ (c.is_run.ensures.0 c.if-is_run.true) is)
+
+pub returns-in-Some-clause-utility_does : goal.returns-in-Some-clause-utility_does
+returns-in-Some-clause-utility_does g c = λ is. absurd (not_both c.is_utility.result (c.is_utility.ensures.1 is) c.if-is_utility.false)
+
+pub returns-in-None-clause-utility_does : goal.returns-in-None-clause-utility_does
+returns-in-None-clause-utility_does g c = λ is. absurd (not_both c.is_utility.result (c.is_utility.ensures.1 is) c.if-is_utility.false)
+
+pub returns-then-is_utility-clause-try_does : goal.returns-then-is_utility-clause-try_does
+returns-then-is_utility-clause-try_does g c = λ is. absurd (not_both c.is_try.result (c.is_try.ensures.1 is) c.if-is_try.false)
+
+pub returns-then-is_utility-clause-compile_does : goal.returns-then-is_utility-clause-compile_does
+returns-then-is_utility-clause-compile_does g c = λ is. absurd (not_both c.is_compile.result (c.is_compile.ensures.1 is) c.if-is_compile.false)
+
+pub returns-then-is_utility-clause-audit_does : goal.returns-then-is_utility-clause-audit_does
+returns-then-is_utility-clause-audit_does g c = λ is. absurd (not_both c.is_print_audit.result (c.is_print_audit.ensures.1 is) c.if-is_print_audit.false)
+
+pub returns-then-is_utility-clause-run_does : goal.returns-then-is_utility-clause-run_does
+returns-then-is_utility-clause-run_does g c = λ is. absurd (not_both c.is_run.result (c.is_run.ensures.1 is) c.if-is_run.false)
+
+pub returns-then-is_utility-clause-initialize_does : goal.returns-then-is_utility-clause-initialize_does
+returns-then-is_utility-clause-initialize_does g c = λ tag is. absurd (tag_utility _ tag (c.is_utility.ensures.0 c.if-is_utility.true) is)
+
 -- `run`
 
 pub returns-then-is_run-clause-run_does : goal.returns-then-is_run-clause-run_does
 returns-then-is_run-clause-run_does g c = λ is. c.run_command.ensures.does
+
+-- `utility`
+
+pub returns-then-is_utility-clause-utility_does : goal.returns-then-is_utility-clause-utility_does
+returns-then-is_utility-clause-utility_does g c = λ is. c.utility_command.ensures.does

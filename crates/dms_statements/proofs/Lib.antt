@@ -1,0 +1,2 @@
+pub mod LongNumbers
+pub mod RowTurns
