@@ -1,7 +1,7 @@
-ghost use Rattle.std.specs.Prelude.{◌≡◌, ⊤, IfErr, IfOk, IsTrue, Some, [], refl};
+ghost use Rattle.std.specs.Prelude.{◌≡◌, ⊤, length, IfErr, IfOk, IsTrue, Some, [], refl};
 ghost use Rattle.std.proofs.Common.{◌∙◌};
 ghost use Rattle.dms_desc.specs.Shape.{as_described};
-ghost use Rattle.dms_model.specs.Db.{empty_db};
+ghost use Rattle.dms_model.specs.Db.{Db, empty_db, records_of};
 ghost use Rattle.dms_model.specs.Seen.{Starts};
 ghost use Rattle.std.proofs.Props.{props};
 ghost use Rattle.dms_plain.specs.Props.{RowsFit-prop};
@@ -9,7 +9,7 @@ ghost use Rattle.dms_plain.specs.Rows.{RowsFit, db_of, records_in, undo_all, IsI
 ghost use Rattle.dms_plain.specs.Speaking.{OnlySpeaks, only_none, only_on};
 ghost use Rattle.dms_plain.specs.Told.{text_if, point_of, no_clock};
 
-use crate::rows::{RecordRow, Undo};
+use crate::rows::{self, RecordRow, Undo};
 use crate::state;
 use dms_base::Memory;
 use dms_block::BlockFault;
@@ -66,6 +66,20 @@ impl<S: Site> PlainStore<S> {
         ensures { result.now ≡ self.now.desc }
     {
         &self.desc
+    }
+
+    /// The number that the next quiet point gets.
+    pub fn next_number(&self) -> u64
+        ensures { result ≡ (⟦<PlainStore<S> as Store>⟧.seen self.now).next }
+    {
+        self.next
+    }
+
+    /// How many records a data set has.
+    pub fn count(&self, set: u16) -> usize
+        ensures { (db : Db) → (⟦<PlainStore<S> as Store>⟧.seen self.now).db ≡ Some db → result ≡ length (records_of db.records set) }
+    {
+        rows::count(self.rows.as_slice(), set)
     }
 
     /// The site.

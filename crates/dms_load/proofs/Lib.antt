@@ -1,0 +1,4 @@
+mod Counted
+mod Draws
+mod Lines
+mod Taken

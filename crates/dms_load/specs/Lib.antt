@@ -1,0 +1,4 @@
+pub mod Drawing
+pub mod Left
+pub mod Script
+pub mod Summary
