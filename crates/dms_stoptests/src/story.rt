@@ -1,0 +1,344 @@
+/// A schema, a script over its database, and what its quiet points have.
+#[derive(Clone, Copy)]
+pub enum Story {
+    /// Two programs end transactions by turns. The k-th transaction stores X = k. The third one of A is given up, and would have stored X = 9.
+    Turns,
+    /// Two programs whose transactions overlap, so that there is a quiet point only where both have ended; two records of D or E stand in a block.
+    /// Behind line 26 ten blocks are changed and eight have room, and line 28 takes that back. Then a record moves in its set, one leaves the
+    /// subset, and the last transaction doesn't end. The second syncpoint is followed by a control point.
+    Overlap,
+}
+
+impl Story {
+    pub fn schema(self) -> &'static [u8] {
+        match self {
+            Story::Turns => TURNS_SCHEMA,
+            Story::Overlap => OVERLAP_SCHEMA,
+        }
+    }
+
+    pub fn script(self) -> &'static [u8] {
+        match self {
+            Story::Turns => TURNS_SCRIPT,
+            Story::Overlap => OVERLAP_SCRIPT,
+        }
+    }
+
+    /// Asks for the records.
+    pub fn look(self) -> &'static [u8] {
+        match self {
+            Story::Turns => TURNS_LOOK,
+            Story::Overlap => OVERLAP_LOOK,
+        }
+    }
+
+    /// The last quiet point of its script.
+    pub fn last(self) -> usize {
+        match self {
+            Story::Turns => 6,
+            Story::Overlap => 4,
+        }
+    }
+
+    /// The quiet point whose records answer so, from 0 of a new database on.
+    pub fn point_with(self, answers: &[u8]) -> Option<usize> {
+        match self {
+            Story::Turns => place_in(&TURNS_ANSWERS, answers),
+            Story::Overlap => place_in(&OVERLAP_ANSWERS, answers),
+        }
+    }
+}
+
+fn place_in(all: &[&'static [u8]], one: &[u8]) -> Option<usize> {
+    for number in 0..all.len() {
+        if all[number] == one {
+            return Some(number);
+        }
+    }
+    None
+}
+
+const TURNS_SCHEMA: &[u8] =
+    b"PARAMETERS (SYNCPOINT = 2 TRANSACTIONS, CONTROLPOINT = 1 SYNCPOINTS, BUFFERS = 8 BLOCKS);
+AUDIT TRAIL (BLOCKS = 8, FILES = 100);
+RDS RESTART DATA SET (PID ALPHA(10););
+D DATA SET (X NUMBER(4););
+D-SET SET OF D KEY IS X;
+";
+
+const TURNS_SCRIPT: &[u8] = b"A: OPEN UPDATE
+B: OPEN UPDATE
+A: BEGIN-TRANSACTION NO-AUDIT RDS
+A: CREATE D
+A: PUT D X = 1
+A: STORE D
+A: END-TRANSACTION NO-AUDIT RDS
+B: BEGIN-TRANSACTION NO-AUDIT RDS
+B: CREATE D
+B: PUT D X = 2
+B: STORE D
+B: END-TRANSACTION NO-AUDIT RDS
+A: BEGIN-TRANSACTION NO-AUDIT RDS
+A: CREATE D
+A: PUT D X = 3
+A: STORE D
+A: END-TRANSACTION NO-AUDIT RDS
+A: BEGIN-TRANSACTION NO-AUDIT RDS
+A: CREATE D
+A: PUT D X = 9
+A: STORE D
+A: ABORT-TRANSACTION RDS
+B: BEGIN-TRANSACTION NO-AUDIT RDS
+B: BEGIN-TRANSACTION NO-AUDIT RDS
+B: CREATE D
+B: PUT D X = 4
+B: STORE D
+B: END-TRANSACTION NO-AUDIT RDS
+A: BEGIN-TRANSACTION NO-AUDIT RDS
+A: CREATE D
+A: PUT D X = 5
+A: STORE D
+A: END-TRANSACTION NO-AUDIT RDS
+B: BEGIN-TRANSACTION NO-AUDIT RDS
+B: CREATE D
+B: PUT D X = 6
+B: STORE D
+B: END-TRANSACTION NO-AUDIT RDS
+";
+
+const TURNS_LOOK: &[u8] = b"A: OPEN INQUIRY
+A: FIND D-SET AT X = 1
+A: FIND D-SET AT X = 2
+A: FIND D-SET AT X = 3
+A: FIND D-SET AT X = 4
+A: FIND D-SET AT X = 5
+A: FIND D-SET AT X = 6
+A: FIND D-SET AT X = 9
+A: FIND LAST D
+A: GET D
+";
+
+const TURNS_ANSWERS: [&[u8]; 7] = [
+    b"1 A DONE
+2 A EXCEPTION NOTFOUND D-SET
+3 A EXCEPTION NOTFOUND D-SET
+4 A EXCEPTION NOTFOUND D-SET
+5 A EXCEPTION NOTFOUND D-SET
+6 A EXCEPTION NOTFOUND D-SET
+7 A EXCEPTION NOTFOUND D-SET
+8 A EXCEPTION NOTFOUND D-SET
+9 A EXCEPTION NOTFOUND D
+10 A EXCEPTION NORECORD D
+",
+    b"1 A DONE
+2 A DONE
+3 A EXCEPTION NOTFOUND D-SET
+4 A EXCEPTION NOTFOUND D-SET
+5 A EXCEPTION NOTFOUND D-SET
+6 A EXCEPTION NOTFOUND D-SET
+7 A EXCEPTION NOTFOUND D-SET
+8 A EXCEPTION NOTFOUND D-SET
+9 A DONE
+10 A DONE X=1
+",
+    b"1 A DONE
+2 A DONE
+3 A DONE
+4 A EXCEPTION NOTFOUND D-SET
+5 A EXCEPTION NOTFOUND D-SET
+6 A EXCEPTION NOTFOUND D-SET
+7 A EXCEPTION NOTFOUND D-SET
+8 A EXCEPTION NOTFOUND D-SET
+9 A DONE
+10 A DONE X=2
+",
+    b"1 A DONE
+2 A DONE
+3 A DONE
+4 A DONE
+5 A EXCEPTION NOTFOUND D-SET
+6 A EXCEPTION NOTFOUND D-SET
+7 A EXCEPTION NOTFOUND D-SET
+8 A EXCEPTION NOTFOUND D-SET
+9 A DONE
+10 A DONE X=3
+",
+    b"1 A DONE
+2 A DONE
+3 A DONE
+4 A DONE
+5 A DONE
+6 A EXCEPTION NOTFOUND D-SET
+7 A EXCEPTION NOTFOUND D-SET
+8 A EXCEPTION NOTFOUND D-SET
+9 A DONE
+10 A DONE X=4
+",
+    b"1 A DONE
+2 A DONE
+3 A DONE
+4 A DONE
+5 A DONE
+6 A DONE
+7 A EXCEPTION NOTFOUND D-SET
+8 A EXCEPTION NOTFOUND D-SET
+9 A DONE
+10 A DONE X=5
+",
+    b"1 A DONE
+2 A DONE
+3 A DONE
+4 A DONE
+5 A DONE
+6 A DONE
+7 A DONE
+8 A EXCEPTION NOTFOUND D-SET
+9 A DONE
+10 A DONE X=6
+",
+];
+
+const OVERLAP_SCHEMA: &[u8] = b"PARAMETERS (CONTROLPOINT = 2 SYNCPOINTS, BUFFERS = 8 BLOCKS);
+AUDIT TRAIL (BLOCKS = 8, FILES = 100);
+RDS RESTART DATA SET (PID ALPHA(10););
+D DATA SET (X NUMBER(4); T ALPHA(200); U ALPHA(200););
+E DATA SET (X NUMBER(4); T ALPHA(200); U ALPHA(200););
+D-SET SET OF D KEY IS X;
+E-SET SET OF E KEY IS X;
+HIGH SUBSET OF E WHERE X > 500 KEY IS X DESCENDING;
+";
+
+const OVERLAP_SCRIPT: &[u8] = b"A: OPEN UPDATE
+B: OPEN UPDATE
+A: BEGIN-TRANSACTION NO-AUDIT RDS
+B: BEGIN-TRANSACTION NO-AUDIT RDS
+A: CREATE D
+A: PUT D X = 1, T = \"ONE\"
+A: STORE D
+A: END-TRANSACTION NO-AUDIT RDS
+B: CREATE E
+B: PUT E X = 10, T = \"TEN\"
+B: STORE E
+B: END-TRANSACTION NO-AUDIT RDS SYNC
+A: BEGIN-TRANSACTION NO-AUDIT RDS
+B: BEGIN-TRANSACTION NO-AUDIT RDS
+A: CREATE D
+A: PUT D X = 4
+A: STORE D
+A: CREATE D
+A: PUT D X = 5
+A: STORE D
+B: CREATE E
+B: PUT E X = 800
+B: STORE E
+B: CREATE E
+B: PUT E X = 900
+B: STORE E
+B: END-TRANSACTION NO-AUDIT RDS
+A: ABORT-TRANSACTION RDS
+B: FIND FIRST E
+A: BEGIN-TRANSACTION NO-AUDIT RDS
+A: CREATE D
+A: PUT D X = 2, T = \"TWO\"
+A: STORE D
+A: END-TRANSACTION NO-AUDIT RDS
+B: BEGIN-TRANSACTION NO-AUDIT RDS
+B: CREATE E
+B: PUT E X = 600, T = \"SIX\"
+B: STORE E
+B: END-TRANSACTION NO-AUDIT RDS SYNC
+A: BEGIN-TRANSACTION NO-AUDIT RDS
+B: BEGIN-TRANSACTION NO-AUDIT RDS
+A: CREATE D
+A: PUT D X = 6, T = \"THREE\"
+A: STORE D
+A: PUT D X = 3
+A: STORE D
+A: END-TRANSACTION NO-AUDIT RDS
+B: CREATE E
+B: PUT E X = 700
+B: STORE E
+B: PUT E X = 20, T = \"NEW\"
+B: STORE E
+B: END-TRANSACTION NO-AUDIT RDS SYNC
+A: BEGIN-TRANSACTION NO-AUDIT RDS
+A: CREATE D
+A: PUT D X = 7
+A: STORE D
+";
+
+const OVERLAP_LOOK: &[u8] = b"A: OPEN INQUIRY
+A: FIND D-SET AT X = 1
+A: FIND D-SET AT X = 2
+A: FIND LAST D-SET
+A: GET D X, T
+A: FIND FIRST HIGH
+A: GET E X
+A: FIND E-SET AT X = 10
+A: FIND LAST E-SET
+A: FIND LAST E
+A: GET E X, T
+";
+
+const OVERLAP_ANSWERS: [&[u8]; 5] = [
+    b"1 A DONE
+2 A EXCEPTION NOTFOUND D-SET
+3 A EXCEPTION NOTFOUND D-SET
+4 A EXCEPTION NOTFOUND D-SET
+5 A EXCEPTION NORECORD D
+6 A EXCEPTION NOTFOUND HIGH
+7 A EXCEPTION NORECORD E
+8 A EXCEPTION NOTFOUND E-SET
+9 A EXCEPTION NOTFOUND E-SET
+10 A EXCEPTION NOTFOUND E
+11 A EXCEPTION NORECORD E
+",
+    b"1 A DONE
+2 A DONE
+3 A EXCEPTION NOTFOUND D-SET
+4 A DONE
+5 A DONE X=1, T=\"ONE\"
+6 A EXCEPTION NOTFOUND HIGH
+7 A EXCEPTION NORECORD E
+8 A DONE
+9 A DONE
+10 A DONE
+11 A DONE X=10, T=\"TEN\"
+",
+    b"1 A DONE
+2 A DONE
+3 A DONE
+4 A DONE
+5 A DONE X=2, T=\"TWO\"
+6 A EXCEPTION NOTFOUND HIGH
+7 A EXCEPTION NORECORD E
+8 A DONE
+9 A DONE
+10 A DONE
+11 A DONE X=10, T=\"TEN\"
+",
+    b"1 A DONE
+2 A DONE
+3 A DONE
+4 A DONE
+5 A DONE X=2, T=\"TWO\"
+6 A DONE
+7 A DONE X=600
+8 A DONE
+9 A DONE
+10 A DONE
+11 A DONE X=600, T=\"SIX\"
+",
+    b"1 A DONE
+2 A DONE
+3 A DONE
+4 A DONE
+5 A DONE X=3, T=\"THREE\"
+6 A DONE
+7 A DONE X=600
+8 A DONE
+9 A DONE
+10 A DONE
+11 A DONE X=20, T=\"NEW\"
+",
+];
