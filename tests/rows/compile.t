@@ -16,7 +16,7 @@ A schema is compiled into the description file of the current folder, once.
   > E DATA SET (X NUMBER(4););
   > END
   dms: exists already
-  dms: make another database in another folder
+  dms: take another folder, or for a dump another number
   [11]
   $ od -An -v -tx1 F00001.DMS | tr -d ' \n'; echo
   01000000003e444d535300010064000a01000200270f000202035244530000000f42400103504944010a0000000000000101440000000f42400101580204000000000000
@@ -73,7 +73,7 @@ A file is a description where its bytes spell one that a schema can have. Here o
   COMPILED 2 STRUCTURES
   $ for change in '7 101' '22 84' '35 200' '55 18' '57 1' '58 1'; do with $change; done | sort -u
   dms: exists already
-  dms: make another database in another folder
+  dms: take another folder, or for a dump another number
   $ head -c 67 good > F00001.DMS; "$DMS" compile < schema
   COMPILED 2 STRUCTURES
   $ { cat good; printf A; } > F00001.DMS; "$DMS" compile < schema
@@ -92,11 +92,11 @@ A structure stands in none, in the structure before it, or in one in which that 
   COMPILED 4 STRUCTURES
   $ with 86 3
   dms: exists already
-  dms: make another database in another folder
+  dms: take another folder, or for a dump another number
   [11]
   $ with 66 2
   dms: exists already
-  dms: make another database in another folder
+  dms: take another folder, or for a dump another number
   [11]
 
 A group holds no link. Bytes 71 and 72 are the group's first item and its count, and byte 70 is its name.
@@ -112,7 +112,7 @@ A group holds no link. Bytes 71 and 72 are the group's first item and its count,
   COMPILED 2 STRUCTURES
   $ with 70 72
   dms: exists already
-  dms: make another database in another folder
+  dms: take another folder, or for a dump another number
   [11]
 
 Nothing stands behind the word.

@@ -32,11 +32,11 @@ A second one is refused, and changes nothing.
   $ cat F*.DMS | cksum > before
   $ "$DMS" initialize
   dms: exists already
-  dms: make another database in another folder
+  dms: take another folder, or for a dump another number
   [11]
   $ "$DMS" initialize 5
   dms: exists already
-  dms: make another database in another folder
+  dms: take another folder, or for a dump another number
   [11]
   $ cat F*.DMS | cksum | cmp - before
 
@@ -96,11 +96,11 @@ Another program in the folder, an output that is one of its files, and one that 
   [10]
   $ "$DMS" initialize
   dms: exists already
-  dms: make another database in another folder
+  dms: take another folder, or for a dump another number
   [11]
   $ "$DMS" initialize 7
   dms: exists already
-  dms: make another database in another folder
+  dms: take another folder, or for a dump another number
   [11]
 
 The tag 7 as the header has it.

@@ -51,7 +51,7 @@ was: 80 records take 40 blocks.
   $ cd ..
   $ { echo 'A: OPEN UPDATE'; echo 'A: BEGIN-TRANSACTION NO-AUDIT RDS'; for n in $(seq 80); do echo 'A: CREATE D'; echo 'A: STORE D'; done; } > script
   $ printf 'A: OPEN INQUIRY\nA: FIND FIRST D\n' > look
-  $ for size in 8 12 16 20 48 52 100 200 300; do
+  $ for size in 8 12 16 20 48 52 100 120 160; do
   >   rm -rf t; cp -r early t; cd t
   >   upto $size < ../script
   >   test -s F30002.DMS && echo "stopped at $size KiB, D is written"
@@ -61,8 +61,8 @@ was: 80 records take 40 blocks.
         9 2 A EXCEPTION NOTFOUND D
         9 status 153
         1 stopped at 100 KiB, D is written
-        1 stopped at 200 KiB, D is written
-        1 stopped at 300 KiB, D is written
+        1 stopped at 120 KiB, D is written
+        1 stopped at 160 KiB, D is written
         1 stopped at 48 KiB, D is written
         1 stopped at 52 KiB, D is written
 
@@ -70,7 +70,7 @@ Stopped in line 100, and then three openings are stopped, each at the next write
 the same restore, at that of its control point. What is left stands for point 0 each time: a copy tells.
 
   $ rm -rf t; cp -r early t; cd t
-  $ upto 172 < ../script
+  $ upto 108 < ../script
   status 153
   $ tail -n 1 ../out
   99 A DONE
@@ -79,7 +79,7 @@ the same restore, at that of its control point. What is left stands for point 0 
   2 A EXCEPTION NOTFOUND D
   CONTROL 0 NEXT 1
   2
-  $ for size in 172 176 176; do upto $size < /dev/null; left; done
+  $ for size in 108 112 112; do upto $size < /dev/null; left; done
   status 153
   2 A EXCEPTION NOTFOUND D
   CONTROL 0 NEXT 1

@@ -168,13 +168,13 @@ What the operator can do.
   COMPILED 2 STRUCTURES
   $ "$DMS" compile < ../schema
   dms: exists already
-  dms: make another database in another folder
+  dms: take another folder, or for a dump another number
   [11]
   $ "$DMS" initialize
   INITIALIZED AT POINT 0
   $ "$DMS" initialize
   dms: exists already
-  dms: make another database in another folder
+  dms: take another folder, or for a dump another number
   [11]
   $ flock . "$DMS" run < /dev/null
   dms: the folder is in use

@@ -15,7 +15,7 @@ Standard output is closed: the description is whole, and nothing was printed int
   01000000003e444d535300010064000a01000200270f000202035244530000000f42400103504944010a0000000000000101440000000f42400101580204000000000000
   $ "$DMS" compile < schema
   dms: exists already
-  dms: make another database in another folder
+  dms: take another folder, or for a dump another number
   [11]
   $ "$DMS" try < script >&-
   dms: output fault

@@ -8,6 +8,7 @@ The words of the command line.
          dms compile < FILE
          dms initialize [TAG]
          dms run < FILE
+         dms utility < FILE
          dms print audit
          dms COMMAND --help
          dms --help
@@ -37,6 +38,12 @@ The words of the command line.
                is a terminal and standard output is none, it shows there every
                second how many lines were answered, and the last SYNCPOINT.
   
+    utility    one statement, as DUMP TO 1
+               DUMP TO d opens the database in the current folder, as run does,
+               and writes a copy of its blocks, dump d, a number from 1 to 9999,
+               to a file of its own: dump 1 to F20001.DMS. A dump that is there
+               already is not written over.
+  
     print audit   nothing
                Prints a line for each entry that is sealed in the audit files of
                the current folder. Changes nothing, and needs no right to write.
@@ -56,7 +63,8 @@ The words of the command line.
      8  the script is too long, or holds too many lines, or the audit is full
      9  a block of an audit file or of a structure file is damaged
     10  printing failed
-    11  the description or the database is there already
+    11  the description, the database or the dump is there already
+    12  the statement is bad
   
   The guide is docs/GUIDE.md in the repository of the program, and examples for
   try are in the folder examples there.
@@ -65,7 +73,7 @@ No line of it has more than 80 columns, and each status that the program has sta
 
   $ "$DMS" --help | awk 'length > 80'
   $ "$DMS" --help | grep -cE '^ +[0-9]+  '
-  12
+  13
 
 So do `-h` and `help`. Behind a command `--help` or `-h` prints the help of that command.
 

@@ -1,0 +1,113 @@
+Files, gates, lines and texts that are damaged or false, each with its answer. The database: an audit of eight blocks a file, and one run of twenty transactions, each of which stores one record and ends with a syncpoint.
+
+  $ mkdir db && cd db
+  $ "$DMS" compile <<'END'
+  > AUDIT TRAIL (BLOCKS = 8, FILES = 100);
+  > RDS RESTART DATA SET (PID ALPHA(10););
+  > D DATA SET (X NUMBER(4););
+  > END
+  COMPILED 2 STRUCTURES
+  $ "$DMS" initialize
+  INITIALIZED AT POINT 0
+  $ { echo 'A: OPEN UPDATE'; for n in $(seq 20); do printf 'A: BEGIN-TRANSACTION NO-AUDIT RDS\nA: CREATE D\nA: PUT D X = %d\nA: STORE D\nA: END-TRANSACTION NO-AUDIT RDS SYNC\n' $n; done; } | "$DMS" run | tail -n 1
+  SYNCPOINT 20
+  $ "$DMS" print audit | awk '{ print $1, $2 }' | uniq | awk '{ last[$1] = $2 } END { for (file in last) print file, last[file] }' | sort
+  1 8
+  2 8
+  3 8
+  4 2
+  $ cd ..
+
+A row is a change of the folder, a command and its input. It shows the first line that the command prints, its status, and whether the sums of the files are as they were behind the change. Block k of an audit file stands at byte 4096 k, and the gates of its blocks stand in its header from byte 512 on.
+
+  $ put() { printf "\\$(printf %03o "0x$3")" | dd of=$1 bs=1 seek=$2 conv=notrunc status=none; }
+  $ row() { rm -rf t; cp -r db t; cd t; eval "$1"; cksum F*.DMS > ../before; printf "$3" | "$DMS" $2 > ../printed 2>&1; status=$?; head -n 1 ../printed; cksum F*.DMS | cmp -s - ../before && files=same || files=other; echo "status $status, files $files"; cd ..; }
+  $ point() { (cd t; "$DMS" print audit | sed -n '$s/.* CONTROL \([0-9]*\) NEXT .*/\1/p'); }
+
+Files and gates of the audit.
+
+  $ row 'rm F10004.DMS' run
+  dms: audit file 4 missing
+  status 4, files same
+  $ row 'put F10002.DMS 515 07' run
+  dms: audit file 2 unsealed
+  status 4, files same
+  $ row 'put F10003.DMS 519 00; tr "\\0" "\\1" < /dev/zero | head -c 4096 > F10004.DMS' run
+  status 0, files other
+  $ point
+  19
+  $ row 'put F10003.DMS 0 00' run
+  dms: file 10003 block 0 damaged
+  status 9, files same
+  $ row 'put F10003.DMS 16386 09' 'print audit'
+  dms: file 10003 block 4 damaged
+  status 9, files same
+  $ row 'rm F10001.DMS' run
+  status 0, files other
+  $ point
+  20
+  $ row 'rm F10002.DMS' run
+  dms: audit file 2 missing
+  status 4, files same
+  $ row 'put F00001.DMS 1 07' run
+  dms: no database
+  status 3, files same
+
+Statements.
+
+  $ row : utility 'REBUILD FROM 0'
+  dms: bad statement at 14
+  status 12, files same
+  $ row : utility 'ROLLBACK TO 18446744073709551616'
+  dms: bad statement at 13
+  status 12, files same
+  $ row : utility 'DUMP TO 1 X'
+  dms: bad statement at 11
+  status 12, files same
+  $ statement='RECONSTRUCT D ROW 0 FROM 1'
+  $ for bytes in $(seq 0 $((${#statement} - 1))); do row : utility "$(printf "$statement" | head -c $bytes)"; done | sed 's/ at [0-9]*$//' | sort | uniq -c
+       26 dms: bad statement
+       26 status 12, files same
+
+Lines of a script.
+
+  $ row : run 'A OPEN UPDATE\n'
+  1 BADLINE 3
+  status 0, files other
+  $ row : run 'A: OPEN\n'
+  1 BADLINE 8
+  status 0, files other
+  $ row : run 'A: PUT D X = TRUE\n'
+  1 BADLINE 14
+  status 0, files other
+
+Texts of a schema.
+
+  $ row : try 'D DATA SET (X NUMBER(4) REQUIRED REQUIRED;);'
+  dms: schema: unexpected at 34
+  status 2, files same
+  $ row : try 'D DATA SET (X NUMBER(4);)'
+  dms: schema: unexpected at 26
+  status 2, files same
+  $ row : try '$'
+  dms: schema: bad character at 1
+  status 2, files same
+
+A description file that is cut at each of its bytes is none.
+
+  $ length=$(stat -c %s db/F00001.DMS)
+  $ for bytes in $(seq 0 $((length - 1))); do row "truncate -s $bytes F00001.DMS" run; done | sort | uniq -c
+       68 dms: no database
+       68 status 3, files same
+
+A line that is cut at each of its bytes is answered, and the run goes on.
+
+  $ line='A: PUT D X = 1234;'
+  $ for bytes in $(seq ${#line}); do printf '%s\n' "$line" | head -c $bytes; echo; done > cut
+  $ row : run "$(cat cut)"'\nA: OPEN INQUIRY\n'
+  1 BADLINE 2
+  status 0, files other
+  $ cut -d ' ' -f 2-3 printed | sed 's/ [0-9]*$//' | sort | uniq -c
+        1 A DONE
+        5 A EXCEPTION
+       13 BADLINE
