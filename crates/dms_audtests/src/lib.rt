@@ -1,7 +1,7 @@
-//! Tests of audit files, and of what a trail gives back.
+//! Tests of audit files.
 #![tactic(auto)]
 
 #[cfg(test)]
 mod files;
 #[cfg(test)]
-mod history;
+mod sealing;

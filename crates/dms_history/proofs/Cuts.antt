@@ -1,6 +1,7 @@
 -- Cuts of a list by index.
 use Rattle.std.proofs.Math.Seq.{drop-cons}
-use Rattle.std.proofs.Common.{ℕ, zero, suc, ◌+◌, ◌<◌, ◌≡◌, ◌||◌, Bool, true, false, cond, List, [], ◌∷◌, map, length, take, drop, get_or, refl, sym, ◌∙◌, ap, arith, add-one}
+use Rattle.std.proofs.lemmas.List.{take_all}
+use Rattle.std.proofs.Common.{ℕ, zero, suc, ◌+◌, ◌-◌, ◌<◌, ◌≡◌, ◌||◌, Bool, true, false, cond, List, [], ◌∷◌, map, length, length-drop, take, drop, get_or, refl, sym, ◌∙◌, ap, arith, add-one}
 use Rattle.dms_history.specs.Lists.{has, until_first, after_first, after_last}
 use Rattle.dms_history.proofs.AtPoints.{true_or, or_true_right, or_no}
 
@@ -67,3 +68,7 @@ rest_next seen p xs i from next d b low is moved rest =
     choice : (b : Bool) → cond b (map seen (drop (suc i) xs)) (map seen (drop from xs)) ≡ map seen (drop (cond b (i + 1) from) xs)
     choice true = ap (λ k. map seen (drop k xs)) (sym (add-one i))
     choice false = refl
+
+-- a slice up to the end
+pub to_end : {A : Type 0} (k : ℕ) (xs : List A) → take (length xs - k) (drop k xs) ≡ drop k xs
+to_end k xs = take_all (length xs - k) (drop k xs) (omega (arith, length-drop k xs))

@@ -17,9 +17,6 @@ pub mod Patches
 pub mod Schemas
 pub mod Sealed
 pub mod Cuts
-pub mod HistoryMore
-pub mod PlainPick
-pub mod PlainHere
 pub mod PatchedParts
 pub mod Examples
 pub mod Counterexamples

@@ -92,21 +92,3 @@ each_from_file h n f b = record {
   elsewhere = λ off dumps one two. log_same h.live n f b (here dumps h one) (here dumps h two) (λ unlogged.
       counts_elsewhere h.pending dumps one two f b (ap (λ k. k && counts_stored h.pending f b) (sym unlogged) ∙ off));
 }
-
--- ---- the plain program
-
-module _ (live : List Event) (n f b : ℕ) where
-  pub told_nowhere : has (is_point n) live ≡ false → None ≡ told_block live n f b
-  unfolding told_block
-  told_nowhere off = sym (λ i. or_else (last_after f b (after_last is_control (until_none (is_point n) live off i))) (undone_to (first_before f b (after_none (is_point n) live off i))))
-
-  pub told_redone : (front mid : List Event) (x : BlockBytes) → until_first (is_point n) live ≡ front → after_last is_control front ≡ mid → last_after f b mid ≡ Some x → Some x ≡ told_block live n f b
-  unfolding told_block
-  told_redone front mid x cut behind last =
-      sym (ap (λ o. or_else o (undone_to (first_before f b (after_first (is_point n) live)))) (ap (λ (l : List Event). last_after f b (after_last is_control l)) cut ∙ ap (λ (l : List Event). last_after f b l) behind ∙ last))
-
-  pub told_undone : (front mid late : List Event) → until_first (is_point n) live ≡ front → after_last is_control front ≡ mid → last_after f b mid ≡ None → after_first (is_point n) live ≡ late
-      → undone_to (first_before f b late) ≡ told_block live n f b
-  unfolding told_block
-  told_undone front mid late cut behind none follows =
-      sym (λ i. or_else ((ap (λ (l : List Event). last_after f b (after_last is_control l)) cut ∙ ap (λ (l : List Event). last_after f b l) behind ∙ none) i) (undone_to (first_before f b (follows i))))

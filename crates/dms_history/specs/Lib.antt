@@ -30,6 +30,4 @@ pub mod LawsOfSchemas
 pub mod Judge
 pub mod Kept
 pub mod LawsOfKept
-pub mod Plain
-pub mod PlainHistory
 pub mod Copied
