@@ -14,6 +14,7 @@ use Rattle.dms_audfile.specs.Ends.{Grown}
 use Rattle.dms_audfile.specs.TrailEntries.{trail_entries}
 use Rattle.dms_audfile.specs.declared.place.EntryPlace.{EntryPlace}
 use Rattle.dms_audfile.specs.declared.fault.AudFault.TheVariants.{Damaged}
+use Rattle.dms_audfile.specs.Header.{tag_said}
 use Rattle.dms_restore.specs.declared.restore_table.RestoreTable.{RestoreTable}
 use Rattle.dms_restore.specs.declared.trace.TrailTrace.{TrailTrace}
 use Rattle.dms_restore.specs.declared.tracing.TrailHistory.{TrailHistory}
@@ -44,15 +45,18 @@ module _ (total first : ℕ) (files : Files) (places : List EntryPlace) (t : Tra
   abbrev entries : List Entry
   entries = trail_entries total first files
 
-  own : judge_own first (live_of entries) (next_of entries) (last_point (history_of entries)) asked (look_of (dump_asked files asked)) ≡ None
-  own = own_none first (history_of entries) (next_of entries) asked (look_of (dump_begun files (history_of entries).pending)) (look_of (dump_asked files asked)) none
+  abbrev tag : ℕ
+  tag = tag_said (files first)
+
+  own : judge_own first (live_of entries) (next_of entries) (last_point (history_of entries)) asked (look_of tag (dump_asked files asked)) ≡ None
+  own = own_none first (history_of entries) (next_of entries) asked (look_of tag (dump_begun files (history_of entries).pending)) (look_of tag (dump_asked files asked)) none
 
   l : PointLives (history_of entries) asked
-  l = own_lives first (history_of entries) (next_of entries) asked (look_of (dump_asked files asked)) own
+  l = own_lives first (history_of entries) (next_of entries) asked (look_of tag (dump_asked files asked)) own
 
   found : IsFoundFor files (how_of (kind_asked asked rows)) look
-  found = head_for files first (how_of (kind_asked asked rows)) (dump_asked files asked) look
-      (λ d by. (looked_at files asked rows d by, own_file first (live_of entries) (next_of entries) (last_point (history_of entries)) asked (look_of (dump_asked files asked)) rows d by own)) r.look_is
+  found = head_for files first tag (how_of (kind_asked asked rows)) (dump_asked files asked) look
+      (λ d by. (looked_at files asked rows d by, own_file first (live_of entries) (next_of entries) (last_point (history_of entries)) asked (look_of tag (dump_asked files asked)) rows d by own)) r.look_is
 
   -- the point that is asked for, by the last one that is kept
   module _ (last : Option ℕ) (point : ℕ) (last_is : (older : Files) (es : List Entry) → IsTraced older es t.history → last ≡ last_point (history_of es)) (at : (n : ℕ) → point_asked asked last ≡ Some n → point ≡ n) where

@@ -20,6 +20,7 @@ use Rattle.dms_history.proofs.HalfDone.{has_front, until_until}
 use Rattle.dms_history.proofs.Judging.{each_judged}
 use Rattle.dms_history.proofs.LastPending.{pending_cuts}
 use Rattle.dms_history.proofs.Running.{above_all}
+use Rattle.dms_audfile.specs.Header.{tag_said}
 use Rattle.dms_audfile.specs.TrailEntries.{trail_entries}
 use Rattle.dms_dump.specs.Head.{Head, head_in}
 use Rattle.dms_dump.specs.Body.{dump_of, dump_by_head, no_dump}
@@ -37,7 +38,7 @@ use Rattle.dms_opening.specs.Choices.{Chooses, judge_files}
 use Rattle.dms_opening.specs.DumpLooks.{look_of, dump_at, dump_numbered, dump_begun}
 use Rattle.dms_opening.specs.Plans.{HasNoDescription}
 use Rattle.dms_opening.specs.Laws.{LastIsDescribed, WholeIsOpened}
-use Rattle.dms_opening.proofs.DumpLooks.{at_read}
+use Rattle.dms_opening.proofs.DumpLooks.{at_read, own_look}
 
 some_is : {A : Type 0} (x y : A) → Some x ≡ Some y → x ≡ y
 some_is x y is = cc
@@ -96,7 +97,7 @@ dump_point files d h some few is =
     high = grind (arith, nat_tests)
 
 dump_judged : (first next d : ℕ) (files : Files) (p : Pending) → judge_point p.entries next p.point ≡ None → p.point < next → DumpInOrder (IsDumpFound first files) (dumps_of files) p d
-    → judge_by_dump first next d (look_of (dump_at files d)) p.entries p.point ≡ None
+    → judge_by_dump first next d (look_of (tag_said (files first)) (dump_at files d)) p.entries p.point ≡ None
 dump_judged first next d files p none below o =
     let f = o.is_found in
     let h : Head = f.head in
@@ -106,11 +107,11 @@ dump_judged first next d files p none below o =
     let file : judge_file first d (Sealed h.point h.audit) ≡ None = ap (λ b. cond b (Some audit_before) None) (not_less (10000 + h.audit) first f.within) in
     let point : judge_point p.entries next h.point ≡ None = (each_judged p.entries next h.point).lives.1 (omega (arith, low, below), lives) in
     let later : is_later d h.point p.point ≡ None = ap (λ b. cond b (Some (dump_later d h.point)) None) (not_less p.point h.point low) in
-    ap (λ (l : DumpLook). judge_by_dump first next d l p.entries p.point) (ap look_of (at_read files d f.some f.few ∙ f.read))
+    ap (λ (l : DumpLook). judge_by_dump first next d l p.entries p.point) (ap (look_of (tag_said (files first))) (at_read files d f.some f.few ∙ f.read) ∙ own_look (tag_said (files first)) h f.tag_is)
     ∙ (λ i. or_next (file i) (or_next (refused_at p.point (none i)) (or_next (refused_at h.point (point i)) (later i))))
 
 restore_judged : (first next : ℕ) (files : Files) (p : Pending) (how : How) → judge_point p.entries next p.point ≡ None → p.point < next → OrderBy (IsDumpFound first files) (dumps_of files) p how
-    → judge_restore first next how (look_of (dump_numbered files (dump_by how))) p.entries p.point ≡ None
+    → judge_restore first next how (look_of (tag_said (files first)) (dump_numbered files (dump_by how))) p.entries p.point ≡ None
 restore_judged first next files p halt_load none below order = ap (refused_at p.point) none
 restore_judged first next files p back_out none below order = ap (refused_at p.point) none
 restore_judged first next files p roll_back none below order = ap (refused_at p.point) none
@@ -144,7 +145,7 @@ module _ (total first : ℕ) (files : Files) (whole : IsWhole (telling_of total 
       let own : IsLive p.entries p.point = live_uncut p.point p.point p.entries (subst (λ (l : List Event). IsLive l p.point) (cut_at p is).cut lives) in
       (each_judged p.entries next p.point).lives.1 (below h.live next p.point whole.stands.kept.numbered lives.found, own)
 
-  begun_judged : (q : Option Pending) → h.pending ≡ q → judge_begun first next q (look_of (dump_begun files q)) ≡ None
+  begun_judged : (q : Option Pending) → h.pending ≡ q → judge_begun first next q (look_of (tag_said (files first)) (dump_begun files q)) ≡ None
   begun_judged None is = refl
   begun_judged (Some p) is =
       restore_judged first next files p p.how (pending_judged p is) (below h.live next p.point whole.stands.kept.numbered (lives_at p is).found)

@@ -13,7 +13,7 @@ use Rattle.dms_history.specs.Places.{is_control}
 use Rattle.dms_history.specs.Entries.{counts_in}
 use Rattle.dms_history.specs.Pick.{reached_count}
 use Rattle.dms_history.proofs.Counts.{reached_append, reached_any}
-use Rattle.dms_history.proofs.PlainPick.{to_end}
+use Rattle.dms_history.proofs.Cuts.{to_end}
 use Rattle.dms_audrec.specs.Reading.{counts_at}
 use Rattle.dms_restore.specs.declared.live.LiveEntry.{LiveEntry}
 use Rattle.dms_restore.specs.declared.live.LiveEntry.TheVariants.{Changed, Quiet, Controlled}

@@ -1,6 +1,6 @@
 -- What is read of a dump, and what it is found to be.
 use Rattle.std.specs.Prelude.{◌&&◌, nat_lt, nat_le, IfOk, IfErr}
-use Rattle.std.proofs.Common.{ℕ, ◌+◌, ◌<◌, ◌≤◌, ◌≡◌, ◌⊎◌, inl, inr, Bool, true, false, cond, IsTrue, length, Option, Some, None, refl, sym, ◌∙◌, ap, subst, arith}
+use Rattle.std.proofs.Common.{ℕ, ◌+◌, ◌<◌, ◌≤◌, ◌≡◌, ◌==◌, ◌⊎◌, inl, inr, Bool, true, false, cond, IsTrue, length, Option, Some, None, refl, sym, ◌∙◌, ap, subst, arith}
 use Rattle.std.proofs.lemmas.Bool.Decides.{nat_tests}
 use Rattle.std.specs.declared.result.Result.{Result}
 use Rattle.std.specs.declared.result.Result.TheVariants.{Ok, Err}
@@ -21,30 +21,58 @@ use Rattle.dms_audrec.specs.Spelling.{counts_rise}
 use Rattle.dms_restore.specs.Planned.{HasHead, IsFitHead, IsHeadFor}
 use Rattle.dms_opening.specs.Asked.{judge_file}
 use Rattle.dms_opening.specs.declared.asked.DumpLook.{DumpLook}
+use Rattle.dms_opening.specs.declared.asked.DumpLook.TheVariants as looks
 use Rattle.dms_opening.specs.declared.dump_looks.DumpFound.{DumpFound}
-use Rattle.dms_opening.specs.declared.dump_looks.DumpFound.TheVariants.{Missing, Unsealed, Damaged, Sealed}
+use Rattle.dms_opening.specs.declared.dump_looks.DumpFound.TheVariants.{Missing, Unsealed, Damaged, Foreign, Sealed}
 use Rattle.dms_opening.specs.DumpLooks.{look_of, look_seen, head_found, SaysFound, IsFoundAs, IsFitFound, IsFoundFor, dump_at, dump_numbered, dump_begun}
 
 pub counted_dump : (P Q : Type 0) (before now : ℕ) → (Q → P) → (P → Q) → CountsAt P before now → CountedAt Q before now
 counted_dump P Q before now to back c = record { later = c.later; failed = λ q. c.failed (to q); once = c.once; clean = λ off. c.clean (λ p. off (back p)) }
 
 -- what was read says so of the file
-read_says : (d : ℕ) (file : DumpRead) (read : Result DumpHead DumpFault) (found : DumpFound) → IfOk read (λ h. file ≡ sealed (head_seen h)) → IfErr read (λ e. RefusesDump d file e) → SaysFound d file read found → IsFoundAs file found
-read_says d file (Ok head) found seen refused says = says seen
-read_says d file (Err fault) found seen refused says = says refused
+read_says : (tag d : ℕ) (file : DumpRead) (read : Result DumpHead DumpFault) (found : DumpFound) → IfOk read (λ h. file ≡ sealed (head_seen h)) → IfErr read (λ e. RefusesDump d file e) → SaysFound tag d file read found → IsFoundAs tag file found
+read_says tag d file (Ok head) found seen refused says = says seen
+read_says tag d file (Err fault) found seen refused says = says refused
 
-pub found_says : (tells : Type 0) (d : ℕ) (file : DumpRead) (read : Result DumpHead DumpFault) (r : Result DumpFound AudFault) → IfOk read (λ h. tells → file ≡ sealed (head_seen h)) → IfErr read (λ e. tells → RefusesDump d file e)
-    → IfOk r (λ f. (d : ℕ) (file : DumpRead) → SaysFound d file read f) → IfOk r (λ f. tells → IsFoundAs file f)
-found_says tells d file (Ok head) (Ok found) seen refused says = λ t. read_says d file (Ok head) found (seen t) tt (says d file)
-found_says tells d file (Err fault) (Ok found) seen refused says = λ t. read_says d file (Err fault) found tt (refused t) (says d file)
-found_says tells d file read (Err e) seen refused says = tt
+pub found_says : (tells : Type 0) (tag d : ℕ) (file : DumpRead) (read : Result DumpHead DumpFault) (r : Result DumpFound AudFault) → IfOk read (λ h. tells → file ≡ sealed (head_seen h)) → IfErr read (λ e. tells → RefusesDump d file e)
+    → IfOk r (λ f. (d : ℕ) (file : DumpRead) → SaysFound tag d file read f) → IfOk r (λ f. tells → IsFoundAs tag file f)
+found_says tells tag d file (Ok head) (Ok found) seen refused says = λ t. read_says tag d file (Ok head) found (seen t) tt (says d file)
+found_says tells tag d file (Err fault) (Ok found) seen refused says = λ t. read_says tag d file (Err fault) found tt (refused t) (says d file)
+found_says tells tag d file read (Err e) seen refused says = tt
+
+-- ---- the tag of a dump
+
+same_tag : (a b : ℕ) → a ≡ b → a == b ≡ true
+same_tag a b is = grind (arith, nat_tests)
+
+tag_of_test : (a b : ℕ) → a == b ≡ true → a ≡ b
+tag_of_test a b on = grind (arith, nat_tests)
+
+-- one that has the tag of the trail is looked at
+pub own_look : (tag : ℕ) (h : Head) → h.tag ≡ tag → look_of tag (sealed h) ≡ looks.Sealed h.point h.audit
+own_look tag h is = ap (λ b. cond b (looks.Sealed h.point h.audit) looks.Foreign) (same_tag h.tag tag is)
+
+pub foreign_look : (tag : ℕ) (h : Head) (file : DumpRead) → h.tag == tag ≡ false → file ≡ sealed h → look_of tag file ≡ looks.Foreign
+foreign_look tag h file off is = ap (look_of tag) is ∙ ap (λ b. cond b (looks.Sealed h.point h.audit) looks.Foreign) off
+
+-- so has one that isn't refused
+pub own_tag : (first d tag : ℕ) (h : Head) → judge_file first d (look_of tag (sealed h)) ≡ None → h.tag ≡ tag
+own_tag first d tag h none = by_test (h.tag == tag) refl
+  where
+    refused : judge_file first d looks.Foreign ≡ None → ⊥
+    refused e = absurd cc
+
+    by_test : (b : Bool) → h.tag == tag ≡ b → h.tag ≡ tag
+    by_test true on = tag_of_test h.tag tag on
+    by_test false off = absurd (refused (subst (λ (l : DumpLook). judge_file first d l ≡ None) (foreign_look tag h (sealed h) off refl) none))
 
 -- what is looked at is that of the file
-pub look_is : (file : DumpRead) (found : DumpFound) → IsFoundAs file found → look_seen found ≡ look_of file
-look_is file Missing is = ap look_of (sym is)
-look_is file Unsealed is = ap look_of (sym is)
-look_is file Damaged is = ap look_of (sym is)
-look_is file (Sealed head) is = ap look_of (sym is)
+pub look_is : (tag : ℕ) (file : DumpRead) (found : DumpFound) → IsFoundAs tag file found → look_seen found ≡ look_of tag file
+look_is tag file Missing is = ap (look_of tag) (sym is)
+look_is tag file Unsealed is = ap (look_of tag) (sym is)
+look_is tag file Damaged is = ap (look_of tag) (sym is)
+look_is tag file Foreign is = sym is
+look_is tag file (Sealed head) is = sym (own_look tag (head_seen head) is.1) ∙ ap (look_of tag) (sym is.0)
 
 -- ---- a dump by its number
 
@@ -94,29 +122,33 @@ sealed_at files d h is = by_test (nat_lt 0 d && nat_le d 9999) refl
 -- ---- the dump of a restore that isn't refused
 
 -- a dump whose file isn't refused is found with its head
-head_there : (files : Files) (first d : ℕ) (file : DumpRead) (found : DumpFound) → file ≡ dump_at files d → judge_file first d (look_of file) ≡ None → IsFoundAs file found → HasHead files d (head_found found)
-head_there files first d file Missing at none is = absurd (refused (subst (λ (f : DumpRead). judge_file first d (look_of f) ≡ None) is none))
+head_there : (files : Files) (first d tag : ℕ) (file : DumpRead) (found : DumpFound) → file ≡ dump_at files d → judge_file first d (look_of tag file) ≡ None → IsFoundAs tag file found → HasHead files d (head_found found)
+head_there files first d tag file Missing at none is = absurd (refused (subst (λ (f : DumpRead). judge_file first d (look_of tag f) ≡ None) is none))
   where
-    refused : judge_file first d (look_of missing) ≡ None → ⊥
+    refused : judge_file first d (look_of tag missing) ≡ None → ⊥
     refused e = absurd cc
-head_there files first d file Unsealed at none is = absurd (refused (subst (λ (f : DumpRead). judge_file first d (look_of f) ≡ None) is none))
+head_there files first d tag file Unsealed at none is = absurd (refused (subst (λ (f : DumpRead). judge_file first d (look_of tag f) ≡ None) is none))
   where
-    refused : judge_file first d (look_of unsealed) ≡ None → ⊥
+    refused : judge_file first d (look_of tag unsealed) ≡ None → ⊥
     refused e = absurd cc
-head_there files first d file Damaged at none is = absurd (refused (subst (λ (f : DumpRead). judge_file first d (look_of f) ≡ None) is none))
+head_there files first d tag file Damaged at none is = absurd (refused (subst (λ (f : DumpRead). judge_file first d (look_of tag f) ≡ None) is none))
   where
-    refused : judge_file first d (look_of damaged) ≡ None → ⊥
+    refused : judge_file first d (look_of tag damaged) ≡ None → ⊥
     refused e = absurd cc
-head_there files first d file (Sealed head) at none is = let s = sealed_at files d (head_seen head) (sym at ∙ is) in (s.some, s.few, s.read)
+head_there files first d tag file Foreign at none is = absurd (refused (subst (λ (l : DumpLook). judge_file first d l ≡ None) is none))
+  where
+    refused : judge_file first d looks.Foreign ≡ None → ⊥
+    refused e = absurd cc
+head_there files first d tag file (Sealed head) at none is = let s = sealed_at files d (head_seen head) (sym at ∙ is.0) in (s.some, s.few, s.read)
 
 -- a restore by the audit needs none
-pub head_for : (files : Files) (first : ℕ) (how : How) (file : DumpRead) (found : DumpFound) → ((d : ℕ) → dump_by how ≡ Some d → (file ≡ dump_at files d) × (judge_file first d (look_of file) ≡ None)) → IsFoundAs file found
+pub head_for : (files : Files) (first tag : ℕ) (how : How) (file : DumpRead) (found : DumpFound) → ((d : ℕ) → dump_by how ≡ Some d → (file ≡ dump_at files d) × (judge_file first d (look_of tag file) ≡ None)) → IsFoundAs tag file found
     → IsFoundFor files how found
-head_for files first halt_load file found by is = tt
-head_for files first back_out file found by is = tt
-head_for files first roll_back file found by is = tt
-head_for files first (rebuild d) file found by is = let b = by d refl in head_there files first d file found b.0 b.1 is
-head_for files first (reconstruct d named) file found by is = let b = by d refl in head_there files first d file found b.0 b.1 is
+head_for files first tag halt_load file found by is = tt
+head_for files first tag back_out file found by is = tt
+head_for files first tag roll_back file found by is = tt
+head_for files first tag (rebuild d) file found by is = let b = by d refl in head_there files first d tag file found b.0 b.1 is
+head_for files first tag (reconstruct d named) file found by is = let b = by d refl in head_there files first d tag file found b.0 b.1 is
 
 has_head : (x y : Files) (d : ℕ) (head : Option DumpHead) → ((g : ℕ) → 20000 < g → g ≤ 30000 → y g ≡ x g) → HasHead x d head → HasHead y d head
 has_head x y d None same has = has

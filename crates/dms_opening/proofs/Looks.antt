@@ -6,6 +6,7 @@ use Rattle.dms_moments.specs.MomentLaws.{runs_none, steps_on}
 use Rattle.dms_site.specs.Files.{Files, Left, Same}
 use Rattle.dms_audfile.specs.AuditTrail.{IsFound}
 use Rattle.dms_audfile.specs.Ends.{Grown}
+use Rattle.dms_audfile.specs.Header.{tag_said}
 use Rattle.dms_audfile.specs.TrailEntries.{trail_entries}
 use Rattle.dms_audfile.specs.declared.audit_end.AuditEnd.{AuditEnd}
 use Rattle.dms_audfile.specs.declared.place.EntryPlace.{EntryPlace}
@@ -21,7 +22,7 @@ use Rattle.dms_opening.specs.Carrying.{IsFitPlan}
 use Rattle.dms_restore.specs.Traces.{IsTraceOf}
 use Rattle.dms_opening.specs.declared.plan.OpeningPlan.{OpeningPlan}
 use Rattle.dms_opening.specs.Openings.{IsTrailFound, RefusesFiles}
-use Rattle.dms_opening.specs.Plans.{IsTrailRead, FitsOpening, Plans, RefusesPlan}
+use Rattle.dms_opening.specs.Plans.{IsTrailRead, IsTaggedRead, FitsOpening, Plans, RefusesPlan}
 
 -- no call at all
 pub same_none : (c : Clock Left) → Steps Same c c
@@ -31,9 +32,16 @@ same_none c = record { follows = λ x now. (x, now, refl); runs = runs_none c _ 
 pub same_on : (a b c : Clock Left) → Steps Same a b → Steps Same b c → Steps Same a c
 same_on a b c one two = steps_on one two (λ x y z nx ny r s. s ∙ r) (λ x y nx r. r)
 
-pub read_at : (total first : ℕ) (files now : Files) (ps : List EntryPlace) (trace : TrailTrace) → now ≡ files → IsFound files first ps → AreEntryPlaces total first files ps
-    → ((new : Files) → Grown total first files new → IsTraceOf new (trail_entries total first files) trace) → IsTrailRead total first now ps trace
-read_at total first files now ps trace same found placed stays = subst (λ (f : Files). IsTrailRead total first f ps trace) (sym same) (record { found = found; placed = placed; stays = stays })
+-- the tag of a trail is that of its end
+pub tag_at : (end : AuditEnd) (first : ℕ) (files : Files) (clock : Clock Left) → IsAtStart end first files clock → tag_said (files first) ≡ end.tag
+tag_at end first files clock s = s.ends.writes.tags first (omega arith) s.ends.writes.order
+
+pub read_at : (total tag first : ℕ) (files now : Files) (ps : List EntryPlace) (trace : TrailTrace) → now ≡ files → IsFound files first ps → AreEntryPlaces total first files ps
+    → ((new : Files) → Grown total first files new → IsTraceOf new (trail_entries total first files) trace) → tag_said (now first) ≡ tag → IsTaggedRead total tag first now ps trace
+read_at total tag first files now ps trace same found placed stays tag_is = record {
+  read = subst (λ (f : Files). IsTrailRead total first f ps trace) (sym same) (record { found = found; placed = placed; stays = stays });
+  tag_is = tag_is;
+}
 
 pub plans_as : (end last : AuditEnd) (first then : ℕ) (a b : Files) (plan : OpeningPlan) → last ≡ end → then ≡ first → a ≡ b → Plans end.total first a plan → Plans last.total then b plan
 plans_as end last first then a b plan one two three p =

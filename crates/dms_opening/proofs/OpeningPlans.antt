@@ -21,6 +21,7 @@ use Rattle.dms_history.proofs.Judging.{each_judged}
 use Rattle.dms_history.proofs.Stops.{until_append}
 use Rattle.dms_audfile.specs.AuditTrail.{AreThere}
 use Rattle.dms_audfile.specs.Scanning.{Placed, place_in, entry_in}
+use Rattle.dms_audfile.specs.Header.{tag_said}
 use Rattle.dms_audfile.specs.TrailEntries.{trail_entries}
 use Rattle.dms_audfile.specs.declared.place.EntryPlace.{EntryPlace}
 use Rattle.dms_audfile.specs.declared.fault.AudFault.{AudFault}
@@ -59,7 +60,7 @@ use Rattle.dms_opening.proofs.DumpLooks.{look_is, head_for, found_stays}
 use Rattle.dms_opening.proofs.Prepared.{HoldsPending, holds}
 use Rattle.dms_restore.proofs.Scans.{none_missing}
 use Rattle.dms_opening.specs.declared.plan.OpeningPlan.{OpeningPlan}
-use Rattle.dms_opening.specs.Plans.{IsTrailRead, AreFoundFor, PlansFor, HasNoDescriptionAt, IsPlainFault, RefusesFor}
+use Rattle.dms_opening.specs.Plans.{IsTrailRead, IsTaggedRead, AreFoundFor, PlansFor, HasNoDescriptionAt, IsPlainFault, RefusesFor}
 use Rattle.dms_opening.proofs.Faults.{plain_audit}
 
 -- nothing was sealed yet
@@ -136,7 +137,7 @@ looked_at files (Rebuild e n) rows d by = let same : e ≡ d = cc in ap (dump_at
 looked_at files (Reconstruct e) rows d by = let same : e ≡ d = cc in ap (dump_at files) same
 
 module _ (files : Files) (entries : List Entry) (first : ℕ) (asked : Asked) (rows : List Row) (c : Choice) (begun look found : DumpFound) (chooses : Chooses (judge_entries first entries files asked) (history_of entries) asked rows c)
-    (begun_is : IsFoundAs (dump_begun files (history_of entries).pending) begun) (look_is : IsFoundAs (dump_asked files asked) look) (is : found ≡ cond c.begins look begun) where
+    (begun_is : IsFoundAs (tag_said (files first)) (dump_begun files (history_of entries).pending) begun) (look_is : IsFoundAs (tag_said (files first)) (dump_asked files asked) look) (is : found ≡ cond c.begins look begun) where
   abbrev p : Pending
   p = chooses.restore
 
@@ -144,24 +145,24 @@ module _ (files : Files) (entries : List Entry) (first : ℕ) (asked : Asked) (r
   next = next_of entries
 
   abbrev began : DumpLook
-  began = look_of (dump_begun files (history_of entries).pending)
+  began = look_of (tag_said (files first)) (dump_begun files (history_of entries).pending)
 
   abbrev looked : DumpLook
-  looked = look_of (dump_asked files asked)
+  looked = look_of (tag_said (files first)) (dump_asked files asked)
 
   found_begins : c.begins ≡ true → IsFoundFor files chooses.restore.how found
   found_begins on =
       let how : p.how ≡ how_of (kind_asked asked rows) = ap (λ (q : Pending). q.how) (chooses.is.new on).3 in
       let own = own_none first (history_of entries) next asked began looked chooses.none in
       subst (λ (f : DumpFound). IsFoundFor files p.how f) (sym (is ∙ ap (λ b. cond b look begun) on))
-      (head_for files first p.how (dump_asked files asked) look
+      (head_for files first (tag_said (files first)) p.how (dump_asked files asked) look
       (λ d by. let named = sym (ap dump_by how) ∙ by in (looked_at files asked rows d named, own_file first (live_of entries) next (last_point (history_of entries)) asked looked rows d named own)) look_is)
 
   found_goes_on : c.begins ≡ false → IsFoundFor files chooses.restore.how found
   found_goes_on off =
       let o = begun_none first (history_of entries) next asked began looked p (chooses.is.goes_on off) chooses.none in
       subst (λ (f : DumpFound). IsFoundFor files p.how f) (sym (is ∙ ap (λ b. cond b look begun) off))
-      (head_for files first p.how (dump_begun files (history_of entries).pending) begun
+      (head_for files first (tag_said (files first)) p.how (dump_begun files (history_of entries).pending) begun
       (λ d by. (ap (dump_numbered files) (ap dump_in o.0 ∙ by), restore_file first next p.how began p.entries p.point d by o.1)) begun_is)
 
   -- the dump of the restore is found with its head
@@ -214,7 +215,7 @@ module _ (total first : ℕ) (files : Files) (places : List EntryPlace) (t : Tra
 
   -- what is looked at are the dumps of the files
   looks : (one two : DumpLook) → one ≡ look_seen begun → two ≡ look_seen look → judge first (history_of entries) (next_of entries) asked one two ≡ judge_files total first files asked
-  looks one two a b = λ i. judge first (history_of entries) (next_of entries) asked ((a ∙ look_is (dump_begun files (history_of entries).pending) begun r.begun_is) i) ((b ∙ look_is (dump_asked files asked) look r.look_is) i)
+  looks one two a b = λ i. judge first (history_of entries) (next_of entries) asked ((a ∙ look_is (tag_said (files first)) (dump_begun files (history_of entries).pending) begun r.begun_is) i) ((b ∙ look_is (tag_said (files first)) (dump_asked files asked) look r.look_is) i)
 
   pub chosen_at : (one two : DumpLook) (c : Choice) → one ≡ look_seen begun → two ≡ look_seen look → ((files : Files) (entries : List Entry) (rows : List Row) → IsTraced files entries t.history → Chooses (judge first (history_of entries) (next_of entries) asked one two) (history_of entries) asked rows c)
       → Chooses (judge_files total first files asked) (history_of entries) asked rows c
@@ -228,7 +229,7 @@ module _ (total first : ℕ) (files : Files) (places : List EntryPlace) (t : Tra
 
   pub point_lives : (c : Choice) → Chooses (judge_files total first files asked) (history_of entries) asked rows c → IsLive (live_of entries) c.point
   point_lives c chooses =
-      chosen_lives files entries t.history first asked rows (look_of (dump_begun files (history_of entries).pending)) (look_of (dump_asked files asked)) c (read_now total first files places t r.read).history chooses
+      chosen_lives files entries t.history first asked rows (look_of (tag_said (files first)) (dump_begun files (history_of entries).pending)) (look_of (tag_said (files first)) (dump_asked files asked)) c (read_now total first files places t r.read).history chooses
 
   -- what is done, by what is kept
   pub done_now : (c : Choice) (chooses : Chooses (judge_files total first files asked) (history_of entries) asked rows c) → TracesDone files t.history asked rows c chooses.restore
@@ -269,11 +270,15 @@ module _ (total first : ℕ) (files : Files) (places : List EntryPlace) (t : Tra
 
 -- ---- of an opening, which looks at the dump of the restore that is pending
 
-pub found_now : (total first : ℕ) (files now : Files) (places : List EntryPlace) (t : TrailTrace) (begun : DumpFound) → now ≡ files → IsTrailRead total first files places t
-    → ((older : Files) (entries : List Entry) → IsTraced older entries t.history → IsFoundAs (dump_begun files (history_of entries).pending) begun) → AreFoundFor total first now places t HaltLoad begun Missing
-found_now total first files now places t begun same r found =
-    subst (λ (f : Files). AreFoundFor total first f places t HaltLoad begun Missing) (sym same)
-    (record { read = r; begun_is = found files (trail_entries total first files) (read_now total first files places t r).history; look_is = refl })
+pub found_now : (total tag first : ℕ) (files now : Files) (places : List EntryPlace) (t : TrailTrace) (begun : DumpFound) → now ≡ files → IsTaggedRead total tag first files places t
+    → ((older : Files) (entries : List Entry) → IsTraced older entries t.history → IsFoundAs tag (dump_begun files (history_of entries).pending) begun) → AreFoundFor total first now places t HaltLoad begun Missing
+found_now total tag first files now places t begun same r found =
+    let es : List Entry = trail_entries total first files in
+    subst (λ (f : Files). AreFoundFor total first f places t HaltLoad begun Missing) (sym same) (record {
+      read = r.read;
+      begun_is = subst (λ k. IsFoundAs k (dump_begun files (history_of es).pending) begun) (sym r.tag_is) (found files es (read_now total first files places t r.read).history);
+      look_is = refl;
+    })
 
 pub plan_as : (total first : ℕ) (files now : Files) (plan : OpeningPlan) → now ≡ files → PlansFor total first now HaltLoad [] plan → PlansFor total first files HaltLoad [] plan
 plan_as total first files now plan same plans = subst (λ (f : Files). PlansFor total first f HaltLoad [] plan) same plans

@@ -10,7 +10,7 @@ use Rattle.dms_restore.specs.Logging.{LogView, Ends}
 use Rattle.dms_wal.specs.Closing.{IsFullTrail}
 use Rattle.dms_wal.proofs.Closed.{full_trail}
 use Rattle.dms_history.specs.Judge.{no_such_point, audit_missing, voided}
-use Rattle.dms_opening.specs.Asked.{Refused, at_point, dump_missing, dump_unsealed, dump_damaged, audit_before, dump_later}
+use Rattle.dms_opening.specs.Asked.{Refused, at_point, dump_missing, dump_unsealed, dump_damaged, dump_foreign, audit_before, dump_later}
 use Rattle.dms_opening.specs.Choices.{fault_of}
 use Rattle.dms_opening.specs.Plans.{RefusesPlan}
 
@@ -28,6 +28,7 @@ judged_has_room first n (at_point m voided) e = absurd cc
 judged_has_room first n (dump_missing d) e = absurd cc
 judged_has_room first n (dump_unsealed d) e = absurd cc
 judged_has_room first n (dump_damaged d) e = absurd cc
+judged_has_room first n (dump_foreign d) e = absurd cc
 judged_has_room first n audit_before e = absurd cc
 judged_has_room first n (dump_later d p) e = absurd cc
 

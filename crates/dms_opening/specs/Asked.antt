@@ -4,20 +4,21 @@ use Rattle.dms_history.specs.Events.{Event, How, halt_load, back_out, roll_back,
 use Rattle.dms_history.specs.History.{Pending, History, last_point}
 use Rattle.dms_history.specs.Judge.{PointRefusal, audit_missing, judge_point}
 use Rattle.dms_opening.specs.declared.asked.DumpLook.{DumpLook}
-use Rattle.dms_opening.specs.declared.asked.DumpLook.TheVariants.{Missing, Unsealed, Damaged, Sealed}
+use Rattle.dms_opening.specs.declared.asked.DumpLook.TheVariants.{Missing, Unsealed, Damaged, Foreign, Sealed}
 use Rattle.dms_opening.specs.declared.asked.Asked.{Asked}
 use Rattle.dms_opening.specs.declared.asked.Asked.TheVariants.{HaltLoad, Rollback, Rebuild, Reconstruct}
 use Rattle.dms_opening.specs.declared.asked.Refusal.{Refusal}
 use Rattle.dms_opening.specs.declared.asked.Refusal.TheVariants as answered
 use Rattle.dms_opening.specs.Judged.{refusal_of}
 
--- point n can't be had; dump d isn't present, isn't sealed, or isn't in its grammar; the audit file of a dump stands before the trail; the point p of
--- dump d is above the chosen one
+-- point n can't be had; dump d isn't present, isn't sealed, isn't in its grammar, or has another tag than the trail; the audit file of a dump stands
+-- before the trail; the point p of dump d is above the chosen one
 pub data Refused : Type 0 where
   at_point : ℕ → PointRefusal → Refused
   dump_missing : ℕ → Refused
   dump_unsealed : ℕ → Refused
   dump_damaged : ℕ → Refused
+  dump_foreign : ℕ → Refused
   audit_before : Refused
   dump_later : ℕ → ℕ → Refused
 
@@ -37,6 +38,7 @@ abbrev pub judge_file : ℕ → ℕ → DumpLook → Option Refused
 judge_file first d Missing = Some (dump_missing d)
 judge_file first d Unsealed = Some (dump_unsealed d)
 judge_file first d Damaged = Some (dump_damaged d)
+judge_file first d Foreign = Some (dump_foreign d)
 judge_file first d (Sealed point audit) = if nat_lt (10000 + audit) first then Some audit_before else None
 
 abbrev pub is_later : ℕ → ℕ → ℕ → Option Refused
@@ -47,6 +49,7 @@ abbrev pub judge_dump_point : List Event → ℕ → ℕ → DumpLook → ℕ �
 judge_dump_point live next d Missing m = None
 judge_dump_point live next d Unsealed m = None
 judge_dump_point live next d Damaged m = None
+judge_dump_point live next d Foreign m = None
 judge_dump_point live next d (Sealed point audit) m = or_next (refused_at point (judge_point live next point)) (is_later d point m)
 
 abbrev pub judge_dump : ℕ → List Event → ℕ → ℕ → DumpLook → ℕ → Option Refused
@@ -101,6 +104,7 @@ refused_by (answered.Point n fault) = at_point n (refusal_of fault)
 refused_by (answered.DumpMissing d) = dump_missing d
 refused_by (answered.DumpUnsealed d) = dump_unsealed d
 refused_by (answered.DumpDamaged d) = dump_damaged d
+refused_by (answered.DumpForeign d) = dump_foreign d
 refused_by answered.AuditBefore = audit_before
 refused_by (answered.DumpLater d p) = dump_later d p
 

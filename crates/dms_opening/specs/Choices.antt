@@ -7,12 +7,13 @@ use Rattle.dms_history.specs.Entries.{Entry}
 use Rattle.dms_history.specs.EntryEvents.{history_of, next_of}
 use Rattle.dms_history.specs.declared.event.Row.{Row}
 use Rattle.dms_audfile.specs.declared.fault.AudFault.TheVariants as aud
+use Rattle.dms_audfile.specs.Header.{tag_said}
 use Rattle.dms_audfile.specs.TrailEntries.{trail_entries}
 use Rattle.dms_opening.specs.declared.asked.Asked.{Asked}
 use Rattle.dms_opening.specs.declared.choosing.OpenFault.{OpenFault}
-use Rattle.dms_opening.specs.declared.choosing.OpenFault.TheVariants.{Audit, NoSuchPoint, Voided, DumpMissing, DumpUnsealed, DumpDamaged, DumpLater}
+use Rattle.dms_opening.specs.declared.choosing.OpenFault.TheVariants.{Audit, NoSuchPoint, Voided, DumpMissing, DumpUnsealed, DumpDamaged, DumpForeign, DumpLater}
 use Rattle.dms_opening.specs.declared.choosing.Choice.{Choice}
-use Rattle.dms_opening.specs.Asked.{Refused, at_point, dump_missing, dump_unsealed, dump_damaged, audit_before, dump_later, judge}
+use Rattle.dms_opening.specs.Asked.{Refused, at_point, dump_missing, dump_unsealed, dump_damaged, dump_foreign, audit_before, dump_later, judge}
 use Rattle.dms_opening.specs.Doing.{IsDone}
 use Rattle.dms_opening.specs.DumpLooks.{look_of, dump_begun, dump_asked}
 
@@ -25,6 +26,7 @@ fault_of first (at_point n voided) = Voided n
 fault_of first (dump_missing d) = DumpMissing d
 fault_of first (dump_unsealed d) = DumpUnsealed d
 fault_of first (dump_damaged d) = DumpDamaged d
+fault_of first (dump_foreign d) = DumpForeign d
 fault_of first audit_before = Audit (aud.Missing (first - 10001))
 fault_of first (dump_later d p) = DumpLater d p
 
@@ -49,7 +51,8 @@ pub record Chooses (refused : Option Refused) (h : History) (asked : Asked) (row
 -- the first refusal of what is asked of files with these entries, whose trail begins with file `first`
 abbrev pub judge_entries : ℕ → List Entry → Files → Asked → Option Refused
 judge_entries first entries files asked =
-    judge first (history_of entries) (next_of entries) asked (look_of (dump_begun files (history_of entries).pending)) (look_of (dump_asked files asked))
+    let tag = tag_said (files first) in
+    judge first (history_of entries) (next_of entries) asked (look_of tag (dump_begun files (history_of entries).pending)) (look_of tag (dump_asked files asked))
 
 -- so it is of the files of a trail
 abbrev pub judge_files : ℕ → ℕ → Files → Asked → Option Refused

@@ -1,5 +1,5 @@
 -- What the file of a dump is found to be.
-use Rattle.std.specs.Prelude.{ℕ, ◌+◌, ◌≡◌, ◌&&◌, nat_lt, nat_le, if◌then◌else◌, Option, Some, None}
+use Rattle.std.specs.Prelude.{ℕ, ◌+◌, ◌≡◌, ◌==◌, ◌&&◌, nat_lt, nat_le, if◌then◌else◌, Option, Some, None}
 use Rattle.std.specs.declared.result.Result.{Result}
 use Rattle.std.specs.declared.result.Result.TheVariants.{Ok, Err}
 use Rattle.dms_site.specs.Files.{Files}
@@ -16,34 +16,36 @@ use Rattle.dms_opening.specs.declared.asked.Asked.TheVariants as asks
 use Rattle.dms_opening.specs.declared.asked.DumpLook.{DumpLook}
 use Rattle.dms_opening.specs.declared.asked.DumpLook.TheVariants as looks
 use Rattle.dms_opening.specs.declared.dump_looks.DumpFound.{DumpFound}
-use Rattle.dms_opening.specs.declared.dump_looks.DumpFound.TheVariants.{Missing, Unsealed, Damaged, Sealed}
+use Rattle.dms_opening.specs.declared.dump_looks.DumpFound.TheVariants.{Missing, Unsealed, Damaged, Foreign, Sealed}
 
--- what is looked at of it
-abbrev pub look_of : DumpRead → DumpLook
-look_of missing = looks.Missing
-look_of unsealed = looks.Unsealed
-look_of damaged = looks.Damaged
-look_of (sealed h) = looks.Sealed h.point h.audit
+-- what is looked at of it, for a trail with this tag
+abbrev pub look_of : ℕ → DumpRead → DumpLook
+look_of tag missing = looks.Missing
+look_of tag unsealed = looks.Unsealed
+look_of tag damaged = looks.Damaged
+look_of tag (sealed h) = if h.tag == tag then looks.Sealed h.point h.audit else looks.Foreign
 
 -- ---- with the head of the dump
 
--- what is found is what was read of a file
-abbrev pub IsFoundAs : DumpRead → DumpFound → Type 0
-IsFoundAs file Missing = file ≡ missing
-IsFoundAs file Unsealed = file ≡ unsealed
-IsFoundAs file Damaged = file ≡ damaged
-IsFoundAs file (Sealed head) = file ≡ sealed (head_seen head)
+-- what is found, for a trail with this tag, is what was read of a file
+abbrev pub IsFoundAs : ℕ → DumpRead → DumpFound → Type 0
+IsFoundAs tag file Missing = file ≡ missing
+IsFoundAs tag file Unsealed = file ≡ unsealed
+IsFoundAs tag file Damaged = file ≡ damaged
+IsFoundAs tag file Foreign = look_of tag file ≡ looks.Foreign
+IsFoundAs tag file (Sealed head) = (file ≡ sealed (head_seen head)) × (head.tag ≡ tag)
 
 -- of a file that is read so, it is found
-abbrev pub SaysFound : ℕ → DumpRead → Result DumpHead DumpFault → DumpFound → Type 0
-SaysFound d file (Ok head) found = file ≡ sealed (head_seen head) → IsFoundAs file found
-SaysFound d file (Err fault) found = RefusesDump d file fault → IsFoundAs file found
+abbrev pub SaysFound : ℕ → ℕ → DumpRead → Result DumpHead DumpFault → DumpFound → Type 0
+SaysFound tag d file (Ok head) found = file ≡ sealed (head_seen head) → IsFoundAs tag file found
+SaysFound tag d file (Err fault) found = RefusesDump d file fault → IsFoundAs tag file found
 
 -- what is looked at of it
 abbrev pub look_seen : DumpFound → DumpLook
 look_seen Missing = looks.Missing
 look_seen Unsealed = looks.Unsealed
 look_seen Damaged = looks.Damaged
+look_seen Foreign = looks.Foreign
 look_seen (Sealed head) = looks.Sealed head.point head.audit
 
 -- the head that was read
@@ -51,6 +53,7 @@ abbrev pub head_found : DumpFound → Option DumpHead
 head_found Missing = None
 head_found Unsealed = None
 head_found Damaged = None
+head_found Foreign = None
 head_found (Sealed head) = Some head
 
 -- its head fits
@@ -58,6 +61,7 @@ abbrev pub IsFitFound : DumpFound → Type 0
 IsFitFound Missing = Unit {0}
 IsFitFound Unsealed = Unit {0}
 IsFitFound Damaged = Unit {0}
+IsFitFound Foreign = Unit {0}
 IsFitFound (Sealed head) = IsFitHead head
 
 -- a restore by a dump has its head

@@ -9,6 +9,7 @@ use Rattle.dms_history.specs.SchemaAt.{schema_at}
 use Rattle.dms_history.specs.declared.event.Row.{Row}
 use Rattle.dms_audfile.specs.AuditTrail.{IsFound}
 use Rattle.dms_audfile.specs.Ends.{Grown}
+use Rattle.dms_audfile.specs.Header.{tag_said}
 use Rattle.dms_audfile.specs.TrailEntries.{trail_entries}
 use Rattle.dms_audfile.specs.declared.fault.AudFault.TheVariants as aud
 use Rattle.dms_audfile.specs.declared.place.EntryPlace.{EntryPlace}
@@ -34,15 +35,20 @@ pub record IsTrailRead (total first : ℕ) (files : Files) (places : List EntryP
   pub placed : AreEntryPlaces total first files places
   pub stays : StaysTraced total first files t
 
+-- So it was, and this is its tag.
+pub record IsTaggedRead (total tag first : ℕ) (files : Files) (places : List EntryPlace) (t : TrailTrace) : Type 0 where
+  pub read : IsTrailRead total first files places t
+  pub tag_is : tag_said (files first) ≡ tag
+
 -- so was a trail that was scanned
 abbrev pub IsScanRead : {S : Type 0} → Ghosts S → Scanned S → Type 0
-IsScanRead g s = IsTrailRead s.log.end.total s.log.first (g.files s.log.site) s.places.items s.trace
+IsScanRead g s = IsTaggedRead s.log.end.total s.log.end.tag s.log.first (g.files s.log.site) s.places.items s.trace
 
 -- So it is, and this is what the dump of the restore that is pending is found to be, and the one that is asked for.
 pub record AreFoundFor (total first : ℕ) (files : Files) (places : List EntryPlace) (t : TrailTrace) (asked : Asked) (begun look : DumpFound) : Type 0 where
   pub read : IsTrailRead total first files places t
-  pub begun_is : IsFoundAs (dump_begun files (history_of (trail_entries total first files)).pending) begun
-  pub look_is : IsFoundAs (dump_asked files asked) look
+  pub begun_is : IsFoundAs (tag_said (files first)) (dump_begun files (history_of (trail_entries total first files)).pending) begun
+  pub look_is : IsFoundAs (tag_said (files first)) (dump_asked files asked) look
 
 -- the files of dumps are the same
 abbrev pub SameDumps : Files → Files → Type 0

@@ -23,6 +23,8 @@ pub enum DumpLook {
     Missing,
     Unsealed,
     Damaged,
+    /// It has another tag than the trail.
+    Foreign,
     /// The point of a dump, and the number of its audit file.
     Sealed(u64, u32),
 }
@@ -44,6 +46,8 @@ pub enum Refusal {
     DumpMissing(u16),
     DumpUnsealed(u16),
     DumpDamaged(u16),
+    /// The tag of this dump isn't the trail's.
+    DumpForeign(u16),
     /// The audit file of the dump stands before the trail.
     AuditBefore,
     /// The point of this dump is above the chosen one.
@@ -78,6 +82,7 @@ fn judge_file(first: u32, dump: u16, look: DumpLook) -> Option<Refusal>
         DumpLook::Missing => Some(Refusal::DumpMissing(dump)),
         DumpLook::Unsealed => Some(Refusal::DumpUnsealed(dump)),
         DumpLook::Damaged => Some(Refusal::DumpDamaged(dump)),
+        DumpLook::Foreign => Some(Refusal::DumpForeign(dump)),
         DumpLook::Sealed(_, audit) => {
             if 10_000 + u64::from(audit) < u64::from(first) {
                 Some(Refusal::AuditBefore)
@@ -113,6 +118,7 @@ fn judge_dump_point(
         DumpLook::Missing => None,
         DumpLook::Unsealed => None,
         DumpLook::Damaged => None,
+        DumpLook::Foreign => None,
         DumpLook::Sealed(point, _) => or_next(
             refuse_point(live, next, point),
             refuse_later(dump, point, chosen),

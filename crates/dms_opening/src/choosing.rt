@@ -34,6 +34,8 @@ pub enum OpenFault {
     DumpUnsealed(u16),
     /// What stands behind the gate of that dump isn't in its grammar.
     DumpDamaged(u16),
+    /// That dump has another tag than the trail.
+    DumpForeign(u16),
     /// That dump is at this point, which is above the point of the restore.
     DumpLater(u16, u64),
 }
@@ -61,6 +63,7 @@ fn fault_of(first: u32, refusal: Refusal) -> OpenFault
         Refusal::DumpMissing(dump) => OpenFault::DumpMissing(dump),
         Refusal::DumpUnsealed(dump) => OpenFault::DumpUnsealed(dump),
         Refusal::DumpDamaged(dump) => OpenFault::DumpDamaged(dump),
+        Refusal::DumpForeign(dump) => OpenFault::DumpForeign(dump),
         Refusal::AuditBefore => OpenFault::Audit(AudFault::Missing(first - 10_001)),
         Refusal::DumpLater(dump, point) => OpenFault::DumpLater(dump, point),
     }

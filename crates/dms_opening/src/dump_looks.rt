@@ -8,7 +8,8 @@ ghost use Rattle.dms_history.specs.Events.{How};
 ghost use Rattle.dms_history.specs.declared.event.Row as row;
 ghost use Rattle.dms_audfile.specs.Counting.{CountedAt};
 ghost use Rattle.dms_audfile.specs.Reads.{ReadsAlone};
-ghost use Rattle.dms_dump.specs.Judged.{DumpRead};
+ghost use Rattle.dms_dump.specs.HeadSeen.{head_seen};
+ghost use Rattle.dms_dump.specs.Judged.{DumpRead, sealed};
 ghost use Rattle.dms_running.specs.FromDumps.{dump_by, dump_in};
 ghost use Rattle.dms_restore.specs.Planned.{IsFitHead};
 ghost use Rattle.dms_restore.specs.Tracing.{MatchesHow, IsTraced};
@@ -26,6 +27,8 @@ pub enum DumpFound {
     Missing,
     Unsealed,
     Damaged,
+    /// It can be read, and has another tag than the trail.
+    Foreign,
     Sealed(DumpHead),
 }
 
@@ -38,6 +41,7 @@ impl DumpFound {
             DumpFound::Missing => DumpLook::Missing,
             DumpFound::Unsealed => DumpLook::Unsealed,
             DumpFound::Damaged => DumpLook::Damaged,
+            DumpFound::Foreign => DumpLook::Foreign,
             DumpFound::Sealed(head) => DumpLook::Sealed(head.point, head.audit),
         }
     }
@@ -48,6 +52,7 @@ impl DumpFound {
             DumpFound::Missing => {}
             DumpFound::Unsealed => {}
             DumpFound::Damaged => {}
+            DumpFound::Foreign => {}
             DumpFound::Sealed(
                 DumpHead {
                     tag: _,
@@ -60,15 +65,27 @@ impl DumpFound {
     }
 }
 
-/// What was read of a dump. A dump that is read isn't one that exists already: that fault never comes where files are told.
-fn found_as(read: Result<DumpHead, DumpFault>) -> Result<DumpFound, AudFault>
-    ensures found { IfOk result (λ f. (d : ℕ) (file : DumpRead) → SaysFound d file read f) }
+/// The dump with this head, for a trail with this tag.
+fn own_or_foreign(tag: u64, head: DumpHead) -> DumpFound
+    ensures found { (file : DumpRead) → file ≡ sealed (head_seen head) → IsFoundAs tag file result }
+    ensures fit { IsFitHead head → IsFitFound result }
+{
+    if head.tag == tag {
+        return DumpFound::Sealed(head);
+    }
+    DumpFound::Sealed(head).let_go();
+    DumpFound::Foreign
+}
+
+/// What was read of a dump, for a trail with this tag. A dump that is read isn't one that exists already: that fault never comes where files are told.
+fn found_as(tag: u64, read: Result<DumpHead, DumpFault>) -> Result<DumpFound, AudFault>
+    ensures found { IfOk result (λ f. (d : ℕ) (file : DumpRead) → SaysFound tag d file read f) }
     ensures fit { IfOk read IsFitHead → IfOk result IsFitFound }
     ensures only { IfErr result (λ e. (e ≡ AudFault.Disk) ⊎ (e ≡ AudFault.Memory)) }
     ensures disk { IsErrOf result AudFault.Disk ↔ IsErrOf read DumpFault.Disk }
 {
     match read {
-        Ok(head) => Ok(DumpFound::Sealed(head)),
+        Ok(head) => Ok(own_or_foreign(tag, head)),
         Err(DumpFault::Disk) => Err(AudFault::Disk),
         Err(DumpFault::Memory) => Err(AudFault::Memory),
         Err(DumpFault::Exists(_)) => Ok(DumpFound::Missing),
@@ -78,10 +95,15 @@ fn found_as(read: Result<DumpHead, DumpFault>) -> Result<DumpFound, AudFault>
     }
 }
 
-/// What the file of dump d is found to be; where d isn't from 1 to 9,999 it is missing. Nothing changes. Answers Disk where a call of the site
+/// What the file of dump d is found to be, for a trail with this tag; where d isn't from 1 to 9,999 it is missing. Nothing changes. Answers Disk where a call of the site
 /// failed, and Memory.
-pub fn find_dump<S: Site>(alloc: Global, site: &mut S, dump: u16) -> Result<DumpFound, AudFault>
-    ensures found { IfOk result (λ f. IsTrue S.tells → IsFoundAs (dump_at (S.files site.old) dump) f) }
+pub fn find_dump<S: Site>(
+    alloc: Global,
+    site: &mut S,
+    tag: u64,
+    dump: u16,
+) -> Result<DumpFound, AudFault>
+    ensures found { IfOk result (λ f. IsTrue S.tells → IsFoundAs tag (dump_at (S.files site.old) dump) f) }
     ensures fit { IfOk result IsFitFound }
     ensures only { IfErr result (λ e. (e ≡ AudFault.Disk) ⊎ (e ≡ AudFault.Memory)) }
     ensures reads { ReadsAlone S.Site site.old site.new }
@@ -92,7 +114,7 @@ pub fn find_dump<S: Site>(alloc: Global, site: &mut S, dump: u16) -> Result<Dump
         return Ok(DumpFound::Missing);
     }
     let read = read_dump(alloc, site, dump);
-    found_as(read)
+    found_as(tag, read)
 }
 
 /// The number of the dump by which a restore goes.
@@ -118,15 +140,16 @@ fn pending_dump(history: &TrailHistory) -> Option<u16>
     }
 }
 
-/// What the dump of the restore that is pending is found to be; it is missing where none is pending, or one by the audit. Nothing changes. Answers
+/// What the dump of the restore that is pending is found to be, for a trail with this tag; it is missing where none is pending, or one by the audit. Nothing changes. Answers
 /// Disk where a call of the site failed, and Memory.
 pub fn find_begun<S: Site>(
     alloc: Global,
     site: &mut S,
+    tag: u64,
     history: &TrailHistory,
 ) -> Result<DumpFound, AudFault>
     ensures found { IfOk result (λ f. IsTrue S.tells → (files : Files) (entries : List meaning.Entry) → IsTraced files entries history.now
-        → IsFoundAs (dump_begun (S.files site.old) (history_of entries).pending) f) }
+        → IsFoundAs tag (dump_begun (S.files site.old) (history_of entries).pending) f) }
     ensures fit { IfOk result IsFitFound }
     ensures only { IfErr result (λ e. (e ≡ AudFault.Disk) ⊎ (e ≡ AudFault.Memory)) }
     ensures reads { ReadsAlone S.Site site.old site.new }
@@ -135,6 +158,6 @@ pub fn find_begun<S: Site>(
 {
     match pending_dump(history) {
         None => Ok(DumpFound::Missing),
-        Some(dump) => find_dump(alloc, site, dump),
+        Some(dump) => find_dump(alloc, site, tag, dump),
     }
 }

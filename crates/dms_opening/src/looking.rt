@@ -93,7 +93,7 @@ pub(crate) fn plan_scanned<S: Site>(
         end,
         first,
     } = log;
-    let mut plan = match prepare(alloc, &mut site, first, &places, trace) {
+    let mut plan = match prepare(alloc, &mut site, first, end.tag, &places, trace) {
         Ok(plan) => plan,
         Err(fault) => return Err((fault, site)),
     };

@@ -14,7 +14,7 @@ ghost use Rattle.dms_restore.specs.Counts.{count_of, AllAtMost};
 ghost use Rattle.dms_restore.specs.Table.{AreBlocks, AreRuns, IsPlan};
 ghost use Rattle.dms_opening.specs.DumpLooks.{IsFitFound, IsFoundFor};
 ghost use Rattle.dms_opening.specs.Starts.{TracesDone};
-ghost use Rattle.dms_opening.specs.Plans.{IsTrailRead, CannotDescribe, HasNoDescriptionAt, IsPlainFault, AreFoundFor, Plans, PlansFor, FitsOpening, RefusesFor, RefusesPlan};
+ghost use Rattle.dms_opening.specs.Plans.{IsTrailRead, IsTaggedRead, CannotDescribe, HasNoDescriptionAt, IsPlainFault, AreFoundFor, Plans, PlansFor, FitsOpening, RefusesFor, RefusesPlan};
 
 use crate::asked::Asked;
 use crate::choosing::{Choice, OpenFault, choose};
@@ -194,7 +194,7 @@ pub fn prepare_asked<S: Site>(
     }
 }
 
-/// What an opening does, and what it needs, of a trail that begins with file `first` and was scanned. The dump of a restore that is pending is looked
+/// What an opening does, and what it needs, of a trail that begins with file `first`, has this tag and was scanned. The dump of a restore that is pending is looked
 /// at.
 ///
 /// Nothing changes. Answers the first refusal by the pending restore and the last point, Damaged of file `first` where the Schema at the
@@ -203,18 +203,19 @@ pub fn prepare<S: Site>(
     alloc: Global,
     site: &mut S,
     first: u32,
+    tag: u64,
     places: &[EntryPlace],
     trace: TrailTrace,
 ) -> Result<OpeningPlan, OpenFault>
     requires { 10001 ≤ first }
-    ensures plans { IfOk result (λ plan. IsTrue S.tells → (total : ℕ) → IsTrailRead total first (S.files site.old) places.now trace → Plans total first (S.files site.old) plan) }
+    ensures plans { IfOk result (λ plan. IsTrue S.tells → (total : ℕ) → IsTaggedRead total tag first (S.files site.old) places.now trace → Plans total first (S.files site.old) plan) }
     ensures fit { IfOk result FitsOpening }
-    ensures refused { IfErr result (λ e. IsTrue S.tells → (total : ℕ) → IsTrailRead total first (S.files site.old) places.now trace → RefusesPlan total first (S.files site.old) e) }
+    ensures refused { IfErr result (λ e. IsTrue S.tells → (total : ℕ) → IsTaggedRead total tag first (S.files site.old) places.now trace → RefusesPlan total first (S.files site.old) e) }
     ensures reads { ReadsAlone S.Site site.old site.new }
     ensures same_site { S.same_site site.old site.new }
     ensures disk { CountedAt (IsErrOf result (OpenFault.Audit AudFault.Disk)) (S.disk_faults site.old) (S.disk_faults site.new) }
 {
-    let begun = match find_begun(alloc, site, &trace.history) {
+    let begun = match find_begun(alloc, site, tag, &trace.history) {
         Ok(begun) => begun,
         Err(fault) => return Err(OpenFault::Audit(fault)),
     };

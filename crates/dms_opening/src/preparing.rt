@@ -127,6 +127,7 @@ pub(crate) fn pending_table(
         DumpFound::Missing => plan_of(alloc, history, counts, None),
         DumpFound::Unsealed => plan_of(alloc, history, counts, None),
         DumpFound::Damaged => plan_of(alloc, history, counts, None),
+        DumpFound::Foreign => plan_of(alloc, history, counts, None),
     }
 }
 

@@ -27,6 +27,7 @@ use Rattle.dms_audfile.specs.Database.{HasDatabase}
 use Rattle.dms_audfile.proofs.Again.{scans_again}
 use Rattle.dms_audfile.proofs.Waiting.{waiting_is}
 use Rattle.dms_audfile.proofs.Followed.{fits_says, scans_trail}
+use Rattle.dms_audfile.specs.Header.{tag_said}
 use Rattle.dms_audfile.proofs.Growing.{writes_same}
 use Rattle.dms_audfile.proofs.Ended.{entries_settled, writes_once}
 use Rattle.dms_audfile.proofs.Kept.{long_head, found_is_kept}
@@ -63,13 +64,14 @@ dumps_same : (x y : Files) → ((g : ℕ) → 20000 < g → g ≤ 30000 → x g 
 dumps_same x y same =
     λ i. λ d. dump_same x y d (nat_lt 0 d && nat_le d 10000) (λ on. let n = dump_numbers d on in same (20000 + d) (omega (arith, n.0)) (omega (arith, n.1))) i
 
--- a dump that is found is found in files with the same dumps
-pub found_dump : (first : ℕ) (x y : Files) (d : ℕ) → ((g : ℕ) → 20000 < g → g ≤ 30000 → x g ≡ y g) → IsDumpFound first y d → IsDumpFound first x d
-found_dump first x y d same found = record {
+-- a dump that is found is found in files with the same dumps and the same tag
+pub found_dump : (first : ℕ) (x y : Files) (d : ℕ) → tag_said (x first) ≡ tag_said (y first) → ((g : ℕ) → 20000 < g → g ≤ 30000 → x g ≡ y g) → IsDumpFound first y d → IsDumpFound first x d
+found_dump first x y d tags same found = record {
   some = found.some;
   few = found.few;
   head = found.head;
   read = ap dump_read (same (20000 + d) (omega (arith, found.some)) (omega (arith, found.few))) ∙ found.read;
+  tag_is = found.tag_is ∙ sym tags;
   within = found.within;
 }
 
@@ -165,7 +167,7 @@ found_sealed total tag first g n w y x writes seals f =
     })
 
 pub is_telling : (total first : ℕ) → first ≤ 20000 → IsTelling (telling_of total first)
-is_telling total first low = record { entries_low = trail_entries_low total first low; dumps_between = dumps_same; found_low = found_stays total first; dump_found_between = found_dump first }
+is_telling total first low = record { entries_low = trail_entries_low total first low; dumps_between = dumps_same; found_low = found_stays total first; dump_found_low = λ x y d same found. found_dump first x y d (ap tag_said (same first (omega (arith, low)))) (λ g above upto. same g upto) found }
 
 pub first_low : (end : AuditEnd) (first : ℕ) (w : List Entry) (files : Files) (clock : Clock Left) → EndsAt end first w files clock → first ≤ 20000
 first_low end first w files clock e = omega (arith, e.writes.order, end.high)
@@ -203,6 +205,9 @@ seals_as end first waiting files old e w new steps = steps_weaken steps (λ y x 
   some = s.some;
   sealed = s.entries;
   found = found_sealed end.total end.tag first end.file end.count w y x (writes_same end.total end.tag first end.file end.count files y.files e.writes (λ g from upto. e.settled g from upto y now)) s;
+  dumps_found = λ d found.
+      let tag_then = ap tag_said (e.settled first (omega arith) e.writes.order y now) ∙ e.writes.tags first (omega arith) e.writes.order in
+      found_dump first x.files y.files d (s.writes.tags first (omega arith) s.writes.order ∙ sym tag_then) (λ g above upto. s.above g above) found;
   above = s.above;
   said = s.said;
 })

@@ -52,8 +52,8 @@ module _ (t : Telling) (telling : IsTelling t) (a : State) (right : Stored) (m :
     sealed_stands : Stands t.first (es ++ the_begin ∷ []) (t.dumps x) r.base (stored_of x)
     sealed_stands = subst (λ (s : Stored). Stands t.first (es ++ the_begin ∷ []) (t.dumps x) r.base s) (sym blocks) (subst (λ (d : Dumps). Stands t.first (es ++ the_begin ∷ []) d r.base (stored_of a.files)) (sym dumps) law.stands)
 
-    sealed_order : DumpsInOrder (t.dump_found x) (t.dumps x) (Some the_restore)
-    sealed_order = order_stays t telling a.files x (Some the_restore) (λ g up below. above g up) r.order
+    sealed_order : ((k : ℕ) → t.dump_found a.files k → t.dump_found x k) → DumpsInOrder (t.dump_found x) (t.dumps x) (Some the_restore)
+    sealed_order goes = order_stays t telling a.files x (Some the_restore) (λ g up below. above g up) goes r.order
 
     sealed_points : points_of t x ≡ points_to t a right m
     sealed_points = (λ i. points_told (dumps i) (is i) (blocks i)) ∙ law.points
@@ -68,18 +68,21 @@ module _ (t : Telling) (telling : IsTelling t) (a : State) (right : Stored) (m :
     from_read : (g : ℕ) → 20000 < g → x.files g ≡ a.files g
     from_read g up = s.above g up ∙ ap (λ (l : Files). l g) (r.only y now)
 
+    dumps_then : (k : ℕ) → t.dump_found a.files k → t.dump_found x.files k
+    dumps_then k found = s.dumps_found k (subst (λ (l : Files). t.dump_found l k) (sym (r.only y now)) found)
+
     found_then : t.found x.files
     found_then = s.found (subst t.found (sym (r.only y now)) r.found)
 
     begun_front : BeginLeaves t a right m x
     begun_front = push_all (λ l. t.entries x.files ≡ es ++ l → BeginLeaves t a right m x) [] the_begin
-        (λ k is. inl (record { found = found_then; entries_same = is ∙ ap (λ (l : List Entry). es ++ l) (none_taken k) ∙ append-nil es; above = from_read }))
+        (λ k is. inl (record { found = found_then; dumps_found = dumps_then; entries_same = is ∙ ap (λ (l : List Entry). es ++ l) (none_taken k) ∙ append-nil es; above = from_read }))
         (λ is. inr (record {
           whole = record {
             found = found_then;
             base = r.base;
             stands = subst (λ (l : List Entry). Stands t.first l (t.dumps x.files) r.base (stored_of x.files)) (sym is) (sealed_stands x.files is from_read);
-            order = subst (λ (q : Option Pending). DumpsInOrder (t.dump_found x.files) (t.dumps x.files) q) (sym (ap (λ (l : List Entry). (history_of l).pending) is ∙ pending_is)) (sealed_order x.files is from_read);
+            order = subst (λ (q : Option Pending). DumpsInOrder (t.dump_found x.files) (t.dumps x.files) q) (sym (ap (λ (l : List Entry). (history_of l).pending) is ∙ pending_is)) (sealed_order x.files is from_read dumps_then);
           };
           points = sealed_points x.files is from_read;
           next_same = sealed_next x.files is from_read;
@@ -114,7 +117,7 @@ module _ (t : Telling) (telling : IsTelling t) (a : State) (right : Stored) (m :
       pending = ap (λ (l : List Entry). (history_of l).pending) sealed.sealed ∙ pending_is;
       outcome_stays = λ x st now. let after = steps.follows x now in
           ap (λ (d : Dumps). outcome (how_of kind) d (live_of es) m st) (telling.dumps_between x.files b.files (λ g up below. from_read after.0 x after.1 after.2 g up ∙ sym (sealed.above g up)));
-      order = λ x now. let after = steps.follows x now in sealed_order x.files (settles x now ∙ sealed.sealed) (from_read after.0 x after.1 after.2);
+      order = λ x now. let after = steps.follows x now in sealed_order x.files (settles x now ∙ sealed.sealed) (from_read after.0 x after.1 after.2) (dumps_then after.0 x after.1 after.2);
       each = λ x now. let after = steps.follows x now in
           subst (λ (l : List Entry). Stands t.first l (t.dumps x.files) r.base (stored_of x.files)) (sym sealed.sealed) (sealed_stands x.files (settles x now ∙ sealed.sealed) (from_read after.0 x after.1 after.2));
     }

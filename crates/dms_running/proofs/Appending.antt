@@ -1,16 +1,18 @@
 -- An Image or a quiet point is appended, and what waits is sealed.
-use Rattle.std.proofs.Common.{ℕ, ◌-◌, ◌+◌, ◌^◌, ◌≤◌, ◌<◌, ◌≡◌, List, [], ◌∷◌, ◌++◌, map, length, take, refl, sym, ◌∙◌, ap, subst, arith, append_assoc, length-append, Option}
+use Rattle.std.proofs.Common.{ℕ, ◌-◌, ◌+◌, ◌^◌, ◌≤◌, ◌<◌, ◌≡◌, List, [], ◌∷◌, ◌++◌, map, length, take, Bool, true, refl, sym, ◌∙◌, ap, subst, arith, append_assoc, length-append, Option}
 use Rattle.std.proofs.lemmas.List.{map-append}
 use Rattle.dms_moments.specs.Moments.{Clock, Now, Steps}
 use Rattle.dms_site.specs.Files.{Files, Left, stored_of}
-use Rattle.dms_history.specs.Events.{BlockBytes, AllBlocks, Stored, Event, change, quiet}
+use Rattle.dms_history.specs.Events.{BlockBytes, AllBlocks, Stored, Event, change, quiet, block_in}
 use Rattle.dms_history.specs.Replay.{TellsBefore, with_block}
 use Rattle.dms_history.specs.Base.{from_control, Sound}
 use Rattle.dms_history.specs.Pick.{Dumps, blocks_at}
 use Rattle.dms_history.specs.History.{next_number}
 use Rattle.dms_history.specs.Points.{LivePoint, numbers_from, live_numbers, point_at, live_points}
-use Rattle.dms_history.specs.Entries.{Entry, image, quiet_point}
-use Rattle.dms_history.specs.EntryEvents.{history_of, events, live_of, next_of}
+use Rattle.dms_history.specs.Entries.{Entry, image, byte_range, quiet_point}
+use Rattle.dms_history.specs.Lists.{has, after_last}
+use Rattle.dms_history.specs.Ranges.{patch_bytes, is_control_logged, is_image, live_logged}
+use Rattle.dms_history.specs.EntryEvents.{history_of, events_in, events, live_of, next_of}
 use Rattle.dms_history.specs.Kept.{content_told}
 use Rattle.dms_history.proofs.Order.{append_none, next_steps}
 use Rattle.dms_history.proofs.Sealed.{image_sealed, quiet_sealed}
@@ -21,7 +23,7 @@ use Rattle.dms_running.specs.Standing.{MayRun, IsWhole}
 use Rattle.dms_running.specs.Points.{DescribedPoint, described_in, points_told, points_of, LeavesPointsPrefix}
 use Rattle.dms_running.specs.Sealing.{SealsSome, Appended, AreSealed, Settled}
 use Rattle.dms_running.specs.Running.{State, entries_now, next_now, points_now, durable_now, here_now, content_now, IsPlainEntry, count_live, IsRunning, IsAnOutcome, LeavesPoints}
-use Rattle.dms_running.proofs.MayRun.{sound, points_are, may_image, content_image, live_image, may_quiet, content_quiet, live_quiet, content_at, new_place_at, new_number, points_placed, other_dumps}
+use Rattle.dms_running.proofs.MayRun.{sound, points_are, may_image, content_image, live_image, may_range, content_range, live_range, changed, range_is, may_quiet, content_quiet, live_quiet, content_at, new_place_at, new_number, points_placed, other_dumps}
 use Rattle.dms_running.proofs.Described.{described_on, described_new}
 use Rattle.dms_running.proofs.Plain.{plain_push, push_all, take_whole}
 use Rattle.dms_running.proofs.Stopped.{more_points, blocks_same, joined, whole_read, old_read, front_left, seals_leaves, append_runs, seal_runs}
@@ -152,6 +154,64 @@ module _ (t : Telling) (telling : IsTelling t) (a : State) (r : IsRunning t a) (
       log_content =
           content_of t b (all ++ the_image ∷ []) (stored_of a.files) (t.dumps a.files) base (push_entries the_image tt each_image counts_image b more) (blocks_same b.files a.files more.above) (each_image (t.dumps a.files) (stored_of a.files) now_runs)
           ∙ content_image t.first all (t.dumps a.files) base (stored_of a.files) now_runs f k before after told sized ∙ ap (λ (c : AllBlocks). with_block c f k after) (sym content_is)
+
+  -- ---- a Range
+
+  module _ (f k place : ℕ) (bytes : List ℕ) (itself : has (is_image f k) (after_last is_control_logged (live_logged [] (events_in all))) ≡ true) (within : place + length bytes ≤ 1024) where
+    abbrev pub the_range : Entry
+    the_range = byte_range f k place bytes
+
+    each_range : (d : Dumps) (st : Stored) → MayRun t.first all d base st → MayRun t.first (all ++ the_range ∷ []) d base st
+    each_range d st m = may_range t.first all d base st m f k place bytes itself within
+
+    abbrev ranged : Event
+    ranged = changed t.first all (t.dumps a.files) base (stored_of a.files) now_runs f k place bytes itself within
+
+    range_live : live_of (all ++ the_range ∷ []) ≡ live_of all ++ ranged ∷ []
+    range_live = live_range t.first all (t.dumps a.files) base (stored_of a.files) now_runs f k place bytes itself within
+
+    next_range : next_of (all ++ the_range ∷ []) ≡ next_of all
+    next_range = ap next_number (range_is t.first all (t.dumps a.files) base (stored_of a.files) now_runs f k place bytes itself within) ∙ (next_steps (events all)).change f k _ _
+
+    count_range : count_live (all ++ the_range ∷ []) ≡ count_live all
+    count_range = ap (λ (l : List ℕ). length l) (ap live_numbers range_live ∙ image_numbers (live_of all) f k _ _)
+
+    counts_range : next_of (all ++ the_range ∷ []) + count_live all ≤ next_of all + count_live (all ++ the_range ∷ [])
+    counts_range = omega (arith, next_range, count_range)
+
+    points_range : (d : Dumps) → points_told d (all ++ the_range ∷ []) (stored_of a.files) ≡ points_now t a
+    points_range d =
+        let st = stored_of a.files in
+        let m : MayRun t.first (all ++ the_range ∷ []) d base st = each_range_at d in
+        points_are t.first (all ++ the_range ∷ []) d base st m
+        ∙ ap (λ (l : List LivePoint). map (described_in (all ++ the_range ∷ [])) l) (ap (λ (l : List Event). live_points l st) range_live
+        ∙ points_front (live_of all) (ranged ∷ []) base st st (sound t.first all (t.dumps a.files) base st now_runs) (subst (λ (l : List Event). Sound (from_control l) base st) range_live (sound t.first (all ++ the_range ∷ []) d base st m))
+        ∙ append_none (live_points (live_of all) st))
+        ∙ described_on all (the_range ∷ []) (refl, tt) (live_points (live_of all) st) (points_placed t.first all (t.dumps a.files) base st now_runs)
+        ∙ sym (points_are t.first all (t.dumps a.files) base st now_runs)
+      where
+        each_range_at : (d : Dumps) → MayRun t.first (all ++ the_range ∷ []) d base (stored_of a.files)
+        each_range_at d = each_range d (stored_of a.files) (other_dumps t.first all (t.dumps a.files) base (stored_of a.files) now_runs d)
+
+    pub range_leaves : (later : Clock Left) → Steps (SealsSome t (a.waiting ++ the_range ∷ [])) a.clock later → LeavesPoints t (points_now t a) (next_now t a) a later
+    range_leaves later steps = subst (λ (l : List DescribedPoint). LeavesPoints t l (next_now t a) a later) (points_range (t.dumps a.files))
+        (subst (λ n. LeavesPoints t (points_told (t.dumps a.files) (all ++ the_range ∷ []) (stored_of a.files)) n a later) next_range (push_leaves the_range tt each_range counts_range later steps))
+
+    module _ (b : State) (more : Appended t (a.waiting ++ the_range ∷ []) a.files b.files b.waiting) where
+      pub range_runs : Steps (SealsSome t (a.waiting ++ the_range ∷ [])) a.clock b.clock → Settled t b.files b.clock → IsRunning t b
+      range_runs steps settles = push_runs the_range tt each_range counts_range b more steps settles
+
+      pub range_next : next_now t b ≡ next_now t a
+      range_next = ap (λ (l : List Entry). next_of l) (push_entries the_range tt each_range counts_range b more) ∙ next_range
+
+      pub range_points : points_now t b ≡ points_now t a
+      range_points = push_points the_range tt each_range counts_range b more ∙ points_range (t.dumps b.files)
+
+      pub range_content : content_now t b ≡ with_block (content_now t a) f k (patch_bytes place bytes (block_in (content_now t a) f k))
+      range_content =
+          content_of t b (all ++ the_range ∷ []) (stored_of a.files) (t.dumps a.files) base (push_entries the_range tt each_range counts_range b more) (blocks_same b.files a.files more.above) (each_range (t.dumps a.files) (stored_of a.files) now_runs)
+          ∙ content_range t.first all (t.dumps a.files) base (stored_of a.files) now_runs f k place bytes itself within
+          ∙ ap (λ (c : AllBlocks). with_block c f k (patch_bytes place bytes (block_in c f k))) (sym content_is)
 
   -- ---- a quiet point
 

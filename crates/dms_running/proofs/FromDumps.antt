@@ -41,9 +41,10 @@ order_on : (x y : ℕ → Type 0) (a b : Dumps) (q : Option Pending) → ((k : �
 order_on x y a b None goes same order = tt
 order_on x y a b (Some p) goes same order = order_by x y a b p p.how goes same order
 
--- while the dump files are the same it stays so
-pub order_stays : (t : Telling) → IsTelling t → (x y : Files) (q : Option Pending) → ((g : ℕ) → 20000 < g → g ≤ 30000 → y g ≡ x g) → DumpsInOrder (t.dump_found x) (t.dumps x) q → DumpsInOrder (t.dump_found y) (t.dumps y) q
-order_stays t telling x y q same order = order_on (t.dump_found x) (t.dump_found y) (t.dumps x) (t.dumps y) q (λ k found. telling.dump_found_between y x k same found) (telling.dumps_between y x same) order
+-- while the dump files are the same and found it stays so
+pub order_stays : (t : Telling) → IsTelling t → (x y : Files) (q : Option Pending) → ((g : ℕ) → 20000 < g → g ≤ 30000 → y g ≡ x g) → ((k : ℕ) → t.dump_found x k → t.dump_found y k) → DumpsInOrder (t.dump_found x) (t.dumps x) q
+    → DumpsInOrder (t.dump_found y) (t.dumps y) q
+order_stays t telling x y q same goes order = order_on (t.dump_found x) (t.dump_found y) (t.dumps x) (t.dumps y) q goes (telling.dumps_between y x same) order
 
 picks_audit : (how : How) (d : Dumps) (live : List Event) (m : ℕ) (st : Stored) → ByAudit how → restore_pick how d live m st ≡ pick live m st
 unfolding restore_pick

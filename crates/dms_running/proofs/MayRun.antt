@@ -1,32 +1,37 @@
 -- A database that may run, with one entry more or other blocks.
-use Rattle.std.proofs.Common.{ℕ, ◌-◌, ◌^◌, ◌≤◌, ◌<◌, ◌≡◌, Bool, true, false, cond, List, [], ◌∷◌, ◌++◌, map, length, Option, Some, None, refl, sym, ◌∙◌, ap, subst, arith}
+use Rattle.std.proofs.Common.{ℕ, ◌-◌, ◌^◌, ◌+◌, ◌≤◌, ◌<◌, ◌≡◌, Bool, true, false, cond, List, [], ◌∷◌, ◌++◌, map, length, Option, Some, None, refl, sym, ◌∙◌, ap, subst, arith}
 use Rattle.std.specs.Prelude.{◌&&◌, not}
-use Rattle.dms_history.specs.Events.{BlockBytes, AllBlocks, Stored, Event, change, quiet, control, begin}
+use Rattle.dms_history.specs.Events.{BlockBytes, AllBlocks, Stored, Event, change, quiet, control, begin, block_in}
 use Rattle.dms_history.specs.Replay.{TellsBefore, with_block}
 use Rattle.dms_history.specs.Lists.{has, after_last}
 use Rattle.dms_history.specs.Places.{is_control, is_described, is_point}
 use Rattle.dms_history.specs.History.{History, history, after_event}
-use Rattle.dms_history.specs.Images.{last_after}
-use Rattle.dms_history.specs.Base.{from_control, Sound}
+use Rattle.dms_history.specs.Images.{or_else, last_after}
+use Rattle.dms_history.specs.Ranges.{patch_bytes, is_control_logged, is_image, live_logged}
+use Rattle.dms_history.specs.Base.{opening, from_control, Sound}
 use Rattle.dms_history.specs.Pick.{Dumps, blocks_at}
 use Rattle.dms_history.specs.Here.{here}
 use Rattle.dms_history.specs.Points.{numbers_from, live_points}
-use Rattle.dms_history.specs.Entries.{Entry, image, quiet_point}
-use Rattle.dms_history.specs.EntryEvents.{events, history_of, live_of, next_of}
+use Rattle.dms_history.specs.Entries.{Entry, image, byte_range, quiet_point}
+use Rattle.dms_history.specs.EntryEvents.{events_in, events, history_of, live_of, next_of}
 use Rattle.dms_history.specs.Kept.{content_told, Kept}
 use Rattle.dms_history.specs.LawsOfKept.{IsIdle}
 use Rattle.dms_history.specs.Sizes.{AllSized, IsSizedBefore, ImagesSized}
 use Rattle.dms_history.proofs.AtPoints.{true_or}
-use Rattle.dms_history.proofs.Base.{has_append}
-use Rattle.dms_history.proofs.Converse.{opening_append}
+use Rattle.dms_history.proofs.Base.{has_append, parts}
+use Rattle.dms_history.proofs.Converse.{opening_append, logged_below}
+use Rattle.dms_history.proofs.Picks.{last_append, last_stands}
+use Rattle.dms_history.proofs.Turns.{live_of_ranges}
+use Rattle.dms_history.proofs.Imaged.{image_told}
+use Rattle.dms_history.proofs.Patches.{range_fits}
 use Rattle.dms_history.proofs.Given.{described_control}
 use Rattle.dms_history.proofs.Again.{here_unpending}
 use Rattle.dms_history.proofs.LastPending.{no_dump_counts}
 use Rattle.dms_history.proofs.Running.{above_all, quiet_is_live}
-use Rattle.dms_history.proofs.Sealed.{image_sealed, quiet_sealed, one_more_event}
+use Rattle.dms_history.proofs.Sealed.{image_sealed, range_sealed, quiet_sealed, one_more_event}
 use Rattle.dms_history.proofs.Sizing.{sized_replay}
 use Rattle.dms_history.proofs.Listed.{points_listed}
-use Rattle.dms_history.proofs.Keeping.{kept_image, kept_quiet, kept_writes}
+use Rattle.dms_history.proofs.Keeping.{kept_image, kept_range, kept_quiet, kept_writes}
 use Rattle.dms_running.specs.Standing.{Stands, MayRun}
 use Rattle.dms_running.specs.Points.{described_in, points_told}
 use Rattle.dms_running.proofs.Described.{AllPlaced, all_placed}
@@ -105,6 +110,46 @@ module _ (first : Bool) (es : List Entry) (dumps : Dumps) (base : AllBlocks) (st
 
     pub live_image : live_of with_image ≡ live_of es ++ change f b before after ∷ []
     live_image = live_more (image f b before after) (change f b before after) (image_sealed es f b before after) refl
+
+  -- a Range
+  module _ (f b place : ℕ) (bytes : List ℕ) (itself : has (is_image f b) (after_last is_control_logged (live_logged [] (events_in es))) ≡ true) (within : place + length bytes ≤ 1024) where
+    abbrev pub with_range : List Entry
+    with_range = es ++ byte_range f b place bytes ∷ []
+
+    -- the block as it was last logged
+    abbrev pub had : (old : BlockBytes) × (last_after f b (from_control (live_of es)) ≡ Some old)
+    had =
+        let told = live_of_ranges (events_in es) in
+        let r = image_told (live_logged [] (events_in es)) f b m.stands.kept.images (ap (λ (l : List Event). has is_control l) (sym told) ∙ has_one) itself in
+        (r.0, ap (λ (l : List Event). last_after f b (from_control l)) told ∙ r.1)
+
+    abbrev pub changed : Event
+    changed = change f b (Some had.0) (patch_bytes place bytes had.0)
+
+    pub range_is : events with_range ≡ events es ++ changed ∷ []
+    range_is =
+        (range_sealed es f b place bytes).0 had.0
+        (ap (λ (l : List Event). last_after f b l) (sym (parts (live_of es))) ∙ last_append (opening (live_of es)) (from_control (live_of es)) f b ∙ ap (λ o. or_else o (last_after f b (opening (live_of es)))) had.1)
+
+    old_sized : length had.0 ≡ 1024
+    old_sized =
+        ap length (sym (last_stands (from_control (live_of es)) base f b had.0 sound.chain had.1))
+        ∙ content_sized f b (logged_below (from_control (live_of es)) base f b had.0 sound.chain had.1)
+
+    new_sized : length (patch_bytes place bytes had.0) ≡ 1024
+    new_sized = (range_fits place 0 had.0 had.0 (omega (arith, within, old_sized)) refl (λ i low. refl) (λ i low high. refl)).1 bytes (omega (arith, within, old_sized)) ∙ old_sized
+
+    pub may_range : MayRun first with_range dumps base stored
+    may_range = record {
+      stands = stands_more (byte_range f b place bytes) changed range_is refl dumps stored (kept_range first es dumps base stored f b place bytes m.stands.kept idle itself).kept (record { was = old_sized; becomes = new_sized }, tt);
+      none = ap (λ (h : History). h.pending) (one_step (byte_range f b place bytes) changed range_is) ∙ m.none;
+    }
+
+    pub content_range : content_told with_range base ≡ with_block (content_told es base) f b (patch_bytes place bytes (block_in (content_told es base) f b))
+    content_range = (kept_range first es dumps base stored f b place bytes m.stands.kept idle itself).tells
+
+    pub live_range : live_of with_range ≡ live_of es ++ changed ∷ []
+    live_range = live_more (byte_range f b place bytes) changed range_is refl
 
   -- a Quiet
   module _ (n : ℕ) (free : next_of es ≤ n) (low : n < 2 ^ 64 - 1) where

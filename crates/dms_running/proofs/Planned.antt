@@ -70,6 +70,7 @@ planned_more t es rest start x p = record {
   some = min p.some (length es);
   sealed = p.sealed ∙ ap (λ (l : List Entry). t.entries start ++ l) (take_front p.some es rest);
   found = p.found;
+  dumps_found = p.dumps_found;
   above = p.above;
 }
 
@@ -78,7 +79,7 @@ lays_none t a only nothing = record {
   appended = record { some = 0; sealed = sym (append_none (t.entries a.files)); rest = nothing; above = λ g up. refl };
   settled = λ x now. ap t.entries (only x now);
   since = runs_none a.clock (Planned t [] a.files);
-  now = λ x now. record { some = 0; sealed = ap t.entries (only x now) ∙ sym (append_none (t.entries a.files)); found = λ f. subst t.found (sym (only x now)) f; above = λ g up. ap (λ (l : Files). l g) (only x now) };
+  now = λ x now. record { some = 0; sealed = ap t.entries (only x now) ∙ sym (append_none (t.entries a.files)); found = λ f. subst t.found (sym (only x now)) f; dumps_found = λ k found. subst (λ (l : Files). t.dump_found l k) (sym (only x now)) found; above = λ g up. ap (λ (l : Files). l g) (only x now) };
 }
 
 module _ (t : Telling) (es : List Entry) (start : Files) (old : Clock Left) (s : State) (l : Lays t es start old s) where
@@ -100,6 +101,7 @@ module _ (t : Telling) (es : List Entry) (start : Files) (old : Clock Left) (s :
     some = length sealed_part + seals.some;
     sealed = seals.sealed ∙ ap (λ (j : List Entry). j ++ take seals.some (s.waiting ++ more)) (l.settled y now ∙ l.appended.sealed) ∙ sealed_more more seals.some;
     found = λ f. seals.found ((l.now y now).found f);
+    dumps_found = λ k found. seals.dumps_found k ((l.now y now).dumps_found k found);
     above = λ g up. seals.above g up ∙ (l.now y now).above g up;
   }
 
@@ -137,7 +139,7 @@ module _ (t : Telling) (telling : IsTelling t) (es : List Entry) (a : State) (ba
       all_left t (points_of t a.files) (next_in t a.files) x
       ((λ i. points_told (telling.dumps_between x.files a.files (λ g up below. p.above g up) i) (p.sealed i) (blocks_same x.files a.files p.above i)) ∙ keeps.points p.some)
       (ap (λ (l : List Entry). next_of l) p.sealed ∙ keeps.next p.some)
-      (record { found = p.found finds; base = base; stands = carried t telling a.files x.files (t.entries x.files) base p.above (subst (λ (l : List Entry). Stands t.first l (t.dumps a.files) base (stored_of a.files)) (sym p.sealed) (keeps.stands p.some)); order = subst (λ (l : List Entry). DumpsInOrder (t.dump_found x.files) (t.dumps x.files) (history_of l).pending) (sym p.sealed) (order_stays t telling a.files x.files _ (λ g up below. p.above g up) (keeps.order p.some)) })
+      (record { found = p.found finds; base = base; stands = carried t telling a.files x.files (t.entries x.files) base p.above (subst (λ (l : List Entry). Stands t.first l (t.dumps a.files) base (stored_of a.files)) (sym p.sealed) (keeps.stands p.some)); order = subst (λ (l : List Entry). DumpsInOrder (t.dump_found x.files) (t.dumps x.files) (history_of l).pending) (sym p.sealed) (order_stays t telling a.files x.files _ (λ g up below. p.above g up) p.dumps_found (keeps.order p.some)) })
 
   -- a stop while they are appended and sealed leaves all points
   pub plan_leaves : (later : Clock Left) → Runs a.clock later (Planned t es a.files) → LeavesAll t a later

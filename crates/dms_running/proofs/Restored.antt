@@ -81,7 +81,7 @@ module _ (t : Telling) (telling : IsTelling t) (p : Pending) (a : State) (r : Is
     rewrites_outcome st = ap (λ (d : Dumps). outcome p.how d p.entries p.point st) rewrites_dumps ∙ r.outcome_stays y st now
 
     pub rewrites_order : DumpsInOrder (t.dump_found x.files) (t.dumps x.files) (Some p)
-    rewrites_order = order_stays t telling y.files x.files (Some p) (λ g above below. step.files.others g below) (r.order y now)
+    rewrites_order = order_stays t telling y.files x.files (Some p) (λ g above below. step.files.others g below) (λ k found. telling.dump_found_low x.files y.files k step.files.others found) (r.order y now)
 
     pub rewrites_stands : Stands t.first es (t.dumps x.files) r.base (stored_of x.files)
     rewrites_stands = subst (λ (d : Dumps). Stands t.first es d r.base (stored_of x.files)) (sym rewrites_dumps) (rewritten_stands t.first es r.base (t.dumps y.files) p r.pending y.files x.files step.files (r.each y now))

@@ -18,8 +18,8 @@ use Rattle.dms_running.specs.FromDumps.{DumpsInOrder}
 use Rattle.dms_running.specs.Telling.{Telling}
 use Rattle.dms_running.specs.Standing.{IsWhole}
 use Rattle.dms_running.specs.Points.{next_in}
-use Rattle.dms_running.specs.Laws.{StandsAgrees, AgreesStands, RunsImage, RunsQuiet, RunsWrites, BeginKeepsAll}
-use Rattle.dms_running.proofs.MayRun.{may_image, content_image, may_quiet, content_quiet, may_write}
+use Rattle.dms_running.specs.Laws.{StandsAgrees, AgreesStands, RunsImage, RunsRange, RunsQuiet, RunsWrites, BeginKeepsAll}
+use Rattle.dms_running.proofs.MayRun.{may_image, content_image, may_range, content_range, may_quiet, content_quiet, may_write}
 use Rattle.dms_running.proofs.Beginning.{begin_stands, begin_points, begin_next}
 
 pub stands_agrees : StandsAgrees
@@ -61,6 +61,9 @@ agrees_whole t files found agrees described lives images sized order =
 
 pub runs_image : RunsImage
 runs_image first es dumps base stored f b before after m tells sized = (may_image first es dumps base stored m f b before after tells sized, content_image first es dumps base stored m f b before after tells sized)
+
+pub runs_range : RunsRange
+runs_range first es dumps base stored f b place bytes m itself within = (may_range first es dumps base stored m f b place bytes itself within, content_range first es dumps base stored m f b place bytes itself within)
 
 pub runs_quiet : RunsQuiet
 runs_quiet first es dumps base stored n m free low = (may_quiet first es dumps base stored m n free low, content_quiet first es dumps base stored m n free low)

@@ -28,9 +28,10 @@ pub record BeginsFrom (t : Telling) (a : State) (right : Stored) (m : ℕ) (kind
 abbrev pub points_to : Telling → State → Stored → ℕ → List DescribedPoint
 points_to t a right m = map (described_in (t.entries a.files)) (up_to m (live_points (live_of (t.entries a.files)) (here (t.dumps a.files) (history_of (t.entries a.files)) right)))
 
--- The same sealed entries, which scanning finds, and the same dumps and structure files.
+-- The same sealed entries, which scanning finds, and the same dumps and structure files; a dump that was found is found.
 pub record IsUntouched (t : Telling) (files : Files) (x : Left) : Type 0 where
   pub found : t.found x.files
+  pub dumps_found : (d : ℕ) → t.dump_found files d → t.dump_found x.files d
   pub entries_same : t.entries x.files ≡ t.entries files
   pub above : (g : ℕ) → 20000 < g → x.files g ≡ files g
 

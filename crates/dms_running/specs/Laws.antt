@@ -1,6 +1,7 @@
 -- Laws: what stands agrees, and what a database that may run becomes by one entry more or by other blocks.
-use Rattle.std.specs.Prelude.{ℕ, ◌-◌, ◌^◌, ◌<◌, ◌≤◌, ◌≡◌, Bool, true, List, [], ◌∷◌, ◌++◌, length, Option, Some, None}
-use Rattle.dms_history.specs.Events.{BlockBytes, AllBlocks, Stored}
+use Rattle.std.specs.Prelude.{ℕ, ◌+◌, ◌-◌, ◌^◌, ◌<◌, ◌≤◌, ◌≡◌, Bool, true, List, [], ◌∷◌, ◌++◌, length, Option, Some, None}
+use Rattle.dms_history.specs.Events.{BlockBytes, AllBlocks, Stored, block_in}
+use Rattle.dms_history.specs.Ranges.{patch_bytes, is_control_logged, is_image, live_logged}
 use Rattle.dms_history.specs.Replay.{TellsBefore, with_block}
 use Rattle.dms_history.specs.Lists.{has, after_last}
 use Rattle.dms_history.specs.Places.{is_control, is_described, IsLive}
@@ -8,8 +9,8 @@ use Rattle.dms_history.specs.History.{Pending, last_point}
 use Rattle.dms_history.specs.Images.{last_after}
 use Rattle.dms_history.specs.Base.{from_control}
 use Rattle.dms_history.specs.Pick.{Dumps}
-use Rattle.dms_history.specs.Entries.{Kind, Entry, image, quiet_point, begin_restore, how_of}
-use Rattle.dms_history.specs.EntryEvents.{history_of, live_of, next_of, Agrees}
+use Rattle.dms_history.specs.Entries.{Kind, Entry, image, byte_range, quiet_point, begin_restore, how_of}
+use Rattle.dms_history.specs.EntryEvents.{events_in, history_of, live_of, next_of, Agrees}
 use Rattle.dms_history.specs.Kept.{content_told, Kept}
 use Rattle.dms_history.specs.Sizes.{AllSized, ImagesSized}
 use Rattle.dms_running.specs.Standing.{Stands, MayRun}
@@ -32,6 +33,13 @@ abbrev pub RunsImage : Type 0
 RunsImage = (first : Bool) (es : List Entry) (dumps : Dumps) (base : AllBlocks) (stored : Stored) (f b : ℕ) (before : Option BlockBytes) (after : BlockBytes) → MayRun first es dumps base stored
     → TellsBefore b before (content_told es base f) → length after ≡ 1024
     → MayRun first (es ++ image f b before after ∷ []) dumps base stored × (content_told (es ++ image f b before after ∷ []) base ≡ with_block (content_told es base) f b after)
+
+-- A Range of a block with an Image itself since the last Control: it may still run, and the content has its bytes.
+abbrev pub RunsRange : Type 0
+RunsRange = (first : Bool) (es : List Entry) (dumps : Dumps) (base : AllBlocks) (stored : Stored) (f b place : ℕ) (bytes : List ℕ) → MayRun first es dumps base stored
+    → has (is_image f b) (after_last is_control_logged (live_logged [] (events_in es))) ≡ true → place + length bytes ≤ 1024
+    → MayRun first (es ++ byte_range f b place bytes ∷ []) dumps base stored
+    × (content_told (es ++ byte_range f b place bytes ∷ []) base ≡ with_block (content_told es base) f b (patch_bytes place bytes (block_in (content_told es base) f b)))
 
 -- A quiet point with a number that is free: it may still run, and the content is the same.
 abbrev pub RunsQuiet : Type 0

@@ -12,11 +12,12 @@ use Rattle.dms_running.specs.Points.{points_told, points_of, next_in}
 use Rattle.dms_running.specs.Sealing.{Appended, Settled}
 use Rattle.dms_running.specs.Running.{State}
 
--- the first so many of the planned entries are sealed, and scanning finds them where it found those of the start
+-- the first so many of the planned entries are sealed, and scanning finds them, and dumps, where it found those of the start
 pub record Planned (t : Telling) (es : List Entry) (start : Files) (x : Left) : Type 0 where
   pub some : ℕ
   pub sealed : t.entries x.files ≡ t.entries start ++ take some es
   pub found : t.found start → t.found x.files
+  pub dumps_found : (d : ℕ) → t.dump_found start d → t.dump_found x.files d
   pub above : (g : ℕ) → 20000 < g → x.files g ≡ start g
 
 -- So many entries were appended one after another since a moment at which nothing waited or was pending: the first of them are sealed,

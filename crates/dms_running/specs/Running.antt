@@ -54,7 +54,7 @@ content_now t s = (here_now t s).blocks
 abbrev pub IsPlainEntry : Entry → Type 0
 IsPlainEntry (schema_part part parts bytes) = ⊥
 IsPlainEntry (image f b before after) = Unit {0}
-IsPlainEntry (byte_range f b place bytes) = ⊥
+IsPlainEntry (byte_range f b place bytes) = Unit {0}
 IsPlainEntry (quiet_point n) = Unit {0}
 IsPlainEntry (control_point n next counts) = ⊥
 IsPlainEntry (begin_restore n kind) = ⊥

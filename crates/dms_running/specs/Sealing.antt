@@ -6,11 +6,12 @@ use Rattle.dms_history.specs.Entries.{Entry}
 use Rattle.dms_running.specs.Telling.{Telling}
 
 -- What a stop within sealing leaves: the first so many of these entries behind the old ones, and scanning finds them. Dumps and structure
--- files stand as they did, and nothing is printed.
+-- files stand as they did, a dump that was found is found, and nothing is printed.
 pub record SealsSome (t : Telling) (entries : List Entry) (old new : Left) : Type 0 where
   pub some : ℕ
   pub sealed : t.entries new.files ≡ t.entries old.files ++ take some entries
   pub found : t.found old.files → t.found new.files
+  pub dumps_found : (d : ℕ) → t.dump_found old.files d → t.dump_found new.files d
   pub above : (g : ℕ) → 20000 < g → new.files g ≡ old.files g
   pub said : new.said ≡ old.said
 

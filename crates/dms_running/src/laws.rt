@@ -3,7 +3,7 @@
 ghost use Rattle.dms_running.specs.AnyLaws.{AnyBegins, AnyWrites, AnyRestored, NewDumpKeeps};
 ghost use Rattle.dms_running.specs.ByHow.{EachToldBy};
 ghost use Rattle.dms_running.specs.FirstLaws.{AnyWritesFirst, AnyEndsFirst};
-ghost use Rattle.dms_running.specs.Laws.{StandsAgrees, AgreesStands, RunsImage, RunsQuiet, RunsWrites, BeginKeepsAll};
+ghost use Rattle.dms_running.specs.Laws.{StandsAgrees, AgreesStands, RunsImage, RunsRange, RunsQuiet, RunsWrites, BeginKeepsAll};
 
 /// What stands agrees with its dumps and blocks, and what agrees stands where its blocks are whole.
 pub fn standing_is_agreement()
@@ -11,9 +11,10 @@ pub fn standing_is_agreement()
     ensures stands { AgreesStands }
 {}
 
-/// A database that may run still may with an Image, a quiet point or blocks that are written early, and a Begin to its last point keeps all its points.
+/// A database that may run still may with an Image, a Range, a quiet point or blocks that are written early, and a Begin to its last point keeps all its points.
 pub fn databases_go_on()
     ensures image { RunsImage }
+    ensures range { RunsRange }
     ensures quiet { RunsQuiet }
     ensures writes { RunsWrites }
     ensures begin { BeginKeepsAll }

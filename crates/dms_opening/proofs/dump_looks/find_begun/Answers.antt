@@ -11,4 +11,4 @@ returns-in-None-clause-found g c tells files entries t = none_begun (g.S.Site.fi
 
 pub returns-in-Some-clause-found : goal.returns-in-Some-clause-found
 returns-in-Some-clause-found g c = one_if_ok c.find_dump.result c.find_dump.ensures.found (λ f found tells files entries t.
-    subst (λ (r : DumpRead). IsFoundAs r f) (sym (some_begun (g.S.Site.files c.args.site.now) (history_of entries).pending c.pending_dump.result c.in-Some.dump c.in-Some.is (c.pending_dump.ensures files entries t))) (found tells))
+    subst (λ (r : DumpRead). IsFoundAs c.args.tag r f) (sym (some_begun (g.S.Site.files c.args.site.now) (history_of entries).pending c.pending_dump.result c.in-Some.dump c.in-Some.is (c.pending_dump.ensures files entries t))) (found tells))

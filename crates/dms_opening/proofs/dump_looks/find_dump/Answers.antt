@@ -8,8 +8,8 @@ use Rattle.dms_opening.proofs.dump_looks.find_dump.Goals as goal
 pub returns-clause-found : goal.returns-clause-found
 returns-clause-found g c =
     let at = at_read (g.S.Site.files c.args.site.now) c.args.dump (omega arith) (omega arith) in
-    one_if_ok c.found_as.result (found_says (IsTrue g.S.Site.tells) c.args.dump _ c.read_dump-read.result c.found_as.result c.read_dump-read.ensures.found c.read_dump-read.ensures.refused c.found_as.ensures.found)
-    (λ f found tells. subst (λ (r : DumpRead). IsFoundAs r f) (sym at) (found tells))
+    one_if_ok c.found_as.result (found_says (IsTrue g.S.Site.tells) c.args.tag c.args.dump _ c.read_dump-read.result c.found_as.result c.read_dump-read.ensures.found c.read_dump-read.ensures.refused c.found_as.ensures.found)
+    (λ f found tells. subst (λ (r : DumpRead). IsFoundAs c.args.tag r f) (sym at) (found tells))
 
 pub returns-clause-fit : goal.returns-clause-fit
 returns-clause-fit g c = fit_read c.read_dump-read.result c.found_as.result c.read_dump-read.ensures.fit c.found_as.ensures.fit

@@ -12,9 +12,9 @@ returns-in-Err-clause-refused g c tells total r = plain_plan total c.args.first 
 pub returns-clause-plans : goal.returns-clause-plans
 returns-clause-plans g c = one_if_ok c.prepare_asked-planned.result c.prepare_asked-planned.ensures.plans (λ plan plans tells total r.
     let same = c.find_begun.ensures.reads.files_stay tells in
-    plan_as total c.args.first _ _ plan same (plans tells total (found_now total c.args.first _ _ c.args.places.now c.args.trace c.in-Ok.begun same r (c.in-Ok.ensures.found tells))))
+    plan_as total c.args.first _ _ plan same (plans tells total (found_now total c.args.tag c.args.first _ _ c.args.places.now c.args.trace c.in-Ok.begun same r (c.in-Ok.ensures.found tells))))
 
 pub returns-clause-refused : goal.returns-clause-refused
 returns-clause-refused g c = one_if_err c.prepare_asked-planned.result c.prepare_asked-planned.ensures.refused (λ e why tells total r.
     let same = c.find_begun.ensures.reads.files_stay tells in
-    refuses_as total c.args.first _ _ e same (why tells total (found_now total c.args.first _ _ c.args.places.now c.args.trace c.in-Ok.begun same r (c.in-Ok.ensures.found tells))))
+    refuses_as total c.args.first _ _ e same (why tells total (found_now total c.args.tag c.args.first _ _ c.args.places.now c.args.trace c.in-Ok.begun same r (c.in-Ok.ensures.found tells))))

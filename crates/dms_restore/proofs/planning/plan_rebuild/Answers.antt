@@ -1,6 +1,6 @@
 use Rattle.std.proofs.Common.{List, drop, sym, ◌∙◌, ap, subst}
 use Rattle.dms_history.specs.Images.{last_after}
-use Rattle.dms_history.proofs.PlainPick.{to_end}
+use Rattle.dms_history.proofs.Cuts.{to_end}
 use Rattle.dms_restore.specs.declared.live.LiveEntry.{LiveEntry}
 use Rattle.dms_restore.specs.LiveEntries.{events_at, AllStandWhole}
 use Rattle.dms_restore.proofs.Traced.{whole_drop}
