@@ -8,6 +8,7 @@ pub mod ListIn
 pub mod ListInLaws
 pub mod SpellLaws
 pub mod Filled
+pub mod InPlace
 pub mod Spelled
 pub mod Seen
 pub mod SeenLaws

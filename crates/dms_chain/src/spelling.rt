@@ -1,6 +1,8 @@
 ghost use Rattle.std.specs.Prelude.{◌≡◌, ◌+◌, ◌*◌, ◌≤◌, [], ◌∷◌, IfOk, length, take, drop, option_map, Some};
 ghost use Rattle.std.specs.Int.{w16, w32, from_be_bytes};
+ghost use Rattle.std.specs.Str.{bytes_eq};
 ghost use Rattle.dms_chain.specs.ListBlocks.{entry_chunks, flat, free_bytes, free_in, head_bytes, head_in, leaf_bytes, leaf_in};
+ghost use Rattle.dms_chain.specs.InPlace.{is_laid_to};
 ghost use Rattle.dms_chain.specs.Spelled.{leaf_opt};
 
 use crate::order::is_rising;
@@ -128,6 +130,28 @@ pub fn cut(alloc: Global, width: usize, count: usize, bytes: &[u8]) -> Result<Ve
     Ok(entries)
 }
 
+const ZEROS: [u8; 1024] = [0; 1024];
+
+/// Whether the bytes of a block say that it has entries, and are zeros from a place on.
+fn is_laid_to(bytes: &[u8], end: usize) -> bool
+    requires long { length bytes.now ≡ 1024 }
+    requires end { end ≤ 1024 }
+    ensures { result ≡ is_laid_to end bytes.now }
+{
+    let zeros: &[u8] = &ZEROS;
+    bytes[0] == 1 && bytes[end..] == zeros[end..]
+}
+
+/// Whether the bytes of a block are the spelling of so many entries that are read from it.
+fn is_spelled(bytes: &[u8], width: usize, count: usize) -> bool
+    requires long { length bytes.now ≡ 1024 }
+    requires room { count * width ≤ 1017 }
+    requires count { count ≡ from_be_bytes w16 (take 2 (drop 1 bytes.now)) }
+    ensures { result ≡ bytes_eq bytes.now (leaf_bytes (from_be_bytes w32 (take 4 (drop 3 bytes.now))) (entry_chunks width count (drop 7 bytes.now))) }
+{
+    is_laid_to(bytes, 7 + count * width)
+}
+
 /// The entries of one width that a block spells, with the number of the next block; none where it is no such block.
 /// Answers Err where memory is refused.
 pub fn leaf_of(alloc: Global, width: usize, block: &Block) -> Result<Option<LeafBlock>, Memory>
@@ -142,14 +166,15 @@ pub fn leaf_of(alloc: Global, width: usize, block: &Block) -> Result<Option<Leaf
     if count * width > 1017 {
         return Ok(None);
     }
+    let bytes: &[u8] = &block.0;
+    if !is_spelled(bytes, width, count) {
+        return Ok(None);
+    }
     let leaf = LeafBlock {
         next: u32_in(block, 3),
         entries: cut(alloc, width, count, entries_in(block))?,
     };
     if !is_rising(&leaf.entries) {
-        return Ok(None);
-    }
-    if *block != leaf_block(&leaf) {
         return Ok(None);
     }
     Ok(Some(leaf))
