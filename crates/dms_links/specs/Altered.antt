@@ -24,7 +24,7 @@ use Rattle.dms_model.specs.FitLaws.{null_fits}
 use Rattle.dms_model.specs.Uses.{corrected, corrected_value, is_link_into, link_value, refers_to}
 use Rattle.dms_slots.specs.SlotBlocks.{block_of, slot_at, slot_put}
 use Rattle.dms_links.specs.declared.altering.SlotChange.{SlotChange}
-use Rattle.dms_links.specs.declared.altering.SlotChange.TheVariants.{Counted, Uncounted, Corrected, Linked}
+use Rattle.dms_links.specs.declared.altering.SlotChange.TheVariants.{Counted, Uncounted, Corrected, Linked, Owned, Disowned}
 
 -- a slot with these values of its record
 abbrev pub with_values : List Value → Slot → Slot
@@ -41,12 +41,24 @@ counted_more x = if x.counted == 2 ^ 32 - 1 then None else Some (with_count (x.c
 abbrev pub counted_fewer : Slot → Option Slot
 counted_fewer x = if x.counted == 0 then None else Some (with_count (x.counted - 1) x)
 
+-- a slot that owns so many records and entries
+abbrev pub with_owned : ℕ → Slot → Slot
+with_owned n x = record x { owned = n }
+
+abbrev pub owned_more : Slot → Option Slot
+owned_more x = if x.owned == 2 ^ 32 - 1 then None else Some (with_owned (x.owned + 1) x)
+
+abbrev pub owned_fewer : Slot → Option Slot
+owned_fewer x = if x.owned == 0 then None else Some (with_owned (x.owned - 1) x)
+
 -- The slot after a change; none where its count stands at its type's end, or at 0.
 abbrev pub slot_after : List Item → SlotChange → Slot → Option Slot
 slot_after items Counted x = counted_more x
 slot_after items Uncounted x = counted_fewer x
 slot_after items (Corrected to number) x = Some (with_values (corrected to number 0 items x.rec.values) x)
 slot_after items (Linked item to) x = Some (with_values (slice_set x.rec.values (item - 1) (link_value to)) x)
+slot_after items Owned x = owned_more x
+slot_after items Disowned x = owned_fewer x
 
 -- an item is a self-correcting link into a data set
 abbrev pub is_item_into : Option Item → ℕ → Bool
@@ -67,6 +79,8 @@ MayChange items Counted = Unit {0}
 MayChange items Uncounted = Unit {0}
 MayChange items (Corrected to number) = Unit {0}
 MayChange items (Linked item to) = (is_link_item (slice_get items (item - 1)) ≡ true) × IsSmallTarget to
+MayChange items Owned = Unit {0}
+MayChange items Disowned = Unit {0}
 
 -- ---- it fits
 
@@ -160,6 +174,19 @@ after_fits s (Linked item to) x y may fit h =
       values = set_fits s.items x.rec.values (item - 1) to fit.values may.0 may.1;
       plain = plain_set x.rec.values (item - 1) to fit.plain;
     })
+after_fits s Owned x y may fit h = by (x.owned == 2 ^ 32 - 1) refl h
+  where
+    by : (b : Bool) → (x.owned == 2 ^ 32 - 1) ≡ b → cond b None (Some (with_owned (x.owned + 1) x)) ≡ Some y → SlotFits s y
+    by true is k = absurd (cc k)
+    by false is k = subst (SlotFits s) (same_Some (with_owned (x.owned + 1) x) y k) (record { owner = fit.owner; disjoint = fit.disjoint; counted = fit.counted; owned = below is fit.owned; values = fit.values; plain = fit.plain })
+      where
+        below : (x.owned == 2 ^ 32 - 1) ≡ false → x.owned < 2 ^ 32 → x.owned + 1 < 2 ^ 32
+        below off low = grind (arith, nat_tests, off, low)
+after_fits s Disowned x y may fit h = by (x.owned == 0) h
+  where
+    by : (b : Bool) → cond b None (Some (record x { owned = x.owned - 1 })) ≡ Some y → SlotFits s y
+    by true k = absurd (cc k)
+    by false k = subst (SlotFits s) (same_Some (record x { owned = x.owned - 1 }) y k) (record { owner = fit.owner; disjoint = fit.disjoint; counted = fit.counted; owned = omega (arith, fit.owned); values = fit.values; plain = fit.plain })
 
 -- ---- what a call leaves
 

@@ -25,7 +25,7 @@ use Rattle.dms_model.specs.Valid.{is_data_set, link_stands, owner_stands}
 use Rattle.dms_slots.specs.SlotBlocks.{slot_at}
 use Rattle.dms_model.specs.Uses.{after_link, corrected, corrected_value, is_link_into, link_value, linked_record, refers_to}
 use Rattle.dms_tally.specs.Counts.{links_stand}
-use Rattle.dms_links.specs.Altered.{IsAltered, counted_fewer, counted_more, slot_after, with_count, with_values}
+use Rattle.dms_links.specs.Altered.{IsAltered, counted_fewer, counted_more, owned_fewer, owned_more, slot_after, with_count, with_owned, with_values}
 use Rattle.dms_links.specs.Cleared.{cleared_one, corrected_opt, corrected_record, put_opt}
 use Rattle.dms_links.specs.Changed.{IsSetOf, OthersStand, WritesRecord, written}
 use Rattle.dms_links.specs.Linking.{number_at}
@@ -34,7 +34,7 @@ use Rattle.dms_links.specs.Stands.{RecordsStand, SlotStands, Tally}
 use Rattle.dms_links.specs.Steps.{SlotIs, slot_written}
 use Rattle.dms_links.specs.Walked.{HasSlots}
 use Rattle.dms_links.specs.declared.altering.SlotChange.{SlotChange}
-use Rattle.dms_links.specs.declared.altering.SlotChange.TheVariants.{Counted, Uncounted, Corrected, Linked}
+use Rattle.dms_links.specs.declared.altering.SlotChange.TheVariants.{Counted, Uncounted, Corrected, Linked, Owned, Disowned}
 
 -- a data set whose slots fit a block, and a number from 1 on
 pub record IsSlotOf (desc : Described) (set number : ℕ) (s : Shape) : Type 0 where
@@ -46,6 +46,9 @@ pub record IsSlotOf (desc : Described) (set number : ℕ) (s : Shape) : Type 0 w
 -- the count of one record is another
 abbrev pub counted_at : Tally → ℕ → ℕ → ℕ → Tally
 counted_at own set number k = record own { counted = λ t n. cond ((t == set) && (n == number)) k (own.counted t n) }
+
+abbrev pub owned_at : Tally → ℕ → ℕ → ℕ → Tally
+owned_at own set number k = record own { owned = λ t n. cond ((t == set) && (n == number)) k (own.owned t n) }
 
 -- ---- what stands still does
 
@@ -77,6 +80,18 @@ owner_still a b still t m h = by (t == 0) h
     by true k = k
     by false k = still (t, m) k
 
+-- another record isn't this one
+not_here : (t n set number : ℕ) → (t ≡ set → n ≡ number → ⊥) → ((t == set) && (n == number)) ≡ false
+not_here t n set number apart = by ((t == set) && (n == number)) refl
+  where
+    by : (b : Bool) → ((t == set) && (n == number)) ≡ b → b ≡ false
+    by false e = refl
+    by true e =
+        let two = and_parts (t == set) (n == number) e in
+        let one : t ≡ set = grind (arith, nat_tests, two.0) in
+        let other : n ≡ number = grind (arith, nat_tests, two.1) in
+        absurd (apart one other)
+
 -- ---- one slot
 
 module _ (desc : Described) (db : Db) (own : Tally) (c d : Content) (set number : ℕ) (s : Shape) (is : IsSlotOf desc set number s) (change : SlotChange) (files : RecordsStand desc db own c) (a : IsAltered s number change c d) where
@@ -103,16 +118,8 @@ module _ (desc : Described) (db : Db) (own : Tally) (c d : Content) (set number 
   others_counted : (k : ℕ) → OthersStand desc db db own (counted_at own set number k) set number
   others_counted k t n x shape there apart h = record { most = h.most; owner = h.owner; links = h.links; counted = h.counted ∙ sym (ap (λ b. cond b k (own.counted t.number n)) off); owned = h.owned }
     where
-      both : (b : Bool) → ((t.number == set) && (n == number)) ≡ b → b ≡ false
-      both false e = refl
-      both true e =
-          let two = and_parts (t.number == set) (n == number) e in
-          let one : t.number ≡ set = grind (arith, nat_tests, two.0) in
-          let other : n ≡ number = grind (arith, nat_tests, two.1) in
-          absurd (apart one other)
-
       off : ((t.number == set) && (n == number)) ≡ false
-      off = both ((t.number == set) && (n == number)) refl
+      off = not_here t.number n set number apart
 
   here_counted : (k : ℕ) → a.next ≡ with_count k a.slot → SlotStands desc db (counted_at own set number k) s number a.next
   here_counted k same =
@@ -141,6 +148,40 @@ module _ (desc : Described) (db : Db) (own : Tally) (c d : Content) (set number 
       by : (b : Bool) → cond b None (Some (with_count (a.slot.counted - 1) a.slot)) ≡ Some a.next → a.next ≡ with_count (a.slot.counted - 1) a.slot
       by true k = absurd (cc k)
       by false k = sym (same_Some (with_count (a.slot.counted - 1) a.slot) a.next k)
+
+  others_owned : (k : ℕ) → OthersStand desc db db own (owned_at own set number k) set number
+  others_owned k t n x shape there apart h = record { most = h.most; owner = h.owner; links = h.links; counted = h.counted; owned = h.owned ∙ sym (ap (λ b. cond b k (own.owned t.number n)) off) }
+    where
+      off : ((t.number == set) && (n == number)) ≡ false
+      off = not_here t.number n set number apart
+
+  here_owned : (k : ℕ) → a.next ≡ with_owned k a.slot → SlotStands desc db (owned_at own set number k) s number a.next
+  here_owned k same =
+      subst (λ (x : Slot). SlotStands desc db (owned_at own set number k) s number x) (sym same)
+      (record { most = its_slot.most; owner = its_slot.owner; links = its_slot.links; counted = its_slot.counted; owned = sym (ap (λ b. cond b k (own.owned s.number number)) on) })
+    where
+      on : ((s.number == set) && (number == number)) ≡ true
+      on = grind (arith, nat_tests, its_number)
+
+  reowned : (k : ℕ) → a.next ≡ with_owned k a.slot → RecordsStand desc db (owned_at own set number k) d
+  reowned k same =
+      written desc db db own (owned_at own set number k) c d set number s a.next is.of
+      (record { records = record_same (ap (λ (x : Slot). x.rec) same); others = others_owned k; here = here_owned k same }) is.low altered_slot files
+
+  -- one owned more, and one fewer
+  pub slot_owned : owned_more a.slot ≡ Some a.next → RecordsStand desc db (owned_at own set number (own.owned set number + 1)) d
+  slot_owned h = subst (λ k. RecordsStand desc db (owned_at own set number k) d) (ap (λ k. k + 1) its_slot.owned ∙ ap (λ t. own.owned t number + 1) its_number) (reowned (a.slot.owned + 1) (by (a.slot.owned == 2 ^ 32 - 1) h))
+    where
+      by : (b : Bool) → cond b None (Some (with_owned (a.slot.owned + 1) a.slot)) ≡ Some a.next → a.next ≡ with_owned (a.slot.owned + 1) a.slot
+      by true k = absurd (cc k)
+      by false k = sym (same_Some (with_owned (a.slot.owned + 1) a.slot) a.next k)
+
+  pub slot_disowned : owned_fewer a.slot ≡ Some a.next → RecordsStand desc db (owned_at own set number (own.owned set number - 1)) d
+  slot_disowned h = subst (λ k. RecordsStand desc db (owned_at own set number k) d) (ap (λ k. k - 1) its_slot.owned ∙ ap (λ t. own.owned t number - 1) its_number) (reowned (a.slot.owned - 1) (by (a.slot.owned == 0) h))
+    where
+      by : (b : Bool) → cond b None (Some (with_owned (a.slot.owned - 1) a.slot)) ≡ Some a.next → a.next ≡ with_owned (a.slot.owned - 1) a.slot
+      by true k = absurd (cc k)
+      by false k = sym (same_Some (with_owned (a.slot.owned - 1) a.slot) a.next k)
 
   -- other values of the record, whose links stand
   abbrev with_record : Db
@@ -187,7 +228,7 @@ set_stands records (x ∷ is) (w ∷ vs) (suc i) v h target =
     let rest = set_stands records is vs i v both.1 target in
     λ j. both.0 j && rest j
 
-null_stands : (records : Records) (k : ItemKind) → link_stands records k Null ≡ true
+pub null_stands : (records : Records) (k : ItemKind) → link_stands records k Null ≡ true
 null_stands records (Alpha n) = refl
 null_stands records (Decimal n d s) = refl
 null_stands records OneBit = refl
@@ -223,6 +264,13 @@ CountsMore desc db own c d set number s = IfAltered desc db own c d set number s
 
 abbrev pub CountsFewer : Described → Db → Tally → Content → Content → ℕ → ℕ → Shape → Type 0
 CountsFewer desc db own c d set number s = IfAltered desc db own c d set number s Uncounted (RecordsStand desc db (counted_at own set number (own.counted set number - 1)) d)
+
+-- the record owns one more, or one fewer
+abbrev pub OwnsMore : Described → Db → Tally → Content → Content → ℕ → ℕ → Shape → Type 0
+OwnsMore desc db own c d set number s = IfAltered desc db own c d set number s Owned (RecordsStand desc db (owned_at own set number (own.owned set number + 1)) d)
+
+abbrev pub OwnsFewer : Described → Db → Tally → Content → Content → ℕ → ℕ → Shape → Type 0
+OwnsFewer desc db own c d set number s = IfAltered desc db own c d set number s Disowned (RecordsStand desc db (owned_at own set number (own.owned set number - 1)) d)
 
 -- what a link is to refer to stands
 abbrev pub TargetStands : Db → Shape → ℕ → Option ℕ → Type 0

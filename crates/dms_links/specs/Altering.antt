@@ -66,6 +66,34 @@ module _ {B : Type 0} {g : Ghosts B} where
     causes = causes_or_on P (λ f k. ⊤) r (under a) (under b) (under c) (λ f k h. tt) same reads.looks.passes.lasts reads.looks.same causes;
   }
 
+  -- a call after a read
+  pub read_then : {T U : Type 0} {n : ℕ} {x : T} (m : ℕ) (r : Result U BlockFault) (a b c : Overlay B g) → ((x y z : B) → g.same_blocks x y → g.same_blocks y z → g.same_blocks x z) → ReadsOverlay n (Ok x) a b → (under b).faults ≡ (under a).faults → WritesSlots m r b c → WritesSlots m r a c
+  read_then {n = n} m r a b c onward reads same next = record {
+    reads = n + next.reads;
+    writes = record { looks = looks_on r reads.looks next.writes.looks; more = omega (arith, ap length reads.written_still, next.writes.more); same = onward a.below b.below c.below reads.same next.writes.same };
+    causes = causes_or_on (λ f k. ⊤) (λ f k. ⊤) r (under a) (under b) (under c) (λ f k h. h) same reads.looks.passes.lasts reads.looks.same next.causes;
+  }
+
+  -- a call after one that wrote
+  pub writes_then : {T U : Type 0} {x : T} (m n k : ℕ) (r : Result U BlockFault) (a b c : Overlay B g) → ((x y z : B) → g.same_blocks x y → g.same_blocks y z → g.same_blocks x z) → m + n ≤ k → WritesSlots m (Ok x) a b → WritesSlots n r b c → WritesSlots k r a c
+  writes_then m n k r a b c onward le p q = record {
+    reads = p.reads + q.reads;
+    writes = record { looks = looks_on r p.writes.looks q.writes.looks; more = omega (arith, p.writes.more, q.writes.more, le); same = onward a.below b.below c.below p.writes.same q.writes.same };
+    causes = causes_or_on (λ f k. ⊤) (λ f k. ⊤) r (under a) (under b) (under c) (λ f k h. h) p.causes p.writes.looks.passes.lasts p.writes.looks.same q.causes;
+  }
+
+  -- more were allowed
+  pub writes_more : {T : Type 0} (m k : ℕ) (r : Result T BlockFault) (a b : Overlay B g) → m ≤ k → WritesSlots m r a b → WritesSlots k r a b
+  writes_more m k r a b le p = record { reads = p.reads; writes = record { looks = p.writes.looks; more = omega (arith, p.writes.more, le); same = p.writes.same }; causes = p.causes }
+
+  -- the causes of a call after one that wrote
+  pub causes_after : {T U : Type 0} {x : T} (m : ℕ) (r : Result U BlockFault) (a b c : Overlay B g) → WritesSlots m (Ok x) a b → HasCausesOr (λ f k. ⊥) r (under b) (under c) → HasCausesOr (λ f k. ⊥) r (under a) (under c)
+  causes_after m r a b c p causes = causes_or_on (λ f k. ⊥) (λ f k. ⊥) r (under a) (under b) (under c) (λ f k h. h) p.causes p.writes.looks.passes.lasts p.writes.looks.same causes
+
+  -- what is told stays told
+  pub told_writes : {T : Type 0} {x : T} (m : ℕ) (a b : Overlay B g) → WritesSlots m (Ok x) a b → IsTrue (under a).told → IsTrue (under b).told
+  told_writes m a b p told = p.writes.looks.passes.lasts.told ∙ told
+
   -- another answer
   pub writes_as : {T U : Type 0} {x : T} (m : ℕ) (y : U) (a b : Overlay B g) → WritesSlots m (Ok x) a b → WritesSlots m (Ok y) a b
   writes_as m y a b h = record { reads = h.reads; writes = record { looks = looks_as (Ok y) tt h.writes.looks; more = h.writes.more; same = h.writes.same }; causes = h.causes }

@@ -187,7 +187,7 @@ links_taken set items to number n (suc p) (r ∷ rs) low =
     ap (λ (zs : List Place). cond (slot_links items to number r) ((set, n) ∷ zs) zs) (links_taken set items to number (n + 1) p rs (λ i x h. omega (arith, low (suc i) x h)))
 
 -- a structure of the description
-structure_here : (ss : List Shape) (i : ℕ) (s : Shape) → slice_get ss i ≡ Some s → cond (suc i == 0) None (slice_get ss (suc i - 1)) ≡ Some s
+pub structure_here : (ss : List Shape) (i : ℕ) (s : Shape) → slice_get ss i ≡ Some s → cond (suc i == 0) None (slice_get ss (suc i - 1)) ≡ Some s
 structure_here ss i s at =
     let t : (suc i == 0) ≡ false = grind (arith, nat_tests) in
     let e : suc i - 1 ≡ i = omega arith in

@@ -170,7 +170,7 @@ low_none t s n (Used slot ∷ rs) rest low none =
     apart h = grind (arith, nat_tests, h)
 low_none t s n (Bad ∷ rs) rest low none = low_none t s (n + 1) rs rest (omega (arith, low)) none
 
-rows_none : (c : Content) (t : ℕ) (ss : List Shape) → find place_cmp (t, 0) (rows_in c ss) ≡ None
+pub rows_none : (c : Content) (t : ℕ) (ss : List Shape) → find place_cmp (t, 0) (rows_in c ss) ≡ None
 rows_none c t [] = refl
 rows_none c t (s ∷ ss) =
     let rest = rows_none c t ss in

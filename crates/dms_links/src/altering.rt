@@ -5,7 +5,7 @@ ghost use Rattle.dms_block.specs.View.{overlay_content, under};
 ghost use Rattle.dms_desc.specs.Files.{file_of};
 ghost use Rattle.dms_desc.specs.Shape.{as_described, shape_of};
 ghost use Rattle.dms_layout.specs.Slots.{slot_width};
-ghost use Rattle.dms_links.specs.Altered.{Alters, MayChange, counted_fewer, counted_more, is_item_into, slot_after, with_count, with_values};
+ghost use Rattle.dms_links.specs.Altered.{Alters, MayChange, counted_fewer, counted_more, is_item_into, owned_fewer, owned_more, slot_after, with_count, with_owned, with_values};
 ghost use Rattle.dms_links.specs.Altering.{WritesSlots};
 ghost use Rattle.dms_links.specs.AlteringIn.{AltersIn, BadOf, HoldsSet, MayChangeIn, is_slot};
 ghost use Rattle.dms_model.specs.Uses.{corrected, corrected_value, link_value};
@@ -31,6 +31,10 @@ pub enum SlotChange {
     Corrected(u16, u64),
     /// A link, by its item's number from 1, is null, or refers to the record with this number.
     Linked(u8, Option<u64>),
+    /// The record owns one record or entry more.
+    Owned,
+    /// It owns one fewer.
+    Disowned,
 }
 
 // A link that is null, or refers to the record with this number.
@@ -69,7 +73,8 @@ fn corrected_value(
     value.copy(alloc)
 }
 
-fn item_at(items: &[Item], i: usize) -> Option<&Item>
+/// An item, where there is one.
+pub(crate) fn item_at(items: &[Item], i: usize) -> Option<&Item>
     ensures { option_copied result ≡ slice_get items.now i }
 {
     items.get(i)
@@ -146,6 +151,37 @@ fn counted_fewer(alloc: Global, slot: &Slot) -> Result<Option<Slot>, Memory>
     Ok(Some(with_count(alloc, slot, slot.counted - 1)?))
 }
 
+// A slot that owns so many records and entries.
+fn with_owned(alloc: Global, slot: &Slot, owned: u32) -> Result<Slot, Memory>
+    ensures { IfOk result (λ x. x ≡ with_owned owned slot.now) }
+{
+    Ok(Slot {
+        rec: slot.rec.copy(alloc)?,
+        counted: slot.counted,
+        owned,
+    })
+}
+
+// A slot that owns one more; none where its count stands at its type's end.
+fn owned_more(alloc: Global, slot: &Slot) -> Result<Option<Slot>, Memory>
+    ensures { IfOk result (λ o. o ≡ owned_more slot.now) }
+{
+    if slot.owned == u32::MAX {
+        return Ok(None);
+    }
+    Ok(Some(with_owned(alloc, slot, slot.owned + 1)?))
+}
+
+// A slot that owns one fewer; none where it owns none.
+fn owned_fewer(alloc: Global, slot: &Slot) -> Result<Option<Slot>, Memory>
+    ensures { IfOk result (λ o. o ≡ owned_fewer slot.now) }
+{
+    if slot.owned == 0 {
+        return Ok(None);
+    }
+    Ok(Some(with_owned(alloc, slot, slot.owned - 1)?))
+}
+
 // The slot after a change; none where its count stands at its type's end, or at 0.
 fn slot_after(
     alloc: Global,
@@ -166,6 +202,8 @@ fn slot_after(
             let values = linked(alloc, &slot.rec.values, item, to)?;
             Ok(Some(with_values(slot, values)))
         }
+        SlotChange::Owned => owned_more(alloc, slot),
+        SlotChange::Disowned => owned_fewer(alloc, slot),
     }
 }
 
@@ -203,8 +241,8 @@ pub fn alter<B: Blocks>(
     }
 }
 
-// Whether a structure is a data set, and a record of it may have this number.
-fn is_slot(s: &Structure, number: u64) -> bool
+/// Whether a structure is a data set, and a record of it may have this number.
+pub(crate) fn is_slot(s: &Structure, number: u64) -> bool
     ensures { result ≡ is_slot (shape_of s.now) number }
 {
     0 < s.kind && s.kind < 3 && 1 <= number && number <= u64::from(s.population)

@@ -3,10 +3,13 @@
 
 mod altering;
 mod laws;
+mod setting;
 mod walking;
 
 pub use altering::{SlotChange, alter, alter_in};
 pub use laws::{
-    altered_slot_law, freed_slot_law, linkers_by_slots, removal_is_its_steps, written_slot_law,
+    altered_slot_law, clear_law, freed_slot_law, linkers_by_slots, removal_is_its_steps,
+    set_link_law, written_slot_law,
 };
+pub use setting::set_link;
 pub use walking::linkers;

@@ -58,7 +58,8 @@ fn links_at(item: &Item, value: Option<&Value>, to: u16, number: u64) -> bool
     is_link_into(item.kind, to) && refers_to(value, number)
 }
 
-fn value_at(values: &[Value], k: usize) -> Option<&Value>
+/// A value, where there is one.
+pub(crate) fn value_at(values: &[Value], k: usize) -> Option<&Value>
     ensures { option_copied result ≡ slice_get values.now k }
 {
     values.get(k)

@@ -177,7 +177,8 @@ module _ {A : Type 0} (p : A → Bool) where
 
 -- An entry of rising ones is there once.
 module _ (a o n : ℕ) where
-  named_is : (e : SubsetEntry) → names a o n e ≡ true → e ≡ entry_of a o n
+  -- an entry that is named so is this one
+  pub named_is : (e : SubsetEntry) → names a o n e ≡ true → e ≡ entry_of a o n
   named_is e h =
       let s : e.subset ≡ a = grind (arith, nat_tests, h) in
       let w : e.owner ≡ o = grind (arith, nat_tests, h) in

@@ -9,7 +9,7 @@ use Rattle.dms_desc.specs.declared.structure.Structure.{Structure}
 use Rattle.dms_slots.specs.Seen.{BadAt}
 use Rattle.dms_slots.specs.SlotBlocks.{block_of}
 use Rattle.dms_links.specs.Altering.{wrote_none}
-use Rattle.dms_links.specs.AlteringIn.{BadOf, altered_here, altered_none, altered_off, is_slot, slot_low, slot_most}
+use Rattle.dms_links.specs.AlteringIn.{BadOf, altered_here, altered_none, altered_off, is_slot, slot_low, slot_most, slot_set}
 use Rattle.dms_links.proofs.altering.alter_in.Goals as goal
 
 pub returns-in-None-clause-writes : goal.returns-in-None-clause-writes
@@ -74,7 +74,7 @@ returns-else-not-is_slot-clause-altered g c =
     let desc = as_described c.args.desc.now in
     let s = shape_of c.in-Some.s.now in
     let at : structure_of desc c.args.set ≡ Some s = sym c.structure.ensures ∙ ap (λ (o : Option (Bor Structure)). option_map shape_of (option_copied o)) c.in-Some.is in
-    IfOk-weaker c.alter.result _ _ (λ done h told. altered_here desc c.args.set c.args.number c.args.change (overlay_content c.args.over.now) (overlay_content c.alter.new.over) s done at (h told)) c.alter.ensures.altered
+    IfOk-weaker c.alter.result _ _ (λ done h told. altered_here desc c.args.set c.args.number c.args.change (overlay_content c.args.over.now) (overlay_content c.alter.new.over) s done at (sym c.is_slot.ensures ∙ c.if-not-is_slot.false) (h told)) c.alter.ensures.altered
 
 pub returns-else-not-is_slot-clause-causes : goal.returns-else-not-is_slot-clause-causes
 returns-else-not-is_slot-clause-causes g c =
@@ -82,4 +82,4 @@ returns-else-not-is_slot-clause-causes g c =
     let s = shape_of c.in-Some.s.now in
     let a = c.args.over.now in
     let at : structure_of desc c.args.set ≡ Some s = sym c.structure.ensures ∙ ap (λ (o : Option (Bor Structure)). option_map shape_of (option_copied o)) c.in-Some.is in
-    causes_or_on (BadAt s (block_of s.items c.args.number) a) (BadOf desc c.args.set a) c.alter.result (under a) (under a) (under c.alter.new.over) (λ f i bad. (s, at, bad.0)) refl (lasts_none (under a)) (same_none (under a)) c.alter.ensures.causes
+    causes_or_on (BadAt s (block_of s.items c.args.number) a) (BadOf desc c.args.set a) c.alter.result (under a) (under a) (under c.alter.new.over) (λ f i bad. (s, at, slot_set s c.args.number (sym c.is_slot.ensures ∙ c.if-not-is_slot.false), bad.0)) refl (lasts_none (under a)) (same_none (under a)) c.alter.ensures.causes

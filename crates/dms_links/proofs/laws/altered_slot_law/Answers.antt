@@ -1,5 +1,5 @@
-use Rattle.dms_links.specs.AlteredLaws.{slot_corrected, slot_counted, slot_linked, slot_uncounted}
-use Rattle.dms_links.specs.declared.altering.SlotChange.TheVariants.{Counted, Uncounted}
+use Rattle.dms_links.specs.AlteredLaws.{slot_corrected, slot_counted, slot_disowned, slot_linked, slot_owned, slot_uncounted}
+use Rattle.dms_links.specs.declared.altering.SlotChange.TheVariants.{Counted, Uncounted, Owned, Disowned}
 use Rattle.dms_links.proofs.laws.altered_slot_law.Goals as goal
 
 pub returns-clause-counted : goal.returns-clause-counted
@@ -13,3 +13,9 @@ returns-clause-linked c desc db own before after set number s item to is files a
 
 pub returns-clause-corrected : goal.returns-clause-corrected
 returns-clause-corrected c desc db own before after set number s to n is files a = slot_corrected desc db own before after set number s is files to n a
+
+pub returns-clause-owned : goal.returns-clause-owned
+returns-clause-owned c desc db own before after set number s is files a = slot_owned desc db own before after set number s is Owned files a a.is_next
+
+pub returns-clause-disowned : goal.returns-clause-disowned
+returns-clause-disowned c desc db own before after set number s is files a = slot_disowned desc db own before after set number s is Disowned files a a.is_next
