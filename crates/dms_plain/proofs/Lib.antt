@@ -1,5 +1,7 @@
 mod Answering
 mod Fits
+mod Gaps
+mod Halving
 mod Joining
 mod Maps
 mod Members

@@ -1,9 +1,9 @@
-use Rattle.std.proofs.Common.{◌≡◌, ◌+◌, ◌<◌, ℕ, zero, suc, List, [], ◌∷◌, ◌++◌, Bool, true, false, cond, refl, sym, ap, subst, ◌∙◌, arith, append_assoc, length, get_or, take, drop, add-one}
+use Rattle.std.proofs.Common.{◌≡◌, ◌+◌, ◌<◌, ℕ, zero, suc, List, [], ◌∷◌, ◌++◌, Bool, true, false, cond, refl, sym, ap, subst, ◌∙◌, arith, length, get_or, take, drop, add-one}
 use Rattle.std.specs.Prelude.{insert, slice_set, slice_index_or}
-use Rattle.std.specs.FinMap.{put}
+use Rattle.std.specs.FinMap.{put, find}
 use Rattle.std.specs.List.{filter, drop-map}
 use Rattle.std.specs.declared.cmp.Ordering.TheVariants.{Less, Equal, Greater}
-use Rattle.std.proofs.lemmas.List.{drop_more, take_more, drop_all, map-append, take-map, map-set}
+use Rattle.std.proofs.lemmas.List.{get_or_default, drop_more, drop_all, map-append, take-map, map-set}
 use Rattle.dms_desc.specs.declared.record.Record.{Record}
 use Rattle.dms_plain.specs.declared.rows.RecordRow.{RecordRow}
 use Rattle.dms_plain.specs.Rows.{entry_of, entries_of}
@@ -15,10 +15,10 @@ put_less k v e es h = rw h refl
 put_equal : (k : Place) (v : Record) (e : Place × Record) (es : List (Place × Record)) → place_cmp k e.0 ≡ Equal → put place_cmp k v (e ∷ es) ≡ (e.0, v) ∷ es
 put_equal k v e es h = rw h refl
 
-put_greater : (k : Place) (v : Record) (e : Place × Record) (es : List (Place × Record)) → place_cmp k e.0 ≡ Greater → put place_cmp k v (e ∷ es) ≡ e ∷ put place_cmp k v es
+pub put_greater : (k : Place) (v : Record) (e : Place × Record) (es : List (Place × Record)) → place_cmp k e.0 ≡ Greater → put place_cmp k v (e ∷ es) ≡ e ∷ put place_cmp k v es
 put_greater k v e es h = rw h refl
 
-get_row : (rows : List RecordRow) (i : ℕ) (x : RecordRow) → get_or (entries_of rows) i (entry_of x) ≡ entry_of (get_or rows i x)
+pub get_row : (rows : List RecordRow) (i : ℕ) (x : RecordRow) → get_or (entries_of rows) i (entry_of x) ≡ entry_of (get_or rows i x)
 get_row [] i x = refl
 get_row (r ∷ rs) zero x = refl
 get_row (r ∷ rs) (suc i) x = get_row rs i x
@@ -33,11 +33,6 @@ at_row rows i x lt is =
     drop_more (entries_of rows) i (entry_of x) (omega (arith, length_rows rows))
     ∙ ap (λ (e : Place × Record). e ∷ drop (i + 1) (entries_of rows)) (get_row rows i x ∙ ap entry_of (sym is))
 
-get_other : (es : List (Place × Record)) (i : ℕ) (d e : Place × Record) → i < length es → slice_index_or es i d ≡ get_or es i e
-get_other [] i d e lt = absurd (omega arith)
-get_other (x ∷ es) zero d e lt = refl
-get_other (x ∷ es) (suc i) d e lt = get_other es i d e (omega arith)
-
 set_splits : (es : List (Place × Record)) (i : ℕ) (d : Place × Record) (v : Record) → i < length es → take i es ++ ((slice_index_or es i d).0, v) ∷ drop (suc i) es ≡ slice_set es i ((slice_index_or es i d).0, v)
 set_splits [] i d v lt = absurd (omega arith)
 set_splits (e ∷ es) zero d v lt = refl
@@ -46,9 +41,7 @@ set_splits (e ∷ es) (suc i) d v lt = ap (λ (xs : List (Place × Record)). e �
 -- what is known at a place of the entries
 pub record IsPastPlace (k : Place) (i : ℕ) (es : List (Place × Record)) : Type 0 where
   pub split : (v : Record) → put place_cmp k v es ≡ take i es ++ put place_cmp k v (drop i es)
-
-pub IsPastPlace-start : (k : Place) (es : List (Place × Record)) → IsPastPlace k 0 es
-IsPastPlace-start k es = record { split = λ v. refl }
+  pub found : find place_cmp k es ≡ find place_cmp k (drop i es)
 
 pub IsPastPlace-here : (k : Place) (i : ℕ) (rows : List RecordRow) (x : RecordRow) → IsPastPlace k i (entries_of rows) → i < length rows → x ≡ get_or rows i x → place_cmp k (x.set, x.number) ≡ Less
     → (v : Record) → put place_cmp k v (entries_of rows) ≡ insert (entries_of rows) i (k, v)
@@ -61,23 +54,12 @@ pub IsPastPlace-at : (k : Place) (i : ℕ) (rows : List RecordRow) (x : RecordRo
     → (v : Record) (d : Place × Record) → put place_cmp k v (entries_of rows) ≡ slice_set (entries_of rows) i ((slice_index_or (entries_of rows) i d).0, v)
 IsPastPlace-at k i rows x past lt is tie v d =
     let at = at_row rows i x lt is in
-    let here : slice_index_or (entries_of rows) i d ≡ entry_of x = get_other (entries_of rows) i d (entry_of x) (omega (arith, length_rows rows)) ∙ get_row rows i x ∙ ap entry_of (sym is) in
+    let here : slice_index_or (entries_of rows) i d ≡ entry_of x = get_or_default (entries_of rows) i d (entry_of x) (omega (arith, length_rows rows)) ∙ get_row rows i x ∙ ap entry_of (sym is) in
     past.split v ∙ ap (λ (es : List (Place × Record)). take i (entries_of rows) ++ es)
     (ap (put place_cmp k v) at ∙ put_equal k v (entry_of x) (drop (i + 1) (entries_of rows)) tie)
     ∙ ap (λ (e : Place × Record). take i (entries_of rows) ++ (e.0, v) ∷ drop (i + 1) (entries_of rows)) (sym here)
     ∙ ap (λ (n : ℕ). take i (entries_of rows) ++ ((slice_index_or (entries_of rows) i d).0, v) ∷ drop n (entries_of rows)) (add-one i)
     ∙ set_splits (entries_of rows) i d v (omega (arith, length_rows rows))
-
-pub IsPastPlace-more : (k : Place) (i : ℕ) (rows : List RecordRow) (x : RecordRow) → IsPastPlace k i (entries_of rows) → i < length rows → x ≡ get_or rows i x → place_cmp k (x.set, x.number) ≡ Greater → IsPastPlace k (i + 1) (entries_of rows)
-IsPastPlace-more k i rows x past lt is more =
-    let at = at_row rows i x lt is in
-    let e = take_more (entries_of rows) i (entry_of x) (omega (arith, length_rows rows)) ∙ ap (λ (y : Place × Record). take i (entries_of rows) ++ y ∷ []) (get_row rows i x ∙ ap entry_of (sym is)) in
-    record {
-      split = λ v. past.split v
-          ∙ ap (λ (es : List (Place × Record)). take i (entries_of rows) ++ es) (ap (put place_cmp k v) at ∙ put_greater k v (entry_of x) (drop (i + 1) (entries_of rows)) more)
-          ∙ sym (append_assoc (take i (entries_of rows)) (entry_of x ∷ []) (put place_cmp k v (drop (i + 1) (entries_of rows))))
-          ∙ ap (λ (es : List (Place × Record)). es ++ put place_cmp k v (drop (i + 1) (entries_of rows))) (sym e);
-    }
 
 pub IsPastPlace-end : (k : Place) (i : ℕ) (rows : List RecordRow) → IsPastPlace k i (entries_of rows) → i ≡ length rows → (v : Record) → put place_cmp k v (entries_of rows) ≡ insert (entries_of rows) i (k, v)
 IsPastPlace-end k i rows past is v =

@@ -1,11 +1,10 @@
-ghost use Rattle.std.specs.Prelude.{◌≡◌, length, IfOk, OnErr, OnOk, insert, Some, not};
+ghost use Rattle.std.specs.Prelude.{◌≡◌, length, map, IfOk, OnErr, OnOk, not};
 ghost use Rattle.std.specs.Option.{option_copied};
 ghost use Rattle.std.specs.FinMap.{put, find};
 ghost use Rattle.std.specs.List.{filter};
 ghost use Rattle.std.specs.Ordering.{eq_by_cmp};
 ghost use Rattle.dms_model.specs.Db.{place_cmp, rows_of, gap_from};
-ghost use Rattle.dms_desc.specs.declared.record.Record.{Record};
-ghost use Rattle.dms_plain.specs.Rows.{entries_of, IsWhere};
+ghost use Rattle.dms_plain.specs.Rows.{AreNumbersRising, IsInOrder, IsWhere, entries_of, numbered};
 ghost use Rattle.dms_plain.specs.declared.rows.RecordRow.{RecordRow};
 
 use dms_base::Memory;
@@ -29,34 +28,51 @@ pub struct Undo {
     pub old: Option<Record>,
 }
 
+/// The rows of a data set.
+fn of_set(rows: &[RecordRow], set: u16) -> &[RecordRow]
+    requires { IsInOrder rows.now }
+    ensures rising { AreNumbersRising result.now }
+    ensures numbered { map numbered result.now ≡ rows_of set (entries_of rows.now) }
+{
+    let from = rows.partition_point(|row| row.set < set);
+    let end = rows.partition_point(|row| row.set <= set);
+    &rows[from..end]
+}
+
 /// How many records a data set has.
 pub fn count(rows: &[RecordRow], set: u16) -> usize
+    requires { IsInOrder rows.now }
     ensures { result ≡ length (rows_of set (entries_of rows.now)) }
 {
-    let mut n = 0usize;
-    for row in rows {
-        if set == row.set {
-            n += 1;
+    of_set(rows, set).len()
+}
+
+/// The least number from 1 that none of these rows has, whose numbers rise from 1 or more. It is found by halving: the rows
+/// before it have the numbers 1, 2, 3 and on.
+fn gap(rows: &[RecordRow]) -> u64
+    requires rising { AreNumbersRising rows.now }
+    ensures { result ≡ gap_from 1 (map numbered rows.now) }
+{
+    let from = rows.partition_point(|row| row.number == 0);
+    let mut low = from;
+    let mut high = rows.len();
+    while low < high {
+        let middle = low + (high - low) / 2;
+        if rows[middle].number <= (middle - from) as u64 + 1 {
+            low = middle + 1;
+        } else {
+            high = middle;
         }
     }
-    n
+    (low - from) as u64 + 1
 }
 
 /// The least number from 1 that no record of the data set has.
 pub fn fresh(rows: &[RecordRow], set: u16) -> u64
+    requires { IsInOrder rows.now }
     ensures { result ≡ gap_from 1 (rows_of set (entries_of rows.now)) }
 {
-    let mut n = 1u64;
-    for row in rows {
-        if set == row.set {
-            if n == row.number {
-                n += 1;
-            } else if row.number >= n {
-                return n;
-            }
-        }
-    }
-    n
+    gap(of_set(rows, set))
 }
 
 /// A place and that of a row.
@@ -66,16 +82,27 @@ fn place_order(set: u16, number: u64, row: &RecordRow) -> Ordering
     set.cmp(&row.set).then(number.cmp(&row.number))
 }
 
+/// Where a place is among rows in order, or Err with where it would be.
+fn where_is(rows: &[RecordRow], set: u16, number: u64) -> Result<usize, usize>
+    requires { IsInOrder rows.now }
+    ensures { IsWhere (set, number) (entries_of rows.now) result }
+{
+    rows.binary_search_by(
+        |row| -> Ordering
+            ensures { result ≡ place_cmp (row.now.set, row.now.number) (set, number) }
+        { row.set.cmp(&set).then(row.number.cmp(&number)) },
+    )
+}
+
 /// The record at a place.
 pub fn look(rows: &[RecordRow], set: u16, number: u64) -> Option<&Record>
+    requires { IsInOrder rows.now }
     ensures { option_copied result ≡ find place_cmp (set, number) (entries_of rows.now) }
 {
-    for row in rows {
-        if place_order(set, number, row).is_eq() {
-            return Some(&row.rec);
-        }
+    match where_is(rows, set, number) {
+        Ok(i) => Some(&rows[i].rec),
+        Err(_) => None,
     }
-    None
 }
 
 /// A copy of the record at a place.
@@ -85,6 +112,7 @@ pub fn get(
     set: u16,
     number: u64,
 ) -> Result<Option<Record>, Memory>
+    requires { IsInOrder rows.now }
     ensures { IfOk result (λ r. r ≡ find place_cmp (set, number) (entries_of rows.now)) }
 {
     match look(rows, set, number) {
@@ -93,37 +121,18 @@ pub fn get(
     }
 }
 
-/// Where a place is among rows, or where it would be.
-#[derive(Clone, Copy, Debug)]
-enum Where {
-    At(usize),
-    Before(usize),
-}
-
-fn where_is(rows: &[RecordRow], set: u16, number: u64) -> Where
-    ensures { IsWhere (set, number) (entries_of rows.now) result }
-{
-    for (i, row) in rows.iter().enumerate() {
-        match place_order(set, number, row) {
-            Ordering::Less => return Where::Before(i),
-            Ordering::Equal => return Where::At(i),
-            Ordering::Greater => {}
-        }
-    }
-    Where::Before(rows.len())
-}
-
 /// Puts a row in its place, over the one that is there. Answers Err where memory is refused.
 pub fn place_row(rows: &mut Vec<RecordRow>, row: RecordRow) -> Result<(), Memory>
+    requires { IsInOrder rows.old.items }
     ensures ok { OnOk result (entries_of rows.new.items ≡ put place_cmp (row.set, row.number) row.rec (entries_of rows.old.items)) }
     ensures err { OnErr result (rows.new.items ≡ rows.old.items) }
 {
     match where_is(rows.as_slice(), row.set, row.number) {
-        Where::At(i) => {
+        Ok(i) => {
             rows[i].rec = row.rec;
             Ok(())
         }
-        Where::Before(i) => {
+        Err(i) => {
             rows.insert(i, row)?;
             Ok(())
         }

@@ -47,6 +47,7 @@ fn put_in(
     number: Option<u64>,
     made: &Record,
 ) -> Put
+    requires { IsInOrder rows.now }
     ensures { result ≡ put_in (as_described desc.now) (entries_of rows.now) set number made.now }
 {
     if let Some(s) = clash(desc.structures.as_slice(), rows, set, number, made) {

@@ -1,4 +1,4 @@
-use Rattle.std.proofs.Common.{ℕ, List, Some, ◌≡◌, ◌∙◌, ap, sym}
+use Rattle.std.proofs.Common.{List, Some, ◌≡◌, ◌∙◌, ap, sym}
 use Rattle.std.specs.Prelude.{length}
 use Rattle.dms_desc.specs.declared.record.Record.{Record}
 use Rattle.dms_model.specs.Db.{Db, Place, records_of, rows_of}
