@@ -15,7 +15,7 @@ use Rattle.dms_opening.specs.declared.plan.OpeningPlan.{OpeningPlan}
 use Rattle.dms_opening.specs.Behind.{PlansBehind, RefusesBehind}
 use Rattle.dms_opening.specs.Choices.{judge_files}
 use Rattle.dms_opening.specs.DumpLooks.{IsFoundAs, dump_begun, dump_asked}
-use Rattle.dms_opening.specs.Plans.{AreFoundFor, IsPlainFault, IsTrailRead}
+use Rattle.dms_opening.specs.Plans.{AreFoundFor, IsPlainFault, IsTaggedRead}
 use Rattle.dms_opening.proofs.OpeningPlans.{plain_plan, read_now}
 use Rattle.dms_recovery.specs.Planned.{PlansAll, RefusesAll}
 
@@ -38,13 +38,13 @@ pub plain_all : (total first : ℕ) (files : Files) (asked : Asked) (e : OpenFau
 plain_all total first files asked e plain = inl (plain_plan total first files asked e plain)
 
 -- both dumps were looked at, one after the other
-module _ (total first : ℕ) (files middle now : Files) (places : List EntryPlace) (t : TrailTrace) (asked : Asked) (begun look : DumpFound) (same : middle ≡ files) (still : now ≡ middle) (r : IsTrailRead total first files places t)
-    (begun_is : (older : Files) (es : List Entry) → IsTraced older es t.history → IsFoundAs (dump_begun files (history_of es).pending) begun) (look_is : IsFoundAs (dump_asked middle asked) look) where
+module _ (total tag first : ℕ) (files middle now : Files) (places : List EntryPlace) (t : TrailTrace) (asked : Asked) (begun look : DumpFound) (same : middle ≡ files) (still : now ≡ middle) (r : IsTaggedRead total tag first files places t)
+    (begun_is : (older : Files) (es : List Entry) → IsTraced older es t.history → IsFoundAs tag (dump_begun files (history_of es).pending) begun) (look_is : IsFoundAs tag (dump_asked middle asked) look) where
   there : AreFoundFor total first files places t asked begun look
   there = record {
-    read = r;
-    begun_is = begun_is files (trail_entries total first files) (read_now total first files places t r).history;
-    look_is = subst (λ (f : Files). IsFoundAs (dump_asked f asked) look) same look_is;
+    read = r.read;
+    begun_is = subst (λ k. IsFoundAs k (dump_begun files (history_of (trail_entries total first files)).pending) begun) (sym r.tag_is) (begun_is files (trail_entries total first files) (read_now total first files places t r.read).history);
+    look_is = subst (λ k. IsFoundAs k (dump_asked files asked) look) (sym r.tag_is) (subst (λ (f : Files). IsFoundAs tag (dump_asked f asked) look) same look_is);
   }
 
   pub found_both : AreFoundFor total first now places t asked begun look

@@ -10,4 +10,5 @@ pub mod Answered
 pub mod Rolled
 pub mod Twice
 pub mod Behind
-pub mod Missing
+pub mod Placed
+pub mod Named

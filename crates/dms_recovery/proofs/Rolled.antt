@@ -87,7 +87,7 @@ untouched_holds t telling files x w un =
             subst (λ (l : List Entry). Stands t.first l (t.dumps x.files) w.base (stored_of x.files)) (sym un.entries_same)
             (subst (λ (d : Dumps). Stands t.first (t.entries files) d w.base (stored_of x.files)) (sym dumps) (subst (λ (s : Stored). Stands t.first (t.entries files) (t.dumps files) w.base s) (sym blocks) w.stands));
         order = subst (λ (l : List Entry). DumpsInOrder (t.dump_found x.files) (t.dumps x.files) (history_of l).pending) (sym un.entries_same)
-            (order_stays t telling files x.files (history_of (t.entries files)).pending (λ g up below. un.above g up) w.order);
+            (order_stays t telling files x.files (history_of (t.entries files)).pending (λ g up below. un.above g up) un.dumps_found w.order);
       };
       points = λ i. points_told (dumps i) (un.entries_same i) (blocks i);
       next = ap (λ (l : List Entry). next_of l) un.entries_same;

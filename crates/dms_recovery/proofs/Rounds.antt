@@ -12,6 +12,7 @@ use Rattle.dms_history.specs.Entries.{Entry, Kind, how_of}
 use Rattle.dms_history.specs.EntryEvents.{history_of, live_of, next_of}
 use Rattle.dms_history.specs.declared.event.Row.{Row}
 use Rattle.dms_audfile.specs.Ends.{Grown}
+use Rattle.dms_audfile.specs.Header.{tag_said}
 use Rattle.dms_audfile.specs.TrailEntries.{trail_entries}
 use Rattle.dms_running.specs.FromDumps.{OrderBy}
 use Rattle.dms_running.specs.Standing.{Stands}
@@ -90,8 +91,11 @@ module _ (v : LogView) (u : Files) (start : LogStarts v) (wanted : Wanted) (rows
   lives : IsLive (live_of es) m
   lives = (plans.plan.chooses.is.new plans.begins).2
 
-  own_judged : judge_own v.first (live_of es) (next_of es) (last_point (history_of es)) asked (look_of (dump_asked v.files asked)) ≡ None
-  own_judged = own_none v.first (history_of es) (next_of es) asked (look_of (dump_begun v.files (history_of es).pending)) (look_of (dump_asked v.files asked)) plans.plan.chooses.none
+  abbrev tag : ℕ
+  tag = tag_said (v.files v.first)
+
+  own_judged : judge_own v.first (live_of es) (next_of es) (last_point (history_of es)) asked (look_of tag (dump_asked v.files asked)) ≡ None
+  own_judged = own_none v.first (history_of es) (next_of es) asked (look_of tag (dump_begun v.files (history_of es).pending)) (look_of tag (dump_asked v.files asked)) plans.plan.chooses.none
 
   order : OrderBy (IsDumpFound v.first v.files) (dumps_of v.files) p (how_of kind)
   order = order_asked v.first (next_of es) m v.files (live_of es) (last_point (history_of es)) asked rows own_judged asked_is

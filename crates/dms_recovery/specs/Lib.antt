@@ -6,3 +6,4 @@ pub mod Ready
 pub mod Restoring
 pub mod Rolling
 pub mod Rows
+pub mod Reconstructing

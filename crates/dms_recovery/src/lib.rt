@@ -5,6 +5,7 @@ mod carrying;
 mod cutting;
 mod finding;
 mod looking;
+mod naming;
 mod planning;
 mod reconstructing;
 mod recovering;
@@ -12,7 +13,7 @@ mod restoring;
 mod rows;
 mod wanted;
 
+pub use naming::ReconstructFault;
 pub use reconstructing::reconstruct;
 pub use restoring::{Recovered, rebuild, roll_back};
-pub use rows::{NamedRow, judge_rows, row_there};
 pub use wanted::Wanted;

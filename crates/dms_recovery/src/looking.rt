@@ -65,7 +65,9 @@ pub(crate) fn plan_scanned<S: Site>(
         first,
     } = log;
     let asked = asked_of(&trace.history, wanted);
-    match plan_asked(alloc, &mut site, first, &places, trace, asked, rows) {
+    match plan_asked(
+        alloc, &mut site, first, end.tag, &places, trace, asked, rows,
+    ) {
         Ok(Plans { before, own }) => Ok(PlannedRestore {
             log: Log { site, end, first },
             before,

@@ -4,7 +4,7 @@ ghost use Rattle.std.specs.Prelude.{◌≡◌, ◌≤◌, ℕ, IfOk, IfErr, IsEr
 ghost use Rattle.dms_audfile.specs.Counting.{CountedAt};
 ghost use Rattle.dms_audfile.specs.Reads.{ReadsAlone};
 ghost use Rattle.dms_opening.specs.DumpLooks.{IsFitFound};
-ghost use Rattle.dms_opening.specs.Plans.{AreFoundFor, IsTrailRead};
+ghost use Rattle.dms_opening.specs.Plans.{AreFoundFor, IsTaggedRead};
 ghost use Rattle.dms_recovery.specs.Planned.{PlansAll, AreFit, RefusesAll};
 
 use crate::cutting::cut;
@@ -78,31 +78,33 @@ fn plan_found<S: Site>(
     }
 }
 
-/// What is done for what is asked of a trail that begins with file `first` and was scanned. The dumps of the restores are looked at. Nothing changes.
+/// What is done for what is asked of a trail that begins with file `first`, has this tag and was scanned. The dumps of the restores are looked at.
+/// Nothing changes.
 pub(crate) fn plan_asked<S: Site>(
     alloc: Global,
     site: &mut S,
     first: u32,
+    tag: u64,
     places: &[EntryPlace],
     trace: TrailTrace,
     asked: Asked,
     rows: &[Row],
 ) -> Result<Plans, OpenFault>
     requires low { 10001 ≤ first }
-    ensures plans { IfOk result (λ p. IsTrue S.tells → (total : ℕ) → IsTrailRead total first (S.files site.old) places.now trace
+    ensures plans { IfOk result (λ p. IsTrue S.tells → (total : ℕ) → IsTaggedRead total tag first (S.files site.old) places.now trace
         → PlansAll total first (S.files site.old) asked rows.now p.before p.own) }
     ensures fit { IfOk result (λ p. AreFit p.before p.own) }
-    ensures refused { IfErr result (λ e. IsTrue S.tells → (total : ℕ) → IsTrailRead total first (S.files site.old) places.now trace
+    ensures refused { IfErr result (λ e. IsTrue S.tells → (total : ℕ) → IsTaggedRead total tag first (S.files site.old) places.now trace
         → RefusesAll total first (S.files site.old) asked e) }
     ensures reads { ReadsAlone S.Site site.old site.new }
     ensures same_site { S.same_site site.old site.new }
     ensures disk { CountedAt (IsErrOf result (OpenFault.Audit AudFault.Disk)) (S.disk_faults site.old) (S.disk_faults site.new) }
 {
-    let begun = match find_begun(alloc, site, &trace.history) {
+    let begun = match find_begun(alloc, site, tag, &trace.history) {
         Ok(begun) => begun,
         Err(fault) => return Err(OpenFault::Audit(fault)),
     };
-    let look = match find_asked(alloc, site, asked) {
+    let look = match find_asked(alloc, site, tag, asked) {
         Ok(look) => look,
         Err(fault) => {
             begun.let_go();

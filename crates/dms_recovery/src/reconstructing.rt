@@ -11,10 +11,13 @@ ghost use Rattle.dms_audfile.specs.Counting.{CountedAt};
 ghost use Rattle.dms_audfile.specs.TrailEntries.{trail_entries};
 ghost use Rattle.dms_restore.specs.Logging.{telling_of};
 ghost use Rattle.dms_opening.specs.Openings.{IsTrailFound, IsFullFault, HasFullTrail, MayHaveWritten, IsNoRefusal};
+ghost use Rattle.dms_desc.specs.Shape.{Described};
 ghost use Rattle.dms_recovery.specs.Leaving.{HoldsUpTo, RestoresTo, IsMendedFrom};
+ghost use Rattle.dms_recovery.specs.Reconstructing.{CanReconstruct, IsOpenFault, MayReconstruct, RefusesReconstruct};
 ghost use Rattle.dms_recovery.specs.Refusing.{RefusesWanted, CanBeDone, RecoveryGrows};
 ghost use Rattle.dms_recovery.specs.Wanting.{last_of};
 
+use crate::naming::{FoundRows, ReconstructFault, look_for_rows};
 use crate::recovering::recover;
 use crate::{Recovered, Wanted};
 use dms_audfile::AudFault;
@@ -22,14 +25,15 @@ use dms_audrec::BeginHow;
 use dms_history::Row;
 use dms_opening::{Found, OpenFault};
 use dms_site::Site;
+use dms_statements::NamedRow;
 use std::alloc::Global;
 
-/// Reconstructs rows of a database from a dump, from 1 to 9,999, at the last point. What these rows hold doesn't matter. A restore that is pending is ended
+/// Reconstructs rows of structure files from a dump, from 1 to 9,999, at the last point. What these rows hold doesn't matter. A restore that is pending is ended
 /// first. `list` are the bytes of the rows, as the audit has them.
 ///
 /// Answers the first refusal of the trail, of a restore that is pending, of the last point and of the dump, before anything is written, Disk where a call of
 /// the site failed, Full where the audit has no room, and Memory, before anything is written.
-pub fn reconstruct<S: Site>(
+fn reconstruct_rows<S: Site>(
     alloc: Global,
     found: Found<S>,
     dump: u16,
@@ -70,4 +74,51 @@ pub fn reconstruct<S: Site>(
         rows,
         BeginHow::Reconstruct(dump, list),
     )
+}
+
+/// Reconstructs at most 100 rows of structures from a dump, from 1 to 9,999, at the last point. What these rows hold doesn't matter. A restore that is pending
+/// is ended first.
+///
+/// Answers the first refusal of the trail, of a restore that is pending, of the last point and of the dump, then NoSuchRow with the first row that isn't there,
+/// all before anything is written, Disk where a call of the site failed, Full where the audit has no room, and Memory, before anything is written.
+pub fn reconstruct<S: Site>(
+    alloc: Global,
+    found: Found<S>,
+    dump: u16,
+    named: &[NamedRow],
+) -> Result<Recovered<S>, (ReconstructFault, S)>
+    requires some { 1 ≤ dump }
+    requires few { dump ≤ 9999 }
+    requires hundred { length named.now ≤ 100 }
+    ensures ends { IfOk result (λ r. (u : Files) (total first n : ℕ) (desc : Described) → IsTrue S.tells → MayReconstruct total first (S.files found.site) u dump named.now n desc
+        → HoldsUpTo (telling_of total first) u n (S.files r.site) × Only (S.files r.site) (S.clock r.site)) }
+    ensures moments { IfOk result (λ r. (u : Files) (total first n : ℕ) (desc : Described) → IsTrue S.tells → let files = S.files found.site in MayReconstruct total first files u dump named.now n desc
+        → Runs (S.clock found.site) (S.clock r.site) (RestoresTo (telling_of total first) files u n)) }
+    ensures stopped { IfErr result (λ e. (u : Files) (total first n : ℕ) (desc : Described) → IsTrue S.tells → let files = S.files found.site in MayReconstruct total first files u dump named.now n desc
+        → Runs (S.clock found.site) (S.clock e.1) (RestoresTo (telling_of total first) files u n)) }
+    ensures point { IfOk result (λ r. IsTrue S.tells → (total first n : ℕ) → IsTrailFound total first (S.files found.site) → last_of total first (S.files found.site) ≡ Some n → r.point ≡ n) }
+    ensures refused { IfErr result (λ e. IsTrue S.tells → RefusesReconstruct (S.files found.site) dump named.now e.0) }
+    ensures complete { IfErr result (λ e. IsTrue S.tells → (total first : ℕ) → CanReconstruct total first (S.files found.site) dump named.now → IsOpenFault e.0 IsNoRefusal) }
+    ensures full { IfErr result (λ e. IsTrue S.tells → IsOpenFault e.0 IsFullFault → HasFullTrail (S.files found.site) (S.files e.1)) }
+    ensures grows { IfOk result (λ r. IsTrue S.tells → RecoveryGrows S.Site found.site r.site) }
+    ensures grows_then { IfErr result (λ e. IsTrue S.tells → RecoveryGrows S.Site found.site e.1) }
+    ensures files_then { IfErr result (λ e. IsTrue S.tells → (IsOpenFault e.0 MayHaveWritten → ⊥) → S.files e.1 ≡ S.files found.site) }
+    ensures moments_then { IfErr result (λ e. IsTrue S.tells → (IsOpenFault e.0 MayHaveWritten → ⊥) → Steps Same (S.clock found.site) (S.clock e.1)) }
+    ensures same { IfOk result (λ r. S.same_site found.site r.site) }
+    ensures same_then { IfErr result (λ e. S.same_site found.site e.1) }
+    ensures said { IfOk result (λ r. S.said r.site ≡ S.said found.site) }
+    ensures said_then { IfErr result (λ e. S.said e.1 ≡ S.said found.site) }
+    ensures clean { IfOk result (λ r. (S.disk_faults r.site ≡ S.disk_faults found.site) × (S.say_faults r.site ≡ S.say_faults found.site)) }
+    ensures disk { IfErr result (λ e. CountedAt (e.0 ≡ ReconstructFault.Open (OpenFault.Audit AudFault.Disk)) (S.disk_faults found.site) (S.disk_faults e.1)) }
+    ensures say_faults { IfErr result (λ e. S.say_faults e.1 ≡ S.say_faults found.site) }
+{
+    let looked = match look_for_rows(alloc, found, dump, named) {
+        Ok(looked) => looked,
+        Err(refused) => return Err(refused),
+    };
+    let FoundRows { site, rows, list } = looked;
+    match reconstruct_rows(alloc, Found { site }, dump, &rows, list.as_slice()) {
+        Ok(recovered) => Ok(recovered),
+        Err((fault, site)) => Err((ReconstructFault::Open(fault), site)),
+    }
 }

@@ -5,7 +5,7 @@ use Rattle.std.proofs.lemmas.Bool.{cases_lt}
 use Rattle.dms_audfile.specs.Gates.{is_full}
 use Rattle.dms_audfile.specs.declared.fault.AudFault.TheVariants as aud
 use Rattle.dms_opening.specs.declared.choosing.OpenFault.{OpenFault}
-use Rattle.dms_opening.specs.declared.choosing.OpenFault.TheVariants.{Audit, NoSuchPoint, Voided, DumpMissing, DumpUnsealed, DumpDamaged, DumpLater}
+use Rattle.dms_opening.specs.declared.choosing.OpenFault.TheVariants.{Audit, NoSuchPoint, Voided, DumpMissing, DumpUnsealed, DumpDamaged, DumpForeign, DumpLater}
 use Rattle.dms_opening.specs.Openings.{IsFullFault, HasFullTrail, IsTrailFound, RefusesFiles}
 use Rattle.dms_opening.proofs.Rooms.{plan_has_room, scan_has_room}
 use Rattle.dms_site.specs.declared.site.Site.{Ghosts}
@@ -42,6 +42,7 @@ open_full (Voided n) k e = absurd cc
 open_full (DumpMissing d) k e = absurd cc
 open_full (DumpUnsealed d) k e = absurd cc
 open_full (DumpDamaged d) k e = absurd (damage_is (nat_le (20000 + d) 30000) (20000 + d) 0 (λ x. x ≡ Limit (AuditFile k) → ⊥) (λ e. absurd cc) (λ e. absurd cc) e)
+open_full (DumpForeign d) k e = absurd cc
 open_full (DumpLater d n) k e = absurd cc
 
 -- no refusal of files is a full audit, but that of file 9,999

@@ -3,7 +3,7 @@ use Rattle.std.proofs.Common.{ℕ, ◌+◌, ◌≡◌, ◌⊎◌, ◌∙◌, inl
 use Rattle.std.specs.Prelude.{nat_le}
 use Rattle.dms_audfile.specs.declared.fault.AudFault.TheVariants as aud
 use Rattle.dms_opening.specs.declared.choosing.OpenFault.{OpenFault}
-use Rattle.dms_opening.specs.declared.choosing.OpenFault.TheVariants.{Audit, NoSuchPoint, Voided, DumpMissing, DumpUnsealed, DumpDamaged, DumpLater}
+use Rattle.dms_opening.specs.declared.choosing.OpenFault.TheVariants.{Audit, NoSuchPoint, Voided, DumpMissing, DumpUnsealed, DumpDamaged, DumpForeign, DumpLater}
 use Rattle.dms_runner.specs.Running.{FitsScript, HasTooManyBytes, HasTooManyLines, InputBreaks}
 use Rattle.dms_runner.specs.declared.run.RunFault.{RunFault}
 use Rattle.dms_runner.specs.declared.run.RunFault.TheVariants as run
@@ -63,6 +63,7 @@ open_limit (Voided n) k e = absurd cc
 open_limit (DumpMissing d) k e = absurd cc
 open_limit (DumpUnsealed d) k e = absurd cc
 open_limit (DumpDamaged d) k e = absurd (damage_is (nat_le (20000 + d) 30000) (20000 + d) 0 (λ x. x ≡ Limit k → ⊥) (λ e. absurd cc) (λ e. absurd cc) e)
+open_limit (DumpForeign d) k e = absurd cc
 open_limit (DumpLater d n) k e = absurd cc
 
 pub blames_opening : {left left' : Option (List ℕ)} (fault : OpenFault) (s : Status) → s ≡ open_status fault → BlamesInput left left' s

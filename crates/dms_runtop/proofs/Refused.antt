@@ -5,7 +5,7 @@ use Rattle.std.proofs.lemmas.Bool.Decides.{nat_tests}
 use Rattle.dms_audfile.specs.Counting.{CountedAt}
 use Rattle.dms_audfile.specs.declared.fault.AudFault.TheVariants as aud
 use Rattle.dms_opening.specs.declared.choosing.OpenFault.{OpenFault}
-use Rattle.dms_opening.specs.declared.choosing.OpenFault.TheVariants.{Audit, NoSuchPoint, Voided, DumpMissing, DumpUnsealed, DumpDamaged, DumpLater}
+use Rattle.dms_opening.specs.declared.choosing.OpenFault.TheVariants.{Audit, NoSuchPoint, Voided, DumpMissing, DumpUnsealed, DumpDamaged, DumpForeign, DumpLater}
 use Rattle.dms_opening.specs.Openings.{MayHaveWritten, IsNoRefusal}
 use Rattle.dms_status.specs.declared.status.Status.{Status}
 use Rattle.dms_status.specs.declared.status.Status.TheVariants.{Ok, BadWords, SchemaRefused, NoDatabase, Needed, InputFault, Memory, Limit, Damaged, SayFault, DiskFault, Exists, BadStatement}
@@ -89,6 +89,7 @@ open_of_run (Voided n) = tt
 open_of_run (DumpMissing d) = tt
 open_of_run (DumpUnsealed d) = tt
 open_of_run (DumpDamaged d) = damaged_of_run (20000 + d) 0
+open_of_run (DumpForeign d) = tt
 open_of_run (DumpLater d n) = tt
 
 pub open_disk : (fault : OpenFault) → open_status fault ≡ DiskFault → fault ≡ Audit aud.Disk
@@ -105,6 +106,7 @@ open_disk (Voided n) e = absurd cc
 open_disk (DumpMissing d) e = absurd cc
 open_disk (DumpUnsealed d) e = absurd cc
 open_disk (DumpDamaged d) e = absurd (damage_is (nat_le (20000 + d) 30000) (20000 + d) 0 (λ x. x ≡ DiskFault → ⊥) (λ e. absurd cc) (λ e. absurd cc) e)
+open_disk (DumpForeign d) e = absurd cc
 open_disk (DumpLater d n) e = absurd cc
 
 pub counts_open : (fault : OpenFault) (a b : ℕ) → CountedAt (fault ≡ Audit aud.Disk) a b → CountedAt (open_status fault ≡ DiskFault) a b
@@ -124,6 +126,7 @@ open_say (Voided n) e = absurd cc
 open_say (DumpMissing d) e = absurd cc
 open_say (DumpUnsealed d) e = absurd cc
 open_say (DumpDamaged d) e = absurd (damage_is (nat_le (20000 + d) 30000) (20000 + d) 0 (λ x. x ≡ SayFault → ⊥) (λ e. absurd cc) (λ e. absurd cc) e)
+open_say (DumpForeign d) e = absurd cc
 open_say (DumpLater d n) e = absurd cc
 
 pub open_input : (fault : OpenFault) → open_status fault ≡ InputFault → ⊥
@@ -140,6 +143,7 @@ open_input (Voided n) e = absurd cc
 open_input (DumpMissing d) e = absurd cc
 open_input (DumpUnsealed d) e = absurd cc
 open_input (DumpDamaged d) e = absurd (damage_is (nat_le (20000 + d) 30000) (20000 + d) 0 (λ x. x ≡ InputFault → ⊥) (λ e. absurd cc) (λ e. absurd cc) e)
+open_input (DumpForeign d) e = absurd cc
 open_input (DumpLater d n) e = absurd cc
 
 pub open_ok : (fault : OpenFault) → open_status fault ≡ Ok → ⊥
@@ -156,4 +160,5 @@ open_ok (Voided n) e = absurd cc
 open_ok (DumpMissing d) e = absurd cc
 open_ok (DumpUnsealed d) e = absurd cc
 open_ok (DumpDamaged d) e = absurd (damage_is (nat_le (20000 + d) 30000) (20000 + d) 0 (λ x. x ≡ Ok → ⊥) (λ e. absurd cc) (λ e. absurd cc) e)
+open_ok (DumpForeign d) e = absurd cc
 open_ok (DumpLater d n) e = absurd cc

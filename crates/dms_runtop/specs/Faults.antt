@@ -4,7 +4,7 @@ use Rattle.dms_audfile.specs.declared.fault.AudFault.TheVariants as aud
 use Rattle.dms_block.specs.declared.block_fault.BlockFault.{BlockFault}
 use Rattle.dms_block.specs.declared.block_fault.BlockFault.TheVariants as block
 use Rattle.dms_opening.specs.declared.choosing.OpenFault.{OpenFault}
-use Rattle.dms_opening.specs.declared.choosing.OpenFault.TheVariants.{Audit, NoSuchPoint, Voided, DumpMissing, DumpUnsealed, DumpDamaged, DumpLater}
+use Rattle.dms_opening.specs.declared.choosing.OpenFault.TheVariants.{Audit, NoSuchPoint, Voided, DumpMissing, DumpUnsealed, DumpDamaged, DumpForeign, DumpLater}
 use Rattle.dms_runner.specs.declared.run.RunFault.{RunFault}
 use Rattle.dms_runner.specs.declared.run.RunFault.TheVariants as run
 use Rattle.dms_status.specs.declared.status.LimitKind.TheVariants as limit
@@ -65,4 +65,5 @@ open_status (Voided n) = Needed (need.Voided n)
 open_status (DumpMissing d) = Needed (need.DumpMissing d)
 open_status (DumpUnsealed d) = Needed (need.DumpUnsealed d)
 open_status (DumpDamaged d) = audit_damaged_status (20000 + d) 0
+open_status (DumpForeign d) = Needed (need.DumpForeign d)
 open_status (DumpLater d n) = Needed (need.DumpLater d n)

@@ -1,7 +1,7 @@
 -- The statuses of a run, by where they come from.
 use Rattle.std.specs.Prelude.{◌≡◌, ◌<◌, ◌≤◌, ⊤}
 use Rattle.dms_status.specs.declared.status.NeedFault.{NeedFault}
-use Rattle.dms_status.specs.declared.status.NeedFault.TheVariants.{NoDescription, AuditMissing, AuditUnsealed, AuditForeign, NoSuchPoint, Voided, DumpMissing, DumpUnsealed, DumpLater}
+use Rattle.dms_status.specs.declared.status.NeedFault.TheVariants.{NoDescription, AuditMissing, AuditUnsealed, AuditForeign, NoSuchPoint, Voided, DumpMissing, DumpUnsealed, DumpForeign, DumpLater, NoSuchRow}
 use Rattle.dms_status.specs.declared.status.LimitKind.{LimitKind}
 use Rattle.dms_status.specs.declared.status.LimitKind.TheVariants.{AuditFile, Lines, Bytes, Held}
 use Rattle.dms_status.specs.declared.status.Status.{Status}
@@ -56,7 +56,9 @@ IsOfOpening (NoSuchPoint n) = ⊤
 IsOfOpening (Voided n) = ⊤
 IsOfOpening (DumpMissing d) = ⊤
 IsOfOpening (DumpUnsealed d) = ⊤
+IsOfOpening (DumpForeign d) = ⊤
 IsOfOpening (DumpLater d n) = ⊤
+IsOfOpening (NoSuchRow name r) = ⊥
 
 -- the statuses of `run`
 abbrev pub IsOfRun : Status → Type 0

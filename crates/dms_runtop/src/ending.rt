@@ -102,6 +102,7 @@ pub fn status_of_open(fault: OpenFault) -> Status
         OpenFault::DumpMissing(dump) => Status::Needed(NeedFault::DumpMissing(dump)),
         OpenFault::DumpUnsealed(dump) => Status::Needed(NeedFault::DumpUnsealed(dump)),
         OpenFault::DumpDamaged(dump) => status_of_audit_damage(20_000 + u32::from(dump), 0),
+        OpenFault::DumpForeign(dump) => Status::Needed(NeedFault::DumpForeign(dump)),
         OpenFault::DumpLater(dump, point) => Status::Needed(NeedFault::DumpLater(dump, point)),
     }
 }

@@ -1,6 +1,6 @@
 -- What each statement leaves, as states that files stand for.
 use Rattle.std.specs.Prelude.{◌≢◌}
-use Rattle.std.proofs.Common.{ℕ, ◌+◌, ◌≤◌, ◌≡◌, inr, Bool, List, map, Option, Some, None, refl, sym, ◌∙◌, ap, subst, arith}
+use Rattle.std.proofs.Common.{ℕ, ◌+◌, ◌≤◌, ◌≡◌, inr, List, map, Option, Some, None, refl, sym, ◌∙◌, ap, subst, arith}
 use Rattle.std.proofs.lemmas.Option.{same_Some}
 use Rattle.dms_desc.specs.Shape.{Described}
 use Rattle.dms_model.specs.Db.{Db}
@@ -16,8 +16,10 @@ use Rattle.dms_history.specs.Pick.{Dump, content_of}
 use Rattle.dms_history.specs.Restores.{IsTrueDump}
 use Rattle.dms_history.specs.Entries.{Entry, counts_in}
 use Rattle.dms_history.specs.EntryEvents.{history_of, live_of}
+use Rattle.dms_history.specs.SchemaAt.{schema_at}
 use Rattle.dms_history.specs.declared.event.FileCount.{FileCount}
 use Rattle.dms_audfile.specs.Scanning.{place_in}
+use Rattle.dms_audfile.specs.Header.{tag_said}
 use Rattle.dms_audfile.specs.TrailEntries.{trail_entries}
 use Rattle.dms_audfile.proofs.Ended.{entries_settled}
 use Rattle.dms_dump.specs.Body.{dump_of}
@@ -33,14 +35,15 @@ use Rattle.dms_restore.specs.Views.{view_of}
 use Rattle.dms_restore.proofs.Logs as logs
 use Rattle.dms_opening.specs.Openings.{IsTrailFound, RunsFrom, Reopens, ReopensSince}
 use Rattle.dms_opening.specs.declared.opened.Opened.{Opened}
+use Rattle.dms_statements.specs.declared.statement.NamedRow.{NamedRow}
 use Rattle.dms_run.specs.State.{StateAt, StateOf}
 use Rattle.dms_run.proofs.Held as held
 use Rattle.dms_run.proofs.Lives.{one_found}
 use Rattle.dms_statelaws.specs.Dumps.{SameBesideBlocks, HasDumpAt}
 use Rattle.dms_statelaws.specs.Standing.{StandsFrom}
-use Rattle.dms_statelaws.specs.Stopping.{RollsTo, HoldsUpTo, RestoresTo, IsRebuiltFrom, IsMendedFrom, chosen_point, chosen as number_chosen, last_of}
+use Rattle.dms_statelaws.specs.Stopping.{RollsTo, HoldsUpTo, RestoresTo, IsRebuiltFrom, chosen_point, chosen as number_chosen, last_of}
 use Rattle.dms_statelaws.specs.Statements.{HasLast, IsChosen, RebuiltState, MendedState, LeavesRestored, EndsAs, DumpStands}
-use Rattle.dms_statelaws.specs.SiteLaws.{SameFiles, SaysBehind, RollbackLaw, RebuildLaw, RebuildsSince, RebuildsEnd, ReconstructLaw, MendsSince, MendsEnd, OpensOver, WritesDump, HasDumped, DumpLaw}
+use Rattle.dms_statelaws.specs.SiteLaws.{SameFiles, SaysBehind, RollbackLaw, RebuildLaw, RebuildsSince, RebuildsEnd, ReconstructLaw, MendsFrom, MendsSince, MendsEnd, OpensOver, WritesDump, HasDumped, DumpLaw}
 use Rattle.dms_statelaws.proofs.Trails.{writes_within, trail_same_files}
 use Rattle.dms_statelaws.proofs.Stays.{found_same, dump_holds}
 use Rattle.dms_statelaws.proofs.Kept.{is_whole, up_to_stands, all_stands}
@@ -81,6 +84,10 @@ module _ (files u : Files) (n : ℕ) (desc : Described) (db : Db) (same : SameBe
   entries_beside =
       let w = writes_within (total u n desc db a) (first u n desc db a) u (state_trail u n desc db a) in
       entries_settled (total u n desc db a) w.tag (first u n desc db a) w.file w.count u files w.low w.high w.writes (λ g from upto. same g (omega (arith, upto, w.high)))
+
+  -- they are those of the state
+  pub state_entries : trail_entries (total u n desc db a) (first u n desc db a) files ≡ a.entries
+  state_entries = entries_beside ∙ sym (one_found u a.entries (trail_entries (total u n desc db a) (first u n desc db a) u) a.finds (state_whole u n desc db a).found.finds)
 
   -- their last point is the same
   pub last_beside : (m : ℕ) → HasLast u m → last_of (total u n desc db a) (first u n desc db a) files ≡ Some m
@@ -180,7 +187,7 @@ rebuild_law g old new = record {
 
 -- ---- RECONSTRUCT
 
-module _ {S : Type 0} (g : Ghosts S) (old new : S) (d : ℕ) (named : ℕ → ℕ → Bool) (u : Files) (n : ℕ) (desc : Described) (db : Db) (r : MendedState (g.files old) u d named n desc db) where
+module _ {S : Type 0} (g : Ghosts S) (old new : S) (d : ℕ) (rows : List NamedRow) (u : Files) (n : ℕ) (desc : Described) (db : Db) (r : MendedState (g.files old) u d rows n desc db) where
   abbrev so : RebuiltState (g.files old) u d None n desc db
   so = record {
     same = r.same.files_same;
@@ -189,40 +196,40 @@ module _ {S : Type 0} (g : Ghosts S) (old new : S) (d : ℕ) (named : ℕ → �
     state = r.state.at_point;
   }
 
-  mended : IsMendedFrom (t g old new d None u n desc db so) (f g old new d None u n desc db so) (g.files old) u d named
-  mended = record { rebuilt = is g old new d None u n desc db so; beside = r.same.blocks_same }
+  abbrev blocks : ℕ
+  blocks = t g old new d None u n desc db so
 
-  none_there : (history_of (trail_entries (t g old new d None u n desc db so) (f g old new d None u n desc db so) (g.files old))).pending ≡ None
-  none_there =
-      subst (λ (l : List Entry). (history_of l).pending ≡ None)
-      (one_found (g.files old) r.none.entries (trail_entries (t g old new d None u n desc db so) (f g old new d None u n desc db so) (g.files old)) r.none.finds (old_found g old new d None u n desc db so).finds) r.none.none
+  abbrev file : ℕ
+  file = f g old new d None u n desc db so
 
-  last_there : last_of (t g old new d None u n desc db so) (f g old new d None u n desc db so) (g.files old) ≡ Some n
-  last_there = last_beside (g.files old) u n desc db r.same.files_same r.state.at_point n so.is_chosen
+  mends_from : MendsFrom (g.files old) u d rows blocks file n desc
+  mends_from = record {
+    trail = trail g old new d None u n desc db so;
+    none = subst (λ (l : List Entry). (history_of l).pending ≡ None) (one_found (g.files old) r.none.entries (trail_entries blocks file (g.files old)) r.none.finds (old_found g old new d None u n desc db so).finds) r.none.none;
+    last = last_beside (g.files old) u n desc db r.same.files_same r.state.at_point n so.is_chosen;
+    described = record {
+      schema_is = ap (λ (l : List Entry). schema_at l n) (state_entries (g.files old) u n desc db r.same.files_same r.state.at_point) ∙ r.state.at_point.described;
+      well_formed = r.state.at_point.well_formed;
+    };
+    mended = record { rebuilt = is g old new d None u n desc db so; beside = r.same.blocks_same };
+  }
 
-  pub mend_stands : MendsSince g old new d named → Runs (g.clock old) (g.clock new) (LeavesRestored (g.files old) u n desc db)
+  pub mend_stands : MendsSince g old new d rows → Runs (g.clock old) (g.clock new) (LeavesRestored (g.files old) u n desc db)
   mend_stands since =
-      let j = t g old new d None u n desc db so in
-      let k = f g old new d None u n desc db so in
-      restores_state j k (g.files old) u n desc db (g.clock old) (g.clock new) (old_found g old new d None u n desc db so) (is g old new d None u n desc db so).whole r.state.at_point
-      (since u j k n (trail g old new d None u n desc db so) none_there last_there mended)
+      restores_state blocks file (g.files old) u n desc db (g.clock old) (g.clock new) (old_found g old new d None u n desc db so) (is g old new d None u n desc db so).whole r.state.at_point (since u blocks file n desc mends_from)
 
-  pub mend_ends : MendsEnd g old new d named → EndsAs g u n desc db new
-  mend_ends ended =
-      let j = t g old new d None u n desc db so in
-      let k = f g old new d None u n desc db so in
-      let e = ended u j k n (trail g old new d None u n desc db so) none_there last_there mended in
-      (up_to_stands j k u (is g old new d None u n desc db so).whole n desc db r.state.at_point (g.files new) e.0, e.1)
+  pub mend_ends : MendsEnd g old new d rows → EndsAs g u n desc db new
+  mend_ends ended = let e = ended u blocks file n desc mends_from in (up_to_stands blocks file u (is g old new d None u n desc db so).whole n desc db r.state.at_point (g.files new) e.0, e.1)
 
 pub reconstruct_law : {S : Type 0} (g : Ghosts S) (old new : S) → ReconstructLaw g old new
 reconstruct_law g old new = record {
-  stands = λ d named since u n desc db r. mend_stands g old new d named u n desc db r since;
-  ends = λ d named ended u n desc db r. mend_ends g old new d named u n desc db r ended;
-  says = λ mid d named since ended behind. (
-    λ u j k n trail none last r. let e = ended u j k n trail none last r in
-        printed (g.clock old) (g.clock mid) (g.clock new) (RestoresTo (telling_of j k) (g.files old) u n) (g.files mid) (since u j k n trail none last r) e.1
+  stands = λ d rows since u n desc db r. mend_stands g old new d rows u n desc db r since;
+  ends = λ d rows ended u n desc db r. mend_ends g old new d rows u n desc db r ended;
+  says = λ mid d rows since ended behind. (
+    λ u j k n desc from. let e = ended u j k n desc from in
+        printed (g.clock old) (g.clock mid) (g.clock new) (RestoresTo (telling_of j k) (g.files old) u n) (g.files mid) (since u j k n desc from) e.1
         (λ x same. inr (subst (HoldsUpTo (telling_of j k) u n) (sym same) e.0)) behind.moments,
-    λ u j k n trail none last r. ends_behind g mid new behind (HoldsUpTo (telling_of j k) u n) (ended u j k n trail none last r),
+    λ u j k n desc from. ends_behind g mid new behind (HoldsUpTo (telling_of j k) u n) (ended u j k n desc from),
   );
 }
 
@@ -340,6 +347,11 @@ module _ {S : Type 0} (g : Ghosts S) (old : S) (o : Opened S) (opens : OpensOver
           read = ap dump_read h.written ∙ dumping.dump_reads 1 (record { tag = tag; point = o.point; audit = audit; counts = counts }) (stored_of v.files) refl h.head h.stored;
           entries = trail_entries j k there;
           finds = held_then.whole.found.finds;
+          tag_is =
+              let w = runs_then.runs.ends.writes in
+              let high = writes_within j k v.files opened_trail in
+              h.tag_is ∙ sym (w.tags k (omega arith) w.order) ∙ ap tag_said (sym (h.others k (λ is. omega (arith, is, high.writes.order, high.high, some))))
+              ∙ ap (λ i. tag_said (there i)) (sym held_then.whole.found.first_is);
           is_true =
               subst (λ (l : List Entry). IsTrueDump (dumps_of there d) (live_of l) (here (dumps_of there) (history_of l) (stored_of there))) (sym entries_then)
               (subst (λ (c : Stored). IsTrueDump (dumps_of there d) (live_of es) c) (sym counted_then) (subst (λ (q : Dump). IsTrueDump q (live_of es) (stored_of v.files)) (sym dump_is) true_made));

@@ -1,5 +1,6 @@
 -- Laws: what calls on a site leave, as states that its files stand for.
-use Rattle.std.specs.Prelude.{ℕ, ◌+◌, ◌≤◌, ◌≡◌, ◌≢◌, Bool, List, Option, None, Some}
+use Rattle.std.specs.Prelude.{ℕ, ◌+◌, ◌≤◌, ◌≡◌, ◌≢◌, List, Option, None, Some}
+use Rattle.dms_desc.specs.Shape.{Described}
 use Rattle.dms_moments.specs.Moments.{Runs, Steps}
 use Rattle.dms_site.specs.Files.{Files, Left, Only, stored_of}
 use Rattle.dms_site.specs.declared.site.Site.{Ghosts}
@@ -14,6 +15,9 @@ use Rattle.dms_restore.specs.Counts.{count_of}
 use Rattle.dms_restore.specs.Logging.{telling_of}
 use Rattle.dms_opening.specs.Openings.{IsTrailFound, OpensAt, RunsWhere, ReopensSince}
 use Rattle.dms_opening.specs.declared.opened.Opened.{Opened}
+use Rattle.dms_statements.specs.declared.statement.NamedRow.{NamedRow}
+use Rattle.dms_recovery.specs.Reconstructing.{IsDescribedBy}
+use Rattle.dms_recovery.specs.Rows.{named_blocks}
 use Rattle.dms_statelaws.specs.Statements.{DumpStands, DumpEnds, RollbackStands, RollbackEnds, RebuildStands, RebuildEnds, ReconstructStands, ReconstructEnds}
 use Rattle.dms_statelaws.specs.Stopping.{HoldsUpTo, RollsTo, RestoresTo, IsRebuiltFrom, IsMendedFrom, last_of, chosen_point}
 
@@ -23,6 +27,15 @@ KeepsOthers f old new = (i : ℕ) → i ≢ f → new.files i ≡ old.files i
 
 abbrev pub SameFiles : Left → Left → Type 0
 SameFiles old new = new.files ≡ old.files
+
+-- The trail of these files is found, no restore is pending over them, and n is their last point, with this description. That database differs from them
+-- in the blocks of the named rows alone, and dump d of it is a true one.
+pub record MendsFrom (files u : Files) (d : ℕ) (rows : List NamedRow) (total first n : ℕ) (desc : Described) : Type 0 where
+  pub trail : IsTrailFound total first files
+  pub none : (history_of (trail_entries total first files)).pending ≡ None
+  pub last : last_of total first files ≡ Some n
+  pub described : IsDescribedBy (trail_entries total first files) n desc
+  pub mended : IsMendedFrom total first files u d (named_blocks desc.structures rows)
 
 module _ {S : Type 0} (g : Ghosts S) where
   -- Something was printed behind it: the files are the same, now and at each stop.
@@ -59,20 +72,18 @@ module _ {S : Type 0} (g : Ghosts S) where
     pub ends : (d : ℕ) (chosen : Option ℕ) → RebuildsEnd old new d chosen → RebuildEnds g old new d chosen
     pub says : (mid : S) (d : ℕ) (chosen : Option ℕ) → RebuildsSince old mid d chosen → RebuildsEnd old mid d chosen → SaysBehind mid new → RebuildsSince old new d chosen × RebuildsEnd old new d chosen
 
-  -- Of each database that may be mended from dump d, where no restore is pending, each stop left the files of then, or its points up to the last one.
-  abbrev pub MendsSince : S → S → ℕ → (ℕ → ℕ → Bool) → Type 0
-  MendsSince old new d named = (u : Files) (total first n : ℕ) → IsTrailFound total first (g.files old) → (history_of (trail_entries total first (g.files old))).pending ≡ None → last_of total first (g.files old) ≡ Some n
-      → IsMendedFrom total first (g.files old) u d named → Runs (g.clock old) (g.clock new) (RestoresTo (telling_of total first) (g.files old) u n)
+  -- of each database that may be mended from dump d each stop left the files of then, or its points up to the last one
+  abbrev pub MendsSince : S → S → ℕ → List NamedRow → Type 0
+  MendsSince old new d rows = (u : Files) (total first n : ℕ) (desc : Described) → MendsFrom (g.files old) u d rows total first n desc → Runs (g.clock old) (g.clock new) (RestoresTo (telling_of total first) (g.files old) u n)
 
   -- those are left
-  abbrev pub MendsEnd : S → S → ℕ → (ℕ → ℕ → Bool) → Type 0
-  MendsEnd old new d named = (u : Files) (total first n : ℕ) → IsTrailFound total first (g.files old) → (history_of (trail_entries total first (g.files old))).pending ≡ None → last_of total first (g.files old) ≡ Some n
-      → IsMendedFrom total first (g.files old) u d named → HoldsUpTo (telling_of total first) u n (g.files new) × Only (g.files new) (g.clock new)
+  abbrev pub MendsEnd : S → S → ℕ → List NamedRow → Type 0
+  MendsEnd old new d rows = (u : Files) (total first n : ℕ) (desc : Described) → MendsFrom (g.files old) u d rows total first n desc → HoldsUpTo (telling_of total first) u n (g.files new) × Only (g.files new) (g.clock new)
 
   pub record ReconstructLaw (old new : S) : Type 0 where
-    pub stands : (d : ℕ) (named : ℕ → ℕ → Bool) → MendsSince old new d named → ReconstructStands g old new d named
-    pub ends : (d : ℕ) (named : ℕ → ℕ → Bool) → MendsEnd old new d named → ReconstructEnds g old new d named
-    pub says : (mid : S) (d : ℕ) (named : ℕ → ℕ → Bool) → MendsSince old mid d named → MendsEnd old mid d named → SaysBehind mid new → MendsSince old new d named × MendsEnd old new d named
+    pub stands : (d : ℕ) (rows : List NamedRow) → MendsSince old new d rows → ReconstructStands g old new d rows
+    pub ends : (d : ℕ) (rows : List NamedRow) → MendsEnd old new d rows → ReconstructEnds g old new d rows
+    pub says : (mid : S) (d : ℕ) (rows : List NamedRow) → MendsSince old mid d rows → MendsEnd old mid d rows → SaysBehind mid new → MendsSince old new d rows × MendsEnd old new d rows
 
   -- A database was opened, and runs from the files of then.
   pub record OpensOver (old : S) (o : Opened S) : Type 0 where
@@ -84,9 +95,10 @@ module _ {S : Type 0} (g : Ghosts S) where
   abbrev pub WritesDump : Opened S → S → ℕ → Type 0
   WritesDump o new d = Steps (KeepsOthers (20000 + d)) (g.clock o.log.site) (g.clock new)
 
-  -- It is the dump of what was opened, with these counts, and a stop leaves no other files.
+  -- It is the dump of what was opened, with the tag of its trail and these counts, and a stop leaves no other files.
   pub record HasDumped (o : Opened S) (new : S) (d tag audit : ℕ) (counts : List FileCount) : Type 0 where
     pub head : IsHead (record { tag = tag; point = o.point; audit = audit; counts = counts })
+    pub tag_is : tag ≡ o.log.end.tag
     pub counted : (f : ℕ) → counts_in counts f ≡ count_of o.counts.items f
     pub stored : AllStored (stored_of (g.files o.log.site)) counts
     pub written : g.files new (20000 + d) ≡ dump_made 1 tag o.point audit counts (g.files o.log.site)

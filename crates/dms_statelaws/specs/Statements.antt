@@ -1,5 +1,5 @@
 -- What a stop within a statement leaves, as states that files stand for, and what stands at its end.
-use Rattle.std.specs.Prelude.{ℕ, ◌≡◌, ◌⊎◌, Bool, List, Option, Some, None}
+use Rattle.std.specs.Prelude.{ℕ, ◌≡◌, ◌⊎◌, List, Option, Some, None}
 use Rattle.dms_desc.specs.Shape.{Described}
 use Rattle.dms_model.specs.Db.{Db}
 use Rattle.dms_moments.specs.Moments.{Runs}
@@ -9,6 +9,8 @@ use Rattle.dms_history.specs.Entries.{Entry}
 use Rattle.dms_history.specs.EntryEvents.{history_of}
 use Rattle.dms_history.specs.History.{last_point}
 use Rattle.dms_audfile.specs.ScanLaws.{IsFoundWith}
+use Rattle.dms_statements.specs.declared.statement.NamedRow.{NamedRow}
+use Rattle.dms_recovery.specs.Rows.{named_blocks}
 use Rattle.dms_run.specs.State.{StateAt, StateOf}
 use Rattle.dms_statelaws.specs.Dumps.{SameBesideBlocks, SameBesideNamed, HasTrueDump, HasDumpAt}
 use Rattle.dms_statelaws.specs.Standing.{StandsFrom, HoldsStill}
@@ -45,9 +47,9 @@ pub record RebuiltState (files u : Files) (d : ℕ) (chosen : Option ℕ) (m : �
   pub is_chosen : IsChosen u chosen m
   pub state : StateAt u m desc db
 
--- A database with a state, of which dump d is true, and that differs from the files in the named blocks alone; no restore is pending.
-pub record MendedState (files u : Files) (d : ℕ) (named : ℕ → ℕ → Bool) (n : ℕ) (desc : Described) (db : Db) : Type 0 where
-  pub same : SameBesideNamed named files u
+-- A database with a state, of which dump d is true, and that differs from the files in the blocks of the named rows alone; no restore is pending.
+pub record MendedState (files u : Files) (d : ℕ) (rows : List NamedRow) (n : ℕ) (desc : Described) (db : Db) : Type 0 where
+  pub same : SameBesideNamed (named_blocks desc.structures rows) files u
   pub has : HasTrueDump u d
   pub none : NonePending files
   pub state : StateOf u n desc db
@@ -82,10 +84,10 @@ module _ {S : Type 0} (g : Ghosts S) where
   abbrev pub RebuildEnds : S → S → ℕ → Option ℕ → Type 0
   RebuildEnds old new d chosen = (u : Files) (m : ℕ) (desc : Described) (db : Db) → RebuiltState (g.files old) u d chosen m desc db → EndsAs u m desc db new
 
-  -- RECONSTRUCT FROM d: of each such database, at every moment nothing was done, or the files stand for its state.
-  abbrev pub ReconstructStands : S → S → ℕ → (ℕ → ℕ → Bool) → Type 0
-  ReconstructStands old new d named = (u : Files) (n : ℕ) (desc : Described) (db : Db) → MendedState (g.files old) u d named n desc db → Runs (g.clock old) (g.clock new) (LeavesRestored (g.files old) u n desc db)
+  -- RECONSTRUCT rows FROM d: of each such database, at every moment nothing was done, or the files stand for its state.
+  abbrev pub ReconstructStands : S → S → ℕ → List NamedRow → Type 0
+  ReconstructStands old new d rows = (u : Files) (n : ℕ) (desc : Described) (db : Db) → MendedState (g.files old) u d rows n desc db → Runs (g.clock old) (g.clock new) (LeavesRestored (g.files old) u n desc db)
 
-  -- RECONSTRUCT FROM d: once it is done they stand for that.
-  abbrev pub ReconstructEnds : S → S → ℕ → (ℕ → ℕ → Bool) → Type 0
-  ReconstructEnds old new d named = (u : Files) (n : ℕ) (desc : Described) (db : Db) → MendedState (g.files old) u d named n desc db → EndsAs u n desc db new
+  -- RECONSTRUCT rows FROM d: once it is done they stand for that.
+  abbrev pub ReconstructEnds : S → S → ℕ → List NamedRow → Type 0
+  ReconstructEnds old new d rows = (u : Files) (n : ℕ) (desc : Described) (db : Db) → MendedState (g.files old) u d rows n desc db → EndsAs u n desc db new

@@ -162,11 +162,15 @@ statement_of text = if nat_lt 10000 (length text) then Err 10001 else statement_
 abbrev pub IsDumpNumber : ℕ → Type 0
 IsDumpNumber d = (1 ≤ d) × (d ≤ 9999)
 
+-- at most 100 rows
+abbrev pub AreFewRows : List NamedRow → Type 0
+AreFewRows rows = length rows ≤ 100
+
 abbrev pub IsFit : Statement → Type 0
 IsFit (Dump d) = IsDumpNumber d
 IsFit (Rebuild d n) = IsDumpNumber d
 IsFit (Rollback n) = Unit {0}
-IsFit (Reconstruct d rows) = IsDumpNumber d
+IsFit (Reconstruct d rows) = IsDumpNumber d × AreFewRows rows
 
 -- ---- what a function that reads answers
 

@@ -86,7 +86,7 @@ fn statement_from(cursor: &mut Cursor<'_>, text: &[u8]) -> Result<Statement, Sta
     Err(StatementFault::Bad(cursor.place()))
 }
 
-/// The statement that a text is, or its first bad place. The numbers of dumps are from 1 to 9,999.
+/// The statement that a text is, or its first bad place. The numbers of dumps are from 1 to 9,999, and at most 100 rows are named.
 #[tactic(auto, unfolding(crate::specs::Statements::statement_of))]
 pub fn read_statement(alloc: Global, text: &[u8]) -> Result<Statement, StatementFault>
     ensures gives { Gives result (statement_of text.now) }

@@ -1,7 +1,7 @@
 //! The rows that a statement names.
 
-ghost use Rattle.dms_statements.specs.Statements.{Takes, row_at, rows_at};
-ghost use Rattle.std.specs.Prelude.{[]};
+ghost use Rattle.dms_statements.specs.Statements.{AreFewRows, Takes, row_at, rows_at};
+ghost use Rattle.std.specs.Prelude.{◌≡◌, ◌+◌, [], length, IfOk};
 
 use crate::StatementFault;
 use crate::parts::{name, number, word};
@@ -14,7 +14,8 @@ const ROWS: u32 = 100;
 /// One more row, which isn't among those before it.
 #[tactic(auto, unfolding(crate::specs::Statements::row_at))]
 fn row(mut rows: NamedRows, cursor: &mut Cursor<'_>) -> Result<NamedRows, StatementFault>
-    ensures { Takes result cursor.new (row_at rows cursor.old) }
+    ensures takes { Takes result cursor.new (row_at rows cursor.old) }
+    ensures one { IfOk result (λ more. length more ≡ length rows + 1) }
 {
     let place = cursor.place();
     let name = name(cursor)?;
@@ -29,7 +30,8 @@ fn row(mut rows: NamedRows, cursor: &mut Cursor<'_>) -> Result<NamedRows, Statem
 
 /// Rows with commas between them.
 pub(crate) fn rows(cursor: &mut Cursor<'_>) -> Result<NamedRows, StatementFault>
-    ensures { Takes result cursor.new (rows_at 100 [] cursor.old) }
+    ensures takes { Takes result cursor.new (rows_at 100 [] cursor.old) }
+    ensures few { IfOk result AreFewRows }
 {
     let mut rows = NamedRows::new(cursor.alloc());
     for _turn in 0..ROWS {

@@ -1,5 +1,6 @@
 use dasdl_compile::CompileFault;
 use dasdl_phrases::ParseFault;
+use dms_base::Name;
 
 /// Why a schema is refused: its first fault in text order.
 #[derive(Clone, Copy, Debug, PartialEq, Eq)]
@@ -42,8 +43,12 @@ pub enum NeedFault {
     DumpMissing(u16),
     /// The gate of that dump isn't open.
     DumpUnsealed(u16),
+    /// That dump is one of another database.
+    DumpForeign(u16),
     /// That dump is at this point, which is above the point of the restore.
     DumpLater(u16, u64),
+    /// No structure has that name, or it has no such row.
+    NoSuchRow(Name, u32),
 }
 
 /// How a command ends.

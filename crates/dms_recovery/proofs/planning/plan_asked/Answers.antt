@@ -14,11 +14,11 @@ returns-clause-plans g c = one_if_ok c.plan_found-planned.result c.plan_found-pl
     let same = c.find_begun.ensures.reads.files_stay tells in
     let still = c.find_asked.ensures.reads.files_stay tells in
     all_back total c.args.first _ _ _ c.args.asked c.args.rows.now _ _ same still
-    (plans tells total (found_both total c.args.first _ _ _ c.args.places.now c.args.trace c.args.asked c.in-Ok.begun c.in-Ok-find_asked.look same still r (c.in-Ok.ensures.found tells) (c.in-Ok-find_asked.ensures.found tells))))
+    (plans tells total (found_both total c.args.tag c.args.first _ _ _ c.args.places.now c.args.trace c.args.asked c.in-Ok.begun c.in-Ok-find_asked.look same still r (c.in-Ok.ensures.found tells) (c.in-Ok-find_asked.ensures.found tells))))
 
 pub returns-clause-refused : goal.returns-clause-refused
 returns-clause-refused g c = one_if_err c.plan_found-planned.result c.plan_found-planned.ensures.refused (λ e why tells total r.
     let same = c.find_begun.ensures.reads.files_stay tells in
     let still = c.find_asked.ensures.reads.files_stay tells in
     refused_back total c.args.first _ _ _ c.args.asked _ same still
-    (why tells total (found_both total c.args.first _ _ _ c.args.places.now c.args.trace c.args.asked c.in-Ok.begun c.in-Ok-find_asked.look same still r (c.in-Ok.ensures.found tells) (c.in-Ok-find_asked.ensures.found tells))))
+    (why tells total (found_both total c.args.tag c.args.first _ _ _ c.args.places.now c.args.trace c.args.asked c.in-Ok.begun c.in-Ok-find_asked.look same still r (c.in-Ok.ensures.found tells) (c.in-Ok-find_asked.ensures.found tells))))
