@@ -18,7 +18,7 @@ use Rattle.dms_status.specs.declared.status.Status.{Status}
 use Rattle.dms_goback.specs.RebuildDoes.{RebuildDoes}
 use Rattle.dms_goback.specs.Restores.{IsOfRestored, IsOfRestoring, IsRestoreRefused, NeverRefusesRestore, rolled_text, rebuilt_text}
 use Rattle.dms_goback.specs.RollbackDoes.{RollbackDoes}
-use Rattle.dms_utility.specs.Writing.{SaysDone}
+use Rattle.dms_dumping.specs.Writing.{SaysDone}
 use Rattle.dms_goback.proofs.RestoreStatuses.{stopped_of, not_made, says_nothing, restored_of, restored_no_refusal, restored_room, said_back}
 
 -- ---- nothing was done

@@ -1,3 +1,4 @@
 pub mod Restored
 pub mod RestoreStatuses
 pub mod Backs
+pub mod Mending

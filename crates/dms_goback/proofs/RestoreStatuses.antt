@@ -1,11 +1,11 @@
 -- The statuses of a restore.
 use Rattle.std.specs.Prelude.{nat_le}
-use Rattle.std.proofs.Common.{ℕ, ◌+◌, ◌≡◌, ◌∙◌, Bool, true, false, cond, List, refl, sym, subst, arith}
+use Rattle.std.proofs.Common.{ℕ, ◌+◌, ◌≡◌, ◌∙◌, ◌⊎◌, inl, inr, Bool, true, false, cond, List, refl, sym, subst, arith}
 use Rattle.std.proofs.lemmas.Bool.Decides.{nat_tests}
 use Rattle.dms_audfile.specs.Counting.{CountedAt, not_counted}
 use Rattle.dms_audfile.specs.declared.fault.AudFault.TheVariants as aud
 use Rattle.dms_opening.specs.declared.choosing.OpenFault.{OpenFault}
-use Rattle.dms_opening.specs.declared.choosing.OpenFault.TheVariants.{Audit, NoSuchPoint, Voided, DumpMissing, DumpUnsealed, DumpDamaged, DumpLater}
+use Rattle.dms_opening.specs.declared.choosing.OpenFault.TheVariants.{Audit, NoSuchPoint, Voided, DumpMissing, DumpUnsealed, DumpDamaged, DumpForeign, DumpLater}
 use Rattle.dms_site.specs.declared.site.Site.{Ghosts}
 use Rattle.dms_status.specs.declared.status.Status.{Status}
 use Rattle.dms_status.specs.declared.status.Status.TheVariants.{Ok, BadWords, SchemaRefused, NoDatabase, Needed, InputFault, Memory, Limit, Damaged, SayFault, DiskFault, Exists, BadStatement}
@@ -13,8 +13,8 @@ use Rattle.dms_runtop.specs.Faults.{open_status}
 use Rattle.dms_runtop.specs.Full.{HasNoRoom}
 use Rattle.dms_runtop.specs.Statuses.{IsRefusal}
 use Rattle.dms_goback.specs.Restores.{IsOfRestore, IsOfRestored, IsOfRestoring}
-use Rattle.dms_utility.specs.Statuses.{IsMade}
-use Rattle.dms_utility.specs.Writing.{SaysDone}
+use Rattle.dms_dumping.specs.Statuses.{IsMade, IsOfReading}
+use Rattle.dms_dumping.specs.Writing.{SaysDone}
 
 -- ---- of a fault
 
@@ -39,6 +39,7 @@ of_fault (Voided n) = tt
 of_fault (DumpMissing d) = tt
 of_fault (DumpUnsealed d) = tt
 of_fault (DumpDamaged d) = damaged_of (20000 + d) 0
+of_fault (DumpForeign d) = tt
 of_fault (DumpLater d n) = tt
 
 pub of_restoring : (status : Status) (fault : OpenFault) → status ≡ open_status fault → IsOfRestoring status
@@ -146,6 +147,24 @@ restored_disk s of is = subst IsOfRestored is of
 
 pub said_back : (s : Status) (line old mid new : List ℕ) → mid ≡ old → SaysDone s line mid new → SaysDone s line old new
 said_back s line old mid new same says = subst (λ (l : List ℕ). SaysDone s line l new) same says
+
+-- the input was read before
+pub restore_unread : (s : Status) → IsOfRestoring s ⊎ IsOfRestored s → IsOfReading s → ⊥
+restore_unread Ok of r = r
+restore_unread BadWords of r = r
+restore_unread (SchemaRefused f) of r = r
+restore_unread NoDatabase of r = r
+restore_unread (Needed n) of r = r
+restore_unread InputFault (inl of) r = of
+restore_unread InputFault (inr of) r = of
+restore_unread Memory of r = r
+restore_unread (Limit k) of r = r
+restore_unread (Damaged f b) of r = r
+restore_unread SayFault of r = r
+restore_unread DiskFault of r = r
+restore_unread Exists of r = r
+restore_unread (BadStatement p) (inl of) r = of
+restore_unread (BadStatement p) (inr of) r = of
 
 -- ---- how often calls failed
 

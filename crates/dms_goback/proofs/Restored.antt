@@ -13,7 +13,7 @@ use Rattle.dms_running.specs.Standing.{IsWhole}
 use Rattle.dms_running.specs.Telling.{Telling}
 use Rattle.dms_restore.specs.Logging.{telling_of}
 use Rattle.dms_opening.specs.declared.choosing.OpenFault.{OpenFault}
-use Rattle.dms_opening.specs.declared.choosing.OpenFault.TheVariants.{Audit, NoSuchPoint, Voided, DumpMissing, DumpUnsealed, DumpDamaged, DumpLater}
+use Rattle.dms_opening.specs.declared.choosing.OpenFault.TheVariants.{Audit, NoSuchPoint, Voided, DumpMissing, DumpUnsealed, DumpDamaged, DumpForeign, DumpLater}
 use Rattle.dms_opening.specs.Openings.{IsTrailFound, IsFullFault, HasFullTrail, MayHaveWritten, IsNoRefusal}
 use Rattle.dms_opening.specs.Plans.{IsPlainFault, RefusesFor}
 use Rattle.dms_opening.specs.declared.asked.Asked.{Asked}
@@ -42,18 +42,18 @@ same_to : (m : ℕ) (ps : List DescribedPoint) → left.described_to m ps ≡ la
 same_to m [] = refl
 same_to m (p ∷ ps) = ap (λ (l : List DescribedPoint). if nat_le p.number m then p ∷ l else []) (same_to m ps)
 
-up_to : (t : Telling) (u : Files) (m : ℕ) (x : Files) → left.HoldsUpTo t u m x → law.HoldsUpTo t u m x
+pub up_to : (t : Telling) (u : Files) (m : ℕ) (x : Files) → left.HoldsUpTo t u m x → law.HoldsUpTo t u m x
 up_to t u m x h = record { whole = h.whole; points_are = h.points_are ∙ same_to m (points_of t u); next_same = h.next_same }
 
 rolls_to : (t : Telling) (files : Files) (m : ℕ) (x : Left) → left.RollsTo t files m x → law.RollsTo t files m x
 rolls_to t files m x (inl same) = inl same
 rolls_to t files m x (inr h) = inr (up_to t files m x.files h)
 
-restores_to : (t : Telling) (files u : Files) (m : ℕ) (x : Left) → left.RestoresTo t files u m x → law.RestoresTo t files u m x
+pub restores_to : (t : Telling) (files u : Files) (m : ℕ) (x : Left) → left.RestoresTo t files u m x → law.RestoresTo t files u m x
 restores_to t files u m x (inl same) = inl (same, same.found)
 restores_to t files u m x (inr h) = inr (up_to t u m x.files h)
 
-rebuilt_from : (total first : ℕ) (files u : Files) (d : ℕ) → law.IsRebuiltFrom total first files u d → left.IsRebuiltFrom total first files u d
+pub rebuilt_from : (total first : ℕ) (files u : Files) (d : ℕ) → law.IsRebuiltFrom total first files u d → left.IsRebuiltFrom total first files u d
 rebuilt_from total first files u d r = record { same = r.same; whole = r.whole; true_dump = r.true_dump }
 
 same_chosen : (total first : ℕ) (files : Files) (p : Option ℕ) → wanting.chosen_point total first files p ≡ law.chosen_point total first files p
@@ -137,6 +137,7 @@ open_full (Voided n) k e = absurd cc
 open_full (DumpMissing d) k e = absurd cc
 open_full (DumpUnsealed d) k e = absurd cc
 open_full (DumpDamaged d) k e = absurd (damage_is (nat_le (20000 + d) 30000) (20000 + d) 0 (λ x. x ≡ Limit (AuditFile k) → ⊥) (λ e. absurd cc) (λ e. absurd cc) e)
+open_full (DumpForeign d) k e = absurd cc
 open_full (DumpLater d n) k e = absurd cc
 
 same_limit : (k n : ℕ) → Audit (aud.Full k) ≡ Audit (aud.Full n) → k ≡ n

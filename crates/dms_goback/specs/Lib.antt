@@ -1,3 +1,4 @@
 pub mod Restores
 pub mod RollbackDoes
 pub mod RebuildDoes
+pub mod ReconstructDoes

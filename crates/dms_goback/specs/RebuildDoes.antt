@@ -10,8 +10,8 @@ use Rattle.dms_runtop.specs.Guard.{StaysBeside}
 use Rattle.dms_statelaws.specs.Statements.{RebuildEnds, RebuildStands}
 use Rattle.dms_status.specs.declared.status.Status.{Status}
 use Rattle.dms_goback.specs.Restores.{IsOfRestore, IsRestoreRefused, NeverRefusesRestore, rebuilt_text}
-use Rattle.dms_utility.specs.Statuses.{IsMade}
-use Rattle.dms_utility.specs.Writing.{SaysDone}
+use Rattle.dms_dumping.specs.Statuses.{IsMade}
+use Rattle.dms_dumping.specs.Writing.{SaysDone}
 
 module _ {S : Type 0} (g : Ghosts S) where
   -- What was said: at status 0 the line, at 10 a prefix of it, else nothing. Its point is the one that is named, else the last one.

@@ -1,5 +1,5 @@
 -- Restores to a point: their statuses, why they are refused, and what is said of them.
-use Rattle.std.specs.Prelude.{ℕ, ◌≡◌, ◌≤◌, List, [], ◌∷◌, ◌++◌, codes, decimal, ⊤}
+use Rattle.std.specs.Prelude.{ℕ, ◌≡◌, ◌≤◌, List, codes, ⊤}
 use Rattle.dms_moments.specs.Moments.{Steps}
 use Rattle.dms_site.specs.declared.site.Site.{Ghosts}
 use Rattle.dms_site.specs.Files.{Files, Same}
@@ -10,17 +10,15 @@ use Rattle.dms_status.specs.declared.status.Status.{Status}
 use Rattle.dms_status.specs.declared.status.Status.TheVariants.{Ok, BadWords, SchemaRefused, NoDatabase, Needed, InputFault, Memory, Limit, Damaged, SayFault, DiskFault, Exists, BadStatement}
 use Rattle.dms_runtop.specs.Faults.{open_status}
 use Rattle.dms_runtop.specs.Statuses.{IsOfOpening, IsRefusal}
-use Rattle.dms_utility.specs.Statuses.{IsOfAudit}
+use Rattle.dms_dumping.specs.Statuses.{IsOfAudit}
+use Rattle.dms_dumping.specs.Writing.{point_line}
 
--- what is said of a database that was restored to point n, behind these words
-unfoldable pub restored_text : List ℕ → ℕ → List ℕ
-restored_text words n = words ++ (decimal n ++ 10 ∷ [])
-
+-- what is said of a database that was restored to point n
 abbrev pub rolled_text : ℕ → List ℕ
-rolled_text n = restored_text (codes "ROLLED BACK TO POINT ") n
+rolled_text n = point_line (codes "ROLLED BACK TO POINT ") n
 
 abbrev pub rebuilt_text : ℕ → List ℕ
-rebuilt_text n = restored_text (codes "REBUILT TO POINT ") n
+rebuilt_text n = point_line (codes "REBUILT TO POINT ") n
 
 -- what keeps a database from being restored
 abbrev pub IsOfRestoring : Status → Type 0

@@ -8,8 +8,8 @@ use Rattle.dms_runtop.specs.Guard.{StaysBeside}
 use Rattle.dms_statelaws.specs.Statements.{RollbackEnds, RollbackStands}
 use Rattle.dms_status.specs.declared.status.Status.{Status}
 use Rattle.dms_goback.specs.Restores.{IsOfRestore, IsRestoreRefused, NeverRefusesRestore, rolled_text}
-use Rattle.dms_utility.specs.Statuses.{IsMade}
-use Rattle.dms_utility.specs.Writing.{SaysDone}
+use Rattle.dms_dumping.specs.Statuses.{IsMade}
+use Rattle.dms_dumping.specs.Writing.{SaysDone}
 
 module _ {S : Type 0} (g : Ghosts S) where
   -- What `ROLLBACK TO n` promises of a site before and after it, and of the status.

@@ -77,7 +77,7 @@ fn rebuild_within<S: Site>(
 }
 
 /// The site below a guarded one that was restored.
-fn bared<S: Site>(recovered: Recovered<RunSite<S, Brand>>) -> Recovered<S>
+pub(crate) fn bared<S: Site>(recovered: Recovered<RunSite<S, Brand>>) -> Recovered<S>
     ensures site { result.site ≡ recovered.site.site }
     ensures point { result.point ≡ recovered.point }
 {

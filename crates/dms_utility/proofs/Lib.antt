@@ -1,9 +1,3 @@
 pub mod Taken
-pub mod Lacks
-pub mod Counted
 pub mod Asked
-pub mod Looks
-pub mod Behind
-pub mod Ended
-pub mod Dumped
 pub mod Does

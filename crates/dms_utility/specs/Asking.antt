@@ -1,22 +1,14 @@
--- What the input of `utility` asks for, and what is said when it is done.
-use Rattle.std.specs.Prelude.{ℕ, ◌≡◌, ◌⊎◌, List, [], ◌∷◌, ◌++◌, codes, decimal, take, Option, Some, None, ⊤}
+-- What the input of `utility` asks for.
+use Rattle.std.specs.Prelude.{ℕ, ◌≡◌, List, Option, Some, None, ⊤}
 use Rattle.std.specs.declared.result.Result.{Result}
 use Rattle.std.specs.declared.result.Result.TheVariants as answer
 use Rattle.dms_statements.specs.Statements.{statement_of}
 use Rattle.dms_statements.specs.declared.statement.Statement.{Statement}
-use Rattle.dms_statements.specs.declared.statement.Statement.TheVariants.{Dump, Rebuild, Rollback, Reconstruct}
 use Rattle.dms_status.specs.declared.status.Status.{Status}
 use Rattle.dms_status.specs.declared.status.Status.TheVariants.{Ok, BadWords, SchemaRefused, NoDatabase, Needed, InputFault, Memory, Limit, Damaged, SayFault, DiskFault, Exists, BadStatement}
 
--- a statement that isn't carried out yet is bad at its word
-abbrev pub unbuilt : Statement → Option ℕ
-unbuilt (Dump d) = None
-unbuilt (Rebuild d n) = Some 1
-unbuilt (Rollback n) = Some 1
-unbuilt (Reconstruct d rows) = Some 1
-
 abbrev pub bad_place : Result Statement ℕ → Option ℕ
-bad_place (answer.Ok s) = unbuilt s
+bad_place (answer.Ok s) = None
 bad_place (answer.Err p) = Some p
 
 -- the first bad place of a text, or none where it is a statement
@@ -47,7 +39,3 @@ IsOfText (BadStatement p) = ⊤
 pub record JudgesText (left : Option (List ℕ)) (status : Status) : Type 0 where
   pub bad : (p : ℕ) → status ≡ BadStatement p → OfText left (λ all. place_in all ≡ Some p)
   pub read : (IsOfText status → ⊥) → OfText left (λ all. place_in all ≡ None)
-
--- what is said of dump d at point n
-unfoldable pub dumped_text : ℕ → ℕ → List ℕ
-dumped_text d n = codes "DUMPED " ++ (decimal d ++ (codes " AT POINT " ++ (decimal n ++ 10 ∷ [])))

@@ -1,8 +1,3 @@
 pub mod Asking
-pub mod Short
-pub mod Refusing
 pub mod Statuses
-pub mod Preparing
-pub mod Writing
-pub mod DumpDoes
 pub mod UtilityDoes

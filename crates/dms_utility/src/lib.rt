@@ -3,12 +3,6 @@
 
 mod asking;
 mod command;
-mod dumping;
-mod listing;
-mod looking;
-mod preparing;
-mod short;
 mod text;
-mod writing;
 
 pub use command::utility_command;

@@ -1,5 +1,6 @@
+use Rattle.std.proofs.Common.{inl, inr}
 use Rattle.dms_goback.proofs.Backs.{rebuild_stopped, rebuild_done}
-use Rattle.dms_goback.proofs.RestoreStatuses.{counted_done, counted_said, counted_stopped}
+use Rattle.dms_goback.proofs.RestoreStatuses.{counted_done, counted_said, counted_stopped, restore_unread}
 use Rattle.dms_goback.proofs.going_back.rebuild_over.Goals as goal
 
 pub returns-in-Err-clause-does : goal.returns-in-Err-clause-does
@@ -13,14 +14,20 @@ returns-in-Err-clause-say g c = counted_stopped c.in-Err.status _ _ c.in-Err.ens
 pub returns-in-Ok-clause-does : goal.returns-in-Ok-clause-does
 returns-in-Ok-clause-does g c =
     let e = c.in-Ok.ensures in
-    let s = c.say_rebuilt.ensures in
-    rebuild_done g.S.Site c.args.dump c.args.point c.args.site c.in-Ok.recovered.site c.say_rebuilt.result.site c.say_rebuilt.result.status c.in-Ok.recovered.point s.statuses e.trail e.beside e.said e.moments e.ends e.point s.says s.files s.moments
+    let s = c.say_restored.ensures in
+    rebuild_done g.S.Site c.args.dump c.args.point c.args.site c.in-Ok.recovered.site c.say_restored.result.site c.say_restored.result.status c.in-Ok.recovered.point s.statuses e.trail e.beside e.said e.moments e.ends e.point s.says s.files s.moments
 
 pub returns-in-Ok-clause-disk : goal.returns-in-Ok-clause-disk
-returns-in-Ok-clause-disk g c = counted_done c.say_rebuilt.result.status _ _ _ c.say_rebuilt.ensures.statuses c.in-Ok.ensures.clean.0 c.say_rebuilt.ensures.disk
+returns-in-Ok-clause-disk g c = counted_done c.say_restored.result.status _ _ _ c.say_restored.ensures.statuses c.in-Ok.ensures.clean.0 c.say_restored.ensures.disk
 
 pub returns-in-Ok-clause-say : goal.returns-in-Ok-clause-say
-returns-in-Ok-clause-say g c = counted_said c.say_rebuilt.result.status _ _ _ c.in-Ok.ensures.clean.1 c.say_rebuilt.ensures.say
+returns-in-Ok-clause-say g c = counted_said c.say_restored.result.status _ _ _ c.in-Ok.ensures.clean.1 c.say_restored.ensures.say
 
 pub returns-in-Ok-clause-same : goal.returns-in-Ok-clause-same
-returns-in-Ok-clause-same g c = g.met.S.Site.same_then c.args.site c.in-Ok.recovered.site c.say_rebuilt.result.site c.in-Ok.ensures.same c.say_rebuilt.ensures.same
+returns-in-Ok-clause-same g c = g.met.S.Site.same_then c.args.site c.in-Ok.recovered.site c.say_restored.result.site c.in-Ok.ensures.same c.say_restored.ensures.same
+
+pub returns-in-Err-clause-taken : goal.returns-in-Err-clause-taken
+returns-in-Err-clause-taken g c = restore_unread c.in-Err.status (inl c.in-Err.ensures.statuses)
+
+pub returns-in-Ok-clause-taken : goal.returns-in-Ok-clause-taken
+returns-in-Ok-clause-taken g c = restore_unread c.say_restored.result.status (inr c.say_restored.ensures.statuses)

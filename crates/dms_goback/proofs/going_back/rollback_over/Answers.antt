@@ -1,9 +1,9 @@
-use Rattle.std.proofs.Common.{◌≡◌, ◌∙◌, refl}
+use Rattle.std.proofs.Common.{◌≡◌, ◌∙◌, inl, inr, refl}
 use Rattle.dms_moments.specs.MomentLaws.{steps_weaken}
 use Rattle.dms_status.specs.declared.status.Status.TheVariants.{Memory}
 use Rattle.dms_goback.specs.Restores.{rolled_text}
 use Rattle.dms_goback.proofs.Backs.{trail_none, beside_none, rolls_none, rollback_stopped, rollback_done}
-use Rattle.dms_goback.proofs.RestoreStatuses.{made_of, restored_room, counted_done, counted_said, counted_stopped, said_line}
+use Rattle.dms_goback.proofs.RestoreStatuses.{made_of, restored_room, counted_done, counted_said, counted_stopped, restore_unread, said_line}
 use Rattle.dms_goback.proofs.going_back.rollback_over.Goals as goal
 
 pub returns-in-Err-clause-does : goal.returns-in-Err-clause-does
@@ -35,3 +35,12 @@ returns-in-Ok-roll_guarded-clause-say g c = counted_said c.say_done.result.statu
 
 pub returns-in-Ok-roll_guarded-clause-same : goal.returns-in-Ok-roll_guarded-clause-same
 returns-in-Ok-roll_guarded-clause-same g c = g.met.S.Site.same_then c.args.site c.in-Ok-roll_guarded.recovered.site c.say_done.result.site c.in-Ok-roll_guarded.ensures.same c.say_done.ensures.same
+
+pub returns-clause-taken : goal.returns-clause-taken
+returns-clause-taken g c = restore_unread c.in-Err-roll_guarded.status (inl c.in-Err-roll_guarded.ensures.statuses)
+
+pub returns-in-Ok-roll_guarded-clause-taken : goal.returns-in-Ok-roll_guarded-clause-taken
+returns-in-Ok-roll_guarded-clause-taken g c = restore_unread c.say_done.result.status (inr (made_of c.say_done.result.status c.say_done.ensures.statuses))
+
+pub returns-in-Err-clause-taken : goal.returns-in-Err-clause-taken
+returns-in-Err-clause-taken g c = λ read. read

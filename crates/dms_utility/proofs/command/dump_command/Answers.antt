@@ -1,5 +1,5 @@
 use Rattle.std.proofs.Common.{rules, MutBor, sym, subst}
-use Rattle.dms_utility.specs.DumpDoes.{DumpDoes}
+use Rattle.dms_dumping.specs.DumpDoes.{DumpDoes}
 use Rattle.dms_utility.proofs.command.dump_command.Goals as goal
 
 pub returns-clause-does : goal.returns-clause-does

@@ -1,0 +1,14 @@
+use Rattle.std.proofs.Common.{sym, subst}
+use Rattle.dms_opening.specs.Openings.{OpeningGrows}
+use Rattle.dms_dumping.proofs.preparing.prepare_dump.Goals as goal
+
+pub returns-then-refused-gt0-clause-grows_then : goal.returns-then-refused-gt0-clause-grows_then
+returns-then-refused-gt0-clause-grows_then g c = λ tells. let r = c.in-Err.ensures.grows_then tells in record { kept = r.kept; left = r.left; few = r.few }
+
+pub returns-in-Ok-clause-grows : goal.returns-in-Ok-clause-grows
+returns-in-Ok-clause-grows g c = λ tells.
+    let r = c.in-Ok.ensures.grows tells in
+    subst (λ x. OpeningGrows g.S.Site c.args.site x) (sym c.bared.ensures.site) (record { kept = r.kept; left = r.left; few = r.few })
+
+pub returns-else-refused-gt0-clause-grows_then : goal.returns-else-refused-gt0-clause-grows_then
+returns-else-refused-gt0-clause-grows_then g c = λ tells. let r = c.in-Err.ensures.grows_then tells in record { kept = r.kept; left = r.left; few = r.few }

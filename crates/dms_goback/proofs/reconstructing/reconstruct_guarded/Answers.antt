@@ -1,0 +1,28 @@
+use Rattle.std.proofs.Common.{IsTrue, sym, subst}
+use Rattle.dms_runtop.specs.Command.{KeepsTrail}
+use Rattle.dms_statelaws.specs.SiteLaws.{MendsEnd, MendsSince}
+use Rattle.dms_goback.proofs.reconstructing.reconstruct_guarded.Goals as goal
+
+pub returns-in-Ok-clause-trail : goal.returns-in-Ok-clause-trail
+returns-in-Ok-clause-trail g c = λ tells. let r = c.in-Ok.ensures.trail tells in subst (λ x. KeepsTrail g.S.Site c.args.site x) (sym c.bared.ensures.site) (record { kept = r.kept; left = r.left })
+
+pub returns-then-refused-gt0-clause-trail_then : goal.returns-then-refused-gt0-clause-trail_then
+returns-then-refused-gt0-clause-trail_then g c = λ tells. let r = c.in-Err.ensures.trail_then tells in record { kept = r.kept; left = r.left }
+
+pub returns-else-refused-gt0-clause-trail_then : goal.returns-else-refused-gt0-clause-trail_then
+returns-else-refused-gt0-clause-trail_then g c = λ tells. let r = c.in-Err.ensures.trail_then tells in record { kept = r.kept; left = r.left }
+
+pub returns-else-refused-gt0-clause-refused : goal.returns-else-refused-gt0-clause-refused
+returns-else-refused-gt0-clause-refused g c = λ tells refusal. let r = c.in-Err.ensures.refused tells refusal in record { fault = r.fault; is = r.is; why = r.why; files = r.files; moments = r.moments }
+
+pub returns-then-refused-gt0-clause-refused : goal.returns-then-refused-gt0-clause-refused
+returns-then-refused-gt0-clause-refused g c = λ tells refusal. absurd refusal
+
+pub returns-then-refused-gt0-clause-complete : goal.returns-then-refused-gt0-clause-complete
+returns-then-refused-gt0-clause-complete g c = λ tells total first can refusal. refusal
+
+pub returns-in-Ok-clause-moments : goal.returns-in-Ok-clause-moments
+returns-in-Ok-clause-moments g c = subst (λ x. IsTrue g.S.Site.tells → MendsSince g.S.Site c.args.site x c.args.dump c.args.rows.now) (sym c.bared.ensures.site) c.in-Ok.ensures.moments
+
+pub returns-in-Ok-clause-ends : goal.returns-in-Ok-clause-ends
+returns-in-Ok-clause-ends g c = subst (λ x. IsTrue g.S.Site.tells → MendsEnd g.S.Site c.args.site x c.args.dump c.args.rows.now) (sym c.bared.ensures.site) c.in-Ok.ensures.ends
