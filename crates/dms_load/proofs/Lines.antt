@@ -1,11 +1,11 @@
 -- The next line of a script, and the lines behind it.
-use Rattle.std.proofs.Common.{ℕ, zero, suc, ◌≡◌, ◌+◌, ◌-◌, ◌<◌, ◌≤◌, ◌%◌, Bool, true, false, cond, List, [], ◌∷◌, ◌++◌, length, drop, ap, sym, refl, ◌∙◌, arith}
+use Rattle.std.proofs.Common.{ℕ, zero, suc, ◌≡◌, ◌+◌, ◌-◌, ◌<◌, ◌≤◌, ◌%◌, Bool, true, false, cond, List, ◌++◌, length, drop, ap, sym, ◌∙◌, arith}
 use Rattle.std.specs.Prelude.{◌==◌, codes, decimal, nat_lt, slice_set}
 use Rattle.std.proofs.lemmas.Bool.Decides.{nat_tests}
 use Rattle.std.proofs.lemmas.List.{drop_all}
 use Rattle.dms_load.specs.declared.phase.Phase.{Phase}
 use Rattle.dms_load.specs.declared.phase.Phase.TheVariants.{Choose}
-use Rattle.dms_load.specs.Script.{Drawing, after_line, drawn, first_draw, next_line, next_lines, open_text, phase_after, phase_of, phase_text, program_of, second_draw, third_draw, verb_text}
+use Rattle.dms_load.specs.Script.{Drawing, after_line, drawn, next_line, next_lines, open_text, phase_after, phase_of, phase_text, program_of, second_draw, third_draw, verb_text}
 
 lt_is : (a b : ℕ) → a < b → nat_lt a b ≡ true
 lt_is a b lt = grind (arith, nat_tests)

@@ -1,6 +1,6 @@
 -- A part of the line that is held is taken.
-use Rattle.std.proofs.Common.{◌≡◌, ◌≤◌, ◌<◌, List, ℕ, [], length, drop, take, ◌+◌, ◌++◌, append_assoc, arith, ap, ◌∙◌, sym, refl}
-use Rattle.std.proofs.lemmas.List.{length-drop, length-take-le, take_at, take-append-drop, drop-drop, drop_all}
+use Rattle.std.proofs.Common.{◌≡◌, ◌≤◌, List, ℕ, [], length, drop, take, ◌+◌, ◌++◌, append_assoc, arith, ap, ◌∙◌, sym}
+use Rattle.std.proofs.lemmas.List.{length-take-le, take_at, take-append-drop, drop-drop, drop_all}
 use Rattle.dms_load.specs.Script.{Drawing, next_lines}
 
 -- what was copied, and the rest

@@ -2,6 +2,7 @@
 #![tactic(auto)]
 
 mod line;
+mod mute;
 mod phase;
 mod source;
 mod state;
@@ -9,6 +10,7 @@ mod summary;
 mod taking;
 
 pub use line::LoadLine;
+pub use mute::MuteSite;
 pub use phase::Phase;
 pub use source::LoadSource;
 pub use state::LoadState;

@@ -1,4 +1,4 @@
-use Rattle.std.proofs.Common.{ℕ, List, ◌≡◌, ◌∙◌, ◌++◌, ap, append_assoc, sym}
+use Rattle.std.proofs.Common.{ℕ, List, ◌∙◌, ◌++◌, ap, append_assoc, sym}
 use Rattle.std.specs.Prelude.{codes, decimal}
 use Rattle.dms_load.specs.declared.phase.Phase.{Phase}
 use Rattle.dms_load.specs.Script.{verb_text}

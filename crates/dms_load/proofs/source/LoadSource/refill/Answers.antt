@@ -1,4 +1,4 @@
-use Rattle.std.proofs.Common.{◌∙◌, ◌<◌, inl, sym, arith}
+use Rattle.std.proofs.Common.{◌∙◌, inl}
 use Rattle.dms_load.specs.Drawing.{drawing_of}
 use Rattle.dms_load.proofs.Lines.{refilled}
 use Rattle.dms_load.proofs.source.LoadSource.refill.Goals as goal

@@ -1,4 +1,4 @@
-use Rattle.std.proofs.Common.{ℕ, ◌≡◌, ap}
+use Rattle.std.proofs.Common.{ℕ, ap}
 use Rattle.dms_load.specs.Script.{drawn}
 use Rattle.dms_load.proofs.Draws.{draw_wraps}
 use Rattle.dms_load.proofs.state.LoadState.draw.Goals as goal

@@ -1,5 +1,4 @@
-use Rattle.std.proofs.Common.{ℕ, ◌≡◌, ◌∙◌, ◌%◌, ap, get_or}
-use Rattle.dms_load.specs.declared.phase.Phase.{Phase}
+use Rattle.std.proofs.Common.{ℕ, ◌∙◌, ◌%◌, ap, get_or}
 use Rattle.dms_load.specs.declared.phase.Phase.TheVariants.{Begin}
 use Rattle.dms_load.specs.Drawing.{drawing_of}
 use Rattle.dms_load.specs.Script.{drawn, next_draw, phase_after}

@@ -1,4 +1,4 @@
-use Rattle.std.proofs.Common.{◌≡◌, ◌≤◌, ◌<◌, ◌⊎◌, List, ℕ, [], length, drop, take, ◌+◌, ◌++◌, append_assoc, arith, ap, ◌∙◌, sym, ⊎_elim}
+use Rattle.std.proofs.Common.{◌≤◌, List, ℕ, length, drop, take, arith, ap, ◌∙◌, sym, ⊎_elim}
 use Rattle.std.proofs.lemmas.List.{length-drop, take_rest}
 use Rattle.dms_load.specs.Drawing.{drawing_of}
 use Rattle.dms_load.specs.Script.{next_lines}

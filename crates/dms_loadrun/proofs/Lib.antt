@@ -1,0 +1,6 @@
+pub mod Cases
+pub mod Does
+pub mod Ending
+pub mod Filled
+pub mod Loaded
+pub mod Made

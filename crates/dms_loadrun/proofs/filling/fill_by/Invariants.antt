@@ -1,0 +1,5 @@
+use Rattle.dms_loadrun.specs.Filling.{load_state}
+use Rattle.dms_loadrun.proofs.filling.fill_by.Given as goal
+
+abbrev pub ghost-run_command : goal.ghost-run_command
+ghost-run_command g a = load_state

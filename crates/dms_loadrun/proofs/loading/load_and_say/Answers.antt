@@ -1,0 +1,23 @@
+use Rattle.std.proofs.Common.{◌≡◌, ◌∙◌, subst}
+use Rattle.dms_audfile.specs.Counting.{CountedAt, not_counted}
+use Rattle.dms_desc.specs.Shape.{as_described}
+use Rattle.dms_loadrun.specs.Statuses.{IsOfFilling}
+use Rattle.dms_status.specs.declared.status.Status.TheVariants.{DiskFault, SayFault}
+use Rattle.dms_loadrun.proofs.Ending.{cut, done, unfilled}
+use Rattle.dms_loadrun.proofs.loading.load_and_say.Goals as goal
+
+pub returns-in_default : goal.returns-in_default
+returns-in_default g c = record {
+  does = unfilled g.S.Site (as_described c.args.desc.now) c.args.seed c.args.n c.args.text.now c.args.site.now c.make_database.new.site c.fill_database.new.site c.in-Ok.ensures.made c.make_database.ensures.moments c.make_database.ensures.said c.fill_database.result c.fill_database.ensures.statuses c.in_default.not-Ok (c.fill_database.ensures.fills (as_described c.args.desc.now) c.requires.accepted) c.fill_database.ensures.said;
+  disk = subst (λ k. CountedAt (c.fill_database.result ≡ DiskFault) k (g.S.Site.disk_faults c.fill_database.new.site)) (c.in-Ok.ensures.disk.clean (λ is. cc)) c.fill_database.ensures.disk;
+  say = not_counted (c.fill_database.result ≡ SayFault) (g.S.Site.say_faults c.args.site.now) (g.S.Site.say_faults c.fill_database.new.site) (λ is. subst IsOfFilling is c.fill_database.ensures.statuses) (c.fill_database.ensures.say_faults ∙ c.make_database.ensures.say_faults);
+  same_site = g.met.S.Site.same_then _ _ _ c.make_database.ensures.same_site c.fill_database.ensures.same_site;
+}
+
+pub returns-in-Ok-say-clause-does : goal.returns-in-Ok-say-clause-does
+returns-in-Ok-say-clause-does g c =
+    done g.S.Site (as_described c.args.desc.now) c.args.seed c.args.n c.args.text.now c.args.site.now c.make_database.new.site c.say.new.self c.in-Ok.ensures.made c.make_database.ensures.moments c.make_database.ensures.said c.fill_database.new.site (c.in-Ok-fill_database.ensures.fills (as_described c.args.desc.now) c.requires.accepted) c.fill_database.ensures.said (g.met.S.Site.counts_now c.fill_database.new.site) c.say.ensures.moments c.say.ensures.files c.in-Ok-say.ensures.said
+
+pub returns-in-Err-say-clause-does : goal.returns-in-Err-say-clause-does
+returns-in-Err-say-clause-does g c =
+    cut g.S.Site (as_described c.args.desc.now) c.args.seed c.args.n c.args.text.now c.args.site.now c.make_database.new.site c.say.new.self c.in-Ok.ensures.made c.make_database.ensures.moments c.make_database.ensures.said c.fill_database.new.site (c.in-Ok-fill_database.ensures.fills (as_described c.args.desc.now) c.requires.accepted) c.fill_database.ensures.said (g.met.S.Site.counts_now c.fill_database.new.site) c.say.ensures.moments c.say.ensures.files c.say.ensures.some_said

@@ -1,0 +1,4 @@
+pub mod Filling
+pub mod LoadDoes
+pub mod Loading
+pub mod Statuses

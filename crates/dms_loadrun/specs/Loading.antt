@@ -1,0 +1,42 @@
+-- What a load leaves.
+use Rattle.std.specs.Prelude.{ℕ, ◌≡◌, ◌≢◌, ◌⊎◌, [], None, slice_index}
+use Rattle.std.specs.declared.result.Result.TheVariants.{Ok}
+use Rattle.dms_creation.specs.Clearing.{AllButDescriptionStay}
+use Rattle.dms_desc.specs.Shape.{Described}
+use Rattle.dms_descfile.specs.DescriptionFile.{IsUnsealed}
+use Rattle.dms_load.specs.Summary.{load_schema}
+use Rattle.dms_loadcount.specs.Answers.{load_quiets}
+use Rattle.dms_model.specs.Db.{empty_db}
+use Rattle.dms_moments.specs.Moments.{Clock, Now, Runs}
+use Rattle.dms_newdb.specs.Judging.{judge_schema}
+use Rattle.dms_newdb.specs.State.{StandsNew}
+use Rattle.dms_run.specs.RunStands.{LastStands, RunStands}
+use Rattle.dms_site.specs.Files.{Files, Left}
+
+-- it holds of the description of the schema of a load
+abbrev pub OfLoad : (Described → Type 0) → Type 0
+OfLoad P = (d : Described) → judge_schema load_schema ≡ Ok d → P d
+
+-- no database: file 1 is no sealed description, or the gate of the database isn't open in it
+abbrev pub HoldsNone : Files → Type 0
+HoldsNone files = IsUnsealed (files 1) ⊎ (slice_index (files 1) 1 ≢ 1)
+
+-- The script was begun over a new database. The files stand for that one, or for the database of one quiet point of the script, and a run may begin with it.
+pub record StandsWithin (d : Described) (seed n : ℕ) (files : Files) : Type 0 where
+  pub made : Files
+  pub new : StandsNew 0 d made
+  pub stands : RunStands made d None 0 empty_db 1 (load_quiets d seed n) (record { files = files; said = [] })
+
+-- What a stop within a load leaves of these files: none has changed but the description file, audit files, dumps and structure files, and there is no
+-- database, or the new one at point 0, or one that the script left.
+pub record LeavesLoad (d : Described) (seed n : ℕ) (was files : Files) : Type 0 where
+  pub others : AllButDescriptionStay was files
+  pub holds : HoldsNone files ⊎ (StandsNew 0 d files ⊎ StandsWithin d seed n files)
+
+-- Each outcome that a stop on the way left is one that it could leave at the old moment, or such a one.
+abbrev pub Loads : Described → ℕ → ℕ → Files → Clock Left → Clock Left → Type 0
+Loads d seed n was old new = Runs old new (λ x. Now old x ⊎ LeavesLoad d seed n was x.files)
+
+-- The files stand for the database of the last quiet point of the script, or for the empty one where there is none.
+abbrev pub EndsLoaded : Described → ℕ → ℕ → Files → Type 0
+EndsLoaded d seed n files = LastStands files d 0 empty_db 1 (load_quiets d seed n)

@@ -1,0 +1,4 @@
+pub mod JudgedSchema
+pub mod Judging
+pub mod Saying
+pub mod State
