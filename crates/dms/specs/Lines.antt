@@ -13,7 +13,7 @@ use Rattle.dms_status.specs.declared.status.SchemaFault.TheVariants.{Parse, Comp
 use Rattle.dms_status.specs.declared.status.Status.{Status}
 use Rattle.dms_status.specs.declared.status.Status.TheVariants.{Ok, BadWords, SchemaRefused, NoDatabase, Needed, DiskFault, InputFault, Memory, Limit, Damaged, SayFault, Exists, BadStatement}
 use Rattle.dms_status.specs.declared.status.NeedFault.{NeedFault}
-use Rattle.dms_status.specs.declared.status.NeedFault.TheVariants.{NoDescription, AuditMissing, AuditUnsealed, AuditForeign, NoSuchPoint, Voided, DumpMissing, DumpUnsealed, DumpLater}
+use Rattle.dms_status.specs.declared.status.NeedFault.TheVariants.{NoDescription, AuditMissing, AuditUnsealed, AuditForeign, NoSuchPoint, Voided, DumpMissing, DumpUnsealed, DumpForeign, DumpLater, NoSuchRow}
 
 -- words, the number at their place, and words behind it
 abbrev pub around_number : List ℕ → ℕ → List ℕ → List ℕ
@@ -54,6 +54,10 @@ limit_words Held = codes "too many held lines"
 abbrev pub later_words : ℕ → ℕ → List ℕ
 later_words d n = around_number (codes "dump ") d (codes " is at point " ++ decimal n)
 
+-- a row that isn't there
+abbrev pub row_words : List ℕ → ℕ → List ℕ
+row_words name r = around_number (codes "no row ") r (codes " in " ++ name)
+
 -- what is needed and isn't found
 abbrev pub need_words : NeedFault → List ℕ
 need_words NoDescription = codes "no description"
@@ -64,7 +68,9 @@ need_words (NoSuchPoint n) = around_number (codes "no such point ") n []
 need_words (Voided n) = around_number (codes "point ") n (codes " voided")
 need_words (DumpMissing d) = around_number (codes "dump ") d (codes " missing")
 need_words (DumpUnsealed d) = around_number (codes "dump ") d (codes " unsealed")
+need_words (DumpForeign d) = around_number (codes "dump ") d (codes " of another database")
 need_words (DumpLater d n) = later_words d n
+need_words (NoSuchRow name r) = row_words name r
 
 -- a line of the program, with its line feed
 abbrev pub line : List ℕ → List ℕ

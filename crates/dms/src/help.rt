@@ -8,6 +8,7 @@ usage: dms try < FILE
        dms run < FILE
        dms utility < FILE
        dms print audit
+       dms load SEED N
        dms COMMAND --help
        dms --help
        dms --version
@@ -69,11 +70,18 @@ const RUN_STATUSES: &str = "Statuses: 0, 3 to 10. See dms --help.\n";
 const UTILITY_USAGE: &str = "usage: dms utility < FILE\n\n";
 
 const UTILITY: &str = "\
-\x20 utility    one statement, as DUMP TO 1
+\x20 utility    one statement: DUMP, ROLLBACK, REBUILD or RECONSTRUCT
              DUMP TO d opens the database in the current folder, as run does,
              and writes a copy of its blocks, dump d, a number from 1 to 9999,
              to a file of its own: dump 1 to F20001.DMS. A dump that is there
              already is not written over.
+             ROLLBACK TO n takes the database back to quiet point n. What came
+             after it is void from then on. dms print audit lists the points.
+             REBUILD FROM d makes all structure files anew from dump d and the
+             audit, whatever they hold, up to the last point; with TO n up to
+             point n.
+             RECONSTRUCT name ROW r, .. FROM d does so with these rows alone, of
+             16 blocks each.
 
 ";
 
@@ -90,6 +98,20 @@ const PRINT_AUDIT: &str = "\
 
 const PRINT_AUDIT_STATUSES: &str = "Statuses: 0, 3, 4, 5, 7, 9 and 10. See dms --help.\n";
 
+const LOAD_USAGE: &str = "usage: dms load SEED N\n\n";
+
+const LOAD: &str = "\
+\x20 load SEED N   nothing
+             Makes a database of accounts in the current folder, where no
+             description is yet, and runs 4 lines and N lines more of a script
+             over it: N is a number from 0 to 20000, and the lines are drawn
+             from SEED, a number from 0 to 18446744073709551615. Prints how
+             many of them were answered how, in seven lines.
+
+";
+
+const LOAD_STATUSES: &str = "Statuses: 0, 5, 7, 8, 10 and 11. See dms --help.\n";
+
 /// What `--help` prints behind the commands.
 pub const STATUSES: &str = "\
 Statuses. At one above 0 a line on standard error says why, and behind it may
@@ -99,8 +121,9 @@ stand what helps: the place in the text, what the system said, or what to do.
    1  bad words
    2  the schema is refused
    3  there is no database
-   4  the description is missing, or an audit file is, or isn't sealed, or is
-      one of another database, or the point of a restore can't be had
+   4  the description is missing, or an audit file or a dump is, or isn't
+      sealed, or is one of another database, or the point of a restore can't
+      be had
    5  a call on a file failed, or the folder is in use
    6  reading the input failed
    7  memory was refused
@@ -118,13 +141,14 @@ try are in the folder examples there.
 pub const VERSION: &str = "dms 0.1.0\n";
 
 /// The commands in the order of the help.
-pub const TOPICS: [Topic; 6] = [
+pub const TOPICS: [Topic; 7] = [
     Topic::Try,
     Topic::Compile,
     Topic::Initialize,
     Topic::Run,
     Topic::Utility,
     Topic::PrintAudit,
+    Topic::Load,
 ];
 
 /// How a command is called.
@@ -136,6 +160,7 @@ pub fn usage_of(topic: Topic) -> &'static str {
         Topic::Run => RUN_USAGE,
         Topic::Utility => UTILITY_USAGE,
         Topic::PrintAudit => PRINT_AUDIT_USAGE,
+        Topic::Load => LOAD_USAGE,
     }
 }
 
@@ -148,6 +173,7 @@ pub fn text_of(topic: Topic) -> &'static str {
         Topic::Run => RUN,
         Topic::Utility => UTILITY,
         Topic::PrintAudit => PRINT_AUDIT,
+        Topic::Load => LOAD,
     }
 }
 
@@ -160,5 +186,6 @@ pub fn statuses_of(topic: Topic) -> &'static str {
         Topic::Run => RUN_STATUSES,
         Topic::Utility => UTILITY_STATUSES,
         Topic::PrintAudit => PRINT_AUDIT_STATUSES,
+        Topic::Load => LOAD_STATUSES,
     }
 }

@@ -7,12 +7,12 @@ mod help;
 mod texts;
 mod words;
 
-use advice::Advice;
+use advice::{Advice, Namer};
 use dasdl_phrases::ParseFault;
 use dasdl_place::{SchemaPlace, wanted};
 use dms_folder::FolderSite;
 use dms_host::{
-    Access, HeldStreams, Host, LockFault, Progress, StdinSource, Stream, Subject, Trouble,
+    Access, HeldStreams, Host, LockFault, Measure, Progress, StdinSource, Stream, Subject, Trouble,
     hold_streams, lock_folder, reaches_database,
 };
 use dms_top::{SchemaFault, Status, dms};
@@ -32,6 +32,8 @@ struct Outcome {
     text: Option<Vec<u8>>,
     /// Whether nothing stands behind the line of the ending.
     alone: bool,
+    /// Who named the point or the dump that was gone to.
+    namer: Namer,
 }
 
 impl Outcome {
@@ -42,6 +44,7 @@ impl Outcome {
             trouble: None,
             text: None,
             alone: false,
+            namer: Namer::Files,
         }
     }
 
@@ -52,6 +55,7 @@ impl Outcome {
             trouble: Some(trouble),
             text: None,
             alone: false,
+            namer: Namer::Files,
         }
     }
 }
@@ -88,6 +92,14 @@ fn access_of(request: Request) -> Access {
     }
 }
 
+/// Who names the point or the dump that a command goes to.
+fn namer_of(request: Request) -> Namer {
+    match request {
+        Request::Utility => Namer::Statement,
+        _ => Namer::Files,
+    }
+}
+
 /// The input of a command. Of one that reads a schema the text is kept.
 fn input_of(rt: &HostRuntime, request: Request) -> StdinSource<HostRuntime> {
     match request {
@@ -100,7 +112,8 @@ fn input_of(rt: &HostRuntime, request: Request) -> StdinSource<HostRuntime> {
 fn call(rt: &HostRuntime, request: Request, words: &[String]) -> Outcome {
     let alloc = rt.alloc();
     let progress = match request {
-        Request::Run => Progress::begin(rt),
+        Request::Run => Progress::begin(rt, Measure::Answers),
+        Request::Utility | Request::Load => Progress::begin(rt, Measure::Files),
         _ => None,
     };
     let host = Host::new(*rt, access_of(request), progress);
@@ -119,6 +132,7 @@ fn call(rt: &HostRuntime, request: Request, words: &[String]) -> Outcome {
         },
         text,
         alone: false,
+        namer: namer_of(request),
     }
 }
 
@@ -162,12 +176,14 @@ fn run(rt: &HostRuntime, held: &io::Result<HeldStreams>) -> Outcome {
         | Request::PrintAudit
         | Request::Run
         | Request::Utility
+        | Request::Load
             if held.is_err() => { Outcome::new(Ending::Command(Status::DiskFault)) }
         Request::Compile
         | Request::Initialize
         | Request::PrintAudit
         | Request::Run
-        | Request::Utility => call_locked(rt, request, words.as_slice()),
+        | Request::Utility
+        | Request::Load => call_locked(rt, request, words.as_slice()),
         _ if is_database(rt, Stream::Output) => Outcome::new(Ending::Command(Status::SayFault)),
         Request::Try => call_try(rt, words.as_slice()),
         Request::Help => printed(print_help(rt)),
@@ -215,7 +231,10 @@ fn tell_more(rt: &HostRuntime, outcome: &Outcome) {
             }
         }
         ending => {
-            let advice = Advice(ending);
+            let advice = Advice {
+                ending,
+                namer: outcome.namer,
+            };
             let _unwritten = eprint!(rt; "{advice}").is_err();
         }
     }

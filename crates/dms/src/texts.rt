@@ -1,5 +1,5 @@
 ghost use Rattle.std.specs.Prelude.{◌≡◌, Some};
-ghost use Rattle.dms.specs.Lines.{parse_words, compile_words, later_words, need_words, lines_of};
+ghost use Rattle.dms.specs.Lines.{parse_words, compile_words, later_words, row_words, need_words, lines_of};
 ghost use Rattle.dms.specs.Numbers.{number_of};
 
 use dasdl_compile::CompileFault;
@@ -108,6 +108,19 @@ impl fmt::Display for LaterText {
     }
 }
 
+/// What is said of a row that isn't there.
+#[derive(Drop)]
+struct RowText(Name, u32);
+
+impl fmt::Display for RowText {
+    ghost output = { λ t. Some (row_words t.0 t.1) };
+
+    fn fmt<W: fmt::Write>(&self, f: &mut fmt::Formatter<W>) -> fmt::Result {
+        let (name, row) = (self.0, self.1);
+        write!(f, "no row {row} in {}", NameText(name))
+    }
+}
+
 /// What is said of what a command needs and doesn't find.
 #[derive(Drop)]
 struct NeedText(NeedFault);
@@ -127,7 +140,9 @@ impl fmt::Display for NeedText {
             NeedFault::Voided(point) => write!(f, "point {point} voided"),
             NeedFault::DumpMissing(dump) => write!(f, "dump {dump} missing"),
             NeedFault::DumpUnsealed(dump) => write!(f, "dump {dump} unsealed"),
+            NeedFault::DumpForeign(dump) => write!(f, "dump {dump} of another database"),
             NeedFault::DumpLater(dump, point) => LaterText(dump, point).fmt(f),
+            NeedFault::NoSuchRow(name, row) => RowText(name, row).fmt(f),
         }
     }
 }

@@ -1,7 +1,7 @@
 ghost use Rattle.std.specs.Prelude.{◌≡◌, ◌⊎◌, ◌↔◌, IfErr, None, Some, map, string_bytes};
-ghost use Rattle.dms_top.specs.Words.{IsTry, IsCompile, IsPrintAudit, IsRun, IsUtility, IsInitialize, IsCommand};
+ghost use Rattle.dms_top.specs.Words.{IsTry, IsCompile, IsPrintAudit, IsRun, IsUtility, IsInitialize, IsLoad, IsCommand};
 
-use dms_top::{Status, initialize_tag, is_print_audit};
+use dms_top::{Status, initialize_tag, is_print_audit, load_numbers};
 use std::alloc::Global;
 use std::env::FillError;
 use std::rt::Env;
@@ -18,6 +18,7 @@ pub enum Topic {
     Run,
     Utility,
     PrintAudit,
+    Load,
 }
 
 /// What the words of the command line ask for.
@@ -34,6 +35,8 @@ pub enum Request {
     PrintAudit,
     Run,
     Utility,
+    /// `load`, which reads no input.
+    Load,
 }
 
 /// The words behind the program's name. BadWords where one is long or no UTF-8, Memory where memory is refused.
@@ -74,6 +77,7 @@ fn help_topic(words: &[String]) -> Option<Topic> {
             "initialize" => Some(Topic::Initialize),
             "run" => Some(Topic::Run),
             "utility" => Some(Topic::Utility),
+            "load" => Some(Topic::Load),
             _ => None,
         },
         [first, second, last]
@@ -92,10 +96,14 @@ pub fn request_of(words: &[String]) -> Option<Request>
     ensures run_word { result ≡ Some Request.Run ↔ IsRun (map string_bytes words.now) }
     ensures utility_word { result ≡ Some Request.Utility ↔ IsUtility (map string_bytes words.now) }
     ensures initialize_words { result ≡ Some Request.Initialize ↔ IsInitialize (map string_bytes words.now) }
+    ensures load_words { result ≡ Some Request.Load ↔ IsLoad (map string_bytes words.now) }
     ensures bad { result ≡ None → IsCommand (map string_bytes words.now) → ⊥ }
 {
     if initialize_tag(words).is_some() {
         return Some(Request::Initialize);
+    }
+    if load_numbers(words).is_some() {
+        return Some(Request::Load);
     }
     if is_print_audit(words) {
         return Some(Request::PrintAudit);

@@ -4,14 +4,27 @@ ghost use Rattle.dms_calls.specs.Untold.{no_world, untold_clock};
 
 use crate::access::Access;
 use crate::listing::Listing;
+use crate::places::dump_of;
 use crate::progress::Progress;
 use crate::trouble::{Subject, Trouble};
+use arrayvec::ArrayString;
 use dms_calls::Calls;
 use dms_site::Failed;
+use std::fmt::Write as WriteText;
 use std::fs::{self, Files, OpenFile, OpenOptions};
 use std::io::{self, ErrorKind, Write};
+use std::ops::Range;
 use std::os::unix::fs::FileExt;
 use std::rt::{Clock, Runtime};
+
+/// The numbers of the structure files.
+const STRUCTURES: Range<u32> = 30_001..30_201;
+
+/// A dump that is shut has at most so many bytes.
+const SHUT: u64 = 1;
+
+/// Room for the name of a file.
+const LONGEST_NAME: usize = 15;
 
 /// The current folder and standard output.
 #[derive(Drop)]
@@ -80,12 +93,52 @@ impl<R: Files + Clock + Eprint> Host<R> {
         }
     }
 
+    /// A call on this file of the folder ended at this place: shows it, where it is time.
+    fn pass(&mut self, file: &NumberedFile<R::File>, at: u64) {
+        let Subject::File(number) = file.on else {
+            return;
+        };
+        if let Some(progress) = &mut self.progress
+            && let Some(part) = progress.part()
+        {
+            let whole = match part.whole_of(number) {
+                Some(whole) => whole,
+                None => whole_dump(&self.rt, file, number),
+            };
+            part.pass(number, at, whole);
+        }
+    }
+
     /// Ends what shows how far the command is.
     pub fn end_progress(&self) {
         if let Some(progress) = &self.progress {
             progress.end(&self.rt);
         }
     }
+}
+
+/// How long a dump is, or where it isn't written yet, becomes: as long as the structure files. 0 for another file, and where it can't be seen.
+fn whole_dump<R: Files>(rt: &R, file: &NumberedFile<R::File>, number: u32) -> u64 {
+    if dump_of(number).is_none() {
+        return 0;
+    }
+    let mut whole = match file.file.metadata() {
+        Ok(found) => found.len(),
+        Err(_) => 0,
+    };
+    if whole > SHUT {
+        return whole;
+    }
+    for structure in STRUCTURES {
+        let mut name: ArrayString<LONGEST_NAME> = ArrayString::new();
+        let on = Subject::File(structure);
+        if write!(name, "{on}").is_ok()
+            && let Ok(found) = fs::metadata(rt, name.as_str())
+        {
+            whole = whole.saturating_add(found.len());
+        }
+    }
+    whole
 }
 
 /// Its value, or that the call failed.
@@ -169,8 +222,10 @@ where
         into: &mut [u8],
     ) -> Result<usize, Failed> {
         self.turn();
-        let count = handle.file.read_at(into, at);
-        self.keep(handle.on, count)
+        let read = handle.file.read_at(into, at);
+        let count = self.keep(handle.on, read)?;
+        self.pass(handle, at.saturating_add(count as u64));
+        Ok(count)
     }
 
     fn pwrite(
@@ -180,8 +235,10 @@ where
         bytes: &[u8],
     ) -> Result<usize, Failed> {
         self.turn();
-        let count = handle.file.write_at(bytes, at);
-        self.keep(handle.on, count)
+        let written = handle.file.write_at(bytes, at);
+        let count = self.keep(handle.on, written)?;
+        self.pass(handle, at.saturating_add(count as u64));
+        Ok(count)
     }
 
     fn ftruncate(&mut self, handle: &NumberedFile<R::File>, len: u64) -> Result<(), Failed> {

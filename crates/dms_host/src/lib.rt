@@ -5,10 +5,12 @@
 #![tactic(auto)]
 
 mod access;
+mod answers;
 mod descriptors;
 mod host;
 mod listing;
 mod lock;
+mod places;
 mod progress;
 mod stdin_source;
 #[cfg(test)]
@@ -20,6 +22,6 @@ pub use descriptors::{HeldStreams, Stream, hold_streams, reaches_database};
 pub use host::{Host, NumberedFile};
 pub use listing::Listing;
 pub use lock::{FolderLock, LockFault, lock_folder};
-pub use progress::Progress;
+pub use progress::{Measure, Progress};
 pub use stdin_source::StdinSource;
 pub use trouble::{Subject, Trouble};

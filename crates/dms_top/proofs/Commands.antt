@@ -3,7 +3,7 @@ use Rattle.std.proofs.Common.{◌≡◌, ◌≢◌, ◌↔◌, ℕ, List, Bool, 
 use Rattle.std.specs.Prelude.{IsSome}
 use Rattle.dms_status.specs.declared.status.Status.{Status}
 use Rattle.dms_status.specs.declared.status.Status.TheVariants.{BadWords}
-use Rattle.dms_top.specs.Words.{IsTry, IsCompile, IsPrintAudit, IsRun, IsUtility, IsReading, IsCommand, initialize_tag}
+use Rattle.dms_top.specs.Words.{IsTry, IsCompile, IsLoad, IsPrintAudit, IsRun, IsUtility, IsReading, IsCommand, initialize_tag}
 use Rattle.dms_top.proofs.Digits.{tag_try, tag_compile, tag_run, tag_utility}
 use Rattle.dms_top.proofs.Words.{not_both, try_no_print, compile_no_print, print_no_run, print_no_utility}
 
@@ -17,16 +17,24 @@ of_command ws s other is = (λ bad. absurd (other bad), λ none. absurd (none is
 
 -- they say a tag
 pub of_tag : (ws : List (List ℕ)) (tag : ℕ) → Some tag ≡ initialize_tag ws → IsCommand ws
-of_tag ws tag says = inr (inr (inr (inr (inr (subst (λ (o : Option ℕ). IsSome o) says refl)))))
+of_tag ws tag says = inr (inr (inr (inr (inr (inl (subst (λ (o : Option ℕ). IsSome o) says refl))))))
 
 -- they are those of none
-pub of_none : (ws : List (List ℕ)) (a b c d e : Bool) → (IsTry ws → IsTrue a) → a ≡ false → (IsCompile ws → IsTrue b) → b ≡ false → (IsPrintAudit ws → IsTrue c) → c ≡ false → (IsRun ws → IsTrue d) → d ≡ false → (IsUtility ws → IsTrue e) → e ≡ false → None ≡ initialize_tag ws → IsCommand ws → ⊥
-of_none ws a b c d e p p' q q' r r' s s' t t' none (inl is) = not_both a (p is) p'
-of_none ws a b c d e p p' q q' r r' s s' t t' none (inr (inl is)) = not_both b (q is) q'
-of_none ws a b c d e p p' q q' r r' s s' t t' none (inr (inr (inl is))) = not_both c (r is) r'
-of_none ws a b c d e p p' q q' r r' s s' t t' none (inr (inr (inr (inl is)))) = not_both d (s is) s'
-of_none ws a b c d e p p' q q' r r' s s' t t' none (inr (inr (inr (inr (inl is))))) = not_both e (t is) t'
-of_none ws a b c d e p p' q q' r r' s s' t t' none (inr (inr (inr (inr (inr is))))) = not_both false (subst (λ (o : Option ℕ). IsSome o) (sym none) is) refl
+pub of_none : (ws : List (List ℕ)) (a b c d e : Bool) → (IsTry ws → IsTrue a) → a ≡ false → (IsCompile ws → IsTrue b) → b ≡ false → (IsPrintAudit ws → IsTrue c) → c ≡ false → (IsRun ws → IsTrue d) → d ≡ false → (IsUtility ws → IsTrue e) → e ≡ false → None ≡ initialize_tag ws → (IsLoad ws → ⊥) → IsCommand ws → ⊥
+of_none ws a b c d e p p' q q' r r' s s' t t' none other (inl is) = not_both a (p is) p'
+of_none ws a b c d e p p' q q' r r' s s' t t' none other (inr (inl is)) = not_both b (q is) q'
+of_none ws a b c d e p p' q q' r r' s s' t t' none other (inr (inr (inl is))) = not_both c (r is) r'
+of_none ws a b c d e p p' q q' r r' s s' t t' none other (inr (inr (inr (inl is)))) = not_both d (s is) s'
+of_none ws a b c d e p p' q q' r r' s s' t t' none other (inr (inr (inr (inr (inl is))))) = not_both e (t is) t'
+of_none ws a b c d e p p' q q' r r' s s' t t' none other (inr (inr (inr (inr (inr (inl is)))))) = not_both false (subst (λ (o : Option ℕ). IsSome o) (sym none) is) refl
+of_none ws a b c d e p p' q q' r r' s s' t t' none other (inr (inr (inr (inr (inr (inr is)))))) = other is
+
+-- they read no input
+pub none_read : (ws : List (List ℕ)) (a b d e : Bool) → (IsTry ws → IsTrue a) → a ≡ false → (IsCompile ws → IsTrue b) → b ≡ false → (IsRun ws → IsTrue d) → d ≡ false → (IsUtility ws → IsTrue e) → e ≡ false → IsReading ws → ⊥
+none_read ws a b d e p p' q q' s s' t t' (inl is) = not_both a (p is) p'
+none_read ws a b d e p p' q q' s s' t t' (inr (inl is)) = not_both b (q is) q'
+none_read ws a b d e p p' q q' s s' t t' (inr (inr (inl is))) = not_both d (s is) s'
+none_read ws a b d e p p' q q' s s' t t' (inr (inr (inr is))) = not_both e (t is) t'
 
 -- `print audit` reads no input
 pub print_unread : (ws : List (List ℕ)) → IsPrintAudit ws → IsReading ws → ⊥

@@ -11,8 +11,9 @@ use Rattle.dms_site.specs.Files.{Left, Same}
 use Rattle.dms_status.specs.declared.status.SchemaFault.{SchemaFault}
 use Rattle.dms_status.specs.declared.status.Status.{Status}
 use Rattle.dms_status.specs.declared.status.Status.TheVariants.{Ok, BadWords, SchemaRefused, NoDatabase, Needed, InputFault, Memory, Limit, Damaged, SayFault, DiskFault, Exists, BadStatement}
-use Rattle.dms_top.specs.Compiling.{CompileDoes, IsSpoken, SaysLine, compiled_text}
-use Rattle.dms_top.specs.Judging.{judge_schema}
+use Rattle.dms_top.specs.Compiling.{CompileDoes, compiled_text}
+use Rattle.dms_newdb.specs.Saying.{IsSpoken, SaysLine}
+use Rattle.dms_newdb.specs.Judging.{judge_schema}
 use Rattle.dms_top.specs.Premises.{OfInput}
 use Rattle.dms_top.specs.Words.{IsOfCompile, IsPast}
 

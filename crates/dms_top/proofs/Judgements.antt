@@ -9,7 +9,7 @@ use Rattle.dms_feed.specs.Feeds.{Remains}
 use Rattle.dms_status.specs.declared.status.Status.TheVariants.{SchemaRefused}
 use Rattle.dms_status.specs.declared.status.SchemaFault.{SchemaFault}
 use Rattle.dms_status.specs.declared.status.SchemaFault.TheVariants.{Parse}
-use Rattle.dms_top.specs.Judging.{judge_schema}
+use Rattle.dms_newdb.specs.Judging.{judge_schema}
 
 same_fault : (e f : SchemaFault) → SchemaRefused e ≡ SchemaRefused f → e ≡ f
 same_fault e f is = cc

@@ -7,8 +7,6 @@ pub mod Cutting
 pub mod Digits
 pub mod Judgements
 pub mod Printing
-pub mod Sealed
-pub mod Stands
 pub mod Taken
 pub mod Trying
 pub mod Words
@@ -16,3 +14,4 @@ pub mod WholeInput
 mod Running
 mod Utility
 mod Commands
+mod LoadWords

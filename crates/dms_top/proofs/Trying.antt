@@ -7,7 +7,7 @@ use Rattle.dms_status.specs.declared.status.SchemaFault.{SchemaFault}
 use Rattle.dms_status.specs.declared.status.Status.{Status}
 use Rattle.dms_status.specs.declared.status.Status.TheVariants.{InputFault, Memory, SchemaRefused}
 use Rattle.dms_top.specs.Answering.{script_of, try_events}
-use Rattle.dms_top.specs.Judging.{judge_schema}
+use Rattle.dms_newdb.specs.Judging.{judge_schema}
 use Rattle.dms_top.specs.Premises.{OfInput}
 use Rattle.dms_top.specs.Schema.{schema_text}
 use Rattle.dms_top.specs.Taking.{CutText}

@@ -2,7 +2,8 @@
 use Rattle.dms_status.specs.declared.status.Status.{Status}
 use Rattle.dms_status.specs.declared.status.Status.TheVariants.{Ok, BadWords, SchemaRefused, NoDatabase, Needed, InputFault, Memory, Limit, Damaged, SayFault, DiskFault, Exists, BadStatement}
 use Rattle.dms_top.specs.Words.{IsUntouched}
-use Rattle.dms_utility.specs.Statuses.{IsOfReading, IsOfUtility}
+use Rattle.dms_dumping.specs.Statuses.{IsOfReading}
+use Rattle.dms_utility.specs.Statuses.{IsOfUtility}
 
 -- of them only a bad statement comes before a call on the site
 pub only_read : (s : Status) → IsOfUtility s → IsUntouched s → IsOfReading s

@@ -11,7 +11,7 @@ use Rattle.dms_runner.specs.Running.{AreOfFront, KeepsFront}
 use Rattle.dms_status.specs.declared.status.SchemaFault.{SchemaFault}
 use Rattle.dms_status.specs.declared.status.Status.{Status}
 use Rattle.dms_status.specs.declared.status.Status.TheVariants.{SayFault}
-use Rattle.dms_top.specs.Judging.{judge_schema}
+use Rattle.dms_newdb.specs.Judging.{judge_schema}
 use Rattle.dms_top.specs.Schema.{schema_text, script_part}
 
 -- the lines of the script of an input

@@ -12,7 +12,7 @@ use Rattle.dms_audprint.specs.AuditText.{HasTrail, PrintsAudit, PrintsPart}
 use Rattle.dms_audprint.specs.declared.fault.PrintFault.{PrintFault}
 use Rattle.dms_audprint.specs.declared.fault.PrintFault.TheVariants.{Audit, Say}
 use Rattle.dms_status.specs.declared.status.NeedFault.{NeedFault}
-use Rattle.dms_status.specs.declared.status.NeedFault.TheVariants.{NoDescription, AuditMissing, AuditUnsealed, AuditForeign, NoSuchPoint, Voided, DumpMissing, DumpUnsealed, DumpLater}
+use Rattle.dms_status.specs.declared.status.NeedFault.TheVariants.{NoDescription, AuditMissing, AuditUnsealed, AuditForeign, NoSuchPoint, Voided, DumpMissing, DumpUnsealed, DumpForeign, DumpLater, NoSuchRow}
 use Rattle.dms_status.specs.declared.status.Status.{Status}
 use Rattle.dms_status.specs.declared.status.Status.TheVariants.{Ok, BadWords, SchemaRefused, NoDatabase, Needed, InputFault, Memory, Limit, Damaged, SayFault, DiskFault, Exists, BadStatement}
 use Rattle.dms_top.specs.Words.{ComesUnsaid}
@@ -27,7 +27,9 @@ IsOfAudit (NoSuchPoint n) = ⊥
 IsOfAudit (Voided n) = ⊥
 IsOfAudit (DumpMissing d) = ⊥
 IsOfAudit (DumpUnsealed d) = ⊥
+IsOfAudit (DumpForeign d) = ⊥
 IsOfAudit (DumpLater d n) = ⊥
+IsOfAudit (NoSuchRow name r) = ⊥
 
 -- the statuses of `print audit`
 abbrev pub IsOfPrinting : Status → Type 0
@@ -55,7 +57,9 @@ NeedsAudit files (NoSuchPoint n) = ⊥
 NeedsAudit files (Voided n) = ⊥
 NeedsAudit files (DumpMissing d) = ⊥
 NeedsAudit files (DumpUnsealed d) = ⊥
+NeedsAudit files (DumpForeign d) = ⊥
 NeedsAudit files (DumpLater d n) = ⊥
+NeedsAudit files (NoSuchRow name r) = ⊥
 
 -- At status 0 these files hold a trail. A status that refuses it is its first refusal by scanning; the others say nothing of it.
 abbrev pub JudgesTrail : Files → Status → Type 0

@@ -7,12 +7,13 @@ use Rattle.dms_creation.specs.Creation.{IsMade, InitializesSite}
 use Rattle.dms_site.specs.declared.site.Site.{Ghosts}
 use Rattle.dms_site.specs.Files.{Only, Same}
 use Rattle.dms_status.specs.declared.status.NeedFault.{NeedFault}
-use Rattle.dms_status.specs.declared.status.NeedFault.TheVariants.{NoDescription, AuditMissing, AuditUnsealed, AuditForeign, NoSuchPoint, Voided, DumpMissing, DumpUnsealed, DumpLater}
+use Rattle.dms_status.specs.declared.status.NeedFault.TheVariants.{NoDescription, AuditMissing, AuditUnsealed, AuditForeign, NoSuchPoint, Voided, DumpMissing, DumpUnsealed, DumpForeign, DumpLater, NoSuchRow}
 use Rattle.dms_status.specs.declared.status.Status.{Status}
 use Rattle.dms_status.specs.declared.status.Status.TheVariants.{Ok, BadWords, SchemaRefused, NoDatabase, Needed, InputFault, Memory, Limit, Damaged, SayFault, DiskFault, Exists, BadStatement}
-use Rattle.dms_top.specs.Compiling.{IsBefore, IsSpoken, SaysLine}
-use Rattle.dms_top.specs.Premises.{OfSealed}
-use Rattle.dms_top.specs.State.{BecomesNewSite, StandsNew}
+use Rattle.dms_top.specs.Compiling.{IsBefore}
+use Rattle.dms_newdb.specs.Saying.{IsSpoken, SaysLine}
+use Rattle.dms_newdb.specs.Saying.{OfSealed}
+use Rattle.dms_newdb.specs.State.{BecomesNewSite, StandsNew}
 
 -- what `initialize` prints
 unfoldable pub initialized_text : List ℕ
@@ -27,7 +28,9 @@ IsNoDescription (NoSuchPoint n) = ⊥
 IsNoDescription (Voided n) = ⊥
 IsNoDescription (DumpMissing d) = ⊥
 IsNoDescription (DumpUnsealed d) = ⊥
+IsNoDescription (DumpForeign d) = ⊥
 IsNoDescription (DumpLater d n) = ⊥
+IsNoDescription (NoSuchRow name r) = ⊥
 
 -- the statuses of `initialize`
 abbrev pub IsOfCreation : Status → Type 0

@@ -2,11 +2,8 @@ pub mod Answering
 pub mod Auditing
 pub mod Compiling
 pub mod Initializing
-pub mod JudgedSchema
-pub mod Judging
 pub mod Premises
 pub mod Schema
-pub mod State
 pub mod Taking
 pub mod Trying
 pub mod TryLimits

@@ -10,9 +10,9 @@ use Rattle.dms_descfile.specs.DescriptionFile.{IsSealed}
 use Rattle.dms_feed.specs.Feeds.{Remains}
 use Rattle.dms_site.specs.Files.{Files}
 use Rattle.dms_status.specs.declared.status.SchemaFault.{SchemaFault}
-use Rattle.dms_top.specs.Judging.{judge_schema}
+use Rattle.dms_newdb.specs.Judging.{judge_schema}
 use Rattle.dms_top.specs.Schema.{schema_text}
-use Rattle.dms_top.specs.Words.{IsTry, IsCompile, IsPrintAudit, IsReading, IsRun, IsUtility, initialize_tag}
+use Rattle.dms_top.specs.Words.{IsTry, IsCompile, IsLoad, IsPrintAudit, IsReading, IsRun, IsUtility, initialize_tag, load_numbers}
 
 -- it holds where the words are those of `try`
 abbrev pub OnTry : List (String Global) → Type 0 → Type 0
@@ -34,19 +34,27 @@ OnRun words P = IsRun (map string_bytes words) → P
 abbrev pub OnUtility : List (String Global) → Type 0 → Type 0
 OnUtility words P = IsUtility (map string_bytes words) → P
 
--- it holds where the words are neither those of `run` nor those of `utility`
+-- the words of a command that may have changed files, whatever its status is: `run`, `utility` or `load`
+abbrev pub IsChanging : List (List ℕ) → Type 0
+IsChanging words = IsRun words ⊎ (IsUtility words ⊎ IsLoad words)
+
+-- it holds where they are not
 abbrev pub OnOthers : List (String Global) → Type 0 → Type 0
-OnOthers words P = (IsRun (map string_bytes words) ⊎ IsUtility (map string_bytes words) → ⊥) → P
+OnOthers words P = (IsChanging (map string_bytes words) → ⊥) → P
 
 -- it holds of the tag that the words say, where they are those of `initialize`
 abbrev pub OnInitialize : List (String Global) → (ℕ → Type 0) → Type 0
 OnInitialize words P = (tag : ℕ) → initialize_tag (map string_bytes words) ≡ Some tag → P tag
 
+-- it holds of the seed and the number of lines that the words say, where they are those of `load`
+abbrev pub OnLoad : List (String Global) → (ℕ → ℕ → Type 0) → Type 0
+OnLoad words P = (seed n : ℕ) → load_numbers (map string_bytes words) ≡ Some (seed, n) → P seed n
+
 -- it holds where the words are those of a command that reads its input
 abbrev pub OnReading : List (String Global) → Type 0 → Type 0
 OnReading words P = IsReading (map string_bytes words) → P
 
--- it holds where they are not: of `initialize`, of `print audit`, and of no command
+-- it holds where they are not: of `initialize`, of `load`, of `print audit`, and of no command
 abbrev pub OnUnread : List (String Global) → Type 0 → Type 0
 OnUnread words P = (IsReading (map string_bytes words) → ⊥) → P
 
@@ -57,10 +65,6 @@ OfInput left P = (all : List ℕ) → left ≡ Some all → P all
 -- it holds of the description that the whole input is a schema of
 abbrev pub OfSchema : Option (List ℕ) → (Described → Type 0) → Type 0
 OfSchema left P = (all : List ℕ) (d : Described) → left ≡ Some all → judge_schema all ≡ Ok d → P d
-
--- it holds of the description that file 1 is, sealed
-abbrev pub OfSealed : Files → (Described → Type 0) → Type 0
-OfSealed files P = (d : Described) → IsSealed (files 1) d → P d
 
 -- it holds where the whole input is no schema
 abbrev pub OfNoSchema : Option (List ℕ) → Type 0 → Type 0

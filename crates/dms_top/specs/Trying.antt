@@ -8,7 +8,7 @@ use Rattle.dms_status.specs.declared.status.SchemaFault.{SchemaFault}
 use Rattle.dms_status.specs.declared.status.Status.{Status}
 use Rattle.dms_status.specs.declared.status.Status.TheVariants.{Ok, SchemaRefused}
 use Rattle.dms_top.specs.Answering.{Printed, PrintedFront, PrintedPart, script_of, try_events, try_text}
-use Rattle.dms_top.specs.Judging.{judge_schema}
+use Rattle.dms_newdb.specs.Judging.{judge_schema}
 use Rattle.dms_top.specs.Premises.{OfInput, OfTriedScript}
 use Rattle.dms_top.specs.Schema.{schema_text}
 use Rattle.dms_top.specs.TryLimits.{BlamesTry}

@@ -44,7 +44,7 @@ digits_value n (b ∷ bs) = digits_value (10 * n + (b - 48)) bs
 unfoldable pub number_behind : ℕ → List ℕ → Option ℕ
 number_behind n bytes = if are_digits bytes && nat_lt (digits_value n bytes) (2 ^ 64) then Some (digits_value n bytes) else None
 
--- the tag that a word says in plain digits, at least one; leading zeros don't count
+-- the number, as a tag, that a word says in plain digits, at least one; leading zeros don't count
 abbrev pub tag_of : List ℕ → Option ℕ
 tag_of [] = None
 tag_of (b ∷ bs) = number_behind 0 (b ∷ bs)
@@ -60,9 +60,32 @@ initialize_tag (word ∷ tag ∷ more ∷ rest) = None
 abbrev pub IsInitialize : List (List ℕ) → Type 0
 IsInitialize words = IsSome (initialize_tag words)
 
+-- a number of lines of a script, at most 20,000
+abbrev pub lines_said : Option ℕ → Option ℕ
+lines_said None = None
+lines_said (Some n) = if nat_le n 20000 then Some n else None
+
+-- both of two numbers
+abbrev pub both_said : Option ℕ → Option ℕ → Option (ℕ × ℕ)
+both_said None n = None
+both_said (Some seed) None = None
+both_said (Some seed) (Some n) = Some (seed, n)
+
+-- the seed and the number of lines that the words of `load` say, both in plain digits; none where they aren't its words
+abbrev pub load_numbers : List (List ℕ) → Option (ℕ × ℕ)
+load_numbers [] = None
+load_numbers (word ∷ []) = None
+load_numbers (word ∷ seed ∷ []) = None
+load_numbers (word ∷ seed ∷ n ∷ []) = if bytes_eq word (codes "load") then both_said (tag_of seed) (lines_said (tag_of n)) else None
+load_numbers (word ∷ seed ∷ n ∷ more ∷ rest) = None
+
+-- the words `load SEED N`
+abbrev pub IsLoad : List (List ℕ) → Type 0
+IsLoad words = IsSome (load_numbers words)
+
 -- the forms that are built
 abbrev pub IsCommand : List (List ℕ) → Type 0
-IsCommand words = IsTry words ⊎ (IsCompile words ⊎ (IsPrintAudit words ⊎ (IsRun words ⊎ (IsUtility words ⊎ IsInitialize words))))
+IsCommand words = IsTry words ⊎ (IsCompile words ⊎ (IsPrintAudit words ⊎ (IsRun words ⊎ (IsUtility words ⊎ (IsInitialize words ⊎ IsLoad words)))))
 
 -- the statuses that come only where the schema was taken
 abbrev pub IsPast : Status → Type 0

@@ -5,18 +5,20 @@ ghost use Rattle.dms_descfile.specs.DescriptionFile.{sealed_file, IsSealed, IsUn
 ghost use Rattle.dms_descfile.specs.Becoming.{Creates};
 ghost use Rattle.dms_moments.specs.Moments.{Steps};
 ghost use Rattle.dms_site.specs.Files.{Same, Only};
-ghost use Rattle.dms_top.specs.Compiling.{compiled_text, CompileDoes, SaysLine, IsSpoken, IsBefore, IsOfFile, SaysSealed, SiteAndTextStay};
-ghost use Rattle.dms_top.specs.Premises.{OfInput, OfSealed};
+ghost use Rattle.dms_top.specs.Compiling.{compiled_text, CompileDoes, IsBefore, IsOfFile, SaysSealed};
+ghost use Rattle.dms_newdb.specs.Saying.{SaysLine, IsSpoken, SiteAndTextStay};
+ghost use Rattle.dms_top.specs.Premises.{OfInput};
+ghost use Rattle.dms_newdb.specs.Saying.{OfSealed};
 ghost use Rattle.dms_audfile.specs.Counting.{CountedAt};
 ghost use Rattle.dms_top.specs.Words.{IsOfCompile, IsPast, IsUntouched};
 
-use crate::judge::{JudgedSchema, judge};
 use crate::schema::TextFault;
 use crate::whole::whole_text;
 use dasdl_phrases::ParseFault;
 use dms_base::{Bytes, Memory};
 use dms_desc::Description;
 use dms_descfile::{FileFault, read_description, seal_description};
+use dms_newdb::{JudgedSchema, judge};
 use dms_site::{Site, Source};
 use dms_status::{SchemaFault, Status};
 use std::alloc::Global;

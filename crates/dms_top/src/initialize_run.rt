@@ -6,8 +6,8 @@ ghost use Rattle.dms_top.specs.Compiling.{IsBefore};
 ghost use Rattle.dms_top.specs.Initializing.{InitializeDoes};
 ghost use Rattle.dms_top.specs.Words.{IsUntouched};
 
-use crate::laws::what_is_made_stands;
 use dms_creation::{CreationFault, initialize};
+use dms_newdb::what_is_made_stands;
 use dms_site::Site;
 use dms_status::{NeedFault, Status};
 use std::alloc::Global;

@@ -4,8 +4,7 @@
 mod audit_run;
 mod compile_run;
 mod initialize_run;
-mod judge;
-pub mod laws;
+mod load_run;
 mod schema;
 mod tags;
 mod top;
@@ -14,5 +13,6 @@ mod whole;
 
 pub use audit_run::is_print_audit;
 pub use dms_status::{LimitKind, NeedFault, SchemaFault, Status};
+pub use load_run::load_numbers;
 pub use tags::initialize_tag;
 pub use top::{dms, is_run, is_utility};

@@ -26,8 +26,8 @@ fn number_of(digits: &[u8]) -> Option<u64>
     Some(number)
 }
 
-/// The tag that a word says in plain digits.
-fn tag_of(word: &[u8]) -> Option<u64>
+/// The number that a word says in plain digits, as a tag.
+pub(crate) fn tag_of(word: &[u8]) -> Option<u64>
     ensures { result ≡ tag_of word.now }
 {
     if word.is_empty() {

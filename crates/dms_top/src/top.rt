@@ -1,11 +1,12 @@
 ghost use Rattle.std.specs.Prelude.{◌≡◌, ◌≢◌, ◌↔◌, [], Some, Option, map, string_bytes, IsTrue};
 ghost use Rattle.dms_audfile.specs.Counting.{CountedAt};
+ghost use Rattle.dms_loadrun.specs.LoadDoes.{LoadDoes};
 ghost use Rattle.dms_runtop.specs.Command.{DatabaseState, HoldsTold};
 ghost use Rattle.dms_runtop.specs.RunDoes.{RunDoes};
 ghost use Rattle.dms_top.specs.Auditing.{AuditDoes};
 ghost use Rattle.dms_top.specs.Compiling.{CompileDoes, IsBefore};
 ghost use Rattle.dms_top.specs.Initializing.{InitializeDoes};
-ghost use Rattle.dms_top.specs.Premises.{OnTry, OnCompile, OnInitialize, OnPrintAudit, OnOthers, OnReading, OnRun, OnUnread, OnUtility, OfInput};
+ghost use Rattle.dms_top.specs.Premises.{OnTry, OnCompile, OnInitialize, OnLoad, OnPrintAudit, OnOthers, OnReading, OnRun, OnUnread, OnUtility, OfInput};
 ghost use Rattle.dms_top.specs.Trying.{TryDoes};
 ghost use Rattle.dms_top.specs.Words.{IsTry, IsCompile, IsRun, IsUtility, IsCommand, IsUntouched};
 ghost use Rattle.dms_utility.specs.UtilityDoes.{UtilityDoes};
@@ -13,12 +14,13 @@ ghost use Rattle.dms_utility.specs.UtilityDoes.{UtilityDoes};
 use crate::audit_run::{is_print_audit, print_trail};
 use crate::compile_run::compile_input;
 use crate::initialize_run::initialize_database;
-use crate::judge::{JudgedSchema, judge};
+use crate::load_run::load_or_refuse;
 use crate::schema::{TextFault, schema_text};
 use crate::tags::initialize_tag;
 use crate::try_run::try_lines;
 use dasdl_phrases::ParseFault;
 use dms_feed::Feed;
+use dms_newdb::{JudgedSchema, judge};
 use dms_runtop::run_command;
 use dms_site::{Site, Source};
 use dms_status::{SchemaFault, Status};
@@ -86,8 +88,8 @@ fn try_input<S: Site, I: Source>(alloc: Global, site: &mut S, input: &mut I) -> 
 }
 
 /// Does what the words say: `try` runs a script over a database in memory, `compile` makes the description file, `initialize`
-/// the empty database of that description, `run` runs a script over that database, `utility` carries out a statement on it, and `print audit`
-/// prints the entries of its audit.
+/// the empty database of that description, `run` runs a script over that database, `utility` carries out a statement on it, `print audit`
+/// prints the entries of its audit, and `load` makes a database of its own, by a script that is drawn from a seed.
 pub fn dms<S: Site, I: Source>(
     alloc: Global,
     words: &[String],
@@ -108,7 +110,7 @@ pub fn dms<S: Site, I: Source>(
     ensures disk { CountedAt (result ≡ Status.DiskFault) (S.disk_faults site.old) (S.disk_faults site.new) }
     // status 10 comes where printing failed, once, and else that count stays
     ensures say { CountedAt (result ≡ Status.SayFault) (S.say_faults site.old) (S.say_faults site.new) }
-    // at the statuses that come before a file is changed the files are as they were; `run` and `utility` say below what they do
+    // at the statuses that come before a file is changed the files are as they were; `run`, `utility` and `load` say below what they do
     ensures before { OnOthers words.now (IsBefore result → IsTrue S.tells → S.files site.new ≡ S.files site.old) }
     // the site is the one that was lent
     ensures same_site { S.same_site site.old site.new }
@@ -122,6 +124,7 @@ pub fn dms<S: Site, I: Source>(
     ensures try_does { OnTry words.now (TryDoes S.Site I.Source site.old site.new input.old input.new result) }
     ensures compile_does { OnCompile words.now (CompileDoes S.Site I.Source site.old site.new input.old result) }
     ensures initialize_does { OnInitialize words.now (λ tag. InitializeDoes S.Site tag site.old site.new result) }
+    ensures load_does { OnLoad words.now (λ seed n. LoadDoes S.Site seed n site.old site.new result) }
     ensures audit_does { OnPrintAudit words.now (AuditDoes S.Site site.old site.new result) }
     ensures utility_does { OnUtility words.now (UtilityDoes S.Site I.Source site.old site.new input.old input.new result) }
     // of the state that is told
@@ -144,6 +147,6 @@ pub fn dms<S: Site, I: Source>(
     }
     match initialize_tag(words) {
         Some(tag) => initialize_database(alloc, site, tag),
-        None => Status::BadWords,
+        None => load_or_refuse(alloc, words, site),
     }
 }

@@ -4,12 +4,12 @@ use Rattle.dms_descfile.specs.Becoming.{Creates}
 use Rattle.dms_descfile.specs.DescriptionFile.{sealed_file}
 use Rattle.dms_status.specs.declared.status.Status.{Status}
 use Rattle.dms_top.specs.Compiling.{IsOfFile, SaysSealed}
-use Rattle.dms_top.specs.Judging.{judge_schema}
+use Rattle.dms_newdb.specs.Judging.{judge_schema}
 use Rattle.dms_top.proofs.Compiling.{line_of, nothing_compiled, unread, unheld, unsaid}
 use Rattle.dms_top.proofs.Creating.{some_created}
 use Rattle.dms_top.proofs.Judgements.{long_judged, ok_of, refused_is}
 use Rattle.dms_top.proofs.Printing.{same_description, not_refused}
-use Rattle.dms_top.proofs.Sealed.{sealed_is, short_judged}
+use Rattle.dms_newdb.proofs.Sealed.{sealed_is, short_judged}
 use Rattle.dms_top.proofs.compile_run.compile_input.Goals as goal
 
 pub create-requires : goal.create-requires

@@ -4,7 +4,7 @@ use Rattle.dms_site.specs.Files.{Files}
 use Rattle.dms_creation.specs.Creation.{IsMade}
 use Rattle.dms_top.specs.Initializing.{initialized_text}
 use Rattle.dms_top.proofs.Creating.{made_said}
-use Rattle.dms_top.proofs.Stands.{becomes_new}
+use Rattle.dms_newdb.proofs.Stands.{becomes_new}
 use Rattle.dms_top.proofs.initialize_run.initialize_database.Goals as goal
 
 pub returns-in-Err-Disk-clause-does : goal.returns-in-Err-Disk-clause-does

@@ -1,9 +1,11 @@
-use Rattle.std.proofs.Common.{subst, inl, inr, refl, ℕ}
+use Rattle.std.proofs.Common.{subst, inl, inr, refl, ap, ℕ, [], ◌∷◌}
+use Rattle.std.specs.Prelude.{codes, map, string_bytes}
 use Rattle.dms_runtop.specs.Statuses.{IsOfRun}
 use Rattle.dms_utility.specs.Statuses.{IsOfUtility}
 use Rattle.dms_top.specs.Initializing.{InitializeDoes}
-use Rattle.dms_top.proofs.Commands.{no_bad_words, of_command, of_none, of_tag, print_unread, tag_unread}
+use Rattle.dms_top.proofs.Commands.{no_bad_words, none_read, of_command, of_none, of_tag, print_unread, tag_unread}
 use Rattle.dms_top.proofs.Digits.{no_tag, tag_try, tag_compile, tag_print, tag_run, tag_utility, same_tag}
+use Rattle.dms_top.proofs.LoadWords.{no_load, tag_no_load}
 use Rattle.dms_top.proofs.Running.{never_untouched}
 use Rattle.dms_top.proofs.Utility.{only_read}
 use Rattle.dms_top.proofs.Words.{not_both, try_no_compile, try_no_print, try_no_run, try_no_utility, compile_no_print, compile_no_run, compile_no_utility, print_no_run, print_no_utility, run_no_utility}
@@ -31,7 +33,7 @@ pub returns-then-is_run-clause-before : goal.returns-then-is_run-clause-before
 returns-then-is_run-clause-before g c = λ other. absurd (other (inl (c.is_run.ensures.0 c.if-is_run.true)))
 
 pub returns-then-is_utility-clause-before : goal.returns-then-is_utility-clause-before
-returns-then-is_utility-clause-before g c = λ other. absurd (other (inr (c.is_utility.ensures.0 c.if-is_utility.true)))
+returns-then-is_utility-clause-before g c = λ other. absurd (other (inr (inl (c.is_utility.ensures.0 c.if-is_utility.true))))
 
 pub returns-then-is_print_audit-clause-before : goal.returns-then-is_print_audit-clause-before
 returns-then-is_print_audit-clause-before g c = λ other early tells. c.print_trail.ensures.does.files tells
@@ -72,9 +74,18 @@ returns-in-Some-clause-words g c = of_command _ c.initialize_database.result c.i
 
 pub returns-in-None-clause-words : goal.returns-in-None-clause-words
 returns-in-None-clause-words g c = (
-  λ bad. of_none _ c.is_try.result c.is_compile.result c.is_print_audit.result c.is_run.result c.is_utility.result c.is_try.ensures.1 c.if-is_try.false c.is_compile.ensures.1 c.if-is_compile.false c.is_print_audit.ensures.1 c.if-is_print_audit.false c.is_run.ensures.1 c.if-is_run.false c.is_utility.ensures.1 c.if-is_utility.false c.in-None.ensures,
-  λ none. refl,
+  λ bad. of_none _ c.is_try.result c.is_compile.result c.is_print_audit.result c.is_run.result c.is_utility.result c.is_try.ensures.1 c.if-is_try.false c.is_compile.ensures.1 c.if-is_compile.false c.is_print_audit.ensures.1 c.if-is_print_audit.false c.is_run.ensures.1 c.if-is_run.false c.is_utility.ensures.1 c.if-is_utility.false c.in-None.ensures (c.load_or_refuse.ensures.words.0 bad),
+  λ none. c.load_or_refuse.ensures.words.1 (λ load. none (inr (inr (inr (inr (inr (inr load))))))),
 )
+
+pub returns-in-None-clause-before : goal.returns-in-None-clause-before
+returns-in-None-clause-before g c = λ other early tells. ap g.S.Site.files (c.load_or_refuse.ensures.none (λ load. other (inr (inr load))))
+
+pub returns-in-None-clause-end : goal.returns-in-None-clause-end
+returns-in-None-clause-end g c = λ reads. absurd (none_read _ c.is_try.result c.is_compile.result c.is_run.result c.is_utility.result c.is_try.ensures.1 c.if-is_try.false c.is_compile.ensures.1 c.if-is_compile.false c.is_run.ensures.1 c.if-is_run.false c.is_utility.ensures.1 c.if-is_utility.false reads)
+
+pub returns-in-None-clause-load_does : goal.returns-in-None-clause-load_does
+returns-in-None-clause-load_does g c = c.load_or_refuse.ensures.does
 
 -- the words are those of one command
 
@@ -199,3 +210,23 @@ returns-then-is_run-clause-run_does g c = λ is. c.run_command.ensures.does
 
 pub returns-then-is_utility-clause-utility_does : goal.returns-then-is_utility-clause-utility_does
 returns-then-is_utility-clause-utility_does g c = λ is. c.utility_command.ensures.does
+
+-- `load`
+
+pub returns-then-is_try-clause-load_does : goal.returns-then-is_try-clause-load_does
+returns-then-is_try-clause-load_does g c = λ seed n is. absurd (no_load _ (codes "try" ∷ []) (seed, n) (c.is_try.ensures.0 c.if-is_try.true) refl is)
+
+pub returns-then-is_compile-clause-load_does : goal.returns-then-is_compile-clause-load_does
+returns-then-is_compile-clause-load_does g c = λ seed n is. absurd (no_load _ (codes "compile" ∷ []) (seed, n) (c.is_compile.ensures.0 c.if-is_compile.true) refl is)
+
+pub returns-then-is_print_audit-clause-load_does : goal.returns-then-is_print_audit-clause-load_does
+returns-then-is_print_audit-clause-load_does g c = λ seed n is. absurd (no_load _ (codes "print" ∷ codes "audit" ∷ []) (seed, n) (c.is_print_audit.ensures.0 c.if-is_print_audit.true) refl is)
+
+pub returns-then-is_run-clause-load_does : goal.returns-then-is_run-clause-load_does
+returns-then-is_run-clause-load_does g c = λ seed n is. absurd (no_load _ (codes "run" ∷ []) (seed, n) (c.is_run.ensures.0 c.if-is_run.true) refl is)
+
+pub returns-then-is_utility-clause-load_does : goal.returns-then-is_utility-clause-load_does
+returns-then-is_utility-clause-load_does g c = λ seed n is. absurd (no_load _ (codes "utility" ∷ []) (seed, n) (c.is_utility.ensures.0 c.if-is_utility.true) refl is)
+
+pub returns-in-Some-clause-load_does : goal.returns-in-Some-clause-load_does
+returns-in-Some-clause-load_does g c = λ seed n is. absurd (tag_no_load (map string_bytes c.args.words.now) c.in-Some.tag (seed, n) c.in-Some.ensures is)

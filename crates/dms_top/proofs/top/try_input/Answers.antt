@@ -6,12 +6,12 @@ use Rattle.dms_plain.specs.Speaking.{only_none}
 use Rattle.dms_runner.specs.Answers.{script_events}
 use Rattle.dms_runner.specs.Events.{text_of}
 use Rattle.dms_top.specs.Answering.{script_of, try_events, try_text}
-use Rattle.dms_top.specs.Judging.{judge_schema}
+use Rattle.dms_newdb.specs.Judging.{judge_schema}
 use Rattle.dms_top.specs.Schema.{schema_text}
 use Rattle.dms_top.proofs.Cutting.{cut_described, cut_script}
 use Rattle.dms_top.proofs.Judgements.{at_start, long_judged, no_more, no_more_over, ok_of, refused_is}
 use Rattle.dms_top.proofs.Printing.{events_accepted, front_none, none_printed, none_within, not_refused, nothing_part, part_moved, passes_described, passes_lines, printed_front, printed_moved, same_description, within_lines, within_moved}
-use Rattle.dms_top.proofs.Sealed.{judged_well}
+use Rattle.dms_newdb.proofs.Sealed.{judged_well}
 use Rattle.dms_top.proofs.Trying.{text_cut, text_refused, text_unheld}
 use Rattle.dms_top.proofs.top.try_input.Goals as goal
 
