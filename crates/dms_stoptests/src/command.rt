@@ -45,11 +45,22 @@ pub fn perform(
     command: Command,
     fails: Vec<u64>,
 ) -> Result<End, Fail> {
+    perform_words(alloc, site, command.words, command.input, fails)
+}
+
+/// The same, with an input that may have been made meanwhile.
+pub fn perform_words(
+    alloc: Global,
+    site: &mut MemSite,
+    command: &[&'static str],
+    input: &[u8],
+    fails: Vec<u64>,
+) -> Result<End, Fail> {
     let mut words = Vec::new(alloc);
-    for word in command.words {
+    for word in command {
         words.push(String::from_str(alloc, word)?)?;
     }
-    let input = Vec::from_slice(alloc, command.input)?;
+    let input = Vec::from_slice(alloc, input)?;
     let mut source = MemSource::new(input, fails, 256);
     Ok(end_of(dms(alloc, words.as_slice(), site, &mut source)))
 }

@@ -6,8 +6,12 @@ mod command;
 #[cfg(test)]
 mod points;
 #[cfg(test)]
+mod reading;
+#[cfg(test)]
 mod story;
 #[cfg(test)]
 mod table;
 #[cfg(test)]
 mod tests;
+#[cfg(test)]
+mod walk;

@@ -7,6 +7,9 @@ pub enum Story {
     /// Behind line 26 ten blocks are changed and eight have room, and line 28 takes that back. Then a record moves in its set, one leaves the
     /// subset, and the last transaction doesn't end. The second syncpoint is followed by a control point.
     Overlap,
+    /// What `load 854 30` draws, worked out from the rule of its draws. P3 stores ANO 858 and ends alone, which makes point 1. Then all four programs
+    /// are in transactions at once, two of which store 792 and 186, and the last one to end makes point 2. Those that begin behind it don't end.
+    Drawn,
 }
 
 impl Story {
@@ -14,6 +17,7 @@ impl Story {
         match self {
             Story::Turns => TURNS_SCHEMA,
             Story::Overlap => OVERLAP_SCHEMA,
+            Story::Drawn => DRAWN_SCHEMA,
         }
     }
 
@@ -21,6 +25,7 @@ impl Story {
         match self {
             Story::Turns => TURNS_SCRIPT,
             Story::Overlap => OVERLAP_SCRIPT,
+            Story::Drawn => b"",
         }
     }
 
@@ -29,14 +34,7 @@ impl Story {
         match self {
             Story::Turns => TURNS_LOOK,
             Story::Overlap => OVERLAP_LOOK,
-        }
-    }
-
-    /// The last quiet point of its script.
-    pub fn last(self) -> usize {
-        match self {
-            Story::Turns => 6,
-            Story::Overlap => 4,
+            Story::Drawn => DRAWN_LOOK,
         }
     }
 
@@ -45,6 +43,7 @@ impl Story {
         match self {
             Story::Turns => place_in(&TURNS_ANSWERS, answers),
             Story::Overlap => place_in(&OVERLAP_ANSWERS, answers),
+            Story::Drawn => place_in(&DRAWN_ANSWERS, answers),
         }
     }
 }
@@ -340,5 +339,43 @@ const OVERLAP_ANSWERS: [&[u8]; 5] = [
 9 A DONE
 10 A DONE
 11 A DONE X=20, T=\"NEW\"
+",
+];
+
+const DRAWN_SCHEMA: &[u8] = b"RDS RESTART DATA SET (PID ALPHA(10););
+ACCOUNT DATA SET (ANO NUMBER(8) REQUIRED; BAL NUMBER(S9,2) INITIALVALUE = 0;);
+ACCT-SET SET OF ACCOUNT KEY IS ANO;
+RICH SUBSET OF ACCOUNT WHERE (BAL > 100) KEY IS BAL, DUPLICATES;
+";
+
+const DRAWN_LOOK: &[u8] = b"A: OPEN INQUIRY
+A: FIND ACCT-SET AT ANO = 186
+A: FIND ACCT-SET AT ANO = 792
+A: FIND ACCT-SET AT ANO = 858
+A: FIND LAST ACCOUNT
+A: GET ACCOUNT ANO
+";
+
+const DRAWN_ANSWERS: [&[u8]; 3] = [
+    b"1 A DONE
+2 A EXCEPTION NOTFOUND ACCT-SET
+3 A EXCEPTION NOTFOUND ACCT-SET
+4 A EXCEPTION NOTFOUND ACCT-SET
+5 A EXCEPTION NOTFOUND ACCOUNT
+6 A EXCEPTION NORECORD ACCOUNT
+",
+    b"1 A DONE
+2 A EXCEPTION NOTFOUND ACCT-SET
+3 A EXCEPTION NOTFOUND ACCT-SET
+4 A DONE
+5 A DONE
+6 A DONE ANO=858
+",
+    b"1 A DONE
+2 A DONE
+3 A DONE
+4 A DONE
+5 A DONE
+6 A DONE ANO=186
 ",
 ];

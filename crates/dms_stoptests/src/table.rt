@@ -13,6 +13,8 @@ pub enum Start {
     Initialized,
     /// The script was run.
     Ran,
+    /// A dump was made of the new database, and then the script was run.
+    Dumped,
 }
 
 /// A command that writes.
@@ -22,6 +24,13 @@ pub enum Written {
     Initialize,
     Run,
     Dump,
+    /// To point 3.
+    Rollback,
+    /// From the dump, to point 3.
+    Rebuild,
+    /// Of the first row of D, from the dump.
+    Reconstruct,
+    Load,
 }
 
 impl Written {
@@ -44,6 +53,22 @@ impl Written {
                 words: &["utility"],
                 input: b"DUMP TO 1",
             },
+            Written::Rollback => Command {
+                words: &["utility"],
+                input: b"ROLLBACK TO 3",
+            },
+            Written::Rebuild => Command {
+                words: &["utility"],
+                input: b"REBUILD FROM 1 TO 3",
+            },
+            Written::Reconstruct => Command {
+                words: &["utility"],
+                input: b"RECONSTRUCT D ROW 0 FROM 1",
+            },
+            Written::Load => Command {
+                words: &["load", "854", "30"],
+                input: b"",
+            },
         }
     }
 }
@@ -54,47 +79,78 @@ pub struct Row {
     pub story: Story,
     pub command: Written,
     pub start: Start,
-    /// The quiet points that it may leave: from this one up to the last one.
-    pub least: usize,
+    /// The quiet points that it may leave.
+    pub points: &'static [usize],
     /// The point that it leaves done whole.
     pub point: usize,
 }
 
+/// The first row of the statements that restore.
+pub const RESTORES: usize = 6;
+
 /// The commands that write. One that comes adds a row.
-pub const ROWS: [Row; 5] = [
+pub const ROWS: [Row; 9] = [
     Row {
         story: Story::Turns,
         command: Written::Compile,
         start: Start::Bare,
-        least: 0,
+        points: &[0],
         point: 0,
     },
     Row {
         story: Story::Turns,
         command: Written::Initialize,
         start: Start::Compiled,
-        least: 0,
+        points: &[0],
         point: 0,
     },
     Row {
         story: Story::Turns,
         command: Written::Run,
         start: Start::Initialized,
-        least: 0,
+        points: &[0, 1, 2, 3, 4, 5, 6],
         point: 6,
     },
     Row {
         story: Story::Overlap,
         command: Written::Run,
         start: Start::Initialized,
-        least: 0,
+        points: &[0, 1, 2, 3, 4],
         point: 4,
     },
     Row {
         story: Story::Turns,
         command: Written::Dump,
         start: Start::Ran,
-        least: 6,
+        points: &[6],
+        point: 6,
+    },
+    Row {
+        story: Story::Drawn,
+        command: Written::Load,
+        start: Start::Bare,
+        points: &[0, 1, 2],
+        point: 2,
+    },
+    Row {
+        story: Story::Turns,
+        command: Written::Rollback,
+        start: Start::Dumped,
+        points: &[6, 3],
+        point: 3,
+    },
+    Row {
+        story: Story::Turns,
+        command: Written::Rebuild,
+        start: Start::Dumped,
+        points: &[6, 3],
+        point: 3,
+    },
+    Row {
+        story: Story::Turns,
+        command: Written::Reconstruct,
+        start: Start::Dumped,
+        points: &[6],
         point: 6,
     },
 ];
@@ -131,7 +187,11 @@ pub fn folder(alloc: Global, row: &Row) -> Result<MemSite, Fail> {
     if row.start == Start::Initialized {
         return Ok(initialized);
     }
-    made(alloc, &initialized, row.story, Written::Run)
+    if row.start == Start::Ran {
+        return made(alloc, &initialized, row.story, Written::Run);
+    }
+    let dumped = made(alloc, &initialized, row.story, Written::Dump)?;
+    made(alloc, &dumped, row.story, Written::Run)
 }
 
 /// Goes on behind a command that was stopped or failed, so that a run can follow: where it was to make a file, that is made, unless it is there.

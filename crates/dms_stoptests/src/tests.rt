@@ -1,6 +1,6 @@
 use crate::command::{End, perform, with_files_of};
 use crate::points::{last_place, last_syncpoint, point_of};
-use crate::table::{ROWS, Row, Start, folder, gone_on, made};
+use crate::table::{RESTORES, ROWS, Row, Start, folder, gone_on, made};
 use dms_sitemem::MemSite;
 use std::alloc::Global;
 use std::test::Fail;
@@ -29,7 +29,7 @@ fn look(alloc: Global, row: &Row, left: MemSite, call: u64, pick: u64) -> Result
 
 /// Fails where a command may not leave that point, or where a later syncpoint was printed.
 fn judge(row: &Row, told: usize, point: usize) -> Result<(), Fail> {
-    if point < told || point < row.least || point > row.story.last() {
+    if point < told || !row.points.iter().any(|one| *one == point) {
         return Err(Fail::new(format_args!("point {point}, told {told}")));
     }
     Ok(())
@@ -71,18 +71,27 @@ fn look_at_dump(left: &MemSite, whole: &MemSite) -> Result<(), Fail> {
     Ok(())
 }
 
-#[test]
-fn a_stop_leaves_a_quiet_point(rt: HostRuntime) -> Result<(), Fail> {
-    let alloc = rt.alloc();
-    for row in ROWS {
-        let site = whole(alloc, &row)?;
+/// Stops commands within each of their calls.
+fn stop_each(alloc: Global, rows: &[Row]) -> Result<(), Fail> {
+    for row in rows {
+        let site = whole(alloc, row)?;
         for turn in 0..PICKS.len() {
             for before in 0..site.calls() {
-                stop(alloc, &row, &site, before + 1, PICKS[turn])?;
+                stop(alloc, row, &site, before + 1, PICKS[turn])?;
             }
         }
     }
     Ok(())
+}
+
+#[test]
+fn a_stop_leaves_a_quiet_point(rt: HostRuntime) -> Result<(), Fail> {
+    stop_each(rt.alloc(), &ROWS[..RESTORES])
+}
+
+#[test]
+fn a_stop_of_a_restore_leaves_a_quiet_point(rt: HostRuntime) -> Result<(), Fail> {
+    stop_each(rt.alloc(), &ROWS[RESTORES..])
 }
 
 /// Whether a call prints.

@@ -1,5 +1,5 @@
 use Rattle.std.specs.Prelude.{None}
-use Rattle.dms_stoptests.proofs.command.perform.Given as goal
+use Rattle.dms_stoptests.proofs.command.perform_words.Given as goal
 
 abbrev pub ghost-dms : goal.ghost-dms
 ghost-dms a = None
