@@ -53,6 +53,24 @@ Files and gates of the audit.
   dms: no database
   status 3, files same
 
+Points and dumps of statements.
+
+  $ row 'rm F10001.DMS' utility 'ROLLBACK TO 10'
+  dms: audit file 1 missing
+  status 4, files same
+  $ row 'rm F10001.DMS' utility 'ROLLBACK TO 11'
+  ROLLED BACK TO POINT 11
+  status 0, files other
+  $ row : utility 'ROLLBACK TO 21'
+  dms: no such point 21
+  status 4, files same
+  $ row 'echo DUMP TO 1 | "$DMS" utility > ../said; truncate -s -1 F20001.DMS' utility 'REBUILD FROM 1'
+  dms: file 20001 block 0 damaged
+  status 9, files same
+  $ row 'echo DUMP TO 1 | "$DMS" utility > ../said; put F20001.DMS 0 00' utility 'REBUILD FROM 1'
+  dms: dump 1 unsealed
+  status 4, files same
+
 Statements.
 
   $ row : utility 'REBUILD FROM 0'

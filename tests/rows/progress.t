@@ -33,3 +33,13 @@ Nothing is shown where standard error is no terminal, or standard output is one.
   $ grep -c lines ../typescript
   0
   [1]
+
+Of a statement it shows the audit file that is read or written, and how much of a dump.
+
+  $ echo '(sleep 1.5; echo "DUMP TO 1") | "$DMS" utility > ../out' > ../dump
+  $ script -qec 'sh ../dump' ../typescript > /dev/null
+  $ cat ../out
+  DUMPED 1 AT POINT 3
+  $ sed -e '1d' -e '/^Script done/d' ../typescript | tr -d '\n' | tr '\r' '\n' | sed -e '/^$/d' -e 's/ *$//'
+  dms: beginning
+  dms: dump 1, 100 %

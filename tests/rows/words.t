@@ -10,6 +10,7 @@ The words of the command line.
          dms run < FILE
          dms utility < FILE
          dms print audit
+         dms load SEED N
          dms COMMAND --help
          dms --help
          dms --version
@@ -38,15 +39,29 @@ The words of the command line.
                is a terminal and standard output is none, it shows there every
                second how many lines were answered, and the last SYNCPOINT.
   
-    utility    one statement, as DUMP TO 1
+    utility    one statement: DUMP, ROLLBACK, REBUILD or RECONSTRUCT
                DUMP TO d opens the database in the current folder, as run does,
                and writes a copy of its blocks, dump d, a number from 1 to 9999,
                to a file of its own: dump 1 to F20001.DMS. A dump that is there
                already is not written over.
+               ROLLBACK TO n takes the database back to quiet point n. What came
+               after it is void from then on. dms print audit lists the points.
+               REBUILD FROM d makes all structure files anew from dump d and the
+               audit, whatever they hold, up to the last point; with TO n up to
+               point n.
+               RECONSTRUCT name ROW r, .. FROM d does so with these rows alone, of
+               16 blocks each.
   
     print audit   nothing
                Prints a line for each entry that is sealed in the audit files of
                the current folder. Changes nothing, and needs no right to write.
+  
+    load SEED N   nothing
+               Makes a database of accounts in the current folder, where no
+               description is yet, and runs 4 lines and N lines more of a script
+               over it: N is a number from 0 to 20000, and the lines are drawn
+               from SEED, a number from 0 to 18446744073709551615. Prints how
+               many of them were answered how, in seven lines.
   
   Statuses. At one above 0 a line on standard error says why, and behind it may
   stand what helps: the place in the text, what the system said, or what to do.
@@ -55,8 +70,9 @@ The words of the command line.
      1  bad words
      2  the schema is refused
      3  there is no database
-     4  the description is missing, or an audit file is, or isn't sealed, or is
-        one of another database, or the point of a restore can't be had
+     4  the description is missing, or an audit file or a dump is, or isn't
+        sealed, or is one of another database, or the point of a restore can't
+        be had
      5  a call on a file failed, or the folder is in use
      6  reading the input failed
      7  memory was refused
