@@ -14,10 +14,10 @@ use Rattle.dms_model.specs.AtHand.{current_of}
 use Rattle.dms_model.specs.declared.spot.Spot.{Spot}
 use Rattle.dms_model.specs.declared.verb.Path.{Path}
 use Rattle.dms_model.specs.declared.verb.Path.TheVariants.{Current}
-use Rattle.dms_model.specs.Fitting.{IsNumber, RecordFits, SpotFits, is_number}
+use Rattle.dms_model.specs.Fitting.{IsDataSet, IsNumber, RecordFits, SpotFits, is_number}
 use Rattle.dms_model.specs.Programs.{Program}
 use Rattle.dms_model.specs.Seeking.{found_in, owner_in, path_of, spot_by}
-use Rattle.dms_model.specs.Spoken.{IsOuter}
+use Rattle.dms_model.specs.Valid.{is_data_set}
 
 -- a member of a structure
 met_fits : (desc desc' : Described) (path : Path) (x : ℕ) (s : Spot) → desc' ≡ desc → found_in desc path ≡ set_of desc x → path_of path ≡ x → SpotFits desc' x s → FoundFits desc path s
@@ -40,33 +40,33 @@ member_fits (Err e) desc desc' p base path x under within named fits = tt
 
 -- a current record
 
-number_fits : (desc : Described) (p : Program) (set base : ℕ) (o : Option Shape) → structure_of desc set ≡ o → IsOuter o → WorksFit desc p → current_of p set ≡ Some base → IsNumber desc set base
-number_fits desc p set base None here outer fit own = absurd (let no = outer.data_set in cc)
-number_fits desc p set base (Some shape) here outer fit own =
+number_fits : (desc : Described) (p : Program) (set base : ℕ) (o : Option Shape) → structure_of desc set ≡ o → IsTrue (is_data_set o) → WorksFit desc p → current_of p set ≡ Some base → IsNumber desc set base
+number_fits desc p set base None here named fit own = absurd (cc)
+number_fits desc p set base (Some shape) here named fit own =
     let mine : IfSome (Some base) (λ n. IsTrue (is_number (Some shape) n)) = subst (λ (c : Option ℕ). IfSome c (λ n. IsTrue (is_number (Some shape) n))) own (fit set shape here).current in
     subst (λ (x : Option Shape). IsTrue (is_number x base)) (sym here) mine
 
 -- no data set has the number 0
-no_zero : (desc : Described) (set : ℕ) (C : Type 0) → IsOuter (structure_of desc set) → (eqb set 0 ≡ false → C) → C
-no_zero desc set C outer with_number = by (eqb set 0) refl outer
+no_zero : (desc : Described) (set : ℕ) (C : Type 0) → IsDataSet desc set → (eqb set 0 ≡ false → C) → C
+no_zero desc set C named with_number = by (eqb set 0) refl named
   where
-    by : (b : Bool) → eqb set 0 ≡ b → IsOuter (cond b None (slice_get desc.structures (set - 1))) → C
-    by true e h = absurd (let no = h.data_set in cc)
+    by : (b : Bool) → eqb set 0 ≡ b → IsTrue (is_data_set (cond b None (slice_get desc.structures (set - 1)))) → C
+    by true e h = absurd (cc)
     by false e h = with_number e
 
-pub based_number : (desc : Described) (p : Program) (set base : ℕ) → IsOuter (structure_of desc set) → WorksFit desc p → owner_in p set ≡ Some base → IsNumber desc set base
-based_number desc p set base outer fit own =
-    no_zero desc set (IsNumber desc set base) outer
-    (λ e. number_fits desc p set base (structure_of desc set) refl outer fit (sym (ap (λ (b : Bool). cond b (Some 0) (current_of p set)) e) ∙ own))
+pub based_number : (desc : Described) (p : Program) (set base : ℕ) → IsDataSet desc set → WorksFit desc p → owner_in p set ≡ Some base → IsNumber desc set base
+based_number desc p set base named fit own =
+    no_zero desc set (IsNumber desc set base) named
+    (λ e. number_fits desc p set base (structure_of desc set) refl named fit (sym (ap (λ (b : Bool). cond b (Some 0) (current_of p set)) e) ∙ own))
 
-spot_fits : (desc desc' : Described) (p : Program) (set base : ℕ) (rec : Option Record) → desc' ≡ desc → IsOuter (structure_of desc set) → WorksFit desc p → IfSome rec (RecordFits desc' set) → FitsFrom desc p base (Current set) (spot_by base rec)
-spot_fits desc desc' p set base None under outer fit fits = tt
-spot_fits desc desc' p set base (Some r) under outer fit fits = λ own. record {
-  number = based_number desc p set base outer fit own;
+spot_fits : (desc desc' : Described) (p : Program) (set base : ℕ) (rec : Option Record) → desc' ≡ desc → IsDataSet desc set → WorksFit desc p → IfSome rec (RecordFits desc' set) → FitsFrom desc p base (Current set) (spot_by base rec)
+spot_fits desc desc' p set base None under named fit fits = tt
+spot_fits desc desc' p set base (Some r) under named fit fits = λ own. record {
+  number = based_number desc p set base named fit own;
   rec = subst (λ (d : Described). RecordFits d set r) under fits;
   member = λ moves. absurd (cc);
 }
 
-pub current_fits : (desc desc' : Described) (p : Program) (set base : ℕ) (path : Path) (rec : Option Record) (o : Option Spot) → desc' ≡ desc → path ≡ Current set → IsOuter (structure_of desc set) → WorksFit desc p → IfSome rec (RecordFits desc' set) → o ≡ spot_by base rec → FitsFrom desc p base path o
-current_fits desc desc' p set base path rec o under named outer fit fits is =
-    subst (λ (x : Path). FitsFrom desc p base x o) (sym named) (subst (FitsFrom desc p base (Current set)) (sym is) (spot_fits desc desc' p set base rec under outer fit fits))
+pub current_fits : (desc desc' : Described) (p : Program) (set base : ℕ) (path : Path) (rec : Option Record) (o : Option Spot) → desc' ≡ desc → path ≡ Current set → IsDataSet desc set → WorksFit desc p → IfSome rec (RecordFits desc' set) → o ≡ spot_by base rec → FitsFrom desc p base path o
+current_fits desc desc' p set base path rec o under path_is named fit fits is =
+    subst (λ (x : Path). FitsFrom desc p base x o) (sym path_is) (subst (FitsFrom desc p base (Current set)) (sym is) (spot_fits desc desc' p set base rec under named fit fits))

@@ -3,10 +3,10 @@ pub mod AreaLaws
 pub mod AtHand
 pub mod BackOut
 pub mod Changing
+pub mod Counting
 pub mod Db
 pub mod DescribedCode
 pub mod FitLaws
-pub mod Embedding
 pub mod Fitting
 pub mod FoundBounds
 pub mod Founds

@@ -1,7 +1,7 @@
 ghost use Rattle.std.specs.Prelude.{◌≡◌, ◌<◌, ◌≤◌, ◌^◌, length, if◌then◌else◌, OnErr, OnOk};
 ghost use Rattle.dms_desc.specs.Shape.{as_described};
 ghost use Rattle.dms_model.specs.AtHand.{is_same, let_go, lose_within, locks_without, with_area, with_current, with_lock, with_position, with_work, work_of};
-ghost use Rattle.dms_locks.specs.Locks.{without_set};
+ghost use Rattle.dms_locks.specs.Locks.{without_lock, without_set};
 
 use crate::within::is_within;
 use crate::{Area, Program};
@@ -10,7 +10,7 @@ use dms_desc::{Bound, Description};
 use dms_locks::Locks;
 
 /// Whether two current records are one, or none both.
-fn is_same(a: Option<u64>, b: Option<u64>) -> bool
+pub(crate) fn is_same(a: Option<u64>, b: Option<u64>) -> bool
     ensures { result ≡ is_same a b }
 {
     match (a, b) {
@@ -103,4 +103,11 @@ pub fn lock(program: &mut Program, set: u16, number: u64) -> Result<(), Memory>
     ensures err { OnErr result (program.new ≡ program.old) }
 {
     program.locks.add(set, number)
+}
+
+/// A record is no longer locked.
+pub fn unlock(program: &mut Program, set: u16, number: u64)
+    ensures { program.new ≡ record program.old { locks = without_lock program.old.locks (set, number) } }
+{
+    program.locks.remove(set, number);
 }
