@@ -15,3 +15,4 @@ pub mod Followed
 pub mod FollowedAll
 pub mod Members
 pub mod CountedFor
+pub mod Clashing

@@ -12,7 +12,8 @@ use Rattle.dms_desc.specs.Shape.{Shape, Described}
 use Rattle.dms_model.specs.Db.{Db, Records}
 use Rattle.dms_desc.specs.Keys.{key_of}
 use Rattle.dms_desc.specs.Kinds.{takes, over}
-use Rattle.dms_model.specs.Stores.{has_equal, is_closed, clash, judge_put, put_number, put_unless}
+use Rattle.dms_model.specs.Stores.{has_equal, is_closed, judge_put, put_number, put_unless}
+use Rattle.dms_model.specs.Strict.{AreNumbered, clash_is_lesser, lesser, manual_clash, set_clash}
 use Rattle.dms_sets.specs.Listing.{member_opt}
 use Rattle.dms_sets.specs.Sets.{entry_of, entries_of, kinds_over}
 use Rattle.dms_sets.specs.Owners.{EntriesFit}
@@ -30,7 +31,7 @@ abbrev pub is_blocked : Described → Shape → Db → ℕ → Option ℕ → Re
 is_blocked desc s db set number rec =
     is_some (look (key_front (kinds_over desc s) s.parts rec.owner (key_of s.parts rec.values)) (without_in (old_entry (kinds_over desc s) s db.records set number) (entries_of desc db s)))
 
--- the first structure in number order that refuses
+-- the first set or automatic subset in number order that refuses
 abbrev pub clash_seen : Described → List Shape → Db → ℕ → Option ℕ → Record → Option ℕ
 clash_seen desc [] db set number rec = None
 clash_seen desc (s ∷ ss) db set number rec = if is_closed s set rec.values && is_blocked desc s db set number rec then Some s.number else clash_seen desc ss db set number rec
@@ -76,12 +77,15 @@ clash_turn true desc s db set number rec o p closed owned small judge_put rest =
 clash_turn false desc s db set number rec o p closed owned small judge_put rest = rest
 
 pub clash_is : (desc : Described) (ss : List Shape) (db : Db) (set : ℕ) (number : Option ℕ) (rec : Record) → rec.owner < 2 ^ 32 → IsFoundNumber number → AllByRecursion (λ s. is_closed s set rec.values ≡ true → AreJudged desc db rec s) ss
-    → clash ss db set number rec ≡ clash_seen desc ss db set number rec
+    → set_clash ss db set number rec ≡ clash_seen desc ss db set number rec
 clash_is desc [] db set number rec owned small all = refl
 clash_is desc (s ∷ ss) db set number rec owned small all =
-    clash_turn (is_closed s set rec.values) desc s db set number rec (clash ss db set number rec) (clash_seen desc ss db set number rec) refl owned small all.0 (clash_is desc ss db set number rec owned small all.1)
+    clash_turn (is_closed s set rec.values) desc s db set number rec (set_clash ss db set number rec) (clash_seen desc ss db set number rec) refl owned small all.0 (clash_is desc ss db set number rec owned small all.1)
 
--- What is answered where a record would be stored: a duplicate exactly where a look at a set's entries finds its owner and key.
-pub answer_is : (desc : Described) (db : Db) (set : ℕ) (number : Option ℕ) (rec : Record) → rec.owner < 2 ^ 32 → IsFoundNumber number → AllByRecursion (λ s. is_closed s set rec.values ≡ true → AreJudged desc db rec s) desc.structures
-    → judge_put desc db set number rec ≡ put_unless (clash_seen desc desc.structures db set number rec) (put_number desc db set number)
-answer_is desc db set number rec owned small all = ap (λ o. put_unless o (put_number desc db set number)) (clash_is desc desc.structures db set number rec owned small all)
+-- What is answered where a record would be stored: a duplicate exactly where a look at a set's entries finds its owner and key, or a
+-- manual subset refuses it, whichever comes first.
+pub answer_is : (desc : Described) (db : Db) (set : ℕ) (number : Option ℕ) (rec : Record) → AreNumbered 1 desc.structures → rec.owner < 2 ^ 32 → IsFoundNumber number → AllByRecursion (λ s. is_closed s set rec.values ≡ true → AreJudged desc db rec s) desc.structures
+    → judge_put desc db set number rec ≡ put_unless (lesser (clash_seen desc desc.structures db set number rec) (manual_clash desc.structures db set number rec)) (put_number desc db set number)
+answer_is desc db set number rec numbered owned small all =
+    ap (λ o. put_unless o (put_number desc db set number)) (clash_is_lesser db set number rec 1 desc.structures numbered
+    ∙ ap (λ o. lesser o (manual_clash desc.structures db set number rec)) (clash_is desc desc.structures db set number rec owned small all))

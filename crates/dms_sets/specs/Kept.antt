@@ -15,6 +15,7 @@ use Rattle.dms_model.specs.declared.put.Put.TheVariants.{Stored, Duplicate, Full
 use Rattle.dms_model.specs.Db.{Db, Place}
 use Rattle.dms_desc.specs.Lookups.{structure_of, items_of}
 use Rattle.dms_desc.specs.Kinds.{is_link}
+use Rattle.dms_model.specs.Strict.{AreNumbered, lesser, manual_clash}
 use Rattle.dms_model.specs.Stores.{kept_value, linked_from, with_links_of, values_of, old_of, record_to_store, put_answer, put_after, put_number, put_unless, kept_owner}
 use Rattle.dms_desc.specs.Plain.{FitsKind}
 use Rattle.dms_sets.specs.Spots.{ValuesFit, RecordHasSpot, RecordsHaveSpots, put_fits}
@@ -82,14 +83,14 @@ stored_comes desc db set number rec fits may =
     }
 
 -- Storing a record answers a duplicate exactly for the first set without DUPLICATES in whose entries, without that of the record that it replaces,
--- the first that reaches the owner and key of what would be stored has them.
-pub put_answers : (desc : Described) (db : Db) (set : ℕ) (number : Option ℕ) (rec : Record) → AllByRecursion (IsNamed desc) desc.structures → RecordsHaveSpots desc db → MayCome desc set rec → IsFoundNumber number
-    → put_answer desc db set number rec ≡ put_unless (clash_seen desc desc.structures db set number (record_to_store desc db set number rec)) (put_number desc db set number)
+-- the first that reaches the owner and key of what would be stored has them, or for a manual subset that refuses it and comes before.
+pub put_answers : (desc : Described) (db : Db) (set : ℕ) (number : Option ℕ) (rec : Record) → AreNumbered 1 desc.structures → AllByRecursion (IsNamed desc) desc.structures → RecordsHaveSpots desc db → MayCome desc set rec → IsFoundNumber number
+    → put_answer desc db set number rec ≡ put_unless (lesser (clash_seen desc desc.structures db set number (record_to_store desc db set number rec)) (manual_clash desc.structures db set number (record_to_store desc db set number rec))) (put_number desc db set number)
 unfolding put_answer
-put_answers desc db set number rec named fits may small =
+put_answers desc db set number rec numbered named spots may small =
     let made = record_to_store desc db set number rec in
-    let comes = stored_comes desc db set number rec fits may in
-    answer_is desc db set number made comes.owner small (all_judged desc db set made desc.structures named fits comes)
+    let comes = stored_comes desc db set number rec spots may in
+    answer_is desc db set number made numbered comes.owner small (all_judged desc db set made desc.structures named spots comes)
 
 abbrev pub IsStoredSmall : Put → Type 0
 IsStoredSmall (Stored n) = n < 2 ^ 32

@@ -9,6 +9,7 @@ use Rattle.dms_desc.specs.declared.record.Record.{Record}
 use Rattle.dms_key.specs.KeyBytes.{key_width}
 use Rattle.dms_model.specs.Db.{Db}
 use Rattle.dms_model.specs.Members.{members}
+use Rattle.dms_model.specs.Strict.{AreNumbered, lesser, manual_clash}
 use Rattle.dms_model.specs.Stores.{put_after, put_number, put_unless, record_to_store}
 use Rattle.dms_model.specs.declared.put.Put.{Put}
 use Rattle.dms_model.specs.declared.put.Put.TheVariants.{Stored}
@@ -46,9 +47,9 @@ IfBehind desc db path s owner bound P = IfBounded desc db path s owner bound (Bo
 abbrev pub IfComes : Described → Db → ℕ → Record → Type 0 → Type 0
 IfComes desc db set rec P = RecordsHaveSpots desc db → MayCome desc set rec → P
 
--- the same where each structure names its items, and the number is one that a record may have
+-- the same where structures are numbered in their order and each names its items, and the number is one that a record may have
 abbrev pub IfPut : Described → Db → ℕ → Option ℕ → Record → Type 0 → Type 0
-IfPut desc db set number rec P = AllByRecursion (IsNamed desc) desc.structures → IfComes desc db set rec (IsFoundNumber number → P)
+IfPut desc db set number rec P = AreNumbered 1 desc.structures → AllByRecursion (IsNamed desc) desc.structures → IfComes desc db set rec (IsFoundNumber number → P)
 
 -- ---- what they say
 
@@ -78,9 +79,11 @@ LeavesEntries desc db s set n rec = entries_of desc (put_after (Stored n) desc d
 abbrev pub clash_in : Described → Db → ℕ → Option ℕ → Record → Option ℕ
 clash_in desc db set number rec = clash_seen desc desc.structures db set number rec
 
--- a duplicate for the first set that refuses what would be stored, or else the number under which it is stored
+-- a duplicate for the first set or manual subset that refuses what would be stored, or else the number under which it is stored
 abbrev pub answer_seen : Described → Db → ℕ → Option ℕ → Record → Put
-answer_seen desc db set number rec = put_unless (clash_in desc db set number (record_to_store desc db set number rec)) (put_number desc db set number)
+answer_seen desc db set number rec =
+    let made = record_to_store desc db set number rec in
+    put_unless (lesser (clash_in desc db set number made) (manual_clash desc.structures db set number made)) (put_number desc db set number)
 
 -- the member of the first entry not below a bound's bytes, and of the last entry below them, where it is the owner's
 abbrev pub first_seen : Described → Db → Shape → ℕ → Bound → Option Spot

@@ -39,7 +39,7 @@ pub fn one_put_changes()
 
 /// A law: storing a record answers a duplicate for the first set without DUPLICATES, in number order, in which an
 /// entry has the owner and key of what would be stored: not that of the record that it replaces, and the first that
-/// isn't below them.
+/// isn't below them; or for the first manual subset that refuses it, where that comes before.
 /// For a new record the number under which it is stored makes no difference.
 pub fn duplicate_by_one_look()
     ensures answer { (desc : Described) (db : Db) (set : ℕ) (n : Option ℕ) (rec : Record)

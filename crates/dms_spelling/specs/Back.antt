@@ -298,10 +298,11 @@ fits_in desc c (suc k) n (suc i) h low =
     let both = and_parts ((nat_le (length (c (file_of n))) 1048576 && list_all is_whole (c (file_of n))) && (is_some (structure_of desc n) || has_none (c (file_of n)))) (files_fit desc c k (n + 1)) h in
     subst (OneFits desc c) (let e : (n + 1) + i ≡ n + suc i = omega arith in e) (fits_in desc c k (n + 1) i both.1 (omega (arith, low)))
 
-module _ (desc : Described) (c : Content) (served : IsServed desc) (test : Tested desc c) where
-  all_fit : SlotsFit desc c
-  all_fit n low most = subst (OneFits desc c) (let e : 1 + (n - 1) ≡ n = omega (arith, low) in e) (fits_in desc c 200 1 (n - 1) test.fit (omega (arith, low, most)))
+-- Blocks that spell a database are whole, and not too many.
+pub spelled_fit : (desc : Described) (c : Content) → is_spelled desc c ≡ true → SlotsFit desc c
+spelled_fit desc c h n low most = subst (OneFits desc c) (let e : 1 + (n - 1) ≡ n = omega (arith, low) in e) (fits_in desc c 200 1 (n - 1) (tested desc c h).fit (omega (arith, low, most)))
 
+module _ (desc : Described) (c : Content) (served : IsServed desc) (test : Tested desc c) (spelt : is_spelled desc c ≡ true) where
   file_stands : (n : ℕ) (s : Shape) → structure_of desc n ≡ Some s → is_data_set (Some s) ≡ true → FileStands desc (db_in desc c) (tally_of desc (db_in desc c)) s (file_in c s)
   file_stands n s at is_set =
       let both = slots_at desc c served test n s at is_set in
@@ -321,9 +322,13 @@ module _ (desc : Described) (c : Content) (served : IsServed desc) (test : Teste
   }
 
   files_stand : StandsFiles desc (db_in desc c) (tally_of desc (db_in desc c)) c
-  files_stand = record { slots = records_stand; lists = lists_spell desc c served test; fit = all_fit; entries = entries_stand desc c served test }
+  files_stand = record { slots = records_stand; lists = lists_spell desc c served test; fit = spelled_fit desc c spelt; entries = entries_stand desc c served test }
 
-spells_it : (b : Bool) (d db : Db) → some_if b d ≡ Some db → (b ≡ true) × (d ≡ db)
+-- The slots of a data set stand.
+pub slots_spelled : (desc : Described) (c : Content) → IsServed desc → is_spelled desc c ≡ true → (n : ℕ) (s : Shape) → structure_of desc n ≡ Some s → is_data_set (Some s) ≡ true → slots_stand desc (db_in desc c) s 1 (slots_of s (file_in c s)) ≡ true
+slots_spelled desc c served spelt n s at is_set = (slots_at desc c served (tested desc c spelt) n s at is_set).1
+
+pub spells_it : (b : Bool) (d db : Db) → some_if b d ≡ Some db → (b ≡ true) × (d ≡ db)
 spells_it true d db h = (refl, same_Some d db h)
 spells_it false d db h = absurd (cc)
 
@@ -331,7 +336,7 @@ spells_it false d db h = absurd (cc)
 pub spelled_files : (desc : Described) (c : Content) (db : Db) → IsServed desc → database_in desc c ≡ Some db → StandsFiles desc db (tally_of desc db) c
 spelled_files desc c db served h =
     let s = spells_it (is_spelled desc c) (db_in desc c) db h in
-    subst (λ (d : Db). StandsFiles desc d (tally_of desc d) c) s.1 (files_stand desc c served (tested desc c s.0))
+    subst (λ (d : Db). StandsFiles desc d (tally_of desc d) c) s.1 (files_stand desc c served (tested desc c s.0) s.0)
 
 pub its_counts : (desc : Described) (db : Db) → Counts desc db (tally_of desc db)
 its_counts desc db = record { counted = λ set n low. refl; owned = λ set n low. refl }

@@ -5,3 +5,11 @@ pub mod Again
 pub mod Stands
 pub mod Back
 pub mod Few
+pub mod Holds
+pub mod Grown
+pub mod Whole
+pub mod TreeWhole
+pub mod Staying
+pub mod Calls
+pub mod After
+pub mod Ready

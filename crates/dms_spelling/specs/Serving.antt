@@ -6,7 +6,7 @@ use Rattle.dms_desc.specs.Shape.{Shape, Described}
 use Rattle.dms_desc_bytes.specs.Lists.{total}
 use Rattle.dms_desc_bytes.specs.WellFormed.{counted_in}
 use Rattle.dms_layout.specs.Slots.{AreKinds, slot_width}
-use Rattle.dms_model.specs.Valid.{is_data_set}
+use Rattle.dms_model.specs.Valid.{is_data_set, is_manual}
 use Rattle.dms_sets.specs.Padded.{entry_width}
 use Rattle.dms_sets.specs.Puts.{IsNamed}
 use Rattle.dms_sets.specs.Sets.{kinds_over}
@@ -23,7 +23,7 @@ pub record IsServedShape (s : Shape) : Type 0 where
   pub population : s.population ≤ 1000000
   pub keyless : is_data_set (Some s) ≡ true → s.parts ≡ []
 
--- a set or automatic subset: its records are those of a data set, its key and its condition name items of that which are no
+-- a set or subset: its records are those of a data set, its key and its condition name items of that which are no
 -- links, the key has at most 16 parts, and an entry at most 104 bytes
 pub record IsServedSet (desc : Described) (s : Shape) : Type 0 where
   pub data_set : is_data_set (structure_of desc s.set) ≡ true
@@ -37,4 +37,5 @@ pub record IsServed (desc : Described) : Type 0 where
   pub numbered : AreNumbered 1 desc.structures
   pub each : AllByRecursion IsServedShape desc.structures
   pub sets : AllByRecursion (λ s. is_set_or_automatic s ≡ true → IsServedSet desc s) desc.structures
+  pub manual : AllByRecursion (λ s. is_manual (Some s) ≡ true → IsServedSet desc s) desc.structures
   pub links : total counted_in desc.structures ≤ 4000

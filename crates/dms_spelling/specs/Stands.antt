@@ -155,7 +155,7 @@ module _ (desc : Described) (db : Db) (own : Tally) (c : Content) (served : IsSe
       low_of zero e = absurd (cc)
       low_of (suc m) e = omega arith
 
-  number_small : RecordsStand desc db own c → (t m : ℕ) → is_some (get db.records (t, m)) ≡ true → m ≤ 1000000
+  pub number_small : RecordsStand desc db own c → (t m : ℕ) → is_some (get db.records (t, m)) ≡ true → m ≤ 1000000
   number_small slots t zero h = omega arith
   number_small slots t (suc m) h = shape_at (structure_of desc t) refl (sym (ap is_some (slots.records t (suc m) (omega arith))) ∙ h)
     where
@@ -174,7 +174,7 @@ module _ (desc : Described) (db : Db) (own : Tally) (c : Content) (served : IsSe
       shape_at None at is = absurd (cc)
       shape_at (Some u) at is = set_at u (is_data_set (Some u)) at refl is
 
-  owner_small : RecordsStand desc db own c → (t m : ℕ) → owner_stands db.records t m ≡ true → m ≤ 1000000
+  pub owner_small : RecordsStand desc db own c → (t m : ℕ) → owner_stands db.records t m ≡ true → m ≤ 1000000
   owner_small slots t m h = by (t == 0) h
     where
       by : (b : Bool) → cond b (m == 0) (is_some (get db.records (t, m))) ≡ true → m ≤ 1000000
@@ -182,7 +182,7 @@ module _ (desc : Described) (db : Db) (own : Tally) (c : Content) (served : IsSe
       by false is = number_small slots t m is
 
   -- what the lists of manual subsets tell
-  told_one : (n : ℕ) (s : Shape) → structure_of desc n ≡ Some s → is_manual (Some s) ≡ true → RecordsStand desc db own c → ListsSpell desc db c → EntriesStand desc db → ListTells desc db c s
+  pub told_one : (n : ℕ) (s : Shape) → structure_of desc n ≡ Some s → is_manual (Some s) ≡ true → RecordsStand desc db own c → ListsSpell desc db c → EntriesStand desc db → ListTells desc db c s
   told_one n s at manual slots lists entries = record {
     list = lists.manual n s at manual;
     small = record { each = λ o k has. (let e = stands_at o k has in (let le = owner_small slots (owner_of (structure_of desc s.number)) o e.1 in omega (arith, le), let le = number_small slots (over_of (structure_of desc s.number)) k e.0 in omega (arith, le))) };

@@ -1,4 +1,4 @@
-use Rattle.std.proofs.Common.{ℕ, ◌≡◌, ◌+◌, filter, arith}
+use Rattle.std.proofs.Common.{◌≡◌, ◌+◌, filter, arith}
 use Rattle.dms_block.specs.View.{seen_counts}
 use Rattle.dms_ordlist.specs.Walks.{ends_with}
 use Rattle.dms_lists.specs.declared.form.ListForm.TheVariants.{List as OneChain}

@@ -1,4 +1,4 @@
-use Rattle.std.proofs.Common.{ℕ, ◌≡◌, ◌+◌, List, Some, length, arith}
+use Rattle.std.proofs.Common.{ℕ, ◌≡◌, List, Some, length, arith}
 use Rattle.std.specs.declared.option.Option.{Option}
 use Rattle.dms_block.specs.View.{seen_counts}
 use Rattle.dms_chain.specs.Lists.{last_to}
