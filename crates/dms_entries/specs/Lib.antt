@@ -1,0 +1,13 @@
+pub mod Promises
+pub mod Rising
+pub mod Owners
+pub mod OneList
+pub mod Entered
+pub mod Left
+pub mod Calls
+pub mod Records
+pub mod Looked
+pub mod BoundFits
+pub mod Found
+pub mod EnterCalls
+pub mod LeaveCalls

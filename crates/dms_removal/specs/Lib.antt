@@ -1,0 +1,12 @@
+pub mod Freed
+pub mod Promises
+pub mod Alike
+pub mod Using
+pub mod Linking
+pub mod Clears
+pub mod Clearing
+pub mod Releasing
+pub mod Stripping
+pub mod Strips
+pub mod Taking
+pub mod Removing
