@@ -1,77 +1,49 @@
 -- Looks at the members of a structure, by its kind.
-use Rattle.std.proofs.Common.{Bor, ◌≡◌, ◌∙◌, ◌+◌, ◌<◌, ℕ, List, [], ◌∷◌, Bool, true, false, cond, Some, None, refl, sym, ap, subst, inl, arith}
-use Rattle.std.specs.Prelude.{◌&&◌, ◌==◌, nat_lt}
-use Rattle.std.specs.List.{list_any}
+use Rattle.std.proofs.Common.{Bor, ◌≡◌, ◌∙◌, ◌+◌, ◌<◌, ℕ, List, Bool, true, false, cond, Some, refl, sym, ap, subst, inl, arith}
+use Rattle.std.specs.Prelude.{◌&&◌, IfOk, nat_lt}
 use Rattle.std.specs.Option.{option_copied, option_map}
 use Rattle.std.specs.declared.option.Option.{Option}
-use Rattle.std.specs.FinMap.{entries}
+use Rattle.std.specs.declared.result.Result.{Result}
+use Rattle.std.proofs.lemmas.Result.{IfOk-weaker}
 use Rattle.std.proofs.lemmas.Bool.Decides.{nat_tests}
-use Rattle.std.proofs.lemmas.Bool.{and_from, and_parts, and_right}
+use Rattle.std.proofs.lemmas.Bool.{and_from, and_parts}
 use Rattle.std.proofs.lemmas.Option.{same_Some}
 use Rattle.dms_block.specs.declared.blocks.Blocks.{Ghosts}
 use Rattle.dms_block.specs.declared.overlay.Overlay.{Overlay}
-use Rattle.dms_block.specs.Content.{Content}
-use Rattle.dms_block.specs.View.{seen_counts}
-use Rattle.dms_desc.specs.declared.bound.Bound.{Bound}
-use Rattle.dms_desc.specs.declared.record.Record.{Record}
+use Rattle.dms_block.specs.declared.block_fault.BlockFault.{BlockFault}
+use Rattle.dms_block.specs.View.{seen_counts, under}
 use Rattle.dms_desc.specs.Kinds as kinds
 use Rattle.dms_desc.specs.Kinds.{over, is_set_or_automatic}
 use Rattle.dms_desc.specs.Lookups.{structure_of}
 use Rattle.dms_desc.specs.Shape.{Shape, Described, shape_of}
 use Rattle.dms_desc.specs.declared.structure.Structure.{Structure}
-use Rattle.dms_desc.specs.Sorted.{first, last, sort}
 use Rattle.dms_model.specs.declared.spot.Spot.{Spot}
-use Rattle.dms_model.specs.Db.{Db, Place, SubsetEntry}
+use Rattle.dms_model.specs.Changing.{IsManual}
+use Rattle.dms_model.specs.Db.{Db}
 use Rattle.dms_model.specs.Fitting.{population_of}
-use Rattle.dms_model.specs.Members.{first_member, first_of, is_after_bound, is_before, is_before_bound, last_member, last_of, members, names, spot_of, spots_of}
-use Rattle.dms_model.specs.Stores.{TellsOf}
-use Rattle.dms_model.specs.Valid.{is_data_set}
+use Rattle.dms_model.specs.Stores.{Tells}
+use Rattle.dms_model.specs.Valid.{is_data_set, is_manual}
 use Rattle.dms_desc.specs.Files.{file_of}
+use Rattle.dms_lists.specs.FormLaws.{manual_form}
 use Rattle.dms_lists.specs.Forms.{form_of, look_reads}
-use Rattle.dms_store.specs.Finding.{BadSlot, number_at, served_at}
-use Rattle.dms_store.specs.Lifted.{IsUsable, db_of}
+use Rattle.dms_lists.specs.declared.form.ListForm.TheVariants.{List as OneChain}
+use Rattle.dms_entries.specs.Found.{BadSubset}
+use Rattle.dms_spelling.specs.Ready.{IfSpelt, IsReady}
+use Rattle.dms_store.specs.Finding.{BadSlot, number_at, seen_below}
+use Rattle.dms_spelling.specs.ServingLaws.{served_at}
+use Rattle.dms_store.specs.Lifted.{IsUsable, db_under}
+use Rattle.dms_store.specs.PuttingStore.{told_db}
 use Rattle.dms_store.specs.Listed.{BadPath, IfIndexed, form_at, most_reads}
 use Rattle.dms_store.specs.Noted.{tells_if}
-use Rattle.dms_store.specs.Serving.{IsServed}
-use Rattle.dms_store.specs.Spelled.{db_in}
+use Rattle.dms_spelling.specs.Serving.{IsServed}
+use Rattle.dms_spelling.specs.Spelled.{database_in, db_in, some_if}
 use Rattle.dms_store.specs.Undamaged.{no_bad_slot}
-use Rattle.dms_store.specs.SpelledLaws.{no_manual}
 
 -- the shape of a structure that was looked up
 pub found_shape : {o : Option Shape} {found : Option (Bor Structure)} {s : Bor Structure} → option_map shape_of (option_copied found) ≡ o → found ≡ Some s → o ≡ Some (shape_of s.now)
 found_shape is at = sym is ∙ ap (λ (f : Option (Bor Structure)). option_map shape_of (option_copied f)) at
 
--- ---- a manual subset has no member
-
-module _ (s : Shape) (owner : ℕ) (manual : (s.kind == 5) ≡ true) where
-  none_belong : (es : List (Place × Record)) → spots_of s [] owner es ≡ []
-  none_belong [] = refl
-  none_belong (e ∷ es) =
-      let off = and_right (over s == e.0.0) (cond (s.kind == 5) (list_any (names s.number owner e.0.1) []) ((owner == e.1.owner) && kinds.takes s e.1.values))
-      (ap (λ b. cond b (list_any (names s.number owner e.0.1) []) ((owner == e.1.owner) && kinds.takes s e.1.values)) manual) in
-      ap (λ b. cond b (spot_of s.parts e ∷ spots_of s [] owner es) (spots_of s [] owner es)) off ∙ none_belong es
-
-  no_members : (desc : Described) (c : Content) → members s (db_in desc c) owner ≡ []
-  no_members desc c =
-      ap (λ (es : List SubsetEntry). sort (is_before s.parts) (spots_of s es owner (entries (db_in desc c).records))) (no_manual desc c)
-      ∙ ap (sort (is_before s.parts)) (none_belong (entries (db_in desc c).records))
-
 module _ {desc : Described} (path : ℕ) {s : Shape} (served : IsServed desc) (at : structure_of desc path ≡ Some s) where
-  module _ (manual : kinds.is_manual s ≡ true) (told : Bool) (c : Content) (owner : ℕ) (bound : Bound) where
-    none_first : None ≡ first_member desc (db_in desc c) path owner bound
-    unfolding first_member
-    none_first = sym (ap (λ o. first_of o (db_in desc c) owner bound) at ∙ ap (first (is_after_bound s.parts bound)) (no_members s owner manual desc c))
-
-    none_last : None ≡ last_member desc (db_in desc c) path owner bound
-    unfolding last_member
-    none_last = sym (ap (λ o. last_of o (db_in desc c) owner bound) at ∙ ap (last (is_before_bound s.parts bound)) (no_members s owner manual desc c))
-
-    pub first_manual : TellsOf {T = Option Spot} (db_of desc told c) (λ d. first_member desc d path owner bound) None
-    first_manual = tells_if told desc c (λ d. first_member desc d path owner bound) None (λ t spelt. none_first)
-
-    pub last_manual : TellsOf {T = Option Spot} (db_of desc told c) (λ d. last_member desc d path owner bound) None
-    last_manual = tells_if told desc c (λ d. last_member desc d path owner bound) None (λ t spelt. none_last)
-
   -- ---- by kind
 
   pub number_is : s.number ≡ path
@@ -89,6 +61,16 @@ module _ {desc : Described} (path : ℕ) {s : Shape} (served : IsServed desc) (a
       let above : 2 < t.kind = grind (arith, nat_tests, two.0) in
       let below : t.kind < 3 = grind (arith, nat_tests, low) in
       absurd (omega (arith, above, below))
+
+  -- nor is a manual subset
+  pub manual_few : kinds.is_manual s ≡ true → (db : Option Db) (P : List (List ℕ) → Type 0) → IfIndexed desc path db P
+  manual_few h db P t d there kept tree told =
+      let same : s ≡ t = same_Some s t (sym at ∙ there) in
+      let high : kinds.is_manual t ≡ true = ap (λ (x : Shape). kinds.is_manual x) (sym same) ∙ h in
+      let two = and_parts (nat_lt 2 t.kind) (nat_lt t.kind 5) kept in
+      let below : t.kind < 5 = grind (arith, nat_tests, two.1) in
+      let is : t.kind ≡ 5 = grind (arith, nat_tests, high) in
+      absurd (omega (arith, below, is))
 
   pub set_here : kinds.is_data_set s ≡ true → is_data_set (structure_of desc path) ≡ true
   set_here h =
@@ -126,3 +108,35 @@ module _ {desc : Described} (path : ℕ) {s : Shape} (served : IsServed desc) (a
           there = subst (λ (n : ℕ). b < seen_counts o n) (sym file) bad.2.1;
           untold = λ d told. no_bad_slot desc o usable d told path f b (set_here is_set) bad;
         }
+
+    -- ---- a manual subset
+
+    pub manual_here : kinds.is_manual s ≡ true → IsManual desc path
+    manual_here h = ap is_manual at ∙ h
+
+    pub ready_here : IsUsable desc o → IsReady desc o
+    ready_here usable = record { sound = usable.sound; served = usable.serves.served; owns = usable.serves.all }
+
+    pub manual_reads : kinds.is_manual s ≡ true → 2 + seen_counts o (file_of path) ≡ most_reads desc path o
+    manual_reads h =
+        let kind : s.kind ≡ 5 = grind (arith, nat_tests, h) in
+        let no_set : is_data_set (structure_of desc path) ≡ false = ap is_data_set at ∙ grind (arith, nat_tests, h) in
+        let form : form_at (structure_of desc path) ≡ OneChain = ap form_at at ∙ manual_form s kind in
+        let n = seen_counts o (file_of path) in
+        (let e : 2 + n ≡ 1 + (1 + n) = omega arith in e)
+        ∙ (λ i. 1 + look_reads (sym form i) n)
+        ∙ sym (ap (λ b. cond b (population_of (structure_of desc path)) (1 + look_reads (form_at (structure_of desc path)) n)) no_set)
+
+    -- a bad block of it, or of its data set
+    pub subset_path : IsUsable desc o → (f b : ℕ) → BadSubset desc path o f b → BadPath desc path o f b
+    subset_path usable f b bad = record {
+      file = bad.file;
+      there = bad.there;
+      untold = λ d is. let t = told_db desc (under o).told (under o).content d is in bad.untold t.0 d (ap (database_in desc) (seen_below o usable.none) ∙ t.1);
+    }
+
+    -- what is told of the database that is spelled
+    pub manual_tells : IsUsable desc o → (r : Result (Option Spot) BlockFault) (P : Db → Option Spot) → IfOk r (λ x. IfSpelt desc o (λ db. x ≡ P db)) → Tells (db_under desc o) r P
+    manual_tells usable r P h =
+        IfOk-weaker r _ _ (λ x k. tells_if (under o).told desc (under o).content P x (λ told spelt.
+        k told (db_in desc (under o).content) (ap (database_in desc) (seen_below o usable.none) ∙ ap (λ b. some_if b (db_in desc (under o).content)) spelt))) h

@@ -1,5 +1,4 @@
 pub mod ByKind
-pub mod Looking
 pub mod Members
 pub mod Numbers
 pub mod Served

@@ -36,15 +36,19 @@ use Rattle.dms_sets.specs.Sets.{IsSmall, entries_of, kinds_over}
 use Rattle.dms_sets.specs.Spots.{all_fit}
 use Rattle.dms_desc.specs.Files.{file_of}
 use Rattle.dms_tree.specs.Looks.{IfDigits, ReadsFew}
-use Rattle.dms_store.specs.Files.{list_at}
+use Rattle.dms_store.specs.Files.{files_in}
 use Rattle.dms_store.specs.Finding.{BadSlot, bad_since, number_at, seen_below}
 use Rattle.dms_store.specs.Lifted.{IsUsable, db_of}
 use Rattle.dms_store.specs.LiftedLaws.{db_same}
-use Rattle.dms_store.specs.Listed.{BadEntry, BadPath, IfIndexed, MayLook}
+use Rattle.dms_store.specs.Listed.{BadEntry, BadPath, IfIndexed}
 use Rattle.dms_store.specs.Noted.{tells_if}
-use Rattle.dms_store.specs.Serving.{IsServed}
-use Rattle.dms_store.specs.SetPaths.{first_look, served_formed, last_look, may_look, set_at}
-use Rattle.dms_store.specs.Spelled.{db_in, file_in, is_spelled, some_if, database_in}
+use Rattle.dms_spelling.specs.Serving.{IsServed}
+use Rattle.dms_store.specs.SetPaths.{first_look, last_look}
+use Rattle.dms_entries.specs.BoundFits.{may_look}
+use Rattle.dms_entries.specs.Looked.{MayLook}
+use Rattle.dms_spelling.specs.ServingLaws.{set_at}
+use Rattle.dms_spelling.specs.Spelled.{db_in, is_spelled, some_if, database_in}
+use Rattle.dms_links.specs.Rows.{file_in}
 use Rattle.dms_store.specs.SpelledLaws.{spelled_fits, spells}
 use Rattle.dms_store.specs.Undamaged.{no_bad_slot, told_spelled}
 use Rattle.dms_store.proofs.Standing.{over_set, stands_for}
@@ -86,11 +90,11 @@ module _ (desc : Described) (s : Shape) (served : IsServed desc) (at : structure
 
   -- the list of a set's file
   listed_in : (c : Content) → is_spelled desc c ≡ true → kept_in (form_of s) width (file_in c s) ≡ Some (entries_of desc (db_in desc c) s)
-  listed_in c spelt = list_at desc c s.number s spelt at (no_data_set s kept) kept
+  listed_in c spelt = (files_in desc c served spelt).lists.kept s.number s at (no_data_set s kept) kept
 
   all_small_in : (c : Content) (d : Db) → database_in desc c ≡ Some d → AllPlaces IsSmall (entries d.records)
   all_small_in c d is =
-      all_small (kinds_over desc s) s (entries d.records) (all_fit desc d s (set_at desc s.number s served at kept).named.items (spelled_fits desc c d (served_formed desc served) is))
+      all_small (kinds_over desc s) s (entries d.records) (all_fit desc d s (set_at desc s.number s served at kept).named.items (spelled_fits desc c d served is))
 
   module _ (told : Bool) (c : Content) (owner : ℕ) (bound : Bound) (may : MayStart desc s.number owner bound) (q : Option (List ℕ)) (r : Result (Option Spot) BlockFault) where
     -- the member of the entry that was found is the first one behind the bound

@@ -11,10 +11,12 @@ use Rattle.dms_desc.specs.declared.record.Record.{Record}
 use Rattle.dms_desc.specs.Lookups.{structure_of}
 use Rattle.dms_desc.specs.Shape.{Shape, Described}
 use Rattle.dms_model.specs.Fitting.{is_number}
-use Rattle.dms_store.specs.Serving.{IsServed}
-use Rattle.dms_store.specs.SetPaths.{served_formed}
-use Rattle.dms_store.specs.Spelled.{db_in, is_spelled, some_if}
-use Rattle.dms_store.specs.SpelledLaws.{RecordStands, spelled_stands}
+use Rattle.dms_links.specs.Stands.{tally_of}
+use Rattle.dms_spelling.specs.Holds.{RecordStands}
+use Rattle.dms_spelling.specs.Serving.{IsServed}
+use Rattle.dms_spelling.specs.Spelled.{db_in, is_spelled}
+use Rattle.dms_store.specs.Files.{spelled_is}
+use Rattle.dms_store.specs.SpelledLaws.{spelled_stands}
 
 in_range : (n p : ℕ) → 1 ≤ n → n ≤ p → (nat_le 1 n && nat_le n p) ≡ true
 in_range n p low most = and_from (nat_le 1 n) (nat_le n p) (grind (arith, nat_tests, low)) (grind (arith, nat_tests, most))
@@ -23,13 +25,13 @@ pub no_record : (desc : Described) (c : Content) (set number : ℕ) (s : Shape) 
     → None ≡ get (db_in desc c).records (set, number)
 no_record desc c set number s served spelt at off = by (get (db_in desc c).records (set, number)) refl
   where
-    stands : (rec : Record) → get (db_in desc c).records (set, number) ≡ Some rec → RecordStands desc (db_in desc c) (set, number) rec
-    stands rec is = spelled_stands desc c (db_in desc c) (served_formed desc served) (ap (λ t. some_if t (db_in desc c)) spelt) (set, number) rec is
+    stands : (rec : Record) → get (db_in desc c).records (set, number) ≡ Some rec → RecordStands desc (db_in desc c) (tally_of desc (db_in desc c)) (set, number) rec
+    stands rec is = spelled_stands desc c (db_in desc c) served (spelled_is desc c spelt) (set, number) rec is
 
     by : (o : Option Record) → get (db_in desc c).records (set, number) ≡ o → None ≡ o
     by None is = refl
     by (Some rec) is =
         let r = stands rec is in
         let same : r.shape ≡ s = same_Some r.shape s (sym r.is ∙ at) in
-        let on : is_number (Some s) number ≡ true = ap (λ (x : Shape). is_number (Some x) number) (sym same) ∙ in_range number r.shape.population r.low r.most in
+        let on : is_number (Some s) number ≡ true = ap (λ (x : Shape). is_number (Some x) number) (sym same) ∙ in_range number r.shape.population r.low r.stands.most in
         absurd (cc (on, off))

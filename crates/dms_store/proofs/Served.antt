@@ -14,8 +14,7 @@ use Rattle.dms_desc.specs.declared.structure.KeyPart.{KeyPart}
 use Rattle.dms_desc.specs.Lookups.{items_of, structure_at, structure_of}
 use Rattle.dms_desc.specs.Shape.{Shape, Described, Tree, Empty, Test, Both, Either, Contrary}
 use Rattle.dms_desc_bytes.specs.Conditions.{compares_well, is_comparable, is_condition, is_nothing}
-use Rattle.dms_desc_bytes.specs.Finding.{item_at, items_at, kind_of}
-use Rattle.dms_desc_bytes.specs.Finding.{kind_in as structure_kind}
+use Rattle.dms_desc_bytes.specs.Finding.{item_at, items_at, kind_of, kind_in as structure_kind}
 use Rattle.dms_desc_bytes.specs.Lists.{is_empty, is_within, total}
 use Rattle.dms_desc_bytes.specs.Members.{is_item_sound}
 use Rattle.dms_desc_bytes.specs.Spelling.{is_data_set as is_set_kind}
@@ -23,15 +22,15 @@ use Rattle.dms_desc_bytes.specs.WellFormed as well
 use Rattle.dms_desc_bytes.specs.WellFormed.{IsWellFormed, are_sound, has_sound_items, is_data_set_sound, is_key_item, is_key_sound, is_part_sound, is_set_sound, is_sound, lacks_set_fields, stand_in_order}
 use Rattle.dms_key.specs.KeyBytes as bytes
 use Rattle.dms_layout.specs.Slots.{AreKinds, slot_width}
-use Rattle.dms_model.specs.Valid.{is_data_set}
+use Rattle.dms_model.specs.Valid.{is_data_set, is_manual}
 use Rattle.dms_sets.specs.Entries.{kinds_of}
 use Rattle.dms_sets.specs.Padded.{entry_width}
 use Rattle.dms_sets.specs.Sets.{items_over}
 use Rattle.dms_sets.specs.Spots.{NameItems}
 use Rattle.dms_sets.specs.Stored.{NamesNoLink, NamesNoLinks, TestsNoLink, is_link_at}
-use Rattle.dms_store.specs.Rows.{AreNumbered}
-use Rattle.dms_store.specs.Serving.{IsServed, IsServedSet, IsServedShape}
-use Rattle.dms_store.specs.SetPaths.{kind_there}
+use Rattle.dms_links.specs.Rows.{AreNumbered}
+use Rattle.dms_spelling.specs.Serving.{IsServed, IsServedSet, IsServedShape}
+use Rattle.dms_entries.specs.BoundFits.{kind_there}
 use Rattle.dms_desc.specs.Kinds.{is_set_or_automatic}
 
 -- ---- numbers and lists
@@ -168,16 +167,16 @@ key_sound items ps h =
 
 -- ---- kinds
 
--- the kind of a data set isn't that of a set
-set_apart : (k : ℕ) → is_set_kind k ≡ true → (nat_lt 2 k && nat_lt k 5) ≡ true → ⊥
-set_apart k h kept = by (k == 1) refl h (and_parts (nat_lt 2 k) (nat_lt k 5) kept).0
+-- the kind of a data set isn't that of a set or subset
+set_apart : (k : ℕ) → is_set_kind k ≡ true → nat_lt 2 k ≡ true → ⊥
+set_apart k h more = by (k == 1) refl h
   where
     apart : false ≡ true → ⊥
     apart e = absurd (cc)
 
-    by : (b : Bool) → (k == 1) ≡ b → (b || (k == 2)) ≡ true → nat_lt 2 k ≡ true → ⊥
-    by true e h more = let is : k ≡ 1 = grind (arith, nat_tests, e) in apart (sym (ap (nat_lt 2) is) ∙ more)
-    by false e h more = let is : k ≡ 2 = grind (arith, nat_tests, h) in apart (sym (ap (nat_lt 2) is) ∙ more)
+    by : (b : Bool) → (k == 1) ≡ b → (b || (k == 2)) ≡ true → ⊥
+    by true e h = let is : k ≡ 1 = grind (arith, nat_tests, e) in apart (sym (ap (nat_lt 2) is) ∙ more)
+    by false e h = let is : k ≡ 2 = grind (arith, nat_tests, h) in apart (sym (ap (nat_lt 2) is) ∙ more)
 
 -- and that of another structure is none of a data set
 no_set : (k : ℕ) → is_set_kind k ≡ false → 1 ≤ k → 2 < k
@@ -211,7 +210,7 @@ set_over desc s is k = record { data_set = is; named = record { items = k.names;
 module _ (desc : Described) (s : Shape) (low : 1 ≤ s.kind) (most : s.kind ≤ 5) where
   -- what a structure has to be
   abbrev IsFit : Type 0
-  IsFit = IsServedShape s × (is_set_or_automatic s ≡ true → IsServedSet desc s)
+  IsFit = IsServedShape s × (nat_lt 2 s.kind ≡ true → IsServedSet desc s)
 
   data_set_served : is_set_kind s.kind ≡ true → is_data_set_sound desc.structures s ≡ true → IsFit
   unfolding is_data_set_sound has_sound_items lacks_set_fields
@@ -233,7 +232,7 @@ module _ (desc : Described) (s : Shape) (low : 1 ≤ s.kind) (most : s.kind ≤ 
           population = (within 1 1000000 s.population (and_parts _ _ e.0).0).1;
           keyless = λ u. nothing_in s.parts (and_parts _ _ a.1).1;
         },
-        λ kept. absurd (set_apart s.kind is kept),
+        λ high. absurd (set_apart s.kind is high),
       )
 
   over_set : 2 < s.kind → items_over desc s ≡ items_at desc.structures s.set
@@ -271,7 +270,7 @@ module _ (desc : Described) (s : Shape) (low : 1 ≤ s.kind) (most : s.kind ≤ 
           population = few_of (s.kind == 5) s.population (and_parts _ _ g.0).1;
           keyless = λ h. let two = and_parts (nat_lt 0 s.kind) (nat_lt s.kind 3) h in let low : s.kind < 3 = grind (arith, nat_tests, two.1) in absurd (omega (arith, low, more));
         },
-        λ kept. set_over desc s (data_set_of (structure_at desc.structures s.set) (over_kind (and_parts _ _ (and_parts _ _ g.0).0).0)) (subst (λ (xs : List Item). KeyServes xs s) (sym is) (record {
+        λ high. set_over desc s (data_set_of (structure_at desc.structures s.set) (over_kind (and_parts _ _ (and_parts _ _ g.0).0).0)) (subst (λ (xs : List Item). KeyServes xs s) (sym is) (record {
           names = parts_named items s.parts key.parts;
           links = record { parts = parts_unlinked items s.parts key.parts; cond = where_unlinked items (s.kind == 4) s.cond c.1 };
           width = omega (arith, wide, key.wide);
@@ -283,7 +282,10 @@ module _ (desc : Described) (s : Shape) (low : 1 ≤ s.kind) (most : s.kind ≤ 
   by_kind true is h = data_set_served is h
   by_kind false is h = set_served is h
 
-shape_served : (desc : Described) (s : Shape) → is_sound desc.structures s ≡ true → IsServedShape s × (is_set_or_automatic s ≡ true → IsServedSet desc s)
+above : (k : ℕ) → (k == 5) ≡ true → nat_lt 2 k ≡ true
+above k h = let is : k ≡ 5 = grind (arith, nat_tests, h) in ap (nat_lt 2) is
+
+shape_served : (desc : Described) (s : Shape) → is_sound desc.structures s ≡ true → IsServedShape s × (nat_lt 2 s.kind ≡ true → IsServedSet desc s)
 unfolding is_sound
 shape_served desc s h =
     let a = and_parts _ _ h in
@@ -301,11 +303,11 @@ module _ (desc : Described) where
       let two = and_parts (is_sound desc.structures s) (list_all (is_sound desc.structures) ss) h in
       ((shape_served desc s two.0).0, each_served ss two.1)
 
-  sets_served : (ss : List Shape) → list_all (is_sound desc.structures) ss ≡ true → AllByRecursion (λ s. is_set_or_automatic s ≡ true → IsServedSet desc s) ss
-  sets_served [] h = tt
-  sets_served (s ∷ ss) h =
+  sets_served : (p : Shape → Bool) → ((s : Shape) → p s ≡ true → nat_lt 2 s.kind ≡ true) → (ss : List Shape) → list_all (is_sound desc.structures) ss ≡ true → AllByRecursion (λ s. p s ≡ true → IsServedSet desc s) ss
+  sets_served p high [] h = tt
+  sets_served p high (s ∷ ss) h =
       let two = and_parts (is_sound desc.structures s) (list_all (is_sound desc.structures) ss) h in
-      ((shape_served desc s two.0).1, sets_served ss two.1)
+      ((λ is. (shape_served desc s two.0).1 (high s is)), sets_served p high ss two.1)
 
   pub served : IsWellFormed desc → IsServed desc
   unfolding are_sound
@@ -320,5 +322,7 @@ module _ (desc : Described) where
         count = at_most (length desc.structures) 200 f.0;
         numbered = numbered_in 1 desc.structures f.1;
         each = each_served desc.structures a.1;
-        sets = sets_served desc.structures a.1;
+        sets = sets_served is_set_or_automatic (λ s kept. (and_parts (nat_lt 2 s.kind) (nat_lt s.kind 5) kept).0) desc.structures a.1;
+        manual = sets_served (λ s. is_manual (Some s)) (λ s manual. above s.kind manual) desc.structures a.1;
+        links = at_most _ 4000 b.1;
       }

@@ -32,8 +32,8 @@ use Rattle.dms_sets.specs.Owners.{is_of, is_of_entry}
 use Rattle.dms_sets.specs.Sets.{IsSmall, entries_of, entry_number, entry_of, kinds_over, listed_in, number_in, own_entry, place_in_entry}
 use Rattle.dms_sets.specs.Spots.{and_then, spot_at}
 use Rattle.dms_store.specs.Listed.{IsEntryOfRecord, is_entry}
-use Rattle.dms_store.specs.Finding.{served_at}
-use Rattle.dms_store.specs.Serving.{IsServed}
+use Rattle.dms_spelling.specs.ServingLaws.{served_at}
+use Rattle.dms_spelling.specs.Serving.{IsServed}
 use Rattle.dms_model.specs.MemberLaws.{equal_of}
 
 -- the records of a set are those of another structure

@@ -1,8 +1,7 @@
 -- What is read of the blocks of a store.
-use Rattle.std.proofs.Common.{◌≡◌, ◌∙◌, ◌+◌, ◌-◌, ◌*◌, ◌<◌, ◌≤◌, ℕ, min, zero, suc, List, [], ◌∷◌, true, false, cond, IfSome, IsTrue, Some, None, refl, sym, ap, subst, take, length, slice_get, arith}
-use Rattle.std.specs.Prelude.{◌==◌, nat_le, slice_index_or}
+use Rattle.std.proofs.Common.{◌≡◌, ◌∙◌, ◌*◌, ◌<◌, ◌≤◌, ℕ, min, zero, suc, List, [], ◌∷◌, true, false, cond, IfSome, IsTrue, Some, None, refl, sym, ap, subst, take, length, arith}
+use Rattle.std.specs.Prelude.{nat_le, slice_index_or}
 use Rattle.std.specs.declared.result.Result.TheVariants.{Ok}
-use Rattle.std.specs.List.{AllByRecursion}
 use Rattle.std.specs.declared.option.Option.{Option}
 use Rattle.std.specs.FinMap.{get}
 use Rattle.std.proofs.lemmas.Bool.Decides.{nat_tests}
@@ -32,10 +31,12 @@ use Rattle.dms_model.specs.Valid.{OfItems, is_data_set}
 use Rattle.dms_slots.specs.Seen.{BadAt, BadIn, blocks_of, count_of}
 use Rattle.dms_desc.specs.Files.{file_of}
 use Rattle.dms_slots.specs.SlotBlocks.{is_block, per_block, slot_at, slot_opt, slots_of}
-use Rattle.dms_store.specs.Rows.{AreNumbered, get_in, rec_in, rec_opt}
+use Rattle.dms_links.specs.Linking as links
+use Rattle.dms_links.specs.Rows.{file_in, rec_in, rec_opt}
+use Rattle.dms_store.specs.Rows.{get_in}
 use Rattle.dms_store.specs.Scans.{stop_of}
-use Rattle.dms_store.specs.Serving.{IsServed, IsServedShape}
-use Rattle.dms_store.specs.Spelled.{db_in, file_in}
+use Rattle.dms_spelling.specs.Serving.{IsServed}
+use Rattle.dms_spelling.specs.Spelled.{db_in}
 use Rattle.dms_model.specs.FitLaws.{lengths_are}
 
 module _ {B : Type 0} {g : Ghosts B} where
@@ -80,37 +81,9 @@ module _ {B : Type 0} {g : Ghosts B} where
 
 -- ---- structures that are served
 
-served_in : (ss : List Shape) (i : ℕ) (s : Shape) → AllByRecursion IsServedShape ss → slice_get ss i ≡ Some s → IsServedShape s
-served_in [] i s all at = absurd (cc)
-served_in (t ∷ ss) zero s all at = subst (λ (x : Shape). IsServedShape x) (some_shape t s at) all.0
-  where
-    some_shape : (x y : Shape) → ◌≡◌ {A = Option Shape} (Some x) (Some y) → x ≡ y
-    some_shape x y h = cc
-served_in (t ∷ ss) (suc i) s all at = served_in ss i s all.1 at
-
-pub structure_there : (ss : List Shape) (path : ℕ) (s : Shape) → cond (path == 0) None (slice_get ss (path - 1)) ≡ Some s → slice_get ss (path - 1) ≡ Some s
-structure_there ss zero s h = absurd (cc)
-structure_there ss (suc n) s h = let t : (suc n == 0) ≡ false = grind (arith, nat_tests) in sym (ap (λ b. cond b None (slice_get ss (suc n - 1))) t) ∙ h
-
-pub served_at : (desc : Described) (n : ℕ) (s : Shape) → IsServed desc → structure_of desc n ≡ Some s → IsServedShape s
-served_at desc n s served at = served_in desc.structures (n - 1) s served.each (structure_there desc.structures n s at)
-
-number_in : (ss : List Shape) (k i : ℕ) (s : Shape) → AreNumbered k ss → slice_get ss i ≡ Some s → s.number ≡ k + i
-number_in [] k i s numbered at = absurd (cc)
-number_in (t ∷ ss) k zero s numbered at = ap (λ (x : Shape). x.number) (sym (some_shape t s at)) ∙ numbered.0 ∙ omega arith
-  where
-    some_shape : (x y : Shape) → ◌≡◌ {A = Option Shape} (Some x) (Some y) → x ≡ y
-    some_shape x y h = cc
-number_in (t ∷ ss) k (suc i) s numbered at = number_in ss (k + 1) i s numbered.1 at ∙ omega arith
-
-not_none : (path : ℕ) (o : Option Shape) (s : Shape) → cond (path == 0) None o ≡ Some s → 1 ≤ path
-not_none zero o s h = absurd (cc)
-not_none (suc n) o s h = omega arith
-
 -- a structure that is looked up by a number has it
 pub number_at : (desc : Described) (n : ℕ) (s : Shape) → IsServed desc → structure_of desc n ≡ Some s → s.number ≡ n
-number_at desc n s served at =
-    number_in desc.structures 1 (n - 1) s served.numbered (structure_there desc.structures n s at) ∙ omega (arith, not_none n (slice_get desc.structures (n - 1)) s at)
+number_at desc n s served at = links.number_at desc served.numbered n s at
 
 -- ---- one record
 

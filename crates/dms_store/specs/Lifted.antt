@@ -16,8 +16,8 @@ use Rattle.dms_model.specs.Db.{Db}
 use Rattle.dms_model.specs.Points.{Point, Stop}
 use Rattle.dms_model.specs.Seen.{Effort, Seen}
 use Rattle.dms_desc.specs.Files.{file_of}
-use Rattle.dms_store.specs.Serving.{IsServed}
-use Rattle.dms_store.specs.Spelled.{database_in}
+use Rattle.dms_spelling.specs.Serving.{IsServed}
+use Rattle.dms_spelling.specs.Spelled.{database_in}
 
 -- the store counts by itself how often it answers that a block is damaged, whoever found it so
 abbrev pub faults_with : Faults → ℕ → Faults

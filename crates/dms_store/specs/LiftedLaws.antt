@@ -1,8 +1,9 @@
 -- What calls on blocks leave of a store.
-use Rattle.std.proofs.Common.{ℕ, zero, suc, ◌+◌, ◌≤◌, ◌≡◌, ◌∙◌, ◌++◌, List, [], ◌∷◌, Bool, true, false, cond, IsTrue, Some, refl, sym, ap, subst, map, take, arith}
+use Rattle.std.proofs.Common.{ℕ, zero, suc, ◌+◌, ◌≤◌, ◌≡◌, ◌∙◌, ◌++◌, List, [], ◌∷◌, Bool, true, false, cond, IsSome, IsTrue, None, Some, refl, sym, ap, subst, map, take, arith}
 use Rattle.std.proofs.lemmas.List.{map-append, length-map}
 use Rattle.std.specs.List.{AllByRecursion}
 use Rattle.std.specs.Str.{bytes_eq}
+use Rattle.std.specs.declared.option.Option.{Option}
 use Rattle.std.specs.declared.result.Result.{Result}
 use Rattle.std.specs.declared.result.Result.TheVariants.{Ok, Err}
 use Rattle.dms_moments.specs.Moments.{Runs}
@@ -20,12 +21,16 @@ use Rattle.dms_block.specs.Counts.{CausedBy}
 use Rattle.dms_block.specs.Held.{AuditPace, Held, BlockPoint, BlockStop, Lasts, MakesNoPoint, Prefix, SameBlocks}
 use Rattle.dms_block.specs.Held as held
 use Rattle.dms_block.specs.FaultLaws.{full_weaker}
-use Rattle.dms_desc.specs.Shape.{Described}
+use Rattle.dms_desc.specs.Shape.{Shape, Described}
 use Rattle.dms_desc_bytes.specs.Spelling.{spelling}
 use Rattle.dms_model.specs.Db.{Db}
 use Rattle.dms_model.specs.Points.{Point, Stop, LeavesPrefix, StopTextIs, StoreLeaves, StoreLeavesText, IsUnder}
 use Rattle.dms_model.specs.Seen as store
 use Rattle.dms_desc.specs.Files.{file_of}
+use Rattle.dms_desc.specs.Lookups.{structure_of}
+use Rattle.dms_links.specs.Linking.{number_at}
+use Rattle.dms_links.specs.Stepping.{HoldsSets}
+use Rattle.dms_spelling.specs.ServingLaws.{served_at}
 use Rattle.dms_store.specs.Lifted.{IsUsable, Serves, db_of, effort_of, faults_with, here_of, lift_stops, point_of, seen_of, stop_of, store_seen}
 
 -- ---- the database
@@ -204,3 +209,18 @@ module _ (desc : Described) where
   -- What stops leave of a store is what they leave of its blocks: no two outcomes below are seen as one.
   pub lower_runs : (a b : Held) {Q : Stop → Type 0} → Runs (lift_stops desc a.clock) (lift_stops desc b.clock) Q → Runs a.clock b.clock (λ x. Q (stop_of desc x))
   lower_runs a b run = runs_below_as (stop_of desc) stop_one run
+
+-- ---- files that may be written
+
+some_structure : (o : Option Shape) (s : Shape) → o ≡ Some s → IsSome o
+some_structure None s h = absurd (cc h)
+some_structure (Some t) s h = refl
+
+pub file_served : (desc : Described) (h : Held) (n : ℕ) (s : Shape) → Serves desc h → structure_of desc n ≡ Some s → IsTrue (h.owns (file_of s.number))
+file_served desc h n s serves at = subst (λ k. IsTrue (h.owns (file_of k))) (sym (number_at desc serves.served.numbered n s at)) (serves.all n (some_structure (structure_of desc n) s at))
+
+-- the files of all structures may be, and hold slots
+pub holds_served : (desc : Described) (h : Held) → Serves desc h → HoldsSets desc h
+holds_served desc h serves set s at =
+    let x = served_at desc set s serves.served at in
+    record { sized = record { few = x.few; fits = x.fits }; few = x.population; owns = file_served desc h set s serves at }

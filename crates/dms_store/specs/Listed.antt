@@ -1,17 +1,15 @@
 -- The members of sets and automatic subsets, and what an entry of their lists stands for.
-use Rattle.std.specs.Prelude.{IfOk, ℕ, ◌≡◌, ◌<◌, ◌+◌, ◌⊎◌, List, Bool, true, false, Some, None, if◌then◌else◌}
+use Rattle.std.specs.Prelude.{ℕ, ◌≡◌, ◌<◌, ◌+◌, ◌⊎◌, List, Bool, true, false, Some, None, if◌then◌else◌}
 use Rattle.std.specs.declared.option.Option.{Option}
 use Rattle.std.specs.declared.result.Result.{Result}
 use Rattle.dms_block.specs.declared.block_fault.BlockFault.{BlockFault}
 use Rattle.std.specs.FinMap.{get}
 use Rattle.std.specs.Str.{bytes_eq}
-use Rattle.dms_base.specs.declared.kind.ItemKind.{ItemKind}
 use Rattle.dms_block.specs.declared.blocks.Blocks.{Ghosts}
 use Rattle.dms_block.specs.declared.overlay.Overlay.{Overlay}
 use Rattle.dms_block.specs.View.{seen_counts, under}
 use Rattle.dms_desc.specs.declared.bound.Bound.{Bound}
 use Rattle.dms_desc.specs.declared.record.Record.{Record}
-use Rattle.dms_desc.specs.declared.structure.KeyPart.{KeyPart}
 use Rattle.dms_desc.specs.Kinds.{is_set_or_automatic}
 use Rattle.dms_desc.specs.Lookups.{set_of, structure_of}
 use Rattle.dms_desc.specs.Shape.{Shape, Described}
@@ -21,23 +19,13 @@ use Rattle.dms_model.specs.Members.{first_member, last_member}
 use Rattle.dms_model.specs.Stores.{Tells}
 use Rattle.dms_model.specs.declared.spot.Spot.{Spot}
 use Rattle.dms_model.specs.Valid.{is_data_set}
-use Rattle.dms_sets.specs.Bounds.{BoundKeyFits}
 use Rattle.dms_lists.specs.declared.form.ListForm.{ListForm}
 use Rattle.dms_lists.specs.declared.form.ListForm.TheVariants.{Tree, List as OneChain}
-use Rattle.dms_lists.specs.Forms.{IfKept, form_of, look_reads}
-use Rattle.dms_sets.specs.Padded.{BoundSmall, entry_width}
+use Rattle.dms_lists.specs.Forms.{form_of, look_reads}
 use Rattle.dms_sets.specs.Sets.{entries_of, entry_of, kinds_over, place_in_entry}
 use Rattle.dms_desc.specs.Files.{file_of}
 use Rattle.dms_store.specs.Finding.{BadSlot}
 use Rattle.dms_store.specs.Lifted.{db_of, db_under}
-
--- the key of a bound fits, and the number behind that of a bound is one of four bytes
-abbrev pub MayLook : List ItemKind → List KeyPart → Bound → Type 0
-MayLook kinds ps bound = BoundKeyFits kinds ps bound × BoundSmall kinds ps bound
-
--- where that may be looked for, the answer is this of the list of a structure's file
-abbrev pub IfLooked : {B : Type 0} {g : Ghosts B} {T : Type 0} → ListForm → List ItemKind → List KeyPart → Bound → ℕ → Overlay B g → Result T BlockFault → (T → List (List ℕ) → Type 0) → Type 0
-IfLooked form kinds ps bound n o result P = MayLook kinds ps bound → IfOk result (λ x. IfKept form o (file_of n) (entry_width kinds ps) (P x))
 
 -- these bytes are an entry
 abbrev pub is_entry : Option (List ℕ) → List ℕ → Bool

@@ -11,7 +11,7 @@ use Rattle.dms_desc.specs.Shape.{Described}
 use Rattle.dms_model.specs.Db.{Db}
 use Rattle.dms_model.specs.Stores.{TellsOf}
 use Rattle.dms_store.specs.Lifted.{db_of, faults_with}
-use Rattle.dms_store.specs.Spelled.{db_in, is_spelled, some_if}
+use Rattle.dms_spelling.specs.Spelled.{db_in, is_spelled, some_if}
 
 -- the count after this fault
 abbrev pub count_damage : BlockFault → ℕ → ℕ

@@ -16,15 +16,17 @@ use Rattle.dms_model.specs.Members.{first_member, last_member}
 use Rattle.dms_model.specs.Stores.{TellsOf}
 use Rattle.dms_model.specs.Valid.{is_data_set}
 use Rattle.dms_slots.specs.SlotBlocks.{per_block, slots_of}
-use Rattle.dms_store.specs.Files.{slots_at}
-use Rattle.dms_store.specs.Finding.{number_at, served_at}
+use Rattle.dms_spelling.specs.Back.{slots_spelled}
+use Rattle.dms_store.specs.Finding.{number_at}
+use Rattle.dms_spelling.specs.ServingLaws.{served_at}
 use Rattle.dms_store.specs.Lifted.{db_of}
 use Rattle.dms_store.specs.Noted.{tells_if}
 use Rattle.dms_store.specs.ScanLaws.{IsSetPath, first_at, first_end, last_at}
 use Rattle.dms_store.specs.ScanSteps.{slots_long}
 use Rattle.dms_store.specs.Scans.{IsRecordSpot, first_by, first_used, last_used, start_of, stop_of}
-use Rattle.dms_store.specs.Serving.{IsServed}
-use Rattle.dms_store.specs.Spelled.{db_in, file_in, is_spelled}
+use Rattle.dms_spelling.specs.Serving.{IsServed}
+use Rattle.dms_spelling.specs.Spelled.{db_in, is_spelled}
+use Rattle.dms_links.specs.Rows.{file_in}
 use Rattle.dms_store.specs.WithinLaws.{first_until, last_until, spot_fits}
 
 stop_same : (bound : Bound) (n p : ℕ) → min (stop_of bound (min n p)) (min n p) ≡ min (stop_of bound n) (min n p)
@@ -40,7 +42,7 @@ module _ (desc : Described) (path : ℕ) (s : Shape) (served : IsServed desc) (a
   module _ (c : Content) (spelt : is_spelled desc c ≡ true) (owner : ℕ) where
     first_some : (from : Bound) (m : ℕ) → start_of from ≡ Some m → first_used owner (1 + m) (drop m (take s.population (slots_of s (file_in c s)))) ≡ first_member desc (db_in desc c) path owner from
     first_some from m is =
-        first_until desc (db_in desc c) s owner 1 m s.population (slots_of s (file_in c s)) (omega arith) (slots_at desc c path s spelt at is_set).1
+        first_until desc (db_in desc c) s owner 1 m s.population (slots_of s (file_in c s)) (omega arith) (slots_spelled desc c served spelt path s at is_set)
         ∙ sym (first_at desc path s set_path c owner from m is)
 
     first_if : (from : Bound) (o : Option ℕ) → start_of from ≡ o → first_by owner o (take s.population (slots_of s (file_in c s))) ≡ first_member desc (db_in desc c) path owner from
@@ -58,7 +60,7 @@ module _ (desc : Described) (path : ℕ) (s : Shape) (served : IsServed desc) (a
         let long : length (slots_of s (file_in c s)) ≡ n * per_block s.items = slots_long s (file_in c s) ∙ ap (λ k. k * per_block s.items) (sym is) in
         let here : j ≡ min (stop_of bound (length (slots_of s (file_in c s)))) (min (length (slots_of s (file_in c s))) s.population) =
         stop ∙ stop_same bound (n * per_block s.items) s.population ∙ ap (λ k. min (stop_of bound k) (min k s.population)) (sym long) in
-        last_until desc (db_in desc c) s owner (stop_of bound (length (slots_of s (file_in c s)))) j (slots_of s (file_in c s)) here (slots_at desc c path s spelt at is_set).1
+        last_until desc (db_in desc c) s owner (stop_of bound (length (slots_of s (file_in c s)))) j (slots_of s (file_in c s)) here (slots_spelled desc c served spelt path s at is_set)
         ∙ sym (last_at desc path s set_path c owner bound)
 
   fit_if : (o : Option Spot) → IfSome o (IsRecordSpot s) → IfSome o (SpotFits desc path)

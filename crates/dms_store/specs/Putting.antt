@@ -15,7 +15,7 @@ use Rattle.dms_model.specs.Db.{Db}
 use Rattle.dms_model.specs.Fitting.{IsStored}
 use Rattle.dms_model.specs.Stores.{put_after, put_answer}
 use Rattle.dms_model.specs.Valid.{owner_stands}
-use Rattle.dms_store.specs.Spelled.{database_in}
+use Rattle.dms_spelling.specs.Spelled.{database_in}
 use Rattle.dms_desc_bytes.specs.Finding.{owner_in as owner_of}
 
 -- This record may be stored: where it is a new one its owner's record is there, or it has no owner where its data set is disjoint; and

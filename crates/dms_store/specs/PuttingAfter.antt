@@ -1,6 +1,6 @@
 -- The database after one record is stored: what its slots count, what refers to what.
 use Rattle.std.proofs.Common.{◌≡◌, ◌∙◌, ◌+◌, ◌≤◌, ℕ, List, [], ◌∷◌, Bool, true, false, cond, Some, None, refl, sym, ap, length, arith}
-use Rattle.std.specs.Prelude.{◌&&◌, ◌==◌, count_by, is_some, sum_by}
+use Rattle.std.specs.Prelude.{◌&&◌, ◌==◌, ◌||◌, count_by, is_some, sum_by}
 use Rattle.std.specs.declared.option.Option.{Option}
 use Rattle.std.specs.FinMap.{entries, entries_sorted, get, get-entries, get-insert, insert}
 use Rattle.std.specs.Ordering.{eq_by_cmp}
@@ -11,7 +11,7 @@ use Rattle.dms_base.specs.declared.kind.ItemKind.TheVariants.{Alpha, Number as D
 use Rattle.dms_base.specs.declared.value.Value.{Value}
 use Rattle.dms_base.specs.declared.value.Value.TheVariants.{Null, Text, Number, Bool as Truth, Bits, Link as Reference}
 use Rattle.dms_desc.specs.Lookups.{items_of, structure_of}
-use Rattle.dms_desc.specs.Shape.{Described}
+use Rattle.dms_desc.specs.Shape.{Shape, Described}
 use Rattle.dms_desc.specs.declared.record.Record.{Record}
 use Rattle.dms_desc.specs.declared.structure.Item.{Item}
 use Rattle.dms_layout.specs.declared.slot.Slot.{Slot}
@@ -19,11 +19,22 @@ use Rattle.dms_model.specs.Db.{Db, Place, Records, SubsetEntry, place_cmp}
 use Rattle.dms_model.specs.Stores.{with_links_of, linked_from, values_of}
 use Rattle.dms_model.specs.Valid.{link_stands, owner_stands, refers}
 use Rattle.dms_slots.specs.SlotBlocks.{slot_opt}
-use Rattle.dms_store.specs.PuttingCounts.{insert_sum, links_linked, links_none, of_opt, sum_none}
+use Rattle.dms_tally.specs.Sums.{insert_sum, of_opt}
+use Rattle.dms_store.specs.PuttingCounts.{links_linked, links_none, sum_none}
 use Rattle.dms_store.specs.PuttingMoved.{owns_one}
-use Rattle.dms_store.specs.Rows.{rec_opt}
-use Rattle.dms_store.specs.Spelled.{counted_in, is_counted_to, is_number, links_stand, links_to, owned_in}
-use Rattle.dms_model.specs.Places.{places_total}
+use Rattle.dms_links.specs.Rows.{rec_opt}
+use Rattle.dms_tally.specs.Counts.{counted_in, is_counted_to, is_number, links_stand, links_to, owned_in}
+use Rattle.dms_desc.specs.Lookups.{over_of}
+use Rattle.dms_manual.specs.Entered.{manual_of}
+use Rattle.dms_manual.specs.Listed.{manual_still}
+use Rattle.dms_manual.specs.Named.{names_record}
+use Rattle.dms_model.specs.Members.{names}
+use Rattle.dms_model.specs.Places.{place_is, places_total}
+use Rattle.dms_model.specs.Uses.{has_entry}
+use Rattle.dms_model.specs.Valid.{EntryStands, is_manual}
+use Rattle.dms_spelling.specs.Stands.{EntriesStand}
+use Rattle.dms_tally.specs.Tally.{count_more}
+use Rattle.std.specs.List.{AllByRecursion, list_any}
 use Rattle.dms_desc_bytes.specs.Finding.{owner_in as owner_of}
 
 -- the database with this record under the number
@@ -60,6 +71,29 @@ module _ (db : Db) (set number : ℕ) (rec : Record) where
       by true e = e
       by false e = more (to, owner) e
 
+-- what a link refers to exists also where there are more records
+still_refers : (old new : Records) (to : ℕ) (v : Value) → ((p : Place) → is_some (get old p) ≡ true → is_some (get new p) ≡ true) → refers old to v ≡ true → refers new to v ≡ true
+still_refers old new to Null more h = h
+still_refers old new to (Text a) more h = h
+still_refers old new to (Number a) more h = h
+still_refers old new to (Truth a) more h = h
+still_refers old new to (Bits a) more h = h
+still_refers old new to (Reference n) more h = more (to, n) h
+
+still_stands : (old new : Records) (k : ItemKind) (v : Value) → ((p : Place) → is_some (get old p) ≡ true → is_some (get new p) ≡ true) → link_stands old k v ≡ true → link_stands new k v ≡ true
+still_stands old new (Alpha n) v more h = h
+still_stands old new (Decimal n m k) v more h = h
+still_stands old new OneBit v more h = h
+still_stands old new (Field n) v more h = h
+still_stands old new (Link to counted) v more h = still_refers old new to v more h
+
+pub links_still : (old new : Records) (is : List Item) (vs : List Value) → ((p : Place) → is_some (get old p) ≡ true → is_some (get new p) ≡ true) → links_stand old is vs ≡ true → links_stand new is vs ≡ true
+links_still old new [] vs more h = refl
+links_still old new (i ∷ is) [] more h = refl
+links_still old new (i ∷ is) (v ∷ vs) more h =
+    let both = and_parts (link_stands old i.kind v) (links_stand old is vs) h in
+    (λ j. still_stands old new i.kind v more both.0 j && links_still old new is vs more both.1 j)
+
 -- ---- counts
 
 of_old : (t m : ℕ) (items : List Item) (o : Option Record) → of_opt (λ r. links_to t m items r.values) o ≡ links_to t m items (values_of o)
@@ -79,25 +113,8 @@ counted_still desc db set number old rec is long t m =
     omega (arith, sum, new, was)
 
 one_of : (b : Bool) → b ≡ false → ◌≡◌ {A = ℕ} (cond b 1 0) 0
-one_of true h = absurd (cc)
+one_of true h = absurd (cc h)
 one_of false h = refl
-
-none_opt : (f : Record → ℕ) (o : Option Record) → ((r : Record) → f r ≡ 0) → of_opt f o ≡ 0
-none_opt f None h = refl
-none_opt f (Some r) h = h r
-
--- and each owns as many, where the data set is disjoint
-pub owned_still : (desc : Described) (db : Db) (set number : ℕ) (made : Record) → owner_of (structure_of desc set) ≡ 0 → (t m : ℕ) → 1 ≤ t → owned_in desc (with_record db set number made) t m ≡ owned_in desc db t m
-unfolding owned_in
-owned_still desc db set number made disjoint t m low =
-    let f : Place × Record → ℕ = λ e. cond ((owner_of (structure_of desc e.0.0) == t) && (e.1.owner == m)) 1 0 in
-    let off : (owner_of (structure_of desc set) == t) ≡ false = grind (arith, nat_tests, disjoint, low) in
-    let none : (r : Record) → f ((set, number), r) ≡ 0 = λ r. ap (λ b. cond (b && (r.owner == m)) 1 0) off in
-    let sum = insert_sum f (set, number) made db.records in
-    let was = none_opt (λ r. f ((set, number), r)) (get db.records (set, number)) none in
-    let now = none made in
-    let same : sum_by f (entries (insert db.records (set, number) made)) ≡ sum_by f (entries db.records) = omega (arith, sum, was, now) in
-    ap (λ n. n + count_by (λ (e : SubsetEntry). (owner_of (structure_of desc e.subset) == t) && (e.owner == m)) db.entries) same
 
 shift : (a b c d n : ℕ) → a + b ≡ c + d → (a + n) + b ≡ (c + n) + d
 shift a b c d n h = omega (arith, h)
@@ -178,12 +195,92 @@ off_owner m t n to owner low none h = by (to == t) (owner == n) refl refl
     by true false e f = refl
     by false b e f = refl
 
+none_entered : (desc : Described) (m : Records) (t n : ℕ) (db : Db) → 1 ≤ t → get db.records (t, n) ≡ None → (es : List SubsetEntry) → AllByRecursion (EntryStands desc db) es
+    → count_by (λ (e : SubsetEntry). (owner_of (structure_of desc e.subset) == t) && (e.owner == n)) es ≡ 0
+none_entered desc m t n db low none [] all = refl
+none_entered desc m t n db low none (e ∷ es) all =
+    let here = one_of ((owner_of (structure_of desc e.subset) == t) && (e.owner == n)) (off_owner db.records t n (owner_of (structure_of desc e.subset)) e.owner low none all.0.owner) in
+    let rest = none_entered desc m t n db low none es all.1 in
+    omega (arith, count_more (λ (x : SubsetEntry). (owner_of (structure_of desc x.subset) == t) && (x.owner == n)) e es, here, rest)
+
 -- and it owns nothing
-pub owned_none : (desc : Described) (db : Db) (t n : ℕ) → 1 ≤ t → get db.records (t, n) ≡ None → db.entries ≡ []
+pub owned_none : (desc : Described) (db : Db) (t n : ℕ) → 1 ≤ t → get db.records (t, n) ≡ None → AllByRecursion (EntryStands desc db) db.entries
     → ((p : Place) (r : Record) → get db.records p ≡ Some r → owner_stands db.records (owner_of (structure_of desc p.0)) r.owner ≡ true) → owned_in desc db t n ≡ 0
 unfolding owned_in
-owned_none desc db t n low none no_entries stand =
+owned_none desc db t n low none entries_stand stand =
     let records = sum_none (λ (e : Place × Record). cond ((owner_of (structure_of desc e.0.0) == t) && (e.1.owner == n)) 1 0) (entries db.records)
     (λ p r at. one_of ((owner_of (structure_of desc p.0) == t) && (r.owner == n)) (off_owner db.records t n (owner_of (structure_of desc p.0)) r.owner low none (stand p r (get-entries db.records p ∙ at)))) (entries_sorted db.records) in
-    let rest : count_by (λ (e : SubsetEntry). (owner_of (structure_of desc e.subset) == t) && (e.owner == n)) db.entries ≡ 0 = ap (λ (es : List SubsetEntry). count_by (λ (e : SubsetEntry). (owner_of (structure_of desc e.subset) == t) && (e.owner == n)) es) no_entries in
+    let rest = none_entered desc db.records t n db low none db.entries entries_stand in
     λ i. records i + rest i
+
+-- ---- entries of manual subsets
+
+module _ (desc : Described) (db : Db) (set number : ℕ) (rec : Record) where
+  entry_more : (e : SubsetEntry) → EntryStands desc db e → EntryStands desc (with_record db set number rec) e
+  entry_more e stands = record {
+    manual = stands.manual;
+    member = more db set number rec (over_of (structure_of desc e.subset), e.number) stands.member;
+    owner = owner_more db set number rec (owner_of (structure_of desc e.subset)) e.owner stands.owner;
+  }
+
+  each_more : (es : List SubsetEntry) → AllByRecursion (EntryStands desc db) es → AllByRecursion (EntryStands desc (with_record db set number rec)) es
+  each_more [] all = tt
+  each_more (e ∷ es) all = (entry_more e all.0, each_more es all.1)
+
+  -- those that stood stand
+  pub entries_more : EntriesStand desc db → EntriesStand desc (with_record db set number rec)
+  entries_more stand = record { each = each_more db.entries stand.each; rising = stand.rising; few = stand.few }
+
+-- no entry names a record that isn't there
+unnamed : (desc : Described) (db : Db) (n : ℕ) (s : Shape) → structure_of desc s.number ≡ Some s → is_manual (Some s) ≡ true → get db.records (s.set, n) ≡ None → (es : List SubsetEntry) → AllByRecursion (EntryStands desc db) es
+    → list_any (names_record s.number n) es ≡ false
+unnamed desc db n s at manual none [] all = refl
+unnamed desc db n s at manual none (e ∷ es) all = by (names_record s.number n e) refl (unnamed desc db n s at manual none es all.1)
+  where
+    by : (b : Bool) → names_record s.number n e ≡ b → list_any (names_record s.number n) es ≡ false → (b || list_any (names_record s.number n) es) ≡ false
+    by false is rest = rest
+    by true is rest =
+        let two = and_parts (e.subset == s.number) (e.number == n) is in
+        let subset : e.subset ≡ s.number = grind (arith, nat_tests, two.0) in
+        let number : e.number ≡ n = grind (arith, nat_tests, two.1) in
+        let of : over_of (structure_of desc e.subset) ≡ s.set = ap (λ k. over_of (structure_of desc k)) subset ∙ ap over_of at ∙ own_set s manual in
+        absurd (absent db.records (s.set, n) none ((λ i. is_some (get db.records (sym of i, sym number i))) ∙ all.0.member))
+      where
+        own_set : (u : Shape) → is_manual (Some u) ≡ true → over_of (Some u) ≡ u.set
+        own_set u h = grind (arith, nat_tests, h)
+
+pub none_named : (desc : Described) (db : Db) (n : ℕ) (s : Shape) → structure_of desc s.number ≡ Some s → is_manual (Some s) ≡ true → get db.records (s.set, n) ≡ None → EntriesStand desc db → list_any (names_record s.number n) db.entries ≡ false
+none_named desc db n s at manual none stand = unnamed desc db n s at manual none db.entries stand.each
+
+-- an entry with an owner is one of any owner
+named_any : (subset o n : ℕ) (es : List SubsetEntry) → list_any (names subset o n) es ≡ true → list_any (names_record subset n) es ≡ true
+named_any subset o n [] h = absurd (cc h)
+named_any subset o n (e ∷ es) h = by (λ k. named_any subset o n es k) (names subset o n e) refl h
+  where
+    or_on : (b : Bool) → (b || true) ≡ true
+    or_on true = refl
+    or_on false = refl
+
+    same : (a b c : Bool) → ((a && b) && c) ≡ true → (a && c) ≡ true
+    same true true c h = h
+    same true false c h = absurd (cc h)
+    same false b c h = absurd (cc h)
+
+    by : (list_any (names subset o n) es ≡ true → list_any (names_record subset n) es ≡ true) → (b : Bool) → names subset o n e ≡ b → (b || list_any (names subset o n) es) ≡ true → (names_record subset n e || list_any (names_record subset n) es) ≡ true
+    by rest true is k = ap (λ b. b || list_any (names_record subset n) es) (same (e.subset == subset) (e.owner == o) (e.number == n) is)
+    by rest false is k = ap (λ b. names_record subset n e || b) (rest k) ∙ or_on (names_record subset n e)
+
+-- The list of a manual subset stays where the record is one of another data set, or no entry of the subset names it.
+pub list_stays : (desc : Described) (db : Db) (set number : ℕ) (rec : Record) (s : Shape) → (s.set ≡ set → list_any (names_record s.number number) db.entries ≡ false) → manual_of desc (with_record db set number rec) s ≡ manual_of desc db s
+list_stays desc db set number rec s off = manual_still desc s db (with_record db set number rec) (record { entered = λ o n. refl; records = λ o n has. after_get db set number rec (s.set, n) ∙ by n (eq_by_cmp place_cmp (s.set, n) (set, number)) refl o has })
+  where
+    apart : true ≡ false → ⊥
+    apart h = absurd (cc h)
+
+    by : (n : ℕ) (b : Bool) → eq_by_cmp place_cmp (s.set, n) (set, number) ≡ b → (o : ℕ) → has_entry db s.number o n ≡ true → cond b (Some rec) (get db.records (s.set, n)) ≡ get db.records (s.set, n)
+    by n false is o has = refl
+    by n true is o has =
+        let p = place_is (s.set, n) (set, number) is in
+        let here : n ≡ number = ap (λ (q : Place). q.1) p in
+        let none = off (ap (λ (q : Place). q.0) p) in
+        absurd (apart (sym (named_any s.number o number db.entries (ap (λ k. has_entry db s.number o k) (sym here) ∙ has)) ∙ none))

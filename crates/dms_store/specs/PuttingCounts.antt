@@ -1,13 +1,8 @@
--- How many counted links refer to a record, and how many records it owns, after one record is stored.
-use Rattle.std.proofs.Common.{◌≡◌, ◌∙◌, ◌+◌, ℕ, suc, List, [], ◌∷◌, true, false, cond, Some, None, refl, ap, slice_get, length, arith}
+-- The links of a record that is stored, and how many of them are counted.
+use Rattle.std.proofs.Common.{◌≡◌, ◌∙◌, ◌+◌, ℕ, suc, List, [], ◌∷◌, true, false, cond, Some, refl, ap, slice_get, length, arith}
 use Rattle.std.specs.Prelude.{T, ◌&&◌, ◌==◌, sum_by}
 use Rattle.std.specs.List.{AllByRecursion}
-use Rattle.std.specs.Ordering.{is_eq}
-use Rattle.std.specs.declared.cmp.Ordering.{Ordering}
-use Rattle.std.specs.declared.cmp.Ordering.TheVariants.{Less, Equal, Greater}
-use Rattle.std.specs.declared.option.Option.{Option}
-use Rattle.std.specs.FinMap.{entries, entries-insert, entries_sorted, find, get, get-entries, insert, is_sorted, put}
-use Rattle.std.specs.FinMap.Entries.{below_all, by_order}
+use Rattle.std.specs.FinMap.{find, is_sorted}
 use Rattle.std.proofs.lemmas.List.Sums.{sum_by-cons}
 use Rattle.dms_base.specs.declared.kind.ItemKind.{ItemKind}
 use Rattle.dms_base.specs.declared.kind.ItemKind.TheVariants.{Alpha, Number as Decimal, Bool as OneBit, Field, Link}
@@ -21,49 +16,11 @@ use Rattle.dms_model.specs.Db.{Place, Records, place_cmp}
 use Rattle.dms_model.specs.Stores.{kept_value, linked_from}
 use Rattle.dms_model.specs.Valid.{link_stands}
 use Rattle.dms_sets.specs.Spots.{StandsAmong, all_found}
-use Rattle.dms_store.specs.Spelled.{is_counted_to, links_stand, links_to}
-use Rattle.dms_model.specs.Places.{places_same, places_total}
-use Rattle.dms_model.specs.Fresh.{second_true, first_true}
+use Rattle.dms_tally.specs.Counts.{is_counted_to, links_stand, links_to}
 use Rattle.dms_slots.specs.SlotBlockLaws.{both_false}
-use Rattle.dms_chain.specs.Lists.{less_of}
 
--- ---- a sum over all records, after one of them is put
+-- ---- a sum of nothing
 
--- what a count says of a record that stands there, 0 where none does
-abbrev pub of_opt : (Record → ℕ) → Option Record → ℕ
-of_opt f None = 0
-of_opt f (Some r) = f r
-
-none_behind : (k x : Place) (es : List (Place × Record)) → place_cmp k x ≡ Less → T (below_all place_cmp x es) → find place_cmp k es ≡ None
-none_behind k x [] p h = refl
-none_behind k x (e ∷ es) p h =
-    let q : place_cmp k e.0 ≡ Less = places_total.trans k x e.0 p (less_of _ (first_true _ _ h)) in
-    ap (λ r. cond (is_eq r) (Some e.1) (find place_cmp k es)) q ∙ none_behind k x es p (second_true _ _ h)
-
-module _ (f : Place × Record → ℕ) (k : Place) (v : Record) where
-  put_turn : (o : Ordering) (e : Place × Record) (es : List (Place × Record)) → place_cmp k e.0 ≡ o → T (is_sorted place_cmp (e ∷ es))
-      → sum_by f (put place_cmp k v es) + of_opt (λ r. f (k, r)) (find place_cmp k es) ≡ sum_by f es + f (k, v)
-      → sum_by f (by_order o ((k, v) ∷ e ∷ es) ((e.0, v) ∷ es) (e ∷ put place_cmp k v es)) + of_opt (λ r. f (k, r)) (cond (is_eq o) (Some e.1) (find place_cmp k es)) ≡ sum_by f (e ∷ es) + f (k, v)
-  put_turn Less e es p order rest =
-      let none : of_opt (λ r. f (k, r)) (find place_cmp k es) ≡ 0 = ap (of_opt (λ r. f (k, r))) (none_behind k e.0 es p (first_true _ _ order)) in
-      omega (arith, sum_by-cons f (k, v) (e ∷ es), none)
-  put_turn Equal e es p order rest =
-      let same : k ≡ e.0 = places_same k e.0 p in
-      let new : f (k, v) ≡ f (e.0, v) = ap (λ (q : Place). f (q, v)) same in
-      let old : f (k, e.1) ≡ f e = ap (λ (q : Place). f (q, e.1)) same in
-      omega (arith, sum_by-cons f (e.0, v) es, sum_by-cons f e es, new, old)
-  put_turn Greater e es p order rest = omega (arith, rest, sum_by-cons f e (put place_cmp k v es), sum_by-cons f e es)
-
-  put_sum : (es : List (Place × Record)) → T (is_sorted place_cmp es) → sum_by f (put place_cmp k v es) + of_opt (λ r. f (k, r)) (find place_cmp k es) ≡ sum_by f es + f (k, v)
-  put_sum [] order = omega (arith, sum_by-cons f (k, v) [])
-  put_sum (e ∷ es) order = put_turn (place_cmp k e.0) e es refl order (put_sum es (second_true _ _ order))
-
-  pub insert_sum : (m : Records) → sum_by f (entries (insert m k v)) + of_opt (λ r. f (k, r)) (get m k) ≡ sum_by f (entries m) + f (k, v)
-  insert_sum m =
-      (λ i. sum_by f (entries-insert places_total m k v i) + of_opt (λ r. f (k, r)) (get-entries m k i))
-      ∙ put_sum (entries m) (entries_sorted m)
-
--- a sum of nothing
 sum_all : (f : Place × Record → ℕ) (es fs : List (Place × Record)) → AllByRecursion (StandsAmong es) fs → ((p : Place) (r : Record) → find place_cmp p es ≡ Some r → f (p, r) ≡ 0) → sum_by f fs ≡ 0
 sum_all f es [] found none = refl
 sum_all f es (e ∷ fs) found none =

@@ -1,5 +1,5 @@
 -- The least free slot is that of a new record, and there is none where the data set is full.
-use Rattle.std.proofs.Common.{◌≡◌, ◌≢◌, ◌∙◌, ◌+◌, ◌-◌, ◌<◌, ◌≤◌, ℕ, zero, suc, List, [], ◌∷◌, Bool, true, false, cond, eqb, Some, None, inl, inr, refl, sym, ap, subst, length, slice_get, arith}
+use Rattle.std.proofs.Common.{◌≡◌, ◌≢◌, ◌∙◌, ◌+◌, ◌-◌, ◌<◌, ◌≤◌, ℕ, suc, List, [], ◌∷◌, Bool, true, false, cond, eqb, Some, None, inl, inr, refl, sym, ap, subst, length, slice_get, arith}
 use Rattle.std.specs.Prelude.{nat_le, nat_lt, not}
 use Rattle.std.specs.List.{AllByRecursion}
 use Rattle.std.specs.declared.option.Option.{Option}
@@ -16,7 +16,8 @@ use Rattle.dms_model.specs.Fresh.{AreAbove, NoneIs, fresh_below, fresh_free, fre
 use Rattle.dms_model.specs.Stores.{is_full}
 use Rattle.dms_sets.specs.Spots.{StandsAmong, all_found}
 use Rattle.dms_slots.specs.SlotBlocks.{before_free, or_free, slot_at, slots_of}
-use Rattle.dms_store.specs.Rows.{rec_opt}
+use Rattle.dms_links.specs.Rows.{rec_opt}
+use Rattle.dms_spelling.specs.Staying.{free_there, taken_before}
 
 -- ---- the least number that no row has
 
@@ -54,21 +55,6 @@ pub fresh_least : (m : Records) (set k : ℕ) → 1 ≤ k → get m (set, k) ≡
 fresh_least m set k low none = gap_least 1 k (records_of m set) (none_rows set k (entries m) (sym (get-entries m (set, k)) ∙ none)) low
 
 -- ---- slots
-
--- each slot before the first free one is taken
-pub taken_before : (rs : List SlotRead) (i : ℕ) → i < before_free rs → ((r : SlotRead) → or_free (slice_get rs i) ≡ r → r ≢ Free)
-taken_before [] i low r is = absurd (omega (arith, low))
-taken_before (Free ∷ rs) i low r is = absurd (omega (arith, low))
-taken_before (Used slot ∷ rs) zero low r is = λ e. let h : Used slot ≡ Free = is ∙ e in absurd (cc h)
-taken_before (Bad ∷ rs) zero low r is = λ e. let h : Bad ≡ Free = is ∙ e in absurd (cc h)
-taken_before (Used slot ∷ rs) (suc i) low r is = taken_before rs i (omega (arith, low)) r is
-taken_before (Bad ∷ rs) (suc i) low r is = taken_before rs i (omega (arith, low)) r is
-
-pub free_there : (rs : List SlotRead) → or_free (slice_get rs (before_free rs)) ≡ Free
-free_there [] = refl
-free_there (Free ∷ rs) = refl
-free_there (Used slot ∷ rs) = free_there rs
-free_there (Bad ∷ rs) = free_there rs
 
 taken_rec : (r : SlotRead) → r ≢ Free → r ≢ Bad → rec_opt r ≡ None → ⊥
 taken_rec Free off fine none = off refl

@@ -17,25 +17,30 @@ use Rattle.dms_model.specs.Fitting.{RecordFits}
 use Rattle.dms_model.specs.Stores.{with_links_of, put_after, put_answer, put_number, put_unless, record_to_store}
 use Rattle.dms_model.specs.Valid.{is_data_set, owner_stands}
 use Rattle.dms_slots.specs.SlotBlocks.{least_free, slot_at}
-use Rattle.dms_sets.specs.Answers.{IsFoundNumber, clash_seen}
 use Rattle.dms_sets.specs.ToldLaws.{clash_new}
+use Rattle.dms_manual.specs.Clashing.{manual_clash_new}
+use Rattle.dms_model.specs.Strict.{lesser}
+use Rattle.dms_sets.specs.Answers.{IsFoundNumber}
+use Rattle.dms_store.specs.Finding.{number_at}
 use Rattle.dms_store.specs.Putting.{IsSeenAfter, MayStore}
+use Rattle.dms_store.specs.PuttingAnswers.{answers, refusal}
+use Rattle.dms_store.specs.PuttingLists.{none_new}
+use Rattle.dms_store.specs.SpelledLaws.{spelled_entries}
 use Rattle.dms_store.specs.PuttingAfter.{with_record}
-use Rattle.dms_store.specs.PuttingAnswers.{answers}
 use Rattle.dms_store.specs.PuttingEnters.{IsEntered, IsJudged, OwnerStands}
 use Rattle.dms_store.specs.PuttingNumbers.{free_new, none_above, number_new, number_none, record_is}
 use Rattle.dms_store.specs.PuttingPlaced.{made_fits}
-use Rattle.dms_store.specs.Rows.{rec_opt}
-use Rattle.dms_store.specs.Serving.{IsServed}
-use Rattle.dms_store.specs.Spelled.{file_in, database_in}
+use Rattle.dms_links.specs.Rows.{rec_opt, file_in}
+use Rattle.dms_spelling.specs.Serving.{IsServed}
+use Rattle.dms_spelling.specs.Spelled.{database_in}
 use Rattle.dms_desc_bytes.specs.Finding.{owner_in as owner_of}
 
 module _ (desc : Described) (served : IsServed desc) (db : Db) (c d : Content) (set : ℕ) (s : Shape) (name : Option ℕ) (number : ℕ) (rec made : Record) (spelt : database_in desc c ≡ Some db) (at : structure_of desc set ≡ Some s) (small : IsFoundNumber name)
-    (made_is : record_to_store desc db set name rec ≡ made) (fits : RecordFits desc set made) (clash_same : clash_seen desc desc.structures db set name made ≡ clash_seen desc desc.structures db set (Some number) made) where
-  answer_by : (o : Option ℕ) (p : Put) → clash_seen desc desc.structures db set (Some number) made ≡ o → put_number desc db set name ≡ p → put_answer desc db set name rec ≡ put_unless o p
+    (made_is : record_to_store desc db set name rec ≡ made) (fits : RecordFits desc set made) (clash_same : refusal desc db set name made ≡ refusal desc db set (Some number) made) where
+  answer_by : (o : Option ℕ) (p : Put) → refusal desc db set (Some number) made ≡ o → put_number desc db set name ≡ p → put_answer desc db set name rec ≡ put_unless o p
   answer_by o p clash is =
       answers desc c db set s name rec served spelt at small (subst (RecordFits desc set) (sym made_is) fits)
-      ∙ (λ i. put_unless ((ap (λ r. clash_seen desc desc.structures db set name r) made_is ∙ clash_same ∙ clash) i) (is i))
+      ∙ (λ i. put_unless ((ap (λ r. refusal desc db set name r) made_is ∙ clash_same ∙ clash) i) (is i))
 
   -- where there is a number for it
   pub entered_answers : (p : Put) → put_number desc db set name ≡ Stored number → record_to_store desc db set (Some number) rec ≡ made → IsEntered desc db set number made d p → (p ≡ put_answer desc db set name rec) × IsSeenAfter desc db set rec d p
@@ -50,10 +55,10 @@ module _ (desc : Described) (served : IsServed desc) (db : Db) (c d : Content) (
   entered_answers Full is after h = absurd h
 
   -- and where there is none
-  pub full_answers : put_number desc db set name ≡ Full → clash_seen desc desc.structures db set (Some number) made ≡ None → Full ≡ put_answer desc db set name rec
+  pub full_answers : put_number desc db set name ≡ Full → refusal desc db set (Some number) made ≡ None → Full ≡ put_answer desc db set name rec
   full_answers is none = sym (answer_by None Full none is)
 
-  pub refused_answers : (k : ℕ) (p : Put) → put_number desc db set name ≡ p → clash_seen desc desc.structures db set (Some number) made ≡ Some k → Refused k ≡ put_answer desc db set name rec
+  pub refused_answers : (k : ℕ) (p : Put) → put_number desc db set name ≡ p → refusal desc db set (Some number) made ≡ Some k → Refused k ≡ put_answer desc db set name rec
   refused_answers k p is clash = sym (answer_by (Some k) p clash is)
 
 -- ---- in the words of slots
@@ -67,6 +72,13 @@ pub owner_old : (db : Db) (s : Shape) (slot : Slot) (rec : Record) → OwnerStan
 owner_old db s slot rec = record { stands = λ none. absurd (cc none) }
 
 module _ (desc : Described) (served : IsServed desc) (db : Db) (c d : Content) (set : ℕ) (s : Shape) (rec : Record) (spelt : database_in desc c ≡ Some db) (at : structure_of desc set ≡ Some s) (is_set : is_data_set (Some s) ≡ true) (fits : RecordFits desc set rec) where
+  -- for a new record the number that no record has makes no difference
+  refusal_new : (n : ℕ) (made : Record) → get db.records (set, n) ≡ None → refusal desc db set None made ≡ refusal desc db set (Some n) made
+  refusal_new n made none =
+      let manual = manual_clash_new db set made desc.structures in
+      let named = none_new desc set n made (λ k t there. number_at desc k t served there) none (spelled_entries desc c db served spelt) in
+      λ i. lesser (clash_new desc db set n made none desc.structures i) ((manual ∙ sym named) i)
+
   new_made : record_to_store desc db set None rec ≡ with_links_of s.items None rec
   new_made = ap (λ (o : Option Shape). with_links_of (items_of o) None rec) at
 
@@ -74,7 +86,7 @@ module _ (desc : Described) (served : IsServed desc) (db : Db) (c d : Content) (
   pub new_answers : (n : ℕ) (p : Put) → 1 ≤ n → Some n ≡ least_free s (file_in c s) → IsEntered desc db set n (with_links_of s.items None rec) d p → (p ≡ put_answer desc db set None rec) × IsSeenAfter desc db set rec d p
   new_answers n p low least h =
       let none : get db.records (set, n) ≡ None = record_is desc served db c set s spelt at is_set n low ∙ ap rec_opt (free_new desc served db c set s spelt at is_set n least) in
-      entered_answers desc served db c d set s None n rec (with_links_of s.items None rec) spelt at tt new_made (made_fits desc set s None rec at tt fits) (clash_new desc db set n (with_links_of s.items None rec) none desc.structures)
+      entered_answers desc served db c d set s None n rec (with_links_of s.items None rec) spelt at tt new_made (made_fits desc set s None rec at tt fits) (refusal_new n (with_links_of s.items None rec) none)
       p (number_new desc served db c set s spelt at is_set n least) (λ i. with_links_of (items_of (at i)) (none i) rec) h
 
   -- where no number is free
@@ -82,11 +94,11 @@ module _ (desc : Described) (served : IsServed desc) (db : Db) (c d : Content) (
   none_answers p least h =
       let made = with_links_of s.items None rec in
       let fit = made_fits desc set s None rec at tt fits in
-      let same = clash_new desc db set (s.population + 1) made (none_above desc served db c set s spelt at is_set) desc.structures in
+      let same = refusal_new (s.population + 1) made (none_above desc served db c set s spelt at is_set) in
       let full = number_none desc served db c set s spelt at is_set least in
       by made fit same full p h new_made
     where
-      by : (made : Record) → RecordFits desc set made → clash_seen desc desc.structures db set None made ≡ clash_seen desc desc.structures db set (Some (s.population + 1)) made → put_number desc db set None ≡ Full → (q : Put) → IsJudged desc db set (s.population + 1) made q
+      by : (made : Record) → RecordFits desc set made → refusal desc db set None made ≡ refusal desc db set (Some (s.population + 1)) made → put_number desc db set None ≡ Full → (q : Put) → IsJudged desc db set (s.population + 1) made q
           → (record_to_store desc db set None rec ≡ made) → (q ≡ put_answer desc db set None rec) × IsSeenAfter desc db set rec d q
       by made fit same full (Stored n) h is = absurd h
       by made fit same full (Refused k) h is = (refused_answers desc served db c d set s None (s.population + 1) rec made spelt at tt is fit same k Full full h, tt)

@@ -15,12 +15,14 @@ use Rattle.dms_model.specs.Stores.{is_full, put_number}
 use Rattle.dms_model.specs.Valid.{is_data_set}
 use Rattle.dms_slots.specs.FileWritten.{all_good}
 use Rattle.dms_slots.specs.SlotBlocks.{before_free, least_free, or_free, slot_at, slots_of}
-use Rattle.dms_store.specs.PuttingFresh.{free_there, fresh_is, full_is}
-use Rattle.dms_store.specs.PuttingSlots.{SpellsFiles, some_slots, spelled_files}
-use Rattle.dms_store.specs.Rows.{rec_in, rec_opt}
-use Rattle.dms_store.specs.Serving.{IsServed}
-use Rattle.dms_store.specs.SetPaths.{served_formed}
-use Rattle.dms_store.specs.Spelled.{file_in, database_in}
+use Rattle.dms_spelling.specs.Staying.{free_there}
+use Rattle.dms_store.specs.PuttingFresh.{fresh_is, full_is}
+use Rattle.dms_spelling.specs.Stands.{StandsFiles, some_slots}
+use Rattle.dms_links.specs.Stands.{tally_of}
+use Rattle.dms_spelling.specs.Back.{spelled_files}
+use Rattle.dms_links.specs.Rows.{rec_in, rec_opt, file_in}
+use Rattle.dms_spelling.specs.Serving.{IsServed}
+use Rattle.dms_spelling.specs.Spelled.{database_in}
 use Rattle.dms_store.specs.SpelledLaws.{spelled_stands}
 
 some_within : (b : Bool) (most k n : ℕ) → nat_le k most ≡ b → ◌≡◌ {A = Option ℕ} (cond b (Some k) None) (Some n) → (k ≡ n) × (nat_le k most ≡ true)
@@ -32,7 +34,7 @@ none_within true most k is h = absurd (cc)
 none_within false most k is h = is
 
 module _ (desc : Described) (served : IsServed desc) (db : Db) (c : Content) (set : ℕ) (s : Shape) (spelt : database_in desc c ≡ Some db) (at : structure_of desc set ≡ Some s) (is_set : is_data_set (Some s) ≡ true) where
-  files : SpellsFiles desc db c
+  files : StandsFiles desc db (tally_of desc db) c
   files = spelled_files desc c db served spelt
 
   -- what stands under a number is the record in its slot
@@ -44,9 +46,9 @@ module _ (desc : Described) (served : IsServed desc) (db : Db) (c : Content) (se
 
   most_number : (p : Place) (r : Record) → get db.records p ≡ Some r → p.0 ≡ set → p.1 ≤ s.population
   most_number p r there own =
-      let x = spelled_stands desc c db (served_formed desc served) spelt p r there in
+      let x = spelled_stands desc c db served spelt p r there in
       let same : x.shape ≡ s = same_Some x.shape s (sym x.is ∙ ap (structure_of desc) own ∙ at) in
-      omega (arith, x.most, ap (λ (t : Shape). t.population) same)
+      omega (arith, x.stands.most, ap (λ (t : Shape). t.population) same)
 
   abbrev least : ℕ
   least = before_free (slots_of s (file_in c s)) + 1

@@ -1,45 +1,39 @@
 -- The slots of owners, after they count the records that they own.
-use Rattle.std.proofs.Common.{◌≡◌, ◌≢◌, ◌∙◌, ◌+◌, ◌-◌, ◌^◌, ◌<◌, ◌≤◌, ℕ, zero, suc, Bool, true, false, cond, Some, None, inl, inr, refl, sym, ap, subst, length, arith}
+use Rattle.std.proofs.Common.{◌≡◌, ◌≢◌, ◌∙◌, ◌+◌, ◌-◌, ◌^◌, ◌<◌, ℕ, Bool, true, false, cond, Some, None, refl, sym, ap, subst, arith}
 use Rattle.std.specs.Prelude.{◌==◌, is_some}
-use Rattle.std.specs.List.{list_all}
 use Rattle.std.specs.declared.option.Option.{Option}
 use Rattle.std.specs.FinMap.{get}
-use Rattle.std.specs.Ordering.{eq_by_cmp}
-use Rattle.std.proofs.lemmas.Bool.{cases_eq}
 use Rattle.std.proofs.lemmas.Bool.Decides.{nat_tests}
-use Rattle.std.proofs.Math.Nat as nat
-use Rattle.std.proofs.lemmas.Option.{same_Some}
 use Rattle.dms_block.specs.Content.{Content}
 use Rattle.dms_desc.specs.Lookups.{structure_of}
 use Rattle.dms_desc.specs.Shape.{Shape, Described}
 use Rattle.dms_desc.specs.declared.record.Record.{Record}
-use Rattle.dms_layout.specs.Slots.{SlotFits, slot_bytes}
-use Rattle.dms_layout.specs.declared.slot.Slot.{Slot}
-use Rattle.dms_layout.specs.declared.slot.SlotRead.{SlotRead}
-use Rattle.dms_layout.specs.declared.slot.SlotRead.TheVariants.{Free, Used, Bad}
-use Rattle.dms_model.specs.Db.{Db, Place, place_cmp}
-use Rattle.dms_model.specs.Stores.{kept_owner, with_links_of}
-use Rattle.dms_model.specs.Valid.{is_data_set, owner_stands}
-use Rattle.dms_lists.specs.Forms.{form_of, kept_in}
-use Rattle.dms_sets.specs.Padded.{entry_width}
-use Rattle.dms_sets.specs.Sets.{kinds_over}
-use Rattle.dms_desc.specs.Files.{file_of}
-use Rattle.dms_slots.specs.SlotBlocks.{block_of, per_block, slot_at, slot_opt, slot_put}
-use Rattle.dms_store.specs.Finding.{number_at, served_at}
-use Rattle.dms_store.specs.PuttingAfter.{owned_moved, owner_more, with_record}
-use Rattle.dms_store.specs.PuttingCounts.{of_opt}
-use Rattle.dms_store.specs.PuttingLaws.{MayStand, old_is}
-use Rattle.dms_store.specs.PuttingMany.{owned_few}
-use Rattle.dms_store.specs.PuttingMoved.{own_at, own_here, own_off, owns_one, owed_opt, owner_kept, owners_after, owners_are, own_one_more}
-use Rattle.dms_store.specs.PuttingSlots.{SlotsFit, RecordsStand, ListsSpell, OneFits, SlotStands, StandsFiles, spell_by}
-use Rattle.dms_store.specs.PuttingSteps.{SlotChanged, slot_written, step}
-use Rattle.dms_store.specs.Rows.{rec_in, rec_opt}
-use Rattle.dms_store.specs.Serving.{IsServed}
-use Rattle.dms_store.specs.Whole.{blocks_whole}
-use Rattle.dms_store.specs.Spelled.{file_in, has_none, is_whole, owned_in, database_in}
-use Rattle.dms_model.specs.Places.{places_same}
 use Rattle.dms_desc_bytes.specs.Finding.{owner_in as owner_of}
-use Rattle.dms_model.specs.MemberLaws.{equal_of}
+use Rattle.dms_layout.specs.declared.slot.Slot.{Slot}
+use Rattle.dms_links.specs.Altered.{with_owned}
+use Rattle.dms_links.specs.AlteredLaws.{slot_owned}
+use Rattle.dms_links.specs.AlteringIn.{AltersIn}
+use Rattle.dms_links.specs.Linking.{number_at}
+use Rattle.dms_links.specs.Rows.{file_in, rec_opt}
+use Rattle.dms_links.specs.Standing.{is_of, made as made_slot, slot_there}
+use Rattle.dms_links.specs.Stands.{Counts, RecordsStand, Tally, tally_of}
+use Rattle.dms_links.specs.declared.altering.SlotChange.TheVariants.{Owned}
+use Rattle.dms_model.specs.Db.{Db}
+use Rattle.dms_model.specs.Stores.{kept_owner, with_links_of}
+use Rattle.dms_model.specs.Valid.{owner_stands}
+use Rattle.dms_slots.specs.SlotBlocks.{slot_at, slot_opt}
+use Rattle.dms_spelling.specs.Back.{spelled_files}
+use Rattle.dms_spelling.specs.Few.{has_room}
+use Rattle.dms_spelling.specs.Grown.{stands_altered}
+use Rattle.dms_spelling.specs.Holds.{have_slots}
+use Rattle.dms_spelling.specs.Serving.{IsServed}
+use Rattle.dms_spelling.specs.Spelled.{database_in}
+use Rattle.dms_spelling.specs.Stands.{StandsFiles, spell_by}
+use Rattle.dms_store.specs.PuttingAfter.{owned_moved, owner_more, with_record}
+use Rattle.dms_store.specs.PuttingLaws.{MayStand, Replaces, counted_same, old_is}
+use Rattle.dms_store.specs.PuttingMoved.{owed_opt, owner_kept, owners_after, owners_are, own_one_more, owns_one}
+use Rattle.dms_tally.specs.Counts.{owned_in}
+use Rattle.dms_tally.specs.Sums.{of_opt}
 
 -- ---- definitions
 
@@ -49,147 +43,47 @@ owner_opt None = None
 owner_opt (Some slot) = Some slot.rec.owner
 
 -- What is asked of the count of an owner in the data set `to`, before a new record raises it: the owner stands, and has room for one more.
-pub record MayCount (db : Db) (own : ℕ → ℕ → ℕ) (to owner : ℕ) : Type 0 where
+pub record MayCount (db : Db) (own : Tally) (to owner : ℕ) : Type 0 where
   pub stands : owner_stands db.records to owner ≡ true
-  pub room : own to owner + 1 < 2 ^ 32
+  pub room : own.owned to owner + 1 < 2 ^ 32
 
--- The slot of a record that owns others.
-pub record OwnerSlot (desc : Described) (own : ℕ → ℕ → ℕ) (c : Content) (t m : ℕ) : Type 0 where
-  pub shape : Shape
-  pub at : structure_of desc t ≡ Some shape
-  pub is_set : is_data_set (Some shape) ≡ true
-  pub low : 1 ≤ m
-  pub most : m ≤ shape.population
-  pub slot : Slot
-  pub was : slot_at shape (file_in c shape) m ≡ Used slot
-  pub owned : slot.owned ≡ own t m
+-- The counts after a record was stored in a data set that stands in the data set `to`, or in none where this is 0.
+abbrev pub tally_after : Tally → ℕ → Option ℕ → ℕ → Tally
+tally_after own to old owner = record own { owned = owners_after own.owned to old owner }
+
+-- those after a record was put
+abbrev pub tally_put : Described → Db → Replaces → Tally
+tally_put desc db p = tally_after (tally_of desc db) p.shape.owner (owner_opt p.old) p.rec.owner
 
 -- ---- one count
 
-module _ (desc : Described) (db : Db) (own : ℕ → ℕ → ℕ) (c d : Content) (u : Shape) (m k : ℕ) (x : Slot) (served : IsServed desc) (at : structure_of desc u.number ≡ Some u) (is_set : is_data_set (Some u) ≡ true) (low : 1 ≤ m)
-    (was : slot_at u (file_in c u) m ≡ Used x) (change : SlotChanged u m (record x { owned = k }) c d) (files : StandsFiles desc db own c) where
-  abbrev owners_moved : ℕ → ℕ → ℕ
-  owners_moved = own_at own u.number m k
+module _ (desc : Described) (served : IsServed desc) (db : Db) (own : Tally) (c : Content) (files : StandsFiles desc db own c) (set owner : ℕ) (some : set ≢ 0) (may : MayCount db own set owner) where
+  off_zero : (set == 0) ≡ false
+  off_zero = grind (arith, nat_tests, some)
 
-  its_slot : SlotStands desc db own u m x
-  its_slot = (files.slots.each u.number u at is_set).slots m x low was
+  stands : is_some (get db.records (set, owner)) ≡ true
+  stands = sym (ap (λ b. cond b (owner == 0) (is_some (get db.records (set, owner)))) off_zero) ∙ may.stands
 
-  record_there : get db.records (u.number, m) ≡ Some x.rec
-  record_there = files.slots.records u.number m low ∙ ap (λ o. rec_in c o m) at ∙ ap (λ b. cond b (rec_opt (slot_at u (file_in c u) m)) None) is_set ∙ ap rec_opt was
+  counts_are : record own { owned = own_one_more own.owned set owner } ≡ tally_after own set None owner
+  counts_are = sym (ap (λ b. record own { owned = cond b own.owned (own_one_more own.owned set owner) }) off_zero)
 
-  -- the records are the same
-  same_get : (p : Place) → get db.records p ≡ cond (eq_by_cmp place_cmp p (u.number, m)) (Some x.rec) (get db.records p)
-  same_get p = by (eq_by_cmp place_cmp p (u.number, m)) refl
-    where
-      by : (b : Bool) → eq_by_cmp place_cmp p (u.number, m) ≡ b → get db.records p ≡ cond b (Some x.rec) (get db.records p)
-      by true e = ap (get db.records) (places_same p (u.number, m) (equal_of (place_cmp p (u.number, m)) e)) ∙ record_there
-      by false e = refl
+  -- The slot of an owner that stands is raised.
+  pub counts : (done : Bool) (d : Content) → AltersIn desc set owner Owned c d done → (done ≡ true) × StandsFiles desc db (tally_after own set None owner) d
+  counts done d h =
+      let have = have_slots desc served in
+      let there = slot_there desc db own c files.slots set owner stands in
+      let is : there.slot.owned ≡ own.owned set owner = there.stands.owned ∙ ap (λ t. own.owned t owner) (number_at desc have.numbered set there.shape there.at) in
+      let room = may.room in
+      let off : (there.slot.owned == 2 ^ 32 - 1) ≡ false = grind (arith, nat_tests, is, room) in
+      let next = with_owned (there.slot.owned + 1) there.slot in
+      let a = made_slot desc db own c d have files.slots set owner stands Owned next done (ap (λ b. cond b None (Some next)) off) h in
+      let slots : RecordsStand desc db (record own { owned = own_one_more own.owned set owner }) d =
+      slot_owned desc db own c d set owner there.shape (is_of desc db own c d have files.slots set owner stands) Owned files.slots a.1 a.1.is_next in
+      (a.0, stands_altered desc served db own (tally_after own set None owner) c d set owner Owned done files h (subst (λ (k : Tally). RecordsStand desc db k d) counts_are slots))
 
-  others_stand : (t : Shape) (n : ℕ) (y : Slot) → 1 ≤ t.number → (t.number ≡ u.number → n ≡ m → ⊥) → SlotStands desc db own t n y → SlotStands desc db owners_moved t n y
-  others_stand t n y one apart h = record { most = h.most; owner = h.owner; links = h.links; counted = h.counted; owned = h.owned ∙ sym (own_off own u.number m k t.number n apart) }
-
-  new_stands : SlotStands desc db owners_moved u m (record x { owned = k })
-  new_stands = record { most = its_slot.most; owner = its_slot.owner; links = its_slot.links; counted = its_slot.counted; owned = sym (own_here own u.number m k) }
-
-  slots_after : RecordsStand desc db owners_moved d
-  slots_after = step desc served db db own owners_moved c d u.number m u (record x { owned = k }) at is_set low change same_get others_stand new_stands files.slots
-
-  file_off : (n : ℕ) (t : Shape) → structure_of desc n ≡ Some t → is_data_set (Some t) ≡ false → file_in d t ≡ file_in c t
-  file_off n t there off = change.files (file_of t.number) (λ same. apart (sym (ap (λ (y : Shape). is_data_set (Some y)) (same_Some t u (sym there ∙ ap (structure_of desc) (number_same same) ∙ at)) ∙ is_set) ∙ off))
-    where
-      number_same : file_of t.number ≡ file_of u.number → n ≡ u.number
-      number_same same = omega (arith, same, number_at desc n t served there)
-
-      apart : true ≡ false → ⊥
-      apart h = absurd (cc)
-
-  lists_after : ListsSpell desc db d
-  lists_after = record {
-    kept = λ n t there off kept. ap (kept_in (form_of t) (entry_width (kinds_over desc t) t.parts)) (file_off n t there off) ∙ files.lists.kept n t there off kept;
-    manual = λ n t there off none. ap has_none (file_off n t there off) ∙ files.lists.manual n t there off none;
-  }
-
-  low_block : block_of u.items m + 1 ≤ 1048576
-  low_block =
-      let p = (served_at desc u.number u served at).population in
-      omega (arith, nat.div-le_self (m - 1) (per_block u.items), its_slot.most, p)
-
-  fit_after : SlotsFit desc d
-  fit_after n one most = elim (cases_eq n u.number) [
-    | inl same ↦ subst (OneFits desc d) (sym same) (record {
-      few = omega (arith, change.few, low_block, (subst (OneFits desc c) same (files.fit n one most)).few);
-      whole = blocks_whole u (d (file_of u.number)) change.blocks;
-      none = λ gone. absurd (nothing (sym gone ∙ at));
-    })
-    | inr apart ↦
-        let still : d (file_of n) ≡ c (file_of n) = change.files (file_of n) (λ e. apart (omega (arith, e))) in
-        record {
-          few = omega (arith, ap length still, (files.fit n one most).few);
-          whole = ap (list_all is_whole) still ∙ (files.fit n one most).whole;
-          none = λ gone. ap has_none still ∙ (files.fit n one most).none gone;
-        }
-  ]
-    where
-      nothing : {t : Shape} → ◌≡◌ {A = Option Shape} None (Some t) → ⊥
-      nothing h = absurd (cc)
-
-  -- One slot counts otherwise, and the files have the same records.
-  pub count_step : StandsFiles desc db owners_moved d
-  count_step = record { slots = slots_after; lists = lists_after; fit = fit_after; entries = files.entries }
-
--- the counts of a slot that fits
-counted_fits : (u : Shape) (x : Slot) (k : ℕ) → SlotFits u x → k < 2 ^ 32 → SlotFits u (record x { owned = k })
-counted_fits u x k fits small = record { owner = fits.owner; disjoint = fits.disjoint; counted = fits.counted; owned = small; values = fits.values; plain = fits.plain }
-
-module _ (desc : Described) (db : Db) (own : ℕ → ℕ → ℕ) (c : Content) (u : Shape) (m : ℕ) (x : Slot) (served : IsServed desc) (at : structure_of desc u.number ≡ Some u) (is_set : is_data_set (Some u) ≡ true) (low : 1 ≤ m)
-    (was : slot_at u (file_in c u) m ≡ Used x) (fits : SlotFits u x) (next : block_of u.items m ≤ length (c (file_of u.number))) (files : StandsFiles desc db own c) where
-  -- a slot that is written with another count
-  pub count_put : (k : ℕ) → k < 2 ^ 32 → StandsFiles desc db (own_at own u.number m k) (slot_put u m (slot_bytes u.items (record x { owned = k })) c)
-  count_put k small =
-      count_step desc db own c (slot_put u m (slot_bytes u.items (record x { owned = k })) c) u m k x served at is_set low was
-      (slot_written desc u.number m u (record x { owned = k }) c served at (counted_fits u x k fits small) low next (files.slots.each u.number u at is_set).blocks) files
-
-  counts : x.owned ≡ own u.number m
-  counts = ((files.slots.each u.number u at is_set).slots m x low was).owned
-
-  -- one more
-  pub raised_put : x.owned + 1 < 2 ^ 32 → StandsFiles desc db (own_one_more own u.number m) (slot_put u m (slot_bytes u.items (record x { owned = x.owned + 1 })) c)
-  raised_put small = subst (λ n. StandsFiles desc db (own_at own u.number m (n + 1)) (slot_put u m (slot_bytes u.items (record x { owned = x.owned + 1 })) c)) counts (count_put (x.owned + 1) small)
-
--- ---- an owner that stands has a slot
-
-module _ (desc : Described) (db : Db) (own : ℕ → ℕ → ℕ) (c : Content) (files : StandsFiles desc db own c) where
-  slot_there : (t m : ℕ) (u : Shape) (r : SlotRead) → 1 ≤ m → structure_of desc t ≡ Some u → is_data_set (Some u) ≡ true → slot_at u (file_in c u) m ≡ r → is_some (rec_opt r) ≡ true → (u.number ≡ t) → OwnerSlot desc own c t m
-  slot_there t m u Free low at is_set was h number = absurd (cc)
-  slot_there t m u Bad low at is_set was h number = absurd (cc)
-  slot_there t m u (Used slot) low at is_set was h number =
-      let there = (files.slots.each t u at is_set).slots m slot low was in
-      record { shape = u; at = at; is_set = is_set; low = low; most = there.most; slot = slot; was = was; owned = there.owned ∙ ap (λ n. own n m) number }
-
-  shape_there : (served : IsServed desc) (t m : ℕ) (o : Option Shape) (b : Bool) → 1 ≤ m → structure_of desc t ≡ o → is_data_set o ≡ b → is_some (rec_in c o m) ≡ true → OwnerSlot desc own c t m
-  shape_there served t m None b low at is_set h = absurd (cc)
-  shape_there served t m (Some u) true low at is_set h =
-      slot_there t m u (slot_at u (file_in c u) m) low at is_set refl (sym (ap (λ x. is_some (cond x (rec_opt (slot_at u (file_in c u) m)) None)) is_set) ∙ h) (number_at desc t u served at)
-  shape_there served t m (Some u) false low at is_set h = absurd (off (sym (ap (λ x. is_some (cond x (rec_opt (slot_at u (file_in c u) m)) None)) is_set) ∙ h))
-    where
-      off : false ≡ true → ⊥
-      off e = absurd (cc)
-
-  -- It is used, and its count is that of the record.
-  pub owner_slot : IsServed desc → (t m : ℕ) → t ≢ 0 → owner_stands db.records t m ≡ true → OwnerSlot desc own c t m
-  owner_slot served t m some stands = by m (sym (ap (λ b. cond b (m == 0) (is_some (get db.records (t, m)))) off) ∙ stands)
-    where
-      off : (t == 0) ≡ false
-      off = grind (arith, nat_tests, some)
-
-      apart : false ≡ true → ⊥
-      apart e = absurd (cc)
-
-      by : (n : ℕ) → is_some (get db.records (t, n)) ≡ true → OwnerSlot desc own c t n
-      by zero h = absurd (apart (sym (ap is_some (files.slots.none t)) ∙ h))
-      by (suc n) h =
-          let one : 1 ≤ suc n = omega arith in
-          shape_there served t (suc n) (structure_of desc t) (is_data_set (structure_of desc t)) one refl refl (sym (ap is_some (files.slots.records t (suc n) one)) ∙ h)
+-- where nothing is to be counted
+pub counts_none : (own : Tally) (set owner : ℕ) → set ≡ 0 → own ≡ tally_after own set None owner
+counts_none own set owner none = let on : (set == 0) ≡ true = grind (arith, nat_tests, none) in sym (ap (λ b. record own { owned = cond b own.owned (own_one_more own.owned set owner) }) on)
 
 -- ---- the database with the record
 
@@ -220,9 +114,18 @@ module _ (desc : Described) (served : IsServed desc) (db : Db) (c : Content) (se
       omega (arith, owned_moved desc db set number made t m, before, now)
 
   -- The owner may count a new record.
-  pub may_count : owner_stands db.records s.owner rec.owner ≡ true → MayCount after (owned_in desc db) s.owner rec.owner
-  may_count held = record { stands = owner_more db set number made s.owner rec.owner held; room = omega (arith, owned_few desc served c db spelt s.owner rec.owner) }
+  pub may_count : owner_stands db.records s.owner rec.owner ≡ true → MayCount after (tally_of desc db) s.owner rec.owner
+  may_count held = record {
+    stands = owner_more db set number made s.owner rec.owner held;
+    room = (has_room desc served db (tally_of desc db) c (spelled_files desc c db served spelt) s.owner rec.owner).owned;
+  }
+
+  counts_after : Counts desc after (tally_after (tally_of desc db) s.owner (owner_opt o) rec.owner)
+  counts_after = record {
+    counted = λ t m low. sym (counted_same desc served db c c c set number s o rec spelt may was t m);
+    owned = owners_are (owned_in desc db) (owned_in desc after) s.owner rec.owner (owner_opt o) one_moved;
+  }
 
   -- Once it does, the content spells the database with the record.
-  pub spell : (d : Content) → StandsFiles desc after (owners_after (owned_in desc db) s.owner (owner_opt o) rec.owner) d → database_in desc d ≡ Some after
-  spell d counted = spell_by desc after (owners_after (owned_in desc db) s.owner (owner_opt o) rec.owner) d served counted (owners_are (owned_in desc db) (owned_in desc after) s.owner rec.owner (owner_opt o) one_moved)
+  pub spell : (d : Content) → StandsFiles desc after (tally_after (tally_of desc db) s.owner (owner_opt o) rec.owner) d → database_in desc d ≡ Some after
+  spell d counted = spell_by desc after (tally_after (tally_of desc db) s.owner (owner_opt o) rec.owner) d served counted counts_after

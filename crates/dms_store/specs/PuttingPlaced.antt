@@ -26,30 +26,29 @@ use Rattle.dms_model.specs.Fitting.{AreFitting, IsNumber, RecordFits, is_number}
 use Rattle.dms_model.specs.FitLaws.{linked_fits, null_fits}
 use Rattle.dms_model.specs.Stores.{with_links_of, kept_owner}
 use Rattle.dms_model.specs.Valid.{is_data_set}
-use Rattle.dms_sets.specs.Answers.{clash_seen}
-use Rattle.dms_sets.specs.Changes.{has_number}
-use Rattle.dms_sets.specs.Keeping.{Calm, seen_list}
-use Rattle.dms_sets.specs.Told.{AreListed, ChangeStands, KeepsSets}
-use Rattle.dms_sets.specs.declared.answer.SetAnswer.TheVariants.{Done, Duplicate}
 use Rattle.dms_desc.specs.Files.{file_of}
 use Rattle.dms_slots.specs.SlotBlocks.{block_of, is_block, slot_at, slot_opt, slot_put}
 use Rattle.dms_slots.specs.Seen.{BadAt, BadIn}
 use Rattle.dms_store.specs.Files.{all_of}
-use Rattle.dms_store.specs.Finding.{record_fits_opt, seen_below, served_at}
+use Rattle.dms_store.specs.Finding.{record_fits_opt, seen_below}
+use Rattle.dms_spelling.specs.ServingLaws.{served_at}
 use Rattle.dms_store.specs.Lifted.{IsUsable, db_of}
-use Rattle.dms_store.specs.Owning.{AreSlots}
 use Rattle.dms_store.specs.PuttingAfter.{slot_after, slot_links, with_record}
-use Rattle.dms_store.specs.PuttingAnswers.{change_stands, fit_all, none_refused, one_refused}
-use Rattle.dms_store.specs.PuttingEnters.{FindsSlot, IsEntered, IsJudged, IsPlaced, IsUncounted, OwnerStands, are, blocks_good, refusal_leaves, set_off, slots_after, stands, leaves_uncounted}
+use Rattle.dms_links.specs.Stands.{tally_of}
+use Rattle.dms_links.specs.Stepping.{AreSlotFiles}
+use Rattle.dms_sets.specs.Keeping.{FileStays}
+use Rattle.dms_spelling.specs.Grown.{IsNoList, set_no_list}
+use Rattle.dms_spelling.specs.Holds.{fit_all}
+use Rattle.dms_store.specs.PuttingAnswers.{refusal}
+use Rattle.dms_store.specs.PuttingEnters.{FindsSlot, IsEntered, IsJudged, IsPlaced, IsUncounted, OwnerStands, blocks_good, leaves_uncounted, record_was, slots_after}
 use Rattle.dms_store.specs.PuttingLaws.{MayStand}
+use Rattle.dms_store.specs.PuttingLists.{ListsLeft}
+use Rattle.dms_store.specs.PuttingOwners.{MayCount, may_count, owner_opt, spell, tally_after}
 use Rattle.dms_store.specs.PuttingNumbers.{none_above}
-use Rattle.dms_store.specs.PuttingOver.{are_listed}
-use Rattle.dms_store.specs.PuttingMoved.{owners_after}
-use Rattle.dms_store.specs.PuttingOwners.{MayCount, may_count, owner_opt, spell}
-use Rattle.dms_store.specs.PuttingSlots.{StandsFiles, spelled_files}
-use Rattle.dms_store.specs.Rows.{rec_opt}
-use Rattle.dms_store.specs.Serving.{IsServed}
-use Rattle.dms_store.specs.Spelled.{owned_in, database_in}
+use Rattle.dms_spelling.specs.Stands.{StandsFiles}
+use Rattle.dms_links.specs.Rows.{rec_opt}
+use Rattle.dms_spelling.specs.Serving.{IsServed}
+use Rattle.dms_spelling.specs.Spelled.{database_in}
 use Rattle.dms_store.specs.Undamaged.{no_bad_slot}
 
 -- what is stored for a record that fits, links as they stood, fits
@@ -88,40 +87,39 @@ module _ {B : Type 0} {g : Ghosts B} (desc : Described) (a : Overlay B g) (usabl
   made_fit : RecordFits desc s.number (with_links_of s.items (rec_opt (slot_opt o)) rec)
   made_fit = subst (RecordFits desc s.number) made_is fits
 
-  pub listed_at : AreListed desc db (seen_list a)
-  listed_at = are desc usable.serves.served s s.number number o rec db a p.told agrees usable.none p.spelt may p.was made_fit
+  -- what stands under the number
+  pub old_at : get db.records (s.number, number) ≡ old
+  old_at = record_was desc usable.serves.served s s.number number o rec db a p.told agrees usable.none p.spelt may p.was made_fit ∙ p.old_is
 
-  pub stands_at : ChangeStands desc db s.number number old (Some slot.rec)
-  stands_at = subst (λ (r : Record). ChangeStands desc db s.number number old (Some r)) (sym made_is) (stands desc usable.serves.served s s.number number o rec db a p.told agrees usable.none p.spelt may p.was made_fit old p.old_is)
+  -- the files after the lists were changed
+  module _ (b : Overlay B g) (stays : (k : ℕ) → IsNoList desc k → FileStays k a b) where
+    -- the blocks of the data set's file are blocks of slots
+    pub not_bad : (told : IsTrue (under b).told) (k f i : ℕ) → BadAt s k b f i → ⊥
+    not_bad told k f i bad =
+        let same : overlay_content b (file_of s.number) ≡ overlay_content a (file_of s.number) = (stays s.number (set_no_list desc s.number s at is_set)).1 p.told in
+        let here = bad.0.0.1 told in
+        let good = ap (list_all (is_block s)) same ∙ blocks_good desc usable.serves.served s s.number number o rec db a p.told agrees usable.none p.spelt may p.was made_fit in
+        absurd (cc (all_of (is_block s) (overlay_content b (file_of s.number)) i good here.0, here.1))
 
-  -- the blocks of the data set's file are blocks of slots
-  pub not_bad : (b : Overlay B g) (n k f i : ℕ) → Calm (has_number desc.structures s.number) n a b → BadAt s k b f i → ⊥
-  not_bad b n k f i calm bad =
-      let told : IsTrue (under b).told = calm.told ∙ p.told in
-      let same : overlay_content b (file_of s.number) ≡ overlay_content a (file_of s.number) = (calm.others s.number (set_off desc s.number s.number s usable.serves.served at is_set)).1 p.told in
-      let here = bad.0.0.1 told in
-      let good = ap (list_all (is_block s)) same ∙ blocks_good desc usable.serves.served s s.number number o rec db a p.told agrees usable.none p.spelt may p.was made_fit in
-      absurd (cc (all_of (is_block s) (overlay_content b (file_of s.number)) i good here.0, here.1))
+    left_made : (answer : Option ℕ) → ListsLeft desc db s.number number slot.rec (overlay_content a) (overlay_content b) answer → ListsLeft desc db s.number number (with_links_of s.items (rec_opt (slot_opt o)) rec) (overlay_content a) (overlay_content b) answer
+    left_made answer left = subst (λ (r : Record). ListsLeft desc db s.number number r (overlay_content a) (overlay_content b) answer) made_is left
 
-  -- the files with the record, before its owner counts it
-  module _ (b z : Overlay B g) (n : ℕ) (calm : Calm (has_number desc.structures s.number) n a b) (next : block_of s.items number ≤ seen_counts a (file_of s.number)) (is : overlay_content z ≡ slot_put s number (slot_bytes s.items slot) (overlay_content b)) where
-    put_is : overlay_content z ≡ slot_put s number (slot_bytes s.items (slot_after s.items o rec)) (overlay_content b)
-    put_is = is ∙ ap (λ (x : Slot). slot_put s number (slot_bytes s.items x) (overlay_content b)) p.slot_is
+    -- the files with the record, before its owner counts it
+    module _ (z : Overlay B g) (next : block_of s.items number ≤ seen_counts a (file_of s.number)) (is : overlay_content z ≡ slot_put s number (slot_bytes s.items slot) (overlay_content b)) (answer : Option ℕ) (left : ListsLeft desc db s.number number slot.rec (overlay_content a) (overlay_content b) answer) (done : answer ≡ None) where
+      put_is : overlay_content z ≡ slot_put s number (slot_bytes s.items (slot_after s.items o rec)) (overlay_content b)
+      put_is = is ∙ ap (λ (x : Slot). slot_put s number (slot_bytes s.items x) (overlay_content b)) p.slot_is
 
-    pub slots_at : s.owner ≢ 0 → AreSlots desc (overlay_content z)
-    slots_at apart = slots_after desc usable.serves.served s s.number number o rec db a p.told agrees usable.none p.spelt may p.was made_fit b z n calm p.slots next apart put_is
+      pub slots_at : s.owner ≢ 0 → AreSlotFiles desc (overlay_content z)
+      slots_at apart =
+          slots_after desc usable.serves.served s s.number number o rec db a p.told agrees usable.none p.spelt may p.was made_fit b z stays p.slots next apart ((left_made answer left).lists done) put_is
 
-    pub uncounted_at : OwnerStands db s o rec → KeepsSets desc db s.number number (Some slot.rec) (seen_list b) Done → IsUncounted desc db s.number number slot.rec (overlay_content z) (Stored number)
-    uncounted_at owner kept =
-        subst (λ (r : Record). IsUncounted desc db s.number number r (overlay_content z) (Stored number)) (sym made_is)
-        (leaves_uncounted desc usable.serves.served s s.number number o rec db a p.told agrees usable.none p.spelt may p.was made_fit b z n calm p.slots next owner
-        (subst (λ (r : Record). KeepsSets desc db s.number number (Some r) (seen_list b) Done) made_is kept) put_is)
+      pub uncounted_at : OwnerStands db s o rec → IsUncounted desc db s.number number slot.rec (overlay_content z) (Stored number)
+      uncounted_at owner =
+          subst (λ (r : Record). IsUncounted desc db s.number number r (overlay_content z) (Stored number)) (sym made_is)
+          (leaves_uncounted desc usable.serves.served s s.number number o rec db a p.told agrees usable.none p.spelt may p.was made_fit b z stays p.slots next owner answer (left_made answer left) done put_is)
 
-  pub refused_at : (b : Overlay B g) (k : ℕ) → KeepsSets desc db s.number number (Some slot.rec) (seen_list b) (Duplicate k) → IsUncounted desc db s.number number slot.rec (overlay_content b) (Refused k)
-  refused_at b k kept =
-      subst (λ (r : Record). IsUncounted desc db s.number number r (overlay_content b) (Refused k)) (sym made_is)
-      (refusal_leaves desc usable.serves.served s s.number number o rec db a p.told agrees usable.none p.spelt may p.was made_fit b k
-      (subst (λ (r : Record). KeepsSets desc db s.number number (Some r) (seen_list b) (Duplicate k)) made_is kept))
+  pub refused_at : (b : Overlay B g) (answer : Option ℕ) (k : ℕ) → ListsLeft desc db s.number number slot.rec (overlay_content a) (overlay_content b) answer → answer ≡ Some k → IsUncounted desc db s.number number slot.rec (overlay_content b) (Refused k)
+  refused_at b answer k left is = sym left.answer_is ∙ is
 
   -- ---- the owner's count
 
@@ -135,40 +133,40 @@ module _ {B : Type 0} {g : Ghosts B} (desc : Described) (a : Overlay B g) (usabl
   after_is = ap (with_record db s.number number) made_is
 
   -- what is counted so spells the database with the record
-  pub spelled_at : (d : Content) → StandsFiles desc after (owners_after (owned_in desc db) s.owner (owner_opt o) rec.owner) d → database_in desc d ≡ Some after
+  pub spelled_at : (d : Content) → StandsFiles desc after (tally_after (tally_of desc db) s.owner (owner_opt o) rec.owner) d → database_in desc d ≡ Some after
   spelled_at d files =
       spell desc usable.serves.served db (overlay_content a) s.number number s o rec spelt_seen may p.was d
-      (subst (λ (x : Db). StandsFiles desc x (owners_after (owned_in desc db) s.owner (owner_opt o) rec.owner) d) after_is files)
+      (subst (λ (x : Db). StandsFiles desc x (tally_after (tally_of desc db) s.owner (owner_opt o) rec.owner) d) after_is files)
       ∙ ap (λ (x : Db). Some x) (sym after_is)
 
   -- where a record is replaced nothing is to be counted
   pub entered_old : (x : Slot) → o ≡ Some x → (d : Content) (q : Put) → IsUncounted desc db s.number number slot.rec d q → IsEntered desc db s.number number slot.rec d q
-  entered_old x is d (Stored n) h = (h.0, h.1, spelled_at d (subst (λ (y : Option Slot). StandsFiles desc after (owners_after (owned_in desc db) s.owner (owner_opt y) rec.owner) d) (sym is) h.2))
+  entered_old x is d (Stored n) h = (h.0, h.1, spelled_at d (subst (λ (y : Option Slot). StandsFiles desc after (tally_after (tally_of desc db) s.owner (owner_opt y) rec.owner) d) (sym is) h.2))
   entered_old x is d (Refused k) h = h
   entered_old x is d Full h = h
 
   module _ (new : old ≡ None) (owner : OwnerStands db s o rec) where
-    none_there : o ≡ None
-    none_there = by o (p.old_is ∙ new)
+    no_slot : o ≡ None
+    no_slot = by o (p.old_is ∙ new)
       where
         by : (x : Option Slot) → rec_opt (slot_opt x) ≡ None → x ≡ None
         by None h = refl
-        by (Some x) h = absurd (cc)
+        by (Some x) h = absurd (cc h)
 
     own_owner : slot.rec.owner ≡ rec.owner
     own_owner = ap (λ (r : Record). r.owner) made_is ∙ ap (λ x. kept_owner x rec.owner) (p.old_is ∙ new)
 
     -- the owner of a new record may count it
-    pub may_count_at : MayCount after (owned_in desc db) s.owner slot.rec.owner
+    pub may_count_at : MayCount after (tally_of desc db) s.owner slot.rec.owner
     may_count_at =
-        subst (λ m. MayCount after (owned_in desc db) s.owner m) (sym own_owner)
-        (subst (λ (x : Db). MayCount x (owned_in desc db) s.owner rec.owner) (sym after_is) (may_count desc usable.serves.served db (overlay_content a) s.number number s o rec spelt_seen may p.was (owner.stands none_there)))
+        subst (λ m. MayCount after (tally_of desc db) s.owner m) (sym own_owner)
+        (subst (λ (x : Db). MayCount x (tally_of desc db) s.owner rec.owner) (sym after_is) (may_count desc usable.serves.served db (overlay_content a) s.number number s o rec spelt_seen may p.was (owner.stands no_slot)))
 
-    pub counted_at : (d : Content) → StandsFiles desc after (owners_after (owned_in desc db) s.owner None slot.rec.owner) d → database_in desc d ≡ Some after
+    pub counted_at : (d : Content) → StandsFiles desc after (tally_after (tally_of desc db) s.owner None slot.rec.owner) d → database_in desc d ≡ Some after
     counted_at d files =
         spelled_at d
-        (subst (λ m. StandsFiles desc after (owners_after (owned_in desc db) s.owner (owner_opt o) m) d) own_owner
-        (subst (λ (x : Option Slot). StandsFiles desc after (owners_after (owned_in desc db) s.owner (owner_opt x) slot.rec.owner) d) (sym none_there) files))
+        (subst (λ m. StandsFiles desc after (tally_after (tally_of desc db) s.owner (owner_opt o) m) d) own_owner
+        (subst (λ (x : Option Slot). StandsFiles desc after (tally_after (tally_of desc db) s.owner (owner_opt x) slot.rec.owner) d) (sym no_slot) files))
 
 -- ---- what the calls ask
 
@@ -195,22 +193,18 @@ module _ {B : Type 0} {g : Ghosts B} (desc : Described) (a : Overlay B g) (usabl
   rec_is : slot.rec ≡ with_links_of s.items None rec
   rec_is = ap (λ (x : Slot). x.rec) slot_is
 
-  pub listed_none : AreListed desc db (seen_list a)
-  listed_none = are_listed desc usable.serves.served db a told (spelled_files desc (overlay_content a) db usable.serves.served (ap (database_in desc) (seen_below a usable.none) ∙ spelt))
+  -- no record stands behind POPULATION
+  pub none_there : get db.records (s.number, number) ≡ None
+  none_there = ap (λ n. get db.records (s.number, n)) above ∙ none_above desc usable.serves.served db (under a).content s.number s spelt at is_set
 
-  pub stands_none : ChangeStands desc db s.number number None (Some slot.rec)
-  stands_none =
-      change_stands desc (under a).content db s.number number s None slot.rec usable.serves.served spelt at (omega (arith, above, (served_at desc s.number s usable.serves.served at).population))
-      (ap (λ n. get db.records (s.number, n)) above ∙ none_above desc usable.serves.served db (under a).content s.number s spelt at is_set) (after_fits desc s.number s None rec slot at tt fits slot_is)
+  refusal_is : refusal desc db s.number (Some (s.population + 1)) (with_links_of s.items None rec) ≡ refusal desc db s.number (Some number) slot.rec
+  refusal_is = λ i. refusal desc db s.number (Some (sym above i)) (sym rec_is i)
 
-  clash_is : clash_seen desc desc.structures db s.number (Some (s.population + 1)) (with_links_of s.items None rec) ≡ clash_seen desc desc.structures db s.number (Some number) slot.rec
-  clash_is = λ i. clash_seen desc desc.structures db s.number (Some (sym above i)) (sym rec_is i)
+  pub refused_none : (c d : Content) (answer : Option ℕ) (k : ℕ) → ListsLeft desc db s.number number slot.rec c d answer → answer ≡ Some k → IsJudged desc db s.number (s.population + 1) (with_links_of s.items None rec) (Refused k)
+  refused_none c d answer k left is = refusal_is ∙ sym left.answer_is ∙ is
 
-  pub refused_none : (b : Overlay B g) (k : ℕ) → KeepsSets desc db s.number number (Some slot.rec) (seen_list b) (Duplicate k) → IsJudged desc db s.number (s.population + 1) (with_links_of s.items None rec) (Refused k)
-  refused_none b k kept = clash_is ∙ one_refused (clash_seen desc desc.structures db s.number (Some number) slot.rec) k kept.answer_is
-
-  pub full_none : (b : Overlay B g) → KeepsSets desc db s.number number (Some slot.rec) (seen_list b) Done → IsJudged desc db s.number (s.population + 1) (with_links_of s.items None rec) Full
-  full_none b kept = clash_is ∙ none_refused (clash_seen desc desc.structures db s.number (Some number) slot.rec) kept.answer_is
+  pub full_none : (c d : Content) (answer : Option ℕ) → ListsLeft desc db s.number number slot.rec c d answer → answer ≡ None → IsJudged desc db s.number (s.population + 1) (with_links_of s.items None rec) Full
+  full_none c d answer left is = refusal_is ∙ sym left.answer_is ∙ is
 
 -- ---- no block of slots is bad
 

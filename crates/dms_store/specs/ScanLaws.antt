@@ -1,6 +1,7 @@
 -- The first member of a data set behind a bound is the first used slot from there on, and the last before one the last.
 use Rattle.std.proofs.Common.{◌≡◌, ◌≢◌, ◌∙◌, ◌+◌, ◌-◌, ◌≤◌, ◌<◌, ℕ, zero, suc, List, [], ◌∷◌, ◌++◌, Bool, true, false, cond, Some, None, refl, sym, ap, take, drop, slice_get, length, arith}
 use Rattle.std.specs.Prelude.{◌&&◌, ◌==◌, nat_le, nat_lt}
+use Rattle.std.specs.List.{list_any}
 use Rattle.std.specs.declared.option.Option.{Option}
 use Rattle.std.specs.FinMap.{entries}
 use Rattle.std.specs.Ordering.{nat_cmp, ordering_then, is_lt, is_gt}
@@ -14,20 +15,22 @@ use Rattle.dms_desc.specs.declared.bound.Bound.TheVariants.{Start, End, At, From
 use Rattle.dms_desc.specs.declared.structure.KeyPart.{KeyPart}
 use Rattle.dms_desc.specs.declared.record.Record.{Record}
 use Rattle.dms_desc.specs.Keys.{key_cmp}
+use Rattle.dms_desc.specs.Kinds.{over, takes}
 use Rattle.dms_desc.specs.Lookups.{structure_of}
 use Rattle.dms_desc.specs.Shape.{Shape, Described}
 use Rattle.dms_desc.specs.Sorted.{sort, place_in, first, last, or_else}
 use Rattle.dms_layout.specs.declared.slot.SlotRead.{SlotRead}
 use Rattle.dms_layout.specs.declared.slot.SlotRead.TheVariants.{Free, Used, Bad}
 use Rattle.dms_model.specs.declared.spot.Spot.{Spot}
-use Rattle.dms_model.specs.Db.{Place}
-use Rattle.dms_model.specs.Members.{belongs, first_member, first_of, is_after_bound, is_before, is_before_bound, last_member, last_of, members, spot_of, spots_of}
+use Rattle.dms_model.specs.Db.{Place, SubsetEntry}
+use Rattle.dms_model.specs.Members.{belongs, first_member, first_of, is_after_bound, is_before, is_before_bound, last_member, last_of, members, names, spot_of, spots_of}
 use Rattle.dms_model.specs.Valid.{is_data_set}
 use Rattle.dms_slots.specs.SlotBlocks.{or_free, slots_of}
-use Rattle.dms_store.specs.Finding.{structure_there}
-use Rattle.dms_store.specs.Rows.{AreNumbered, entries_in}
+use Rattle.dms_spelling.specs.ServingLaws.{structure_there}
+use Rattle.dms_links.specs.Rows.{AreNumbered, rows_from, rows_in, file_in}
+use Rattle.dms_store.specs.Rows.{entries_in}
 use Rattle.dms_store.specs.Scans.{spot, owned_spot, first_used, last_used, start_of, stop_of}
-use Rattle.dms_store.specs.Spelled.{rows_from, rows_in, file_in, db_in}
+use Rattle.dms_spelling.specs.Spelled.{db_in}
 
 -- ---- the members are the owner's used slots
 
@@ -306,9 +309,18 @@ pub record IsSetPath (desc : Described) (path : ℕ) (s : Shape) : Type 0 where
   pub set : is_data_set (Some s) ≡ true
   pub keyless : s.parts ≡ []
 
-no_entries : (desc : Described) (s : Shape) (c : Content) (owner : ℕ) → members s (db_in desc c) owner ≡ sort (is_before s.parts) (spots_of s [] owner (entries (db_in desc c).records))
-unfolding db_in
-no_entries desc s c owner = refl
+-- entries of manual subsets make no difference to it
+no_entries : (s : Shape) (manual : List SubsetEntry) (owner : ℕ) → (s.kind == 5) ≡ false → (es : List (Place × Record)) → spots_of s manual owner es ≡ spots_of s [] owner es
+no_entries s manual owner off [] = refl
+no_entries s manual owner off (e ∷ es) = λ i. cond (here i) (spot_of s.parts e ∷ no_entries s manual owner off es i) (no_entries s manual owner off es i)
+  where
+    here : belongs s manual owner e ≡ belongs s [] owner e
+    here =
+        ap (λ b. (over s == e.0.0) && cond b (list_any (names s.number owner e.0.1) manual) ((owner == e.1.owner) && takes s e.1.values)) off
+        ∙ sym (ap (λ b. (over s == e.0.0) && cond b (list_any (names s.number owner e.0.1) []) ((owner == e.1.owner) && takes s e.1.values)) off)
+
+not_five : (s : Shape) → is_data_set (Some s) ≡ true → (s.kind == 5) ≡ false
+not_five s h = grind (arith, nat_tests, h)
 
 module _ (desc : Described) (path : ℕ) (s : Shape) (at : IsSetPath desc path s) (c : Content) (owner : ℕ) where
   own : IsDataSetShape s
@@ -316,7 +328,7 @@ module _ (desc : Described) (path : ℕ) (s : Shape) (at : IsSetPath desc path s
 
   members_are : members s (db_in desc c) owner ≡ spots_from owner 1 (slots_of s (file_in c s))
   members_are =
-      no_entries desc s c owner
+      ap (sort (is_before s.parts)) (no_entries s (db_in desc c).entries owner (not_five s at.set) (entries (db_in desc c).records))
       ∙ ap (λ es. sort (is_before s.parts) (spots_of s [] owner es)) (entries_in desc c at.numbered)
       ∙ ap (sort (is_before s.parts)) (spots_in s own owner c 1 (path - 1) desc.structures at.numbered at.set (structure_there desc.structures path s at.is))
       ∙ ap (λ ps. sort (is_before ps) (spots_from owner 1 (slots_of s (file_in c s)))) at.keyless

@@ -1,5 +1,5 @@
 -- The record numbers of data sets that are known to be taken.
-use Rattle.std.specs.Prelude.{◌≡◌, ◌≤◌, ◌-◌, ℕ, List, true, IsTrue, Some, None, ⊤, replicate, slice_index_or, slice_set}
+use Rattle.std.specs.Prelude.{◌≡◌, ◌-◌, ℕ, List, true, IsTrue, Some, None, ⊤, Bool, min, replicate, slice_index_or, slice_set}
 use Rattle.std.specs.declared.option.Option.{Option}
 use Rattle.std.specs.declared.result.Result.{Result}
 use Rattle.std.specs.declared.result.Result.TheVariants.{Ok, Err}
@@ -14,7 +14,8 @@ use Rattle.dms_desc.specs.Shape.{Shape, Described}
 use Rattle.dms_model.specs.Valid.{is_data_set}
 use Rattle.dms_model.specs.declared.put.Put.{Put}
 use Rattle.dms_model.specs.declared.put.Put.TheVariants.{Stored, Duplicate as Refused, Full}
-use Rattle.dms_slots.specs.SlotBlocks.{AreTaken, before_free, slots_of}
+use Rattle.dms_slots.specs.SlotBlocks.{AreTaken}
+use Rattle.dms_spelling.specs.Staying.{TakenStay}
 
 -- how many numbers of a structure, from 1 on, are known to be taken
 abbrev pub taken_of : List ℕ → ℕ → ℕ
@@ -27,11 +28,6 @@ AreTakenIn desc n c taken = (s : Shape) → structure_of desc n ≡ Some s → i
 -- the numbers that are known to be taken are
 abbrev pub AreKnown : Described → List ℕ → Content → Type 0
 AreKnown desc known c = (n : ℕ) → AreTakenIn desc n c (taken_of known n)
-
--- the least free number of no data set has fallen
-abbrev pub TakenStay : Described → Content → Content → Type 0
-TakenStay desc c d = (n : ℕ) (s : Shape) → structure_of desc n ≡ Some s → is_data_set (Some s) ≡ true
-    → before_free (slots_of s (c (file_of s.number))) ≤ before_free (slots_of s (d (file_of s.number)))
 
 -- where a record is stored, this holds of its number
 abbrev pub IfStoredAs : Put → (ℕ → Type 0) → Type 0
@@ -70,3 +66,11 @@ learned set (Some m) p known = known
 abbrev pub Learns : ℕ → Option ℕ → Result Put BlockFault → List ℕ → List ℕ → Type 0
 Learns set number (Ok p) old new = new ≡ learned set number p old
 Learns set number (Err e) old new = new ≡ none_known
+
+-- and after a record was to be removed, that those before its own are taken as far as they were
+abbrev pub lowered : ℕ → ℕ → List ℕ → List ℕ
+lowered set number known = slice_set known set (min (taken_of known set) (number - 1))
+
+abbrev pub Lowers : ℕ → ℕ → Result Bool BlockFault → List ℕ → List ℕ → Type 0
+Lowers set number (Ok done) old new = new ≡ lowered set number old
+Lowers set number (Err e) old new = new ≡ none_known

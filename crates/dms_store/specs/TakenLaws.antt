@@ -13,87 +13,31 @@ use Rattle.dms_block.specs.declared.block_fault.BlockFault.{BlockFault}
 use Rattle.dms_block.specs.declared.blocks.Blocks.{Ghosts}
 use Rattle.dms_block.specs.declared.overlay.Overlay.{Overlay}
 use Rattle.dms_block.specs.Content.{Content}
-use Rattle.dms_block.specs.ContentLaws.{in_others}
 use Rattle.dms_block.specs.Faults.{Unbroken}
 use Rattle.dms_block.specs.Held.{HasNextNumber, Held, Lasts, Looks, MadeDurable, MadeQuiet, SameBlocks, Stays}
 use Rattle.dms_block.specs.View.{overlay_content, under, overlay_changes}
 use Rattle.dms_desc.specs.Files.{file_of}
 use Rattle.dms_desc.specs.Lookups.{structure_of}
 use Rattle.dms_desc.specs.Shape.{Shape, Described}
-use Rattle.dms_desc.specs.Fitting.{values_fit}
-use Rattle.dms_layout.specs.Slots.{slot_bytes}
-use Rattle.dms_layout.specs.SlotLaws.{slot_long}
 use Rattle.dms_layout.specs.declared.slot.Slot.{Slot}
-use Rattle.dms_layout.specs.declared.slot.SlotRead.{SlotRead}
 use Rattle.dms_layout.specs.declared.slot.SlotRead.TheVariants.{Free, Used, Bad}
 use Rattle.dms_model.specs.Valid.{is_data_set}
 use Rattle.dms_model.specs.declared.put.Put.{Put}
 use Rattle.dms_model.specs.declared.put.Put.TheVariants.{Stored, Duplicate as Refused, Full}
-use Rattle.dms_sets.specs.Changes.{has_number}
-use Rattle.dms_sets.specs.Keeping.{Calm}
-use Rattle.dms_slots.specs.FileWritten.{put_taken, spelled_taken}
-use Rattle.dms_slots.specs.SlotBlocks.{AreTaken, MayPutSlot, before_free, block_of, least_free, or_free, slot_at, slot_put, slots_of}
-use Rattle.dms_store.specs.Finding.{number_at, seen_below, served_at}
-use Rattle.dms_store.specs.Owning.{Raises, raised_slot}
-use Rattle.dms_store.specs.PuttingEnters.{IfStored, set_off}
-use Rattle.dms_store.specs.PuttingFresh.{free_there, taken_before}
-use Rattle.dms_store.specs.Serving.{IsServed}
-use Rattle.dms_store.specs.Taken.{AreKnown, AreTakenIn, IfStoredAs, Learns, StaysKnown, StoresNext, TakenStay, TakesNext, learned, none_known, taken_of}
+use Rattle.dms_slots.specs.SlotBlocks.{AreTaken, MayPutSlot, before_free, block_of, least_free, or_free, slot_at, slots_of}
+use Rattle.dms_store.specs.Finding.{number_at, seen_below}
+use Rattle.dms_spelling.specs.ServingLaws.{served_at}
+use Rattle.dms_sets.specs.Keeping.{FileStays}
+use Rattle.dms_spelling.specs.Grown.{IsNoList, set_no_list}
+use Rattle.dms_spelling.specs.Staying.{TakenStay, files_stay, free_there, same_stays, then_stays}
+use Rattle.dms_store.specs.PuttingEnters.{IfStored}
+use Rattle.dms_spelling.specs.Serving.{IsServed}
+use Rattle.dms_store.specs.Taken.{AreKnown, AreTakenIn, IfStoredAs, Learns, StaysKnown, StoresNext, TakesNext, learned, none_known, taken_of}
 
 -- ---- propositions
 
 pub AreKnown-prop : (desc : Described) (known : List ℕ) (c : Content) → IsProp (AreKnown desc known c)
 AreKnown-prop desc known c = hlevel (props, le_prop)
-
--- ---- the first free slot
-
--- it stands no lower where no slot is freed
-none_freed : (rs ts : List SlotRead) → ((i : ℕ) → or_free (slice_get rs i) ≢ Free → or_free (slice_get ts i) ≢ Free) → before_free rs ≤ before_free ts
-none_freed rs ts stay = elim (cases_lt (before_free ts) (before_free rs)) [
-  | inl low ↦ absurd (stay (before_free ts) (taken_before rs (before_free ts) low (or_free (slice_get rs (before_free ts))) refl) (free_there ts))
-  | inr high ↦ high
-]
-
--- a slot that is written frees none
-slot_stays : (s : Shape) (c : Content) (number : ℕ) (slot : Slot) → MayPutSlot s c number → IsTrue (values_fit s.items slot.rec.values)
-    → before_free (slots_of s (c (file_of s.number))) ≤ before_free (slots_of s (slot_put s number (slot_bytes s.items slot) c (file_of s.number)))
-slot_stays s c number slot may fits = none_freed (slots_of s (c (file_of s.number))) (slots_of s (slot_put s number (slot_bytes s.items slot) c (file_of s.number))) (λ i used.
-    let e : (i + 1) - 1 ≡ i = omega arith in
-    let at = put_taken s c number (slot_bytes s.items slot) may (slot_long s.items slot fits) (spelled_taken s slot) (i + 1) (omega arith) (λ free. used (ap (λ k. or_free (slice_get (slots_of s (c (file_of s.number))) k)) (sym e) ∙ free)) in
-    λ free. at (ap (λ k. or_free (slice_get (slots_of s (slot_put s number (slot_bytes s.items slot) c (file_of s.number))) k)) e ∙ free))
-
--- ---- all data sets
-
-pub files_stay : (desc : Described) (c d : Content) → ((n : ℕ) (s : Shape) → structure_of desc n ≡ Some s → is_data_set (Some s) ≡ true → d (file_of s.number) ≡ c (file_of s.number)) → TakenStay desc c d
-files_stay desc c d same = λ n s at is_set. omega (arith, ap (λ (bs : List (List ℕ)). before_free (slots_of s bs)) (same n s at is_set))
-
-pub same_stays : (desc : Described) (c d : Content) → d ≡ c → TakenStay desc c d
-same_stays desc c d same = files_stay desc c d (λ n s at is_set i. same i (file_of s.number))
-
-pub then_stays : (desc : Described) (c d e : Content) → TakenStay desc c d → TakenStay desc d e → TakenStay desc c e
-then_stays desc c d e one two = λ n s at is_set. omega (arith, one n s at is_set, two n s at is_set)
-
-pub put_stays : (desc : Described) (s : Shape) (number : ℕ) (slot : Slot) (c d : Content) → IsServed desc → structure_of desc s.number ≡ Some s → MayPutSlot s c number → IsTrue (values_fit s.items slot.rec.values)
-    → d ≡ slot_put s number (slot_bytes s.items slot) c → TakenStay desc c d
-put_stays desc s number slot c d served here may fits is = λ n t at is_set. elim (cases_eq n s.number) [
-  | inl same ↦
-      let own : s ≡ t = same_Some s t (sym here ∙ ap (structure_of desc) (sym same) ∙ at) in
-      subst (λ (x : Shape). before_free (slots_of x (c (file_of x.number))) ≤ before_free (slots_of x (d (file_of x.number)))) own
-      (omega (arith, slot_stays s c number slot may fits, ap (λ (x : Content). before_free (slots_of s (x (file_of s.number)))) is))
-  | inr apart ↦
-      let off : file_of t.number ≢ file_of s.number = λ e. apart (omega (arith, e, number_at desc n t served at)) in
-      omega (arith, ap (λ (bs : List (List ℕ)). before_free (slots_of t bs)) (ap (λ (x : Content). x (file_of t.number)) is ∙ in_others c (file_of s.number) (block_of s.items number) _ (file_of t.number) off))
-]
-
--- a record that owns one more
-pub raised_stays : (desc : Described) (s : Shape) (number : ℕ) (done : Bool) (c d : Content) → IsServed desc → structure_of desc s.number ≡ Some s → 1 ≤ number → Raises s number done c d → TakenStay desc c d
-raised_stays desc s number true c d served here low r =
-    put_stays desc s number (raised_slot r.slot) c d served here
-    (record { fits = (served_at desc s.number s served here).fits; low = low; next = r.next; sound = λ bad. not_bad r.slot (sym r.was ∙ bad) }) r.fits.values r.is
-  where
-    not_bad : (x : Slot) → Used x ≡ Bad → ⊥
-    not_bad x h = absurd (cc h)
-raised_stays desc s number false c d served here low r = same_stays desc c d r.same
 
 -- ---- the number of a new record
 
@@ -130,18 +74,18 @@ stored_weaker (Stored n) P Q f h = f n h
 stored_weaker (Refused s) P Q f h = tt
 stored_weaker Full P Q f h = tt
 
--- ---- a slot that may be written behind a change of the sets
+-- ---- a slot that may be written behind a change of lists
 
-module _ {B : Type 0} {g : Ghosts B} (desc : Described) (served : IsServed desc) (s : Shape) (here : structure_of desc s.number ≡ Some s) (is_set : is_data_set (Some s) ≡ true) (number : ℕ) (a b : Overlay B g) (told : IsTrue (under a).told) (k : ℕ) (calm : Calm (has_number desc.structures s.number) k a b) where
-  calm_file : (n : ℕ) (t : Shape) → structure_of desc n ≡ Some t → is_data_set (Some t) ≡ true → overlay_content b (file_of t.number) ≡ overlay_content a (file_of t.number)
-  calm_file n t at is = (calm.others t.number (set_off desc s.number n t served at is)).1 told
+module _ {B : Type 0} {g : Ghosts B} (desc : Described) (served : IsServed desc) (s : Shape) (here : structure_of desc s.number ≡ Some s) (is_set : is_data_set (Some s) ≡ true) (number : ℕ) (a b : Overlay B g) (told : IsTrue (under a).told) (stays : (k : ℕ) → IsNoList desc k → FileStays k a b) where
+  lists_file : (n : ℕ) (t : Shape) → structure_of desc n ≡ Some t → is_data_set (Some t) ≡ true → overlay_content b (file_of t.number) ≡ overlay_content a (file_of t.number)
+  lists_file n t at is = (stays t.number (set_no_list desc t.number t (ap (structure_of desc) (number_at desc n t served at) ∙ at) is)).1 told
 
-  pub calm_stays : TakenStay desc (overlay_content a) (overlay_content b)
-  calm_stays = files_stay desc (overlay_content a) (overlay_content b) calm_file
+  pub lists_stay : TakenStay desc (overlay_content a) (overlay_content b)
+  lists_stay = files_stay desc (overlay_content a) (overlay_content b) lists_file
 
-  pub calm_may : (1 ≤ number) → block_of s.items number ≤ length (overlay_content a (file_of s.number)) → slot_at s (overlay_content a (file_of s.number)) number ≢ Bad → MayPutSlot s (overlay_content b) number
-  calm_may low next good =
-      let same = calm_file s.number s here is_set in
+  pub lists_may : (1 ≤ number) → block_of s.items number ≤ length (overlay_content a (file_of s.number)) → slot_at s (overlay_content a (file_of s.number)) number ≢ Bad → MayPutSlot s (overlay_content b) number
+  lists_may low next good =
+      let same = lists_file s.number s here is_set in
       record {
         fits = (served_at desc s.number s served here).fits;
         low = low;

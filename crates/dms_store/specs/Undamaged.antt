@@ -19,7 +19,7 @@ use Rattle.dms_slots.specs.SlotBlocks.{is_block}
 use Rattle.dms_store.specs.Files.{block_at, whole_at}
 use Rattle.dms_store.specs.Finding.{BadSlot, seen_below}
 use Rattle.dms_store.specs.Lifted.{IsUsable, Serves, db_of}
-use Rattle.dms_store.specs.Spelled.{db_in, is_spelled, some_if}
+use Rattle.dms_spelling.specs.Spelled.{db_in, is_spelled, some_if}
 
 spelled_by : (t : Bool) (db d : Db) → some_if t db ≡ Some d → t ≡ true
 spelled_by true db d h = refl
@@ -72,6 +72,6 @@ module _ {B : Type 0} {g : Ghosts B} (desc : Described) (o : Overlay B g) (usabl
       let here = bad.2.0.1 both.0 in
       let same : overlay_content o (file_of s.number) ≡ (under o).content (file_of s.number) = ap (λ (c : Content). c (file_of s.number)) (seen_below o usable.none) in
       let low : b < length ((under o).content (file_of s.number)) = subst (λ (bs : List (List ℕ)). b < length bs) same here.0 in
-      let good = block_at desc (under o).content set s b both.1 bad.1 own low in
+      let good = block_at desc (under o).content set s b usable.serves.served both.1 bad.1 own low in
       let bad_one = subst (λ (bs : List (List ℕ)). is_block s (get_or bs b []) ≡ false) same here.1 in
       absurd (cc (good, bad_one))

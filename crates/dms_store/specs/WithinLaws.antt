@@ -22,7 +22,8 @@ use Rattle.dms_model.specs.Valid.{is_data_set, owner_stands}
 use Rattle.dms_slots.specs.SlotBlocks.{slot_opt}
 use Rattle.dms_store.specs.Finding.{slot_record}
 use Rattle.dms_store.specs.Scans.{IsRecordSpot, first_used, last_used, owned_spot, spot}
-use Rattle.dms_store.specs.Spelled.{counted_in, links_stand, owned_in, slot_stands, slots_stand}
+use Rattle.dms_tally.specs.Counts.{counted_in, links_stand, owned_in}
+use Rattle.dms_spelling.specs.Spelled.{slot_stands, slots_stand}
 
 module _ (desc : Described) (db : Db) (s : Shape) where
   low_number : (n : ℕ) (slot : Slot) → slot_stands desc db s n (Used slot) ≡ true → n ≤ s.population

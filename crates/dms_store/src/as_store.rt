@@ -6,7 +6,7 @@ ghost use Rattle.dms_store.specs.StoreLaws.{store_agrees};
 use crate::BlockStore;
 use dms_block::{BlockFault, Blocks};
 use dms_desc::{Bound, Record};
-use dms_model::{Put, Spot, Store};
+use dms_model::{Places, Put, Spot, Store};
 use std::alloc::Global;
 
 impl<B: Blocks> Store for BlockStore<B> {
@@ -52,6 +52,49 @@ impl<B: Blocks> Store for BlockStore<B> {
         rec: &Record,
     ) -> Result<Put, BlockFault> {
         self.put(alloc, set, number, rec)
+    }
+
+    fn in_use(&mut self, alloc: Global, set: u16, number: u64) -> Result<bool, BlockFault> {
+        self.in_use(alloc, set, number)
+    }
+
+    fn linkers(&mut self, alloc: Global, set: u16, number: u64) -> Result<Places, BlockFault> {
+        self.linkers(alloc, set, number)
+    }
+
+    fn remove(&mut self, alloc: Global, set: u16, number: u64) -> Result<bool, BlockFault> {
+        self.remove(alloc, set, number)
+    }
+
+    fn link(
+        &mut self,
+        alloc: Global,
+        set: u16,
+        number: u64,
+        item: u8,
+        to: Option<u64>,
+    ) -> Result<(), BlockFault> {
+        self.link(alloc, set, number, item, to)
+    }
+
+    fn enter(
+        &mut self,
+        alloc: Global,
+        subset: u16,
+        owner: u64,
+        number: u64,
+    ) -> Result<Put, BlockFault> {
+        self.enter(alloc, subset, owner, number)
+    }
+
+    fn leave(
+        &mut self,
+        alloc: Global,
+        subset: u16,
+        owner: u64,
+        number: u64,
+    ) -> Result<bool, BlockFault> {
+        self.leave(alloc, subset, owner, number)
     }
 
     fn quiet(&mut self) -> Result<u64, BlockFault> {

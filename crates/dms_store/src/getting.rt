@@ -8,7 +8,7 @@ ghost use Rattle.dms_model.specs.Stores.{Tells};
 ghost use Rattle.dms_slots.specs.SlotBlocks.{slot_opt};
 ghost use Rattle.dms_store.specs.Finding.{BadSlot};
 ghost use Rattle.dms_store.specs.Lifted.{IsUsable, db_under};
-ghost use Rattle.dms_store.specs.Rows.{rec_opt};
+ghost use Rattle.dms_links.specs.Rows.{rec_opt};
 
 use dms_block::{BlockFault, Blocks, Overlay};
 use dms_desc::{Description, Record, Structure};

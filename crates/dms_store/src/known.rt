@@ -1,5 +1,5 @@
 ghost use Rattle.std.specs.Prelude.{◌≡◌, slice_set};
-ghost use Rattle.dms_store.specs.Taken.{Learns, StaysKnown, none_known, taken_of};
+ghost use Rattle.dms_store.specs.Taken.{Learns, Lowers, StaysKnown, none_known, taken_of};
 
 use dms_block::BlockFault;
 use dms_model::Put;
@@ -100,6 +100,20 @@ impl Known {
             }
             Ok(Put::Duplicate(_)) => {}
             Ok(Put::Full) => {}
+        }
+    }
+
+    /// After a record was to be removed: its number may be free.
+    pub fn note_gone(&mut self, set: u16, number: u64, answer: &Result<bool, BlockFault>)
+        ensures counts { Lowers set number answer.now self.old.counts self.new.counts }
+        ensures marked { StaysKnown answer.now self.old.marked self.new.marked }
+    {
+        match answer {
+            Err(_) => self.forget(),
+            Ok(_done) => {
+                let taken = self.of(set).min(number.saturating_sub(1));
+                self.learn(set, taken);
+            }
         }
     }
 }

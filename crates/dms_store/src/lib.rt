@@ -3,18 +3,18 @@
 
 mod address;
 mod as_store;
-mod bounds;
 mod entries;
 mod finding;
 mod getting;
 mod known;
 mod laws;
 mod linking;
-mod listed;
 mod note;
 mod owning;
 mod paths;
 mod putting;
+mod relating;
+mod relisting;
 mod scanning;
 mod store;
 

@@ -14,10 +14,10 @@ ghost use Rattle.dms_desc.specs.Kinds.{is_set_or_automatic};
 
 use crate::entries::member_at;
 use crate::finding::{first_record, last_record};
-use crate::listed::{first_entry, last_entry};
 use dms_base::{ItemKind, Memory};
 use dms_block::{BlockFault, Blocks, Overlay};
 use dms_desc::{Bound, Description, Structure};
+use dms_entries::{first_entry, first_member, last_entry, last_member};
 use dms_model::Spot;
 use dms_sets::kinds_of;
 use std::alloc::Global;
@@ -106,7 +106,7 @@ fn last_listed<B: Blocks>(
     }
 }
 
-/// The first member of a structure, for an owner (0 where it is disjoint), behind a bound. A manual subset has none yet.
+/// The first member of a structure, for an owner (0 where it is disjoint), behind a bound.
 pub fn first_from<B: Blocks>(
     over: &mut Overlay<B>,
     alloc: Global,
@@ -131,14 +131,14 @@ pub fn first_from<B: Blocks>(
                 return first_record(over, alloc, desc, path, owner, from);
             }
             if s.is_manual() {
-                return Ok(None);
+                return first_member(over, alloc, desc, path, owner, from);
             }
             first_listed(over, alloc, desc, s, owner, from)
         }
     }
 }
 
-/// The last member of a structure, for an owner (0 where it is disjoint), before a bound. A manual subset has none yet.
+/// The last member of a structure, for an owner (0 where it is disjoint), before a bound.
 pub fn last_to<B: Blocks>(
     over: &mut Overlay<B>,
     alloc: Global,
@@ -162,7 +162,7 @@ pub fn last_to<B: Blocks>(
                 return last_record(over, alloc, desc, path, owner, to);
             }
             if s.is_manual() {
-                return Ok(None);
+                return last_member(over, alloc, desc, path, owner, to);
             }
             last_listed(over, alloc, desc, s, owner, to)
         }

@@ -1,4 +1,4 @@
-ghost use Rattle.std.specs.Prelude.{◌≡◌, ◌≤◌, ◌+◌, ◌*◌, [], true, None, Some, IfOk, IfSome, IsTrue, length};
+ghost use Rattle.std.specs.Prelude.{◌≡◌, ◌≤◌, ◌+◌, [], true, None, Some, IfOk, IfSome, IsTrue};
 ghost use Rattle.std.specs.Option.{option_copied};
 ghost use Rattle.dms_block.specs.Content.{Content};
 ghost use Rattle.dms_block.specs.Faults.{IfFull};
@@ -9,36 +9,41 @@ ghost use Rattle.dms_layout.specs.Slots.{SlotFits};
 ghost use Rattle.dms_model.specs.Db.{Db};
 ghost use Rattle.dms_model.specs.Fitting.{IsDataSet, IsNumber, PutFits, RecordFits};
 ghost use Rattle.dms_model.specs.Valid.{is_data_set};
-ghost use Rattle.dms_store.specs.Addressed.{AnswersTold, FaultsBelow, FitsAt, IfFound, IfPlaced, IfSpelt, JudgesAt, LeavesEntered, LeavesSlots, LeavesStored, LeavesUncounted, MayWrite, NextTold, StandsSound, StoresAt, desc_at, shape_at};
+ghost use Rattle.dms_store.specs.Addressed.{AnswersTold, FaultsBelow, FewFound, FewPlaced, FewStored, FitsAt, IfFound, IfPlaced, IfSpelt, JudgesAt, LeavesEntered, LeavesSlots, LeavesStored, LeavesUncounted, MayWrite, NextTold, StandsSound, StoresAt, desc_at, shape_at};
 ghost use Rattle.dms_store.specs.Lifted.{IsUsable};
 ghost use Rattle.dms_store.specs.Putting.{Answers, FullStored};
-ghost use Rattle.dms_store.specs.PuttingCalls.{WritesAtMost, HandsDown};
-ghost use Rattle.dms_store.specs.PuttingLaws.{PutsFree, Replaces, db_put};
-ghost use Rattle.dms_store.specs.Spelled.{database_in};
+ghost use Rattle.dms_store.specs.PuttingCalls.{HandsFew, WritesFew};
+ghost use Rattle.dms_store.specs.PuttingLaws.{MayPut, PutsRecord, Replaces, db_put};
+ghost use Rattle.dms_spelling.specs.Spelled.{database_in};
 ghost use Rattle.dms_store.specs.PuttingEnters.{IfStored};
-ghost use Rattle.dms_store.specs.Taken.{AreTakenIn, IfStoredAs, TakenStay, TakesNext};
+ghost use Rattle.dms_spelling.specs.Staying.{TakenStay};
+ghost use Rattle.dms_spelling.specs.Stands.{StandsFiles};
+ghost use Rattle.dms_links.specs.Stands.{tally_of};
+ghost use Rattle.dms_store.specs.PuttingOwners.{tally_put};
+ghost use Rattle.dms_store.specs.Taken.{AreTakenIn, IfStoredAs, TakesNext};
 ghost use Rattle.dms_slots.specs.Seen.{blocks_of};
 ghost use Rattle.dms_slots.specs.SlotBlocks.{AreTaken};
 
 use crate::address::Address;
 use crate::linking::slot_after;
 use crate::owning::count_owner;
+use crate::relisting::change_lists;
 use dms_block::{BlockFault, Blocks, Overlay};
 use dms_desc::{Description, Record, Structure};
 use dms_layout::Slot;
 use dms_model::Put;
-use dms_sets::{SetAnswer, change};
 use dms_slots::{next_free, read_slot, write_slot};
 use std::alloc::Global;
 
-/// A law: where a content spells a database, and the lists of the sets over a disjoint data set and the slot of a
-/// record are changed, it spells the database with what is stored for the record. The slot keeps its counts.
+/// A law: where a content spells a database, and the lists of the sets and manual subsets and the slot of a record are
+/// changed, the files are those of the database with what is stored for the record, and each slot counts what it counted;
+/// and once the owner of a new record counts it, the content spells that database.
 pub fn put_law()
-    ensures { (desc : Described) (db : Db) (p : Replaces) (c e d : Content) → PutsFree desc db p c e d
-        → database_in desc d ≡ Some (db_put db p) }
+    ensures stands { (desc : Described) (db : Db) (p : Replaces) (c e d : Content) → MayPut desc db p c → PutsRecord desc db p c e d → StandsFiles desc (db_put db p) (tally_of desc db) d }
+    ensures spells { (desc : Described) (db : Db) (p : Replaces) (c d : Content) → MayPut desc db p c → StandsFiles desc (db_put db p) (tally_put desc db p) d → database_in desc d ≡ Some (db_put db p) }
 {}
 
-// Changes the sets over a data set, and writes the slot of what is stored, both over the blocks.
+// Changes the lists, and writes the slot of what is stored, both over the blocks.
 fn write_at<B: Blocks>(
     over: &mut Overlay<B>,
     alloc: Global,
@@ -51,24 +56,16 @@ fn write_at<B: Blocks>(
     requires old { IfSome (option_copied old) (FitsAt at.now) }
     requires new { FitsAt at.now slot.now.rec }
     ensures fits { IfOk result (PutFits (desc_at at.now) at.now.set.now.number) }
-    ensures enters { WritesAtMost (44 * length at.now.desc.now.structures + 1) result over.old over.new }
+    ensures enters { WritesFew (FewPlaced at.now (option_copied old.entry) slot.now 1 over.old) result over.old over.new }
     ensures below { IfPlaced at.now (option_copied old.entry) slot.now over.old (λ db o rec. FaultsBelow result over.old over.new) }
     ensures slots { IfOk result (λ p. IfPlaced at.now (option_copied old.entry) slot.now over.old (λ db o rec. LeavesSlots at.now over.new p)) }
     ensures entered { IfOk result (λ p. IfPlaced at.now (option_copied old.entry) slot.now over.old (LeavesUncounted at.now slot.now.rec over.new p)) }
     ensures taken { IfOk result (StoresAt at.now over.old over.new) }
 {
-    match change(
-        over,
-        alloc,
-        at.desc,
-        at.set.number,
-        at.number,
-        old,
-        Some(&slot.rec),
-    ) {
+    match change_lists(over, alloc, at, old, &slot.rec) {
         Err(e) => Err(e),
-        Ok(SetAnswer::Duplicate(set)) => Ok(Put::Duplicate(set)),
-        Ok(SetAnswer::Done) => match write_slot(over, alloc, at.set, at.number, slot) {
+        Ok(Some(structure)) => Ok(Put::Duplicate(structure)),
+        Ok(None) => match write_slot(over, alloc, at.set, at.number, slot) {
             Err(e) => Err(e),
             Ok(()) => Ok(Put::Stored(at.number)),
         },
@@ -86,7 +83,7 @@ fn write_new<B: Blocks>(
     requires sound { StandsSound at.now over.old }
     requires new { FitsAt at.now slot.now.rec }
     ensures fits { IfOk result (PutFits (desc_at at.now) at.now.set.now.number) }
-    ensures enters { WritesAtMost (44 * length at.now.desc.now.structures + 2) result over.old over.new }
+    ensures enters { WritesFew (FewPlaced at.now None slot.now 2 over.old) result over.old over.new }
     ensures below { IfPlaced at.now None slot.now over.old (λ db o rec. FaultsBelow result over.old over.new) }
     ensures entered { IfOk result (λ p. IfPlaced at.now None slot.now over.old (LeavesEntered at.now slot.now.rec over.new p)) }
     ensures taken { IfOk result (StoresAt at.now over.old over.new) }
@@ -118,7 +115,7 @@ fn store_at<B: Blocks>(
     requires old { IfSome (option_copied old) (SlotFits (shape_at at.now)) }
     requires new { FitsAt at.now rec.now }
     ensures fits { IfOk result (PutFits (desc_at at.now) at.now.set.now.number) }
-    ensures enters { WritesAtMost (44 * length at.now.desc.now.structures + 2) result over.old over.new }
+    ensures enters { WritesFew (FewFound at.now (option_copied old.entry) over.old) result over.old over.new }
     ensures below { IfFound at.now (option_copied old.entry) over.old (λ db. FaultsBelow result over.old over.new) }
     ensures entered { IfOk result (λ p. IfFound at.now (option_copied old.entry) over.old (LeavesStored at.now (option_copied old.entry) rec.now over.new p)) }
     ensures taken { IfOk result (StoresAt at.now over.old over.new) }
@@ -143,24 +140,16 @@ fn judge<B: Blocks>(
     requires above { at.now.number ≡ at.now.set.now.population + 1 }
     requires new { FitsAt at.now rec.now }
     ensures fits { IfOk result (PutFits (desc_at at.now) at.now.set.now.number) }
-    ensures enters { WritesAtMost (44 * length at.now.desc.now.structures + 2) result over.old over.new }
+    ensures enters { WritesFew (FewStored (desc_at at.now) at.now.set.now.number None over.old) result over.old over.new }
     ensures below { IfSpelt (desc_at at.now) over.old (λ db. FaultsBelow result over.old over.new) }
     ensures judged { IfOk result (λ p. IfSpelt (desc_at at.now) over.old (JudgesAt at.now rec.now p)) }
     ensures unstored { IfOk result (λ p. IfStored p ⊥) }
 {
     let slot = slot_after(alloc, at.set, None, rec)?;
-    match change(
-        over,
-        alloc,
-        at.desc,
-        at.set.number,
-        at.number,
-        None,
-        Some(&slot.rec),
-    ) {
+    match change_lists(over, alloc, at, None, &slot.rec) {
         Err(e) => Err(e),
-        Ok(SetAnswer::Duplicate(set)) => Ok(Put::Duplicate(set)),
-        Ok(SetAnswer::Done) => Ok(Put::Full),
+        Ok(Some(structure)) => Ok(Put::Duplicate(structure)),
+        Ok(None) => Ok(Put::Full),
     }
 }
 
@@ -179,7 +168,7 @@ fn put_new<B: Blocks>(
     requires new { RecordFits (as_described desc.now) s.now.number rec.now }
     requires known { IsTrue (under over.old).told → AreTaken (shape_of s.now) (blocks_of (shape_of s.now) over.old) taken }
     ensures fits { IfOk result (PutFits (as_described desc.now) s.now.number) }
-    ensures enters { WritesAtMost (44 * length desc.now.structures + 2) result over.old over.new }
+    ensures enters { WritesFew (FewStored (as_described desc.now) s.now.number None over.old) result over.old over.new }
     ensures below { IfSpelt (as_described desc.now) over.old (λ db. FaultsBelow result over.old over.new) }
     ensures answers { IfOk result (AnswersTold (as_described desc.now) over.old over.new s.now.number None rec.now) }
     ensures taken { IfOk result (NextTold (as_described desc.now) s.now.number None over.old over.new) }
@@ -227,7 +216,7 @@ fn put_old<B: Blocks>(
     requires most { at.now.number ≤ at.now.set.now.population }
     requires new { FitsAt at.now rec.now }
     ensures fits { IfOk result (PutFits (desc_at at.now) at.now.set.now.number) }
-    ensures enters { WritesAtMost (44 * length at.now.desc.now.structures + 2) result over.old over.new }
+    ensures enters { WritesFew (FewStored (desc_at at.now) at.now.set.now.number (Some at.now.number) over.old) result over.old over.new }
     ensures below { IfSpelt (desc_at at.now) over.old (λ db. FaultsBelow result over.old over.new) }
     ensures answers { IfOk result (AnswersTold (desc_at at.now) over.old over.new at.now.set.now.number (Some at.now.number) rec.now) }
     ensures taken { IfOk result (StoresAt at.now over.old over.new) }
@@ -255,7 +244,7 @@ fn enter<B: Blocks>(
     requires fits { RecordFits (as_described desc.now) set rec.now }
     requires known { IsTrue (under over.old).told → AreTakenIn (as_described desc.now) set (under over.old).content taken }
     ensures fits { IfOk result (PutFits (as_described desc.now) set) }
-    ensures enters { WritesAtMost (44 * length desc.now.structures + 2) result over.old over.new }
+    ensures enters { WritesFew (FewStored (as_described desc.now) set number over.old) result over.old over.new }
     ensures below { IfSpelt (as_described desc.now) over.old (λ db. FaultsBelow result over.old over.new) }
     ensures answers { IfOk result (AnswersTold (as_described desc.now) over.old over.new set number rec.now) }
     ensures taken { IfOk result (NextTold (as_described desc.now) set number over.old over.new) }
@@ -298,7 +287,7 @@ pub fn put<B: Blocks>(
     requires known { IsTrue (under over.old).told → AreTakenIn (as_described desc.now) set (under over.old).content taken }
     ensures fits { IfOk result (PutFits (as_described desc.now) set) }
     ensures written { overlay_changes over.new ≡ [] }
-    ensures hands_down { HandsDown (44 * length desc.now.structures + 2) result over.old over.new }
+    ensures hands_down { HandsFew (FewStored (as_described desc.now) set number over.old) result over.old over.new }
     ensures below { IfSpelt (as_described desc.now) over.old (λ db. FaultsBelow result over.old over.new) }
     ensures full { IfFull result (λ f. f ≡ (B.pace over.old.below).last) }
     ensures stored { IsTrue (under over.old).told → FullStored (as_described desc.now) (under over.old).content set number rec.now result }

@@ -6,11 +6,11 @@ ghost use Rattle.dms_store.specs.TakenLaws.{AreKnown-prop};
 
 use crate::known::Known;
 use crate::note::note;
-use crate::{getting, paths, putting};
+use crate::{getting, paths, putting, relating};
 use dms_base::Memory;
 use dms_block::{BlockFault, Blocks, Overlay};
 use dms_desc::{Bound, Description, Record};
-use dms_model::{Put, Spot};
+use dms_model::{Places, Put, Spot};
 use std::alloc::Global;
 
 /// A database on blocks. Between two calls nothing is written over them.
@@ -31,6 +31,7 @@ impl<B: Blocks> BlockStore<B> {
     ghost use Rattle.dms_block.specs.Faults.{IfFull, Undamaged};
     ghost use Rattle.dms_block.specs.Held.{is_due};
     ghost use Rattle.dms_block.specs.Texts.{Prints};
+    ghost use Rattle.dms_model.specs.Changing.{Enters, FullWhereEntered, FullWhereLeft, FullWhereRemoved, IsLinkOf, IsManual, Leaves, Links, Removes, SpendsFor, TellsWhere, removal_count, storing_count};
     ghost use Rattle.dms_model.specs.Db.{Db};
     ghost use Rattle.dms_model.specs.Fitting.{IsDataSet, IsNumber, IsStructure, MayStart, PutFits, RecordFits, SpotFits};
     ghost use Rattle.dms_model.specs.Members.{first_member, last_member};
@@ -38,8 +39,9 @@ impl<B: Blocks> BlockStore<B> {
     ghost use Rattle.dms_model.specs.Seen.{GoesBack, HasStoreCauses, IfPointsTold, IsMute, IsSilent, Keeps, KeepsPoints, QuietMade, PointsDurable, SaysPart, Syncs};
     ghost use Rattle.dms_store.specs.Lifted.{IsUsable, Serves};
     ghost use Rattle.dms_model.specs.Stores.{Tells};
+    ghost use Rattle.dms_model.specs.Uses.{in_use, linkers};
     ghost use Rattle.dms_store.specs.Looked.{Looked};
-    ghost use Rattle.dms_store.specs.PuttingStore.{ChangesAtMost, FullWhere, Stores};
+    ghost use Rattle.dms_store.specs.PuttingStore.{Changes, FullWhere, Stores};
     ghost use Rattle.dms_store.specs.Storing.{seen_by};
     ghost use Rattle.dms_store.specs.Listed.{IfIndexed};
     ghost use Rattle.dms_tree.specs.Looks.{IfDigits, ReadsFew};
@@ -83,6 +85,7 @@ impl<B: Blocks> BlockStore<B> {
         ensures desc { self.new.desc ≡ self.old.desc }
         ensures found { Tells (seen_by self.old).db result (λ d. get d.records (set, number)) }
         ensures fits { IfOk result (λ o. IfSome o (RecordFits (as_described self.old.desc) set)) }
+        ensures number { IfOk result (λ o. IfSome o (λ r. IsNumber (as_described self.old.desc) set number)) }
         ensures looked { Looked result (seen_by self.old) (seen_by self.new) }
         ensures same { B.same_blocks self.old.over.below self.new.over.below }
     {
@@ -242,12 +245,132 @@ impl<B: Blocks> BlockStore<B> {
         ensures put { IfOk result (Stores (as_described self.old.desc) (seen_by self.old).db (seen_by self.new).db set number rec.now) }
         ensures full { IfFull result (λ f. f ≡ (seen_by self.old).pace.last) }
         ensures stored { FullWhere (as_described self.old.desc) (seen_by self.old).db set number rec.now result }
-        ensures changed { ChangesAtMost (64 * length (as_described self.old.desc).structures) result (seen_by self.old) (seen_by self.new) }
+        ensures changed { Changes result (seen_by self.old) (seen_by self.new) }
+        ensures spends { SpendsFor (seen_by self.old).db (as_described self.old.desc) (storing_count (as_described self.old.desc) set number) (seen_by self.old).effort (seen_by self.new).effort }
         ensures same { B.same_blocks self.old.over.below self.new.over.below }
     {
         let taken = self.known.of(set);
         let stored = putting::put(&mut self.over, alloc, &self.desc, set, number, rec, taken);
         self.known.note_put(set, number, &stored);
         note(&mut self.found, stored)
+    }
+
+    /// Whether a counted link refers to a record, its own included, an entry of a manual subset names it, or it owns records
+    /// or entries. It may read the whole list of each manual subset of the data set.
+    pub fn in_use(&mut self, alloc: Global, set: u16, number: u64) -> Result<bool, BlockFault>
+        requires sound { IsUsable (as_described self.old.desc) self.old.over }
+        ensures desc { self.new.desc ≡ self.old.desc }
+        ensures found { IfOk result (TellsWhere (seen_by self.old).db set number (λ d. in_use (as_described self.old.desc) d set number)) }
+        ensures looked { Looked result (seen_by self.old) (seen_by self.new) }
+        ensures same { B.same_blocks self.old.over.below self.new.over.below }
+    {
+        let used = dms_removal::in_use(&mut self.over, alloc, &self.desc, set, number);
+        self.known.keep(&used);
+        note(&mut self.found, used)
+    }
+
+    /// The records whose self-correcting link refers to a record, by data set and number. It reads the slots of the data sets
+    /// that have an item for such links into the record's own.
+    pub fn linkers(&mut self, alloc: Global, set: u16, number: u64) -> Result<Places, BlockFault>
+        requires sound { IsUsable (as_described self.old.desc) self.old.over }
+        ensures desc { self.new.desc ≡ self.old.desc }
+        ensures found { IfOk result (TellsWhere (seen_by self.old).db set number (λ d. linkers (as_described self.old.desc) d set number)) }
+        ensures looked { Looked result (seen_by self.old) (seen_by self.new) }
+        ensures same { B.same_blocks self.old.over.below self.new.over.below }
+    {
+        let found = relating::linkers(&mut self.over, alloc, &self.desc, set, number);
+        self.known.keep(&found);
+        note(&mut self.found, found)
+    }
+
+    /// Removes a record that isn't in use: the self-correcting links to it are null then. Answers whether it did.
+    pub fn remove(&mut self, alloc: Global, set: u16, number: u64) -> Result<bool, BlockFault>
+        requires sound { IsUsable (as_described self.old.desc) self.old.over }
+        requires set { IsDataSet (as_described self.old.desc) set }
+        requires number { IsNumber (as_described self.old.desc) set number }
+        ensures desc { self.new.desc ≡ self.old.desc }
+        ensures removed { IfOk result (Removes (seen_by self.old).db (seen_by self.new).db (as_described self.old.desc) set number) }
+        ensures stands { FullWhereRemoved (seen_by self.old).db (as_described self.old.desc) set number result }
+        ensures full { IfFull result (λ f. f ≡ (seen_by self.old).pace.last) }
+        ensures changed { Changes result (seen_by self.old) (seen_by self.new) }
+        ensures spends { SpendsFor (seen_by self.old).db (as_described self.old.desc) (removal_count (as_described self.old.desc) set number) (seen_by self.old).effort (seen_by self.new).effort }
+        ensures same { B.same_blocks self.old.over.below self.new.over.below }
+    {
+        let removed = relating::remove(&mut self.over, alloc, &self.desc, set, number);
+        self.known.note_gone(set, number, &removed);
+        note(&mut self.found, removed)
+    }
+
+    /// Sets a link of a record, by its item's number from 1: null, or to the record with this number of the link's data set.
+    pub fn link(
+        &mut self,
+        alloc: Global,
+        set: u16,
+        number: u64,
+        item: u8,
+        to: Option<u64>,
+    ) -> Result<(), BlockFault>
+        requires sound { IsUsable (as_described self.old.desc) self.old.over }
+        requires set { IsDataSet (as_described self.old.desc) set }
+        requires item { IsLinkOf (as_described self.old.desc) set item }
+        requires to { IfSome to (λ n. n < 2 ^ 32) }
+        ensures desc { self.new.desc ≡ self.old.desc }
+        ensures linked { OnOk result (Links (seen_by self.old).db (seen_by self.new).db (as_described self.old.desc) set number item to) }
+        ensures full { IfFull result (λ f. f ≡ (seen_by self.old).pace.last) }
+        ensures changed { Changes result (seen_by self.old) (seen_by self.new) }
+        ensures spends { SpendsFor (seen_by self.old).db (as_described self.old.desc) (λ d. 3) (seen_by self.old).effort (seen_by self.new).effort }
+        ensures same { B.same_blocks self.old.over.below self.new.over.below }
+    {
+        let linked = relating::link(&mut self.over, alloc, &self.desc, set, number, item, to);
+        self.known.keep(&linked);
+        note(&mut self.found, linked)
+    }
+
+    /// Enters a record in a manual subset for an owner (0 where it is disjoint).
+    pub fn enter(
+        &mut self,
+        alloc: Global,
+        subset: u16,
+        owner: u64,
+        number: u64,
+    ) -> Result<Put, BlockFault>
+        requires sound { IsUsable (as_described self.old.desc) self.old.over }
+        requires subset { IsManual (as_described self.old.desc) subset }
+        requires owner { owner < 2 ^ 32 }
+        ensures desc { self.new.desc ≡ self.old.desc }
+        ensures entered { IfOk result (Enters (seen_by self.old).db (seen_by self.new).db (as_described self.old.desc) subset owner number) }
+        ensures stands { FullWhereEntered (seen_by self.old).db (as_described self.old.desc) subset owner number result }
+        ensures full { IfFull result (λ f. f ≡ (seen_by self.old).pace.last) }
+        ensures changed { Changes result (seen_by self.old) (seen_by self.new) }
+        ensures spends { SpendsFor (seen_by self.old).db (as_described self.old.desc) (λ d. 2) (seen_by self.old).effort (seen_by self.new).effort }
+        ensures same { B.same_blocks self.old.over.below self.new.over.below }
+    {
+        let entered = relating::enter(&mut self.over, alloc, &self.desc, subset, owner, number);
+        self.known.keep(&entered);
+        note(&mut self.found, entered)
+    }
+
+    /// Takes an entry out of a manual subset. Answers whether it stood.
+    pub fn leave(
+        &mut self,
+        alloc: Global,
+        subset: u16,
+        owner: u64,
+        number: u64,
+    ) -> Result<bool, BlockFault>
+        requires sound { IsUsable (as_described self.old.desc) self.old.over }
+        requires subset { IsManual (as_described self.old.desc) subset }
+        requires owner { owner < 2 ^ 32 }
+        ensures desc { self.new.desc ≡ self.old.desc }
+        ensures left { IfOk result (Leaves (seen_by self.old).db (seen_by self.new).db (as_described self.old.desc) subset owner number) }
+        ensures stands { FullWhereLeft (seen_by self.old).db (as_described self.old.desc) subset owner number result }
+        ensures full { IfFull result (λ f. f ≡ (seen_by self.old).pace.last) }
+        ensures changed { Changes result (seen_by self.old) (seen_by self.new) }
+        ensures spends { SpendsFor (seen_by self.old).db (as_described self.old.desc) (λ d. 2) (seen_by self.old).effort (seen_by self.new).effort }
+        ensures same { B.same_blocks self.old.over.below self.new.over.below }
+    {
+        let left = relating::leave(&mut self.over, alloc, &self.desc, subset, owner, number);
+        self.known.keep(&left);
+        note(&mut self.found, left)
     }
 }

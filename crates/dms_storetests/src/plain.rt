@@ -77,6 +77,8 @@ impl Site for Paper {
         }
         Ok(())
     }
+
+    fn show(&mut self, _done: u64, _of: u64) {}
 }
 
 fn items(rt: &(impl AllocGlobal + Abort)) -> Items {

@@ -8,7 +8,7 @@ use Rattle.dms_model.specs.Fitting.{IsNumber, RecordFits, SpotFits}
 use Rattle.dms_model.specs.Stores.{TellsOf}
 use Rattle.dms_sets.specs.Finds.{spot_by}
 use Rattle.dms_store.specs.Lifted.{db_of}
-use Rattle.dms_store.specs.SetPaths.{set_at}
+use Rattle.dms_spelling.specs.ServingLaws.{set_at}
 use Rattle.dms_store.proofs.Standing.{member_fits, own_told, same_true, small_number, strange, told_of}
 use Rattle.dms_store.proofs.entries.member_at.Goals as goal
 

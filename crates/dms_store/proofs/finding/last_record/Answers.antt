@@ -10,7 +10,8 @@ use Rattle.dms_model.specs.Fitting.{population_of}
 use Rattle.dms_model.specs.Members.{last_member}
 use Rattle.dms_desc.specs.Files.{file_of}
 use Rattle.dms_slots.specs.SlotBlocks.{slots_of}
-use Rattle.dms_store.specs.Finding.{causes_in, most_slots, seen_below, served_at, set_if}
+use Rattle.dms_store.specs.Finding.{causes_in, most_slots, seen_below, set_if}
+use Rattle.dms_spelling.specs.ServingLaws.{served_at}
 use Rattle.dms_store.specs.PathLaws.{last_seen, spots_fit, tells_ok}
 use Rattle.dms_store.specs.Scans.{last_used, stop_of}
 use Rattle.dms_store.specs.Undamaged.{not_set}

@@ -13,7 +13,8 @@ use Rattle.dms_chain.specs.SeenLaws.{causes_err}
 use Rattle.dms_slots.specs.Seen.{BadAt}
 use Rattle.dms_desc.specs.Files.{file_of}
 use Rattle.dms_slots.specs.SlotBlocks.{block_of, slot_at}
-use Rattle.dms_store.specs.Finding.{BadSlot, bad_slot, got, low_number, record_fits_opt, seen_below, served_at, set_if}
+use Rattle.dms_store.specs.Finding.{BadSlot, bad_slot, got, low_number, record_fits_opt, seen_below, set_if}
+use Rattle.dms_spelling.specs.ServingLaws.{served_at}
 use Rattle.dms_store.specs.Noted.{tells_if}
 use Rattle.dms_store.specs.Undamaged.{not_set}
 use Rattle.dms_store.proofs.Numbers.{no_record}

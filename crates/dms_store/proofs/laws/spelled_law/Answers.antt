@@ -1,5 +1,5 @@
 use Rattle.std.proofs.Common.{sym, ◌∙◌}
-use Rattle.dms_store.specs.SpelledLaws.{spells, spelled_stands, spelled_fits, spelled_flat}
+use Rattle.dms_store.specs.SpelledLaws.{spells, spelled_entries, spelled_fits, spelled_stands}
 use Rattle.dms_store.proofs.laws.spelled_law.Goals as goal
 
 pub returns-clause-one : goal.returns-clause-one
@@ -11,5 +11,5 @@ returns-clause-records c = spelled_stands
 pub returns-clause-fits : goal.returns-clause-fits
 returns-clause-fits c = spelled_fits
 
-pub returns-clause-flat : goal.returns-clause-flat
-returns-clause-flat c = spelled_flat
+pub returns-clause-entries : goal.returns-clause-entries
+returns-clause-entries c = spelled_entries

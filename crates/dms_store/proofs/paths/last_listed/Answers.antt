@@ -14,7 +14,8 @@ use Rattle.dms_sets.specs.Sets.{kinds_over}
 use Rattle.dms_desc.specs.Files.{file_of}
 use Rattle.dms_store.specs.Lifted.{db_of}
 use Rattle.dms_store.specs.LiftedLaws.{db_same}
-use Rattle.dms_store.specs.Listed.{BadPath, MayLook}
+use Rattle.dms_entries.specs.Looked.{MayLook}
+use Rattle.dms_store.specs.Listed.{BadPath}
 use Rattle.dms_store.proofs.Members.{fault_path, last_path, list_path, tells_none}
 use Rattle.dms_store.proofs.paths.last_listed.Goals as goal
 

@@ -6,10 +6,11 @@ use Rattle.dms_desc.specs.Shape.{as_described}
 use Rattle.dms_model.specs.Fitting.{MayStart, SpotFits}
 use Rattle.dms_model.specs.Members.{last_member}
 use Rattle.dms_model.specs.Stores.{Tells}
+use Rattle.dms_entries.specs.Found.{BadSubset}
 use Rattle.dms_store.specs.Finding.{BadSlot}
 use Rattle.dms_store.specs.Lifted.{db_of}
 use Rattle.dms_store.specs.Listed.{BadPath}
-use Rattle.dms_store.proofs.ByKind.{found_shape, kept_here, kept_reads, last_manual, number_is, set_here, set_reads, slots_path, there_is}
+use Rattle.dms_store.proofs.ByKind.{found_shape, kept_here, kept_reads, manual_here, manual_reads, manual_tells, number_is, ready_here, set_here, set_reads, slots_path, subset_path, there_is}
 use Rattle.dms_store.proofs.paths.last_to.Goals as goal
 
 pub last_record-requires-clause-path : goal.last_record-requires-clause-path
@@ -28,10 +29,28 @@ returns-then-is_data_set-clause-causes g c =
     causes_or_on (BadSlot desc c.args.path o) (BadPath desc c.args.path o) c.last_record.result (under o) (under o) (under c.last_record.new.over)
     (slots_path c.args.path c.requires.usable.serves.served (found_shape c.structure.ensures c.in-Some.is) o c.requires.usable (sym c.is_data_set.ensures ∙ c.if-is_data_set.true)) refl (lasts_none (under o)) (same_none (under o)) c.last_record.ensures.causes
 
+pub last_member-requires-clause-ready : goal.last_member-requires-clause-ready
+last_member-requires-clause-ready g c = ready_here c.args.path c.requires.usable.serves.served (found_shape c.structure.ensures c.in-Some.is) c.args.over.now c.requires.usable
+
+pub last_member-requires-clause-subset : goal.last_member-requires-clause-subset
+last_member-requires-clause-subset g c = manual_here c.args.path c.requires.usable.serves.served (found_shape c.structure.ensures c.in-Some.is) c.args.over.now (sym c.is_manual.ensures ∙ c.if-is_manual.true)
+
 pub returns-then-is_manual-clause-found : goal.returns-then-is_manual-clause-found
 returns-then-is_manual-clause-found g c may =
+    let desc = as_described c.args.desc.now in
+    manual_tells c.args.path c.requires.usable.serves.served (found_shape c.structure.ensures c.in-Some.is) c.args.over.now c.requires.usable c.last_member.result (λ d. last_member desc d c.args.path c.args.owner c.args.to.now) (c.last_member.ensures.found may)
+
+pub returns-then-is_manual-clause-reads : goal.returns-then-is_manual-clause-reads
+returns-then-is_manual-clause-reads g c =
     let o = c.args.over.now in
-    last_manual c.args.path c.requires.usable.serves.served (found_shape c.structure.ensures c.in-Some.is) (sym c.is_manual.ensures ∙ c.if-is_manual.true) (under o).told (under o).content c.args.owner c.args.to.now
+    subst (λ (n : ℕ). ReadsOverlay n c.last_member.result o c.last_member.new.over) (manual_reads c.args.path c.requires.usable.serves.served (found_shape c.structure.ensures c.in-Some.is) o (sym c.is_manual.ensures ∙ c.if-is_manual.true)) c.last_member.ensures.reads
+
+pub returns-then-is_manual-clause-causes : goal.returns-then-is_manual-clause-causes
+returns-then-is_manual-clause-causes g c =
+    let desc = as_described c.args.desc.now in
+    let o = c.args.over.now in
+    causes_or_on (BadSubset desc c.args.path o) (BadPath desc c.args.path o) c.last_member.result (under o) (under o) (under c.last_member.new.over)
+    (subset_path c.args.path c.requires.usable.serves.served (found_shape c.structure.ensures c.in-Some.is) o c.requires.usable) refl (lasts_none (under o)) (same_none (under o)) c.last_member.ensures.causes
 
 pub last_listed-requires-clause-kept : goal.last_listed-requires-clause-kept
 last_listed-requires-clause-kept g c =

@@ -1,4 +1,4 @@
-use Rattle.std.proofs.Common.{Bor, ◌≡◌, ◌∙◌, ℕ, Option, Some, None, ap, subst, sym}
+use Rattle.std.proofs.Common.{Bor, ◌≡◌, ◌∙◌, ℕ, Option, Some, None, Ok, refl, ap, subst, sym, arith}
 use Rattle.std.specs.Option.{option_copied, option_map}
 use Rattle.dms_desc.specs.Lookups.{structure_of}
 use Rattle.dms_desc.specs.Shape.{as_described, shape_of}
@@ -13,7 +13,9 @@ use Rattle.dms_store.specs.TakenLaws.{old_next}
 use Rattle.dms_store.specs.Undamaged.{not_set}
 use Rattle.std.specs.Prelude.{IfOk}
 use Rattle.dms_model.specs.Fitting.{PutFits, RecordFits}
-use Rattle.dms_store.specs.Addressed.{AnswersTold, NextTold}
+use Rattle.dms_model.specs.declared.put.Put.TheVariants.{Full}
+use Rattle.dms_store.specs.Addressed.{AnswersTold, FewStored, NextTold}
+use Rattle.dms_store.specs.PuttingCalls.{WritesFew, few_none}
 use Rattle.dms_store.proofs.putting.enter.Goals as goal
 
 pub returns-in-None-clause-answers : goal.returns-in-None-clause-answers
@@ -105,3 +107,26 @@ returns-in-Some-number-clause-taken g c =
     let n = c.in-Some-number.number in
     subst (λ (o : Option ℕ). IfOk c.put_old.result (NextTold desc c.args.set o a z)) (sym c.in-Some-number.is)
     (IfOk-weaker c.put_old.result _ _ (λ p h told. old_next desc c.args.set n (overlay_content a) (overlay_content z) p (h told)) c.put_old.ensures.taken)
+
+pub returns-in-None-clause-enters : goal.returns-in-None-clause-enters
+returns-in-None-clause-enters g c = few_none _ (Ok Full) c.args.over.now (λ db told spelt. omega arith) g.met.B.Blocks.same_again tt refl c.requires.usable.sound
+
+pub returns-in-None-number-clause-enters : goal.returns-in-None-number-clause-enters
+returns-in-None-number-clause-enters g c =
+    let desc = as_described c.args.desc.now in
+    let s = shape_of c.in-Some.s.now in
+    let a = c.args.over.now in
+    let at : structure_of desc c.args.set ≡ Some s = sym c.structure.ensures ∙ ap (λ (o : Option (Bor Structure)). option_map shape_of (option_copied o)) c.in-Some.is in
+    let own = number_at desc c.args.set s c.requires.usable.serves.served at in
+    subst (λ (o : Option ℕ). WritesFew (FewStored desc c.args.set o a) c.put_new.result a c.put_new.new.over) (sym c.in-None-number.is)
+    (subst (λ n. WritesFew (FewStored desc n None a) c.put_new.result a c.put_new.new.over) own c.put_new.ensures.enters)
+
+pub returns-in-Some-number-clause-enters : goal.returns-in-Some-number-clause-enters
+returns-in-Some-number-clause-enters g c =
+    let desc = as_described c.args.desc.now in
+    let s = shape_of c.in-Some.s.now in
+    let a = c.args.over.now in
+    let at : structure_of desc c.args.set ≡ Some s = sym c.structure.ensures ∙ ap (λ (o : Option (Bor Structure)). option_map shape_of (option_copied o)) c.in-Some.is in
+    let own = number_at desc c.args.set s c.requires.usable.serves.served at in
+    subst (λ (o : Option ℕ). WritesFew (FewStored desc c.args.set o a) c.put_old.result a c.put_old.new.over) (sym c.in-Some-number.is)
+    (subst (λ n. WritesFew (FewStored desc n (Some c.in-Some-number.number) a) c.put_old.result a c.put_old.new.over) own c.put_old.ensures.enters)

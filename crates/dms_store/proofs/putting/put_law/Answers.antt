@@ -1,5 +1,9 @@
-use Rattle.dms_store.specs.PuttingLaws.{put_spells}
+use Rattle.dms_store.specs.PuttingLaws.{record_step}
+use Rattle.dms_store.specs.PuttingOwners.{spell}
 use Rattle.dms_store.proofs.putting.put_law.Goals as goal
 
-pub returns : goal.returns
-returns c desc db p content lists left is = put_spells desc is.served db content lists left p.set p.number p.shape p.old p.rec is.spelt is.may is.was is.free is.lists is.change
+pub returns-clause-stands : goal.returns-clause-stands
+returns-clause-stands c desc db p x e d may puts = record_step desc may.served db x e d p.set p.number p.shape p.old p.rec may.spelt may.may may.was may.held puts.lists puts.change
+
+pub returns-clause-spells : goal.returns-clause-spells
+returns-clause-spells c desc db p x d may files = spell desc may.served db x p.set p.number p.shape p.old p.rec may.spelt may.may may.was d files

@@ -1,4 +1,4 @@
-use Rattle.std.proofs.Common.{ℕ, ◌≡◌, ◌∙◌, ◌≤◌, IfSome, IsTrue, Option, ap, subst, sym}
+use Rattle.std.proofs.Common.{ℕ, ◌≡◌, ◌∙◌, ◌≤◌, IfSome, IsTrue, Option, ap, subst, sym, arith}
 use Rattle.std.specs.declared.option.Option.TheVariants.{None}
 use Rattle.std.proofs.lemmas.Result.{IfOk-weaker}
 use Rattle.dms_block.specs.Content.{Content}
@@ -11,13 +11,18 @@ use Rattle.dms_chain.specs.SeenLaws.{causes_err}
 use Rattle.dms_slots.specs.Seen.{BadIn, count_of}
 use Rattle.dms_desc.specs.Files.{file_of}
 use Rattle.dms_slots.specs.SlotBlocks.{block_of, least_free, slot_at}
+use Rattle.dms_spelling.specs.Staying.{TakenStay, same_stays, then_stays}
 use Rattle.dms_store.specs.Finding.{seen_below}
-use Rattle.dms_store.specs.PuttingCalls.{enters_on}
+use Rattle.dms_store.specs.Addressed.{FewFound, FewStored}
+use Rattle.dms_store.specs.PuttingCalls.{few_failed, few_on}
 use Rattle.dms_store.specs.PuttingJudged.{owner_new, new_answers, none_answers}
 use Rattle.dms_store.specs.PuttingNumbers.{free_new}
 use Rattle.dms_store.specs.PuttingPlaced.{found_on, none_bad, spelt_on, told_on}
-use Rattle.dms_store.specs.Taken.{TakenStay, TakesNext}
-use Rattle.dms_store.specs.TakenLaws.{least_good, next_taken, none_stored, same_stays, stored_weaker, then_stays, told_before}
+use Rattle.dms_store.specs.PuttingSpent.{stored_new}
+use Rattle.dms_store.specs.PuttingStore.{some_structure}
+use Rattle.dms_store.specs.Taken.{TakesNext}
+use Rattle.dms_store.specs.TakenLaws.{least_good, next_taken, none_stored, stored_weaker, told_before}
+use Rattle.dms_store.specs.declared.address.Address.{Address}
 use Rattle.dms_store.proofs.putting.put_new.Goals as goal
 
 pub returns-in-Err-clause-below : goal.returns-in-Err-clause-below
@@ -27,9 +32,18 @@ returns-in-Err-clause-below g c db told spelt =
     causes_err (Option ℕ) Put (BadIn s a) (λ f k. ⊥) c.in-Err.e (under a) (under c.next_free.new.b)
     (λ f k bad. none_bad (as_described c.args.desc.now) a s db c.requires.usable c.requires.at c.requires.set told spelt f k bad) c.in-Err.ensures.causes
 
+pub returns-in-Err-clause-enters : goal.returns-in-Err-clause-enters
+returns-in-Err-clause-enters g c = few_failed _ (BadIn (shape_of c.args.s.now) c.args.over.now) c.in-Err.e c.args.over.now c.next_free.new.b (λ db told spelt. omega arith) c.in-Err.ensures.reads c.in-Err.ensures.causes
+
 pub returns-in-Ok-None-clause-enters : goal.returns-in-Ok-None-clause-enters
 returns-in-Ok-None-clause-enters g c =
-    enters_on _ c.judge.result c.args.over.now c.next_free.new.b c.judge.new.over g.met.B.Blocks.same_then c.in-Ok-None.ensures.reads c.in-Ok-None.ensures.causes c.judge.ensures.enters
+    let desc = as_described c.args.desc.now in
+    let s = shape_of c.args.s.now in
+    let a = c.args.over.now in
+    let b = c.next_free.new.b in
+    few_on (FewStored desc s.number None b) (FewStored desc s.number None a) c.judge.result a b c.judge.new.over g.met.B.Blocks.same_then
+    (λ n low db told spelt. low db (told_on desc a b c.requires.usable db told spelt c.in-Ok-None.ensures.reads) (spelt_on desc a b c.requires.usable db told spelt c.in-Ok-None.ensures.reads))
+    c.in-Ok-None.ensures.reads c.in-Ok-None.ensures.causes c.judge.ensures.enters
 
 pub returns-in-Ok-None-clause-answers : goal.returns-in-Ok-None-clause-answers
 returns-in-Ok-None-clause-answers g c =
@@ -44,7 +58,18 @@ returns-in-Ok-None-clause-answers g c =
 
 pub returns-in-Ok-Some-clause-enters : goal.returns-in-Ok-Some-clause-enters
 returns-in-Ok-Some-clause-enters g c =
-    enters_on _ c.store_at.result c.args.over.now c.next_free.new.b c.store_at.new.over g.met.B.Blocks.same_then c.in-Ok-Some.ensures.reads c.in-Ok-Some.ensures.causes c.store_at.ensures.enters
+    let desc = as_described c.args.desc.now in
+    let s = shape_of c.args.s.now in
+    let a = c.args.over.now in
+    let b = c.next_free.new.b in
+    let reads = c.in-Ok-Some.ensures.reads in
+    let at : Address = record { desc = c.args.desc; set = c.args.s; number = c.in-Ok-Some.number } in
+    few_on (FewFound at None b) (FewStored desc s.number None a) c.store_at.result a b c.store_at.new.over g.met.B.Blocks.same_then
+    (λ n low db told spelt.
+    let least = sym c.in-Ok-Some.field-0-is ∙ c.in-Ok-Some.ensures.least told (c.requires.known told) ∙ ap (λ (x : Content). least_free s (x (file_of s.number))) (seen_below a c.requires.usable.none) in
+    let le = low db (found_on desc a b c.requires.usable db told spelt reads s c.in-Ok-Some.number None (free_new desc c.requires.usable.serves.served db (under a).content s.number s spelt c.requires.at c.requires.set c.in-Ok-Some.number least)) in
+    stored_new at n (some_structure desc s.number s c.requires.at) db le)
+    reads c.in-Ok-Some.ensures.causes c.store_at.ensures.enters
 
 pub returns-in-Ok-Some-clause-below : goal.returns-in-Ok-Some-clause-below
 returns-in-Ok-Some-clause-below g c db told spelt =

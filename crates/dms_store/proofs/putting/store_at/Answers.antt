@@ -1,4 +1,4 @@
-use Rattle.std.proofs.Common.{Bor, ◌∙◌, ◌+◌, ◌*◌, Option, IfSome, Some, ap, subst, length, arith}
+use Rattle.std.proofs.Common.{Bor, ◌≡◌, ◌∙◌, ◌+◌, ◌≤◌, Option, IfSome, Some, ap, subst, sym, arith}
 use Rattle.std.proofs.lemmas.Result.{IfOk-weaker}
 use Rattle.dms_block.specs.View.{overlay_content}
 use Rattle.dms_desc.specs.declared.record.Record.{Record}
@@ -10,10 +10,11 @@ use Rattle.dms_layout.specs.declared.slot.Slot.{Slot}
 use Rattle.dms_slots.specs.SlotBlocks.{slot_opt}
 use Rattle.dms_store.specs.Finding.{slot_record}
 use Rattle.dms_store.specs.PuttingAfter.{slot_links}
-use Rattle.dms_store.specs.PuttingCalls.{enters_more}
+use Rattle.dms_store.specs.Addressed.{FewFound, FewPlaced, list_blocks}
+use Rattle.dms_store.specs.PuttingCalls.{few_weaker}
 use Rattle.dms_store.specs.PuttingEnters.{IsEntered}
 use Rattle.dms_store.specs.PuttingPlaced.{after_fits, entered_old, places_slot}
-use Rattle.dms_store.specs.Rows.{rec_opt}
+use Rattle.dms_links.specs.Rows.{rec_opt}
 use Rattle.dms_store.proofs.putting.store_at.Goals as goal
 
 pub write_new-requires-clause-new : goal.write_new-requires-clause-new
@@ -57,10 +58,25 @@ returns-in-None-clause-entered g c =
     (places_slot desc db s c.args.at.now.number o c.args.rec.now None c.in_ok-slot.slot c.args.over.now found c.requires.place.there c.requires.old c.requires.new
     (ap (λ (x : Option (Bor Slot)). rec_opt (slot_opt (option_copied x))) c.in-None.is) c.in_ok-slot.ensures) owner)) c.write_new.ensures.entered
 
+pub returns-in-None-clause-enters : goal.returns-in-None-clause-enters
+returns-in-None-clause-enters g c =
+    let s = shape_of c.args.at.now.set.now in
+    let o = option_copied c.args.old in
+    let is : rec_opt (slot_opt o) ≡ None = ap (λ (x : Option (Bor Slot)). rec_opt (slot_opt (option_copied x))) c.in-None.is in
+    few_weaker (FewPlaced c.args.at.now None c.in_ok-slot.slot 2 c.args.over.now) (FewFound c.args.at.now o c.args.over.now) c.write_new.result c.args.over.now c.write_new.new.over
+    (λ n low db found.
+    let le = low db o c.args.rec.now (places_slot (as_described c.args.at.now.desc.now) db s c.args.at.now.number o c.args.rec.now None c.in_ok-slot.slot c.args.over.now found c.requires.place.there c.requires.old c.requires.new is c.in_ok-slot.ensures) in
+    subst (λ (x : Option Record). n ≤ list_blocks c.args.at.now x db + 2) (sym is) le) c.write_new.ensures.enters
+
 pub returns-clause-enters : goal.returns-clause-enters
 returns-clause-enters g c =
-    let n = 44 * length c.args.at.now.desc.now.structures in
-    enters_more (n + 1) (n + 2) c.write_at.result c.args.over.now c.write_at.new.over (omega arith) c.write_at.ensures.enters
+    let s = shape_of c.args.at.now.set.now in
+    let o = option_copied c.args.old in
+    let is : rec_opt (slot_opt o) ≡ Some c.in-Some.old.now.rec = ap (λ (x : Option (Bor Slot)). rec_opt (slot_opt (option_copied x))) c.in-Some.is in
+    few_weaker (FewPlaced c.args.at.now (Some c.in-Some.old.now.rec) c.in_ok-slot.slot 1 c.args.over.now) (FewFound c.args.at.now o c.args.over.now) c.write_at.result c.args.over.now c.write_at.new.over
+    (λ n low db found.
+    let le = low db o c.args.rec.now (places_slot (as_described c.args.at.now.desc.now) db s c.args.at.now.number o c.args.rec.now (Some c.in-Some.old.now.rec) c.in_ok-slot.slot c.args.over.now found c.requires.place.there c.requires.old c.requires.new is c.in_ok-slot.ensures) in
+    subst (λ (x : Option Record). n ≤ list_blocks c.args.at.now x db + 2) (sym is) (omega (arith, le))) c.write_at.ensures.enters
 
 pub returns-clause-entered : goal.returns-clause-entered
 returns-clause-entered g c =

@@ -1,4 +1,4 @@
-use Rattle.std.proofs.Common.{◌∙◌, ◌+◌, ◌*◌, ◌≤◌, IsTrue, Some, refl, subst, length, arith}
+use Rattle.std.proofs.Common.{◌∙◌, ◌≤◌, ℕ, Bool, IsTrue, Option, refl, subst, sym, length, arith}
 use Rattle.std.specs.Option.{option_copied}
 use Rattle.std.specs.declared.result.Result.TheVariants.{Ok, Err}
 use Rattle.dms_block.specs.HeldLaws.{causes_or_on}
@@ -6,26 +6,31 @@ use Rattle.dms_block.specs.View.{overlay_content, under}
 use Rattle.dms_block.specs.ViewLaws.{counts_seen}
 use Rattle.dms_desc.specs.Files.{file_of}
 use Rattle.dms_desc.specs.Shape.{as_described, shape_of}
-use Rattle.dms_sets.specs.Changes.{has_number}
-use Rattle.dms_sets.specs.Keeping.{seen_list}
-use Rattle.dms_sets.specs.Told.{KeepsSets}
 use Rattle.dms_slots.specs.Seen.{BadAt}
 use Rattle.dms_slots.specs.SlotBlocks.{block_of}
-use Rattle.dms_store.specs.Finding.{served_at}
-use Rattle.dms_store.specs.PuttingCalls.{enters_as, enters_err, enters_write}
-use Rattle.dms_store.specs.PuttingEnters.{lists_usable, may_enter, set_off}
-use Rattle.dms_store.specs.PuttingPlaced.{few_numbers, listed_at, not_bad, number_fits, refused_at, slots_at, stands_at, uncounted_at, values_all}
-use Rattle.dms_store.specs.TakenLaws.{calm_may, calm_stays, put_stays, then_stays}
+use Rattle.dms_spelling.specs.Grown.{set_no_list}
+use Rattle.dms_spelling.specs.Holds.{have_slots}
+use Rattle.dms_spelling.specs.ServingLaws.{served_at}
+use Rattle.dms_spelling.specs.Staying.{put_stays, then_stays}
+use Rattle.dms_store.specs.Addressed.{FewLists, FewPlaced}
+use Rattle.dms_store.specs.LiftedLaws.{file_served}
+use Rattle.dms_store.specs.PuttingCalls.{few_as, few_err, few_then, few_weaker, slots_put}
+use Rattle.dms_store.specs.PuttingPlaced.{few_numbers, not_bad, number_fits, old_at, refused_at, slots_at, uncounted_at, values_all}
+use Rattle.dms_store.specs.TakenLaws.{lists_may, lists_stay}
 use Rattle.dms_store.proofs.putting.write_at.Goals as goal
 
-pub change-requires-clause-usable : goal.change-requires-clause-usable
-change-requires-clause-usable g c = lists_usable (as_described c.args.at.now.desc.now) c.args.over.now c.args.at.now.set.now.number c.requires.place.usable
+pub change_lists-requires-clause-small : goal.change_lists-requires-clause-small
+change_lists-requires-clause-small g c =
+    let few = few_numbers (as_described c.args.at.now.desc.now) c.args.at.now.set.now.number c.args.at.now.number (shape_of c.args.at.now.set.now) c.requires.place.usable.serves.served c.requires.place.there c.requires.place.most in
+    omega (arith, few)
 
-pub change-requires-clause-old : goal.change-requires-clause-old
-change-requires-clause-old g c = may_enter (as_described c.args.at.now.desc.now) c.args.at.now.set.now.number (shape_of c.args.at.now.set.now) (option_copied c.args.old) c.requires.place.usable.serves.served c.requires.place.there c.requires.old
+pub write_slot-requires-clause-sound : goal.write_slot-requires-clause-sound
+write_slot-requires-clause-sound g c = c.in-Ok-None.ensures.writes.writes.writes.looks.stays.sound
 
-pub change-requires-clause-new : goal.change-requires-clause-new
-change-requires-clause-new g c = may_enter (as_described c.args.at.now.desc.now) c.args.at.now.set.now.number (shape_of c.args.at.now.set.now) (Some c.args.slot.now.rec) c.requires.place.usable.serves.served c.requires.place.there c.requires.new
+pub write_slot-requires-clause-owned : goal.write_slot-requires-clause-owned
+write_slot-requires-clause-owned g c =
+    let s = shape_of c.args.at.now.set.now in
+    subst (λ (owns : ℕ → Bool). IsTrue (owns (file_of s.number))) (sym c.in-Ok-None.ensures.writes.writes.writes.looks.passes.lasts.owns) (file_served (as_described c.args.at.now.desc.now) (under c.args.over.now) s.number s c.requires.place.usable.serves c.requires.place.there)
 
 pub write_slot-requires-clause-few : goal.write_slot-requires-clause-few
 write_slot-requires-clause-few g c = (served_at (as_described c.args.at.now.desc.now) c.args.at.now.set.now.number (shape_of c.args.at.now.set.now) c.requires.place.usable.serves.served c.requires.place.there).few
@@ -39,85 +44,110 @@ write_slot-requires-clause-most g c = few_numbers (as_described c.args.at.now.de
 pub write_slot-requires-clause-next : goal.write_slot-requires-clause-next
 write_slot-requires-clause-next g c =
     let s = shape_of c.args.at.now.set.now in
-    let off = set_off (as_described c.args.at.now.desc.now) s.number s.number s c.requires.place.usable.serves.served c.requires.place.there c.requires.place.set in
-    omega (arith, c.requires.place.next, (c.in-Ok-Done.ensures.calm.others s.number off).0)
+    omega (arith, c.requires.place.next, (c.in-Ok-None.ensures.stays s.number (set_no_list (as_described c.args.at.now.desc.now) s.number s c.requires.place.there c.requires.place.set)).0)
 
 pub write_slot-requires-clause-values : goal.write_slot-requires-clause-values
 write_slot-requires-clause-values g c = values_all (as_described c.args.at.now.desc.now) c.args.at.now.set.now.number (shape_of c.args.at.now.set.now) c.args.slot.now.rec c.requires.place.there c.requires.new
+
+pub returns-in-Err-clause-enters : goal.returns-in-Err-clause-enters
+returns-in-Err-clause-enters g c =
+    let desc = as_described c.args.at.now.desc.now in
+    let s = shape_of c.args.at.now.set.now in
+    let a = c.args.over.now in
+    let agrees = g.met.B.Blocks.agrees a.below c.requires.place.usable.sound in
+    few_err {T = Option ℕ} _ c.in-Err.e a c.change_lists.new.over
+    (few_weaker (FewLists c.args.at.now (option_copied c.args.old) a) (FewPlaced c.args.at.now (option_copied c.args.old) c.args.slot.now 1 a) (Err c.in-Err.e) a c.change_lists.new.over
+    (λ n low db o rec p. let le = low db p.told p.spelt (old_at desc a c.requires.place.usable agrees s c.args.at.now.number c.requires.place.there c.requires.place.set c.requires.place.low c.requires.place.most c.args.slot.now c.requires.new (option_copied c.args.old) db o rec p) in omega (arith, le))
+    c.in-Err.ensures.writes)
 
 pub returns-in-Err-clause-below : goal.returns-in-Err-clause-below
 returns-in-Err-clause-below g c db o rec p =
     let desc = as_described c.args.at.now.desc.now in
     let s = shape_of c.args.at.now.set.now in
     let agrees = g.met.B.Blocks.agrees c.args.over.now.below c.requires.place.usable.sound in
-    c.in-Err.ensures.below db
-    (stands_at desc c.args.over.now c.requires.place.usable agrees s c.args.at.now.number c.requires.place.there c.requires.place.set c.requires.place.low c.requires.place.most c.args.slot.now c.requires.new (option_copied c.args.old) db o rec p)
-    (listed_at desc c.args.over.now c.requires.place.usable agrees s c.args.at.now.number c.requires.place.there c.requires.place.set c.requires.place.low c.requires.place.most c.args.slot.now c.requires.new (option_copied c.args.old) db o rec p)
-    c.requires.place.usable.sound
+    c.in-Err.ensures.below db p.told p.spelt
+    (old_at desc c.args.over.now c.requires.place.usable agrees s c.args.at.now.number c.requires.place.there c.requires.place.set c.requires.place.low c.requires.place.most c.args.slot.now c.requires.new (option_copied c.args.old) db o rec p)
 
-pub returns-in-Ok-Duplicate-clause-entered : goal.returns-in-Ok-Duplicate-clause-entered
-returns-in-Ok-Duplicate-clause-entered g c db o rec p owner =
+pub returns-in-Ok-Some-clause-enters : goal.returns-in-Ok-Some-clause-enters
+returns-in-Ok-Some-clause-enters g c =
+    let desc = as_described c.args.at.now.desc.now in
+    let s = shape_of c.args.at.now.set.now in
+    let a = c.args.over.now in
+    let agrees = g.met.B.Blocks.agrees a.below c.requires.place.usable.sound in
+    few_as _ _ a c.change_lists.new.over
+    (few_weaker (FewLists c.args.at.now (option_copied c.args.old) a) (FewPlaced c.args.at.now (option_copied c.args.old) c.args.slot.now 1 a) _ a c.change_lists.new.over
+    (λ n low db o rec p. let le = low db p.told p.spelt (old_at desc a c.requires.place.usable agrees s c.args.at.now.number c.requires.place.there c.requires.place.set c.requires.place.low c.requires.place.most c.args.slot.now c.requires.new (option_copied c.args.old) db o rec p) in omega (arith, le))
+    c.in-Ok-Some.ensures.writes)
+
+pub returns-in-Ok-Some-clause-entered : goal.returns-in-Ok-Some-clause-entered
+returns-in-Ok-Some-clause-entered g c db o rec p owner =
     let desc = as_described c.args.at.now.desc.now in
     let s = shape_of c.args.at.now.set.now in
     let agrees = g.met.B.Blocks.agrees c.args.over.now.below c.requires.place.usable.sound in
-    refused_at desc c.args.over.now c.requires.place.usable agrees s c.args.at.now.number c.requires.place.there c.requires.place.set c.requires.place.low c.requires.place.most c.args.slot.now c.requires.new (option_copied c.args.old) db o rec p c.change.new.lists c.in-Ok-Duplicate.set
-    (subst (λ x. KeepsSets desc db s.number c.args.at.now.number (Some c.args.slot.now.rec) (seen_list c.change.new.lists) x) c.in-Ok-Duplicate.field-0-is (c.in-Ok-Duplicate.ensures.kept db
-    (stands_at desc c.args.over.now c.requires.place.usable agrees s c.args.at.now.number c.requires.place.there c.requires.place.set c.requires.place.low c.requires.place.most c.args.slot.now c.requires.new (option_copied c.args.old) db o rec p)
-    (listed_at desc c.args.over.now c.requires.place.usable agrees s c.args.at.now.number c.requires.place.there c.requires.place.set c.requires.place.low c.requires.place.most c.args.slot.now c.requires.new (option_copied c.args.old) db o rec p)))
+    let was = old_at desc c.args.over.now c.requires.place.usable agrees s c.args.at.now.number c.requires.place.there c.requires.place.set c.requires.place.low c.requires.place.most c.args.slot.now c.requires.new (option_copied c.args.old) db o rec p in
+    refused_at desc c.args.over.now c.requires.place.usable agrees s c.args.at.now.number c.requires.place.there c.requires.place.set c.requires.place.low c.requires.place.most c.args.slot.now c.requires.new (option_copied c.args.old) db o rec p c.change_lists.new.over _ c.in-Ok-Some.structure
+    (c.in-Ok-Some.ensures.lists db p.told p.spelt was) c.in-Ok-Some.field-0-is
 
 pub returns-in-Err-write_slot-clause-enters : goal.returns-in-Err-write_slot-clause-enters
 returns-in-Err-write_slot-clause-enters g c =
     let desc = as_described c.args.at.now.desc.now in
     let s = shape_of c.args.at.now.set.now in
-    let n = 2 * length c.args.at.now.desc.now.structures in
-    enters_err {T = Unit {0}} (44 * length c.args.at.now.desc.now.structures + 1) c.in-Err-write_slot.e c.args.over.now c.write_slot.new.b
-    (enters_write (has_number desc.structures s.number) n (44 * length c.args.at.now.desc.now.structures + 1) 1 (BadAt s (block_of s.items c.args.at.now.number) c.change.new.lists) (Err c.in-Err-write_slot.e) c.args.over.now c.change.new.lists c.write_slot.new.b
-    g.met.B.Blocks.same_then c.requires.place.usable.sound (omega arith) c.in-Ok-Done.ensures.calm c.in-Err-write_slot.ensures.writes c.in-Err-write_slot.ensures.causes)
+    let a = c.args.over.now in
+    let b = c.change_lists.new.over in
+    let agrees = g.met.B.Blocks.agrees a.below c.requires.place.usable.sound in
+    few_err {T = Unit {0}} _ c.in-Err-write_slot.e a c.write_slot.new.b
+    (few_then (FewLists c.args.at.now (option_copied c.args.old) a) (FewPlaced c.args.at.now (option_copied c.args.old) c.args.slot.now 1 a) 1 (Err c.in-Err-write_slot.e) a b c.write_slot.new.b g.met.B.Blocks.same_then
+    (λ n low db o rec p. let le = low db p.told p.spelt (old_at desc a c.requires.place.usable agrees s c.args.at.now.number c.requires.place.there c.requires.place.set c.requires.place.low c.requires.place.most c.args.slot.now c.requires.new (option_copied c.args.old) db o rec p) in omega (arith, le))
+    c.in-Ok-None.ensures.writes (slots_put 1 (BadAt s (block_of s.items c.args.at.now.number) b) (Err c.in-Err-write_slot.e) b c.write_slot.new.b c.in-Err-write_slot.ensures.writes c.in-Err-write_slot.ensures.causes))
 
 pub returns-in-Err-write_slot-clause-below : goal.returns-in-Err-write_slot-clause-below
 returns-in-Err-write_slot-clause-below g c db o rec p =
     let desc = as_described c.args.at.now.desc.now in
     let s = shape_of c.args.at.now.set.now in
-    let agrees = g.met.B.Blocks.agrees c.args.over.now.below c.requires.place.usable.sound in
-    let n = 2 * length c.args.at.now.desc.now.structures in
-    let first = c.in-Ok-Done.ensures.calm.looks c.requires.place.usable.sound in
-    causes_or_on {T = Unit {0}} (BadAt s (block_of s.items c.args.at.now.number) c.change.new.lists) (λ f k. ⊥) (Err c.in-Err-write_slot.e) (under c.args.over.now) (under c.change.new.lists) (under c.write_slot.new.b)
-    (λ f k bad. not_bad desc c.args.over.now c.requires.place.usable agrees s c.args.at.now.number c.requires.place.there c.requires.place.set c.requires.place.low c.requires.place.most c.args.slot.now c.requires.new (option_copied c.args.old) db o rec p c.change.new.lists n (block_of s.items c.args.at.now.number) f k c.in-Ok-Done.ensures.calm bad)
-    c.in-Ok-Done.ensures.calm.faults first.passes.lasts first.same c.in-Err-write_slot.ensures.causes
+    let a = c.args.over.now in
+    let b = c.change_lists.new.over in
+    let agrees = g.met.B.Blocks.agrees a.below c.requires.place.usable.sound in
+    let writes = c.in-Ok-None.ensures.writes.writes in
+    let told : IsTrue (under b).told = writes.writes.looks.passes.lasts.told ∙ p.told in
+    causes_or_on {T = Unit {0}} (BadAt s (block_of s.items c.args.at.now.number) b) (λ f k. ⊥) (Err c.in-Err-write_slot.e) (under a) (under b) (under c.write_slot.new.b)
+    (λ f k bad. not_bad desc a c.requires.place.usable agrees s c.args.at.now.number c.requires.place.there c.requires.place.set c.requires.place.low c.requires.place.most c.args.slot.now c.requires.new (option_copied c.args.old) db o rec p b c.in-Ok-None.ensures.stays told (block_of s.items c.args.at.now.number) f k bad)
+    writes.causes writes.writes.looks.passes.lasts writes.writes.looks.same c.in-Err-write_slot.ensures.causes
 
 pub returns-in-Ok-clause-enters : goal.returns-in-Ok-clause-enters
 returns-in-Ok-clause-enters g c =
     let desc = as_described c.args.at.now.desc.now in
     let s = shape_of c.args.at.now.set.now in
-    let n = 2 * length c.args.at.now.desc.now.structures in
-    enters_as (44 * length c.args.at.now.desc.now.structures + 1) _ c.args.over.now c.write_slot.new.b
-    (enters_write (has_number desc.structures s.number) n (44 * length c.args.at.now.desc.now.structures + 1) 1 (BadAt s (block_of s.items c.args.at.now.number) c.change.new.lists) (Ok tt) c.args.over.now c.change.new.lists c.write_slot.new.b
-    g.met.B.Blocks.same_then c.requires.place.usable.sound (omega arith) c.in-Ok-Done.ensures.calm c.in-Ok.ensures.writes c.in-Ok.ensures.causes)
+    let a = c.args.over.now in
+    let b = c.change_lists.new.over in
+    let agrees = g.met.B.Blocks.agrees a.below c.requires.place.usable.sound in
+    few_as _ _ a c.write_slot.new.b
+    (few_then (FewLists c.args.at.now (option_copied c.args.old) a) (FewPlaced c.args.at.now (option_copied c.args.old) c.args.slot.now 1 a) 1 (Ok tt) a b c.write_slot.new.b g.met.B.Blocks.same_then
+    (λ n low db o rec p. let le = low db p.told p.spelt (old_at desc a c.requires.place.usable agrees s c.args.at.now.number c.requires.place.there c.requires.place.set c.requires.place.low c.requires.place.most c.args.slot.now c.requires.new (option_copied c.args.old) db o rec p) in omega (arith, le))
+    c.in-Ok-None.ensures.writes (slots_put 1 (BadAt s (block_of s.items c.args.at.now.number) b) (Ok tt) b c.write_slot.new.b c.in-Ok.ensures.writes c.in-Ok.ensures.causes))
 
 pub returns-in-Ok-clause-slots : goal.returns-in-Ok-clause-slots
 returns-in-Ok-clause-slots g c db o rec p apart =
     let desc = as_described c.args.at.now.desc.now in
     let s = shape_of c.args.at.now.set.now in
-    let agrees = g.met.B.Blocks.agrees c.args.over.now.below c.requires.place.usable.sound in
-    let n = 2 * length c.args.at.now.desc.now.structures in
-    let calm = c.in-Ok-Done.ensures.calm in
-    let told : IsTrue (under c.change.new.lists).told = calm.told ∙ p.told in
-    slots_at desc c.args.over.now c.requires.place.usable agrees s c.args.at.now.number c.requires.place.there c.requires.place.set c.requires.place.low c.requires.place.most c.args.slot.now c.requires.new (option_copied c.args.old) db o rec p c.change.new.lists c.write_slot.new.b n calm
-    c.requires.place.next (c.in-Ok.ensures.seen told) apart
+    let a = c.args.over.now in
+    let b = c.change_lists.new.over in
+    let agrees = g.met.B.Blocks.agrees a.below c.requires.place.usable.sound in
+    let told : IsTrue (under b).told = c.in-Ok-None.ensures.writes.writes.writes.looks.passes.lasts.told ∙ p.told in
+    let was = old_at desc a c.requires.place.usable agrees s c.args.at.now.number c.requires.place.there c.requires.place.set c.requires.place.low c.requires.place.most c.args.slot.now c.requires.new (option_copied c.args.old) db o rec p in
+    slots_at desc a c.requires.place.usable agrees s c.args.at.now.number c.requires.place.there c.requires.place.set c.requires.place.low c.requires.place.most c.args.slot.now c.requires.new (option_copied c.args.old) db o rec p b c.in-Ok-None.ensures.stays c.write_slot.new.b
+    c.requires.place.next (c.in-Ok.ensures.seen told) _ (c.in-Ok-None.ensures.lists db p.told p.spelt was) c.in-Ok-None.field-0-is apart
 
 pub returns-in-Ok-clause-entered : goal.returns-in-Ok-clause-entered
 returns-in-Ok-clause-entered g c db o rec p owner =
     let desc = as_described c.args.at.now.desc.now in
     let s = shape_of c.args.at.now.set.now in
-    let agrees = g.met.B.Blocks.agrees c.args.over.now.below c.requires.place.usable.sound in
-    let n = 2 * length c.args.at.now.desc.now.structures in
-    let calm = c.in-Ok-Done.ensures.calm in
-    let told : IsTrue (under c.change.new.lists).told = calm.told ∙ p.told in
-    uncounted_at desc c.args.over.now c.requires.place.usable agrees s c.args.at.now.number c.requires.place.there c.requires.place.set c.requires.place.low c.requires.place.most c.args.slot.now c.requires.new (option_copied c.args.old) db o rec p c.change.new.lists c.write_slot.new.b n calm
-    c.requires.place.next (c.in-Ok.ensures.seen told) owner
-    (subst (λ x. KeepsSets desc db s.number c.args.at.now.number (Some c.args.slot.now.rec) (seen_list c.change.new.lists) x) c.in-Ok-Done.field-0-is (c.in-Ok-Done.ensures.kept db
-    (stands_at desc c.args.over.now c.requires.place.usable agrees s c.args.at.now.number c.requires.place.there c.requires.place.set c.requires.place.low c.requires.place.most c.args.slot.now c.requires.new (option_copied c.args.old) db o rec p)
-    (listed_at desc c.args.over.now c.requires.place.usable agrees s c.args.at.now.number c.requires.place.there c.requires.place.set c.requires.place.low c.requires.place.most c.args.slot.now c.requires.new (option_copied c.args.old) db o rec p)))
+    let a = c.args.over.now in
+    let b = c.change_lists.new.over in
+    let agrees = g.met.B.Blocks.agrees a.below c.requires.place.usable.sound in
+    let told : IsTrue (under b).told = c.in-Ok-None.ensures.writes.writes.writes.looks.passes.lasts.told ∙ p.told in
+    let was = old_at desc a c.requires.place.usable agrees s c.args.at.now.number c.requires.place.there c.requires.place.set c.requires.place.low c.requires.place.most c.args.slot.now c.requires.new (option_copied c.args.old) db o rec p in
+    uncounted_at desc a c.requires.place.usable agrees s c.args.at.now.number c.requires.place.there c.requires.place.set c.requires.place.low c.requires.place.most c.args.slot.now c.requires.new (option_copied c.args.old) db o rec p b c.in-Ok-None.ensures.stays c.write_slot.new.b
+    c.requires.place.next (c.in-Ok.ensures.seen told) _ (c.in-Ok-None.ensures.lists db p.told p.spelt was) c.in-Ok-None.field-0-is owner
 
 pub returns-in-Ok-clause-fits : goal.returns-in-Ok-clause-fits
 returns-in-Ok-clause-fits g c = number_fits (as_described c.args.at.now.desc.now) c.args.at.now.set.now.number c.args.at.now.number (shape_of c.args.at.now.set.now) c.requires.place.there c.requires.place.low c.requires.place.most
@@ -128,16 +158,16 @@ returns-in-Ok-clause-taken g c told =
     let s = shape_of c.args.at.now.set.now in
     let n = c.args.at.now.number in
     let a = c.args.over.now in
-    let b = c.change.new.lists in
+    let b = c.change_lists.new.over in
     let z = c.write_slot.new.b in
     let served = c.requires.place.usable.serves.served in
     let agrees = g.met.B.Blocks.agrees a.below c.requires.place.usable.sound in
-    let calm = c.in-Ok-Done.ensures.calm in
-    let told_b : IsTrue (under b).told = calm.told ∙ told in
+    let stays = c.in-Ok-None.ensures.stays in
+    let told_b : IsTrue (under b).told = c.in-Ok-None.ensures.writes.writes.writes.looks.passes.lasts.told ∙ told in
     let next : block_of s.items n ≤ length (overlay_content a (file_of s.number)) = omega (arith, c.requires.place.next, counts_seen a agrees told (file_of s.number)) in
-    let may = calm_may desc served s c.requires.place.there c.requires.place.set n a b told (2 * length c.args.at.now.desc.now.structures) calm c.requires.place.low next (c.requires.sound told) in
+    let may = lists_may desc served s c.requires.place.there c.requires.place.set n a b told stays c.requires.place.low next (c.requires.sound told) in
     let values = values_all desc s.number s c.args.slot.now.rec c.requires.place.there c.requires.new in (
       refl,
-      then_stays desc (overlay_content a) (overlay_content b) (overlay_content z) (calm_stays desc served s c.requires.place.there c.requires.place.set n a b told (2 * length c.args.at.now.desc.now.structures) calm)
-          (put_stays desc s n c.args.slot.now (overlay_content b) (overlay_content z) served c.requires.place.there may values (c.in-Ok.ensures.seen told_b)),
+      then_stays desc (overlay_content a) (overlay_content b) (overlay_content z) (lists_stay desc served s c.requires.place.there c.requires.place.set n a b told stays)
+          (put_stays desc s n c.args.slot.now (overlay_content b) (overlay_content z) (have_slots desc served) c.requires.place.there may values (c.in-Ok.ensures.seen told_b)),
     )
