@@ -9,7 +9,7 @@ use Rattle.std.specs.FinMap.{get, get-empty, empty}
 use Rattle.dms_desc.specs.declared.record.Record.{Record}
 use Rattle.dms_desc.specs.Shape.{Described}
 use Rattle.dms_model.specs.declared.put.Put.{Put}
-use Rattle.dms_model.specs.Db.{Db, Records, place_cmp}
+use Rattle.dms_model.specs.Db.{Db, Records, SubsetEntry, place_cmp}
 use Rattle.dms_model.specs.Fitting.{IsNumber, PlaceFits, PutFits, RecordFits, RecordsFit}
 use Rattle.dms_model.specs.FitLaws.{after_fits, answer_fits}
 use Rattle.dms_model.specs.Stores.{put_after, put_answer}
@@ -25,20 +25,27 @@ got_at desc records set n (Some r) at fit = (fit (set, n) r at).held
 pub got_fits : (desc : Described) (records : Records) (set n : ℕ) → RecordsFit desc records → IfSome (get records (set, n)) (RecordFits desc set)
 got_fits desc records set n fit = got_at desc records set n (get records (set, n)) refl fit
 
-pub put_all_fit : (desc : Described) (rows new : List RecordRow) (undo undo' : List Undo) (set : ℕ) (rec : Record) (a : Put) → RowsFit desc rows undo → RecordFits desc set rec → PutFits desc set a
-    → db_of (records_in new) ≡ put_after a desc (db_of (records_in rows)) set rec → undo_all undo' (records_in new) ≡ undo_all undo (records_in rows) → RowsFit desc new undo'
-put_all_fit desc rows new undo undo' set rec a all own number db mark = record {
-  records = subst (λ (d : Db). RecordsFit desc d.records) (sym db) (after_fits a desc (db_of (records_in rows)) set rec number all.records own);
-  mark = subst (RecordsFit desc) (sym mark) all.mark;
-}
+pub got_numbered : (desc : Described) (records : Records) (set n : ℕ) → RecordsFit desc records → IfSome (get records (set, n)) (λ r. IsNumber desc set n)
+got_numbered desc records set n fit = by (get records (set, n)) refl
+  where
+    by : (o : Option Record) → get records (set, n) ≡ o → IfSome o (λ r. IsNumber desc set n)
+    by None at = tt
+    by (Some r) at = (fit (set, n) r at).number
 
-pub put_keeps : (desc : Described) (rows new : List RecordRow) (undo undo' : List Undo) (set : ℕ) (number : Option ℕ) (rec : Record) (r : Result Put Memory) → RowsFit desc rows undo → RecordFits desc set rec → IfSome number (IsNumber desc set)
-    → IfOk r (λ a. a ≡ put_answer desc (db_of (records_in rows)) set number rec) → IfOk r (λ a. db_of (records_in new) ≡ put_after a desc (db_of (records_in rows)) set rec)
+-- ---- what a call leaves fits
+
+pub kept_fit : {T : Type 0} (desc : Described) (rows new : List RecordRow) (undo undo' : List Undo) (r : Result T Memory) → RowsFit desc rows undo → OnOk r (RecordsFit desc (records_in new))
     → OnOk r (undo_all undo' (records_in new) ≡ undo_all undo (records_in rows)) → OnErr r (new ≡ rows) → OnErr r (undo' ≡ undo) → RowsFit desc new undo'
-put_keeps desc rows new undo undo' set number rec (Ok a) all own named answer db mark same_rows same_undo =
-    put_all_fit desc rows new undo undo' set rec a all own (subst (PutFits desc set) (sym answer) (answer_fits desc (db_of (records_in rows)) set number rec named)) db mark
-put_keeps desc rows new undo undo' set number rec (Err e) all own named answer db mark same_rows same_undo =
+kept_fit desc rows new undo undo' (Ok a) all fit mark same_rows same_undo = record { records = fit; mark = subst (RecordsFit desc) (sym mark) all.mark }
+kept_fit desc rows new undo undo' (Err e) all fit mark same_rows same_undo =
     subst (RowsFit desc new) (sym same_undo) (subst (λ (rs : List RecordRow). RowsFit desc rs undo) (sym same_rows) all)
+
+pub put_fit : (desc : Described) (rows new : List RecordRow) (manual : List SubsetEntry) (set : ℕ) (number : Option ℕ) (rec : Record) (r : Result Put Memory) → RecordsFit desc (records_in rows) → RecordFits desc set rec → IfSome number (IsNumber desc set)
+    → IfOk r (λ a. a ≡ put_answer desc (db_of (records_in rows) manual) set number rec) → IfOk r (λ a. db_of (records_in new) manual ≡ put_after a desc (db_of (records_in rows) manual) set rec) → OnOk r (RecordsFit desc (records_in new))
+put_fit desc rows new manual set number rec (Ok a) fit own named answer db =
+    let old = db_of (records_in rows) manual in
+    subst (λ (d : Db). RecordsFit desc d.records) (sym db) (after_fits a desc old set rec (subst (PutFits desc set) (sym answer) (answer_fits desc old set number rec named)) fit own)
+put_fit desc rows new manual set number rec (Err e) fit own named answer db = tt
 
 pub forgotten : (desc : Described) (rows : List RecordRow) (undo undo' : List Undo) → undo' ≡ [] → RowsFit desc rows undo → RowsFit desc rows undo'
 forgotten desc rows undo undo' none all = subst (RowsFit desc rows) (sym none) (record { records = all.records; mark = all.records })

@@ -1,6 +1,7 @@
 -- The rows of one data set, and the least number that none of them has, found by halving.
 use Rattle.std.proofs.Common.{◌≡◌, ◌+◌, ◌-◌, ◌<◌, ◌≤◌, ℕ, zero, suc, List, [], ◌∷◌, Bool, true, false, cond, eqb, leb, ltb, refl, sym, ap, ◌∙◌, arith, length, map, get_or, take, drop, inl, inr}
 use Rattle.std.specs.Prelude.{nat_lt}
+use Rattle.std.specs.List.{filter}
 use Rattle.std.specs.List.Sorted.{IsNonDecreasingBy, IsPartitionedBy, IsPartitionPoint}
 use Rattle.std.specs.declared.cmp.Ordering.TheVariants.{Less}
 use Rattle.std.proofs.lemmas.Bool.{cases_lt, cases_order, leb-true, leb-false, ltb-true, ltb-false}
@@ -29,68 +30,82 @@ sets_rise rows order i j d le lt = elim (cases_order i j) [
 other_set : (set : ℕ) (r : RecordRow) (rs : List RecordRow) → eqb set r.set ≡ false → rows_of set (entries_of rs) ≡ rows_of set (entries_of (r ∷ rs))
 other_set set r rs h = sym (ap (λ (b : Bool). cond b (numbered r ∷ rows_of set (entries_of rs)) (rows_of set (entries_of rs))) h)
 
--- so many rows from a place on are those of a data set
-pub record IsOwn (set : ℕ) (rows : List RecordRow) (from n : ℕ) : Type 0 where
-  pub before : (j : ℕ) (d : RecordRow) → j < from → (get_or rows j d).set < set
-  pub own : (j : ℕ) (d : RecordRow) → from ≤ j → j < from + n → (get_or rows j d).set ≡ set
-  pub behind : (j : ℕ) (d : RecordRow) → from + n ≤ j → j < length rows → set < (get_or rows j d).set
-  pub room : from + n ≤ length rows
+-- so many elements from a place on have a key, and those before and behind them a lesser and a greater one
+pub record IsOwn {A : Type 0} (key : A → ℕ) (set : ℕ) (xs : List A) (from n : ℕ) : Type 0 where
+  pub before : (j : ℕ) (d : A) → j < from → key (get_or xs j d) < set
+  pub own : (j : ℕ) (d : A) → from ≤ j → j < from + n → key (get_or xs j d) ≡ set
+  pub behind : (j : ℕ) (d : A) → from + n ≤ j → j < length xs → set < key (get_or xs j d)
+  pub room : from + n ≤ length xs
 
--- they begin behind the lesser data sets and end before the greater ones
-pub own_between : (set : ℕ) (rows : List RecordRow) (from end : ℕ) → IsPartitionPoint (λ r. ltb r.set set ≡ true) (λ r. ltb r.set set ≡ false) rows from
-    → IsPartitionPoint (λ r. leb r.set set ≡ true) (λ r. leb r.set set ≡ false) rows end → from ≤ length rows → end ≤ length rows → (from ≤ end) × IsOwn set rows from (end - from)
-own_between set rows from end low high low_room high_room =
-    let nothing : RecordRow = record { set = 0; number = 0; rec = record { owner = 0; values = [] } } in
-    let le : from ≤ end = elim (cases_lt end from) [
-      | inl under ↦ absurd (omega (arith, ltb-true _ _ (low.0 end nothing (omega arith) under), leb-false _ _ (high.1 end nothing (omega arith) (omega (arith, under, low_room)))))
-      | inr over ↦ over
-    ] in (
-      le,
-      record {
-        before = λ j d lt. ltb-true _ _ (low.0 j d (omega arith) lt);
-        own = λ j d at lt. omega (arith, ltb-false _ _ (low.1 j d at (omega (arith, lt, le, high_room))), leb-true _ _ (high.0 j d (omega arith) (omega (arith, lt, le))));
-        behind = λ j d at lt. leb-false _ _ (high.1 j d (omega (arith, at, le)) lt);
-        room = omega (arith, le, high_room);
-      },
-    )
+module _ {A : Type 0} (key : A → ℕ) (set : ℕ) where
+  -- they begin behind the lesser keys and end before the greater ones
+  pub own_between : (xs : List A) (x : A) (from end : ℕ) → IsPartitionPoint (λ r. ltb (key r) set ≡ true) (λ r. ltb (key r) set ≡ false) xs from
+      → IsPartitionPoint (λ r. leb (key r) set ≡ true) (λ r. leb (key r) set ≡ false) xs end → from ≤ length xs → end ≤ length xs → (from ≤ end) × IsOwn key set xs from (end - from)
+  own_between xs x from end low high low_room high_room =
+      let le : from ≤ end = elim (cases_lt end from) [
+        | inl under ↦ absurd (omega (arith, ltb-true _ _ (low.0 end x (omega arith) under), leb-false _ _ (high.1 end x (omega arith) (omega (arith, under, low_room)))))
+        | inr over ↦ over
+      ] in (
+        le,
+        record {
+          before = λ j d lt. ltb-true _ _ (low.0 j d (omega arith) lt);
+          own = λ j d at lt. omega (arith, ltb-false _ _ (low.1 j d at (omega (arith, lt, le, high_room))), leb-true _ _ (high.0 j d (omega arith) (omega (arith, lt, le))));
+          behind = λ j d at lt. leb-false _ _ (high.1 j d (omega (arith, at, le)) lt);
+          room = omega (arith, le, high_room);
+        },
+      )
 
-own_later : (set : ℕ) (r : RecordRow) (rs : List RecordRow) (from n : ℕ) → IsOwn set (r ∷ rs) (suc from) n → IsOwn set rs from n
-own_later set r rs from n all = record {
-  before = λ j d lt. all.before (suc j) d (omega arith);
-  own = λ j d at lt. all.own (suc j) d (omega arith) (omega arith);
-  behind = λ j d at lt. all.behind (suc j) d (omega arith) (omega arith);
-  room = omega (arith, all.room);
-}
+  own_later : (r : A) (rs : List A) (from n : ℕ) → IsOwn key set (r ∷ rs) (suc from) n → IsOwn key set rs from n
+  own_later r rs from n all = record {
+    before = λ j d lt. all.before (suc j) d (omega arith);
+    own = λ j d at lt. all.own (suc j) d (omega arith) (omega arith);
+    behind = λ j d at lt. all.behind (suc j) d (omega arith) (omega arith);
+    room = omega (arith, all.room);
+  }
 
-own_next : (set : ℕ) (r : RecordRow) (rs : List RecordRow) (n : ℕ) → IsOwn set (r ∷ rs) zero (suc n) → IsOwn set rs zero n
-own_next set r rs n all = record {
-  before = λ j d lt. absurd (omega arith);
-  own = λ j d at lt. all.own (suc j) d (omega arith) (omega arith);
-  behind = λ j d at lt. all.behind (suc j) d (omega arith) (omega arith);
-  room = omega (arith, all.room);
-}
+  own_next : (r : A) (rs : List A) (n : ℕ) → IsOwn key set (r ∷ rs) zero (suc n) → IsOwn key set rs zero n
+  own_next r rs n all = record {
+    before = λ j d lt. absurd (omega arith);
+    own = λ j d at lt. all.own (suc j) d (omega arith) (omega arith);
+    behind = λ j d at lt. all.behind (suc j) d (omega arith) (omega arith);
+    room = omega (arith, all.room);
+  }
 
-own_gone : (set : ℕ) (r : RecordRow) (rs : List RecordRow) → IsOwn set (r ∷ rs) zero zero → IsOwn set rs zero zero
-own_gone set r rs all = record {
-  before = λ j d lt. absurd (omega arith);
-  own = λ j d at lt. absurd (omega arith);
-  behind = λ j d at lt. all.behind (suc j) d (omega arith) (omega arith);
-  room = omega arith;
-}
+  own_gone : (r : A) (rs : List A) → IsOwn key set (r ∷ rs) zero zero → IsOwn key set rs zero zero
+  own_gone r rs all = record {
+    before = λ j d lt. absurd (omega arith);
+    own = λ j d at lt. absurd (omega arith);
+    behind = λ j d at lt. all.behind (suc j) d (omega arith) (omega arith);
+    room = omega arith;
+  }
 
-pub own_rows : (set : ℕ) (rows : List RecordRow) (from n : ℕ) → IsOwn set rows from n → map numbered (take n (drop from rows)) ≡ rows_of set (entries_of rows)
+  other_dropped : (r : A) (rs : List A) → eqb (key r) set ≡ false → length (filter (λ x. eqb (key x) set) (r ∷ rs)) ≡ length (filter (λ x. eqb (key x) set) rs)
+  other_dropped r rs h = ap (λ (b : Bool). length (cond b (r ∷ filter (λ x. eqb (key x) set) rs) (filter (λ x. eqb (key x) set) rs))) h
+
+  -- so many have the key
+  pub own_count : (xs : List A) (from n : ℕ) → IsOwn key set xs from n → length (filter (λ x. eqb (key x) set) xs) ≡ n
+  own_count [] zero zero all = refl
+  own_count [] zero (suc n) all = absurd (omega (arith, all.room))
+  own_count [] (suc from) n all = absurd (omega (arith, all.room))
+  own_count (r ∷ rs) zero zero all = other_dropped r rs (grind (arith, nat_tests, all.behind 0 r (omega arith) (omega arith))) ∙ own_count rs zero zero (own_gone r rs all)
+  own_count (r ∷ rs) zero (suc n) all =
+      let here : eqb (key r) set ≡ true = grind (arith, nat_tests, all.own 0 r (omega arith) (omega arith)) in
+      ap (λ (b : Bool). length (cond b (r ∷ filter (λ x. eqb (key x) set) rs) (filter (λ x. eqb (key x) set) rs))) here ∙ ap suc (own_count rs zero n (own_next r rs n all))
+  own_count (r ∷ rs) (suc from) n all = other_dropped r rs (grind (arith, nat_tests, all.before 0 r (omega arith))) ∙ own_count rs from n (own_later r rs from n all)
+
+pub own_rows : (set : ℕ) (rows : List RecordRow) (from n : ℕ) → IsOwn (λ (r : RecordRow). r.set) set rows from n → map numbered (take n (drop from rows)) ≡ rows_of set (entries_of rows)
 own_rows set [] zero zero all = refl
 own_rows set [] zero (suc n) all = absurd (omega (arith, all.room))
 own_rows set [] (suc from) n all = absurd (omega (arith, all.room))
-own_rows set (r ∷ rs) zero zero all = own_rows set rs zero zero (own_gone set r rs all) ∙ other_set set r rs (grind (arith, nat_tests, all.behind 0 r (omega arith) (omega arith)))
+own_rows set (r ∷ rs) zero zero all = own_rows set rs zero zero (own_gone (λ (x : RecordRow). x.set) set r rs all) ∙ other_set set r rs (grind (arith, nat_tests, all.behind 0 r (omega arith) (omega arith)))
 own_rows set (r ∷ rs) zero (suc n) all =
     let here : eqb set r.set ≡ true = grind (arith, nat_tests, all.own 0 r (omega arith) (omega arith)) in
-    ap (λ (xs : List (ℕ × Record)). numbered r ∷ xs) (own_rows set rs zero n (own_next set r rs n all))
+    ap (λ (xs : List (ℕ × Record)). numbered r ∷ xs) (own_rows set rs zero n (own_next (λ (x : RecordRow). x.set) set r rs n all))
     ∙ sym (ap (λ (b : Bool). cond b (numbered r ∷ rows_of set (entries_of rs)) (rows_of set (entries_of rs))) here)
-own_rows set (r ∷ rs) (suc from) n all = own_rows set rs from n (own_later set r rs from n all) ∙ other_set set r rs (grind (arith, nat_tests, all.before 0 r (omega arith)))
+own_rows set (r ∷ rs) (suc from) n all = own_rows set rs from n (own_later (λ (x : RecordRow). x.set) set r rs from n all) ∙ other_set set r rs (grind (arith, nat_tests, all.before 0 r (omega arith)))
 
 -- and their numbers rise
-pub own_rise : (set : ℕ) (rows : List RecordRow) (from n : ℕ) → IsInOrder rows → IsOwn set rows from n → AreNumbersRising (take n (drop from rows))
+pub own_rise : (set : ℕ) (rows : List RecordRow) (from n : ℕ) → IsInOrder rows → IsOwn (λ (r : RecordRow). r.set) set rows from n → AreNumbersRising (take n (drop from rows))
 own_rise set rows from n order all i j d under lt =
     let long : length (take n (drop from rows)) ≡ n = length-take-le n (drop from rows) (omega (arith, length-drop from rows, all.room)) in
     let at : (k : ℕ) → k < n → get_or (take n (drop from rows)) k d ≡ get_or rows (from + k) d = λ k lt. get_or-take n (drop from rows) k d lt ∙ get_or-drop from rows k d in

@@ -1,4 +1,7 @@
 mod Answering
+mod Calls
+mod CorrectedFits
+mod Correcting
 mod Fits
 mod Gaps
 mod Halving
@@ -7,4 +10,6 @@ mod Maps
 mod Members
 mod Placing
 mod Putting
+mod Removing
+mod Rising
 mod Turns

@@ -1,5 +1,9 @@
 pub mod Clashes
+pub mod Entered
+pub mod Linkers
+pub mod Moves
 pub mod Props
+pub mod Removed
 pub mod Rows
 pub mod Scans
 pub mod Speaking

@@ -7,7 +7,7 @@ use Rattle.std.specs.FinMap.{from_sorted, is_sorted, remove, insert, put, find}
 use Rattle.dms_desc.specs.declared.record.Record.{Record}
 use Rattle.dms_desc.specs.Shape.{Described}
 use Rattle.dms_model.specs.Fitting.{RecordsFit}
-use Rattle.dms_model.specs.Db.{Db, Place, Records, place_cmp}
+use Rattle.dms_model.specs.Db.{Db, Place, Records, SubsetEntry, place_cmp}
 use Rattle.dms_plain.specs.declared.rows.RecordRow.{RecordRow}
 use Rattle.dms_plain.specs.declared.rows.Undo.{Undo}
 
@@ -36,9 +36,9 @@ abbrev pub undo_all : List Undo → Records → Records
 undo_all [] records = records
 undo_all (u ∷ us) records = restore (u.set, u.number) u.old (undo_all us records)
 
--- the database of these records; no manual subset has an entry
-abbrev pub db_of : Records → Db
-db_of records = record { records = records; entries = [] }
+-- the database of these records, and of these entries of manual subsets
+abbrev pub db_of : Records → List SubsetEntry → Db
+db_of records manual = record { records = records; entries = manual }
 
 -- a place is that of the i-th entry, or it is that of none and would be before the i-th
 abbrev pub IsWhere : Place → List (Place × Record) → Result ℕ ℕ → Type 0

@@ -6,7 +6,7 @@ use Rattle.dms_desc.specs.declared.bound.Bound.{Bound}
 use Rattle.dms_desc.specs.declared.record.Record.{Record}
 use Rattle.dms_desc.specs.Shape.{Shape}
 use Rattle.dms_model.specs.declared.spot.Spot.{Spot}
-use Rattle.dms_model.specs.Db.{Place}
+use Rattle.dms_model.specs.Db.{Place, SubsetEntry}
 use Rattle.dms_model.specs.Members.{spot_of, belongs, is_before, is_after_bound, is_before_bound}
 use Rattle.dms_plain.specs.declared.rows.RecordRow.{RecordRow}
 use Rattle.dms_plain.specs.Rows.{entry_of}
@@ -36,20 +36,20 @@ abbrev pub spot_at : Shape → Option RecordRow → Option Spot
 spot_at s best = option_map (λ r. spot_of s.parts (entry_of r)) best
 
 -- what one row makes of the best so far
-unfoldable pub sooner : Shape → ℕ → Bound → Place × Record → Option Spot → Option Spot
-sooner s owner from e best =
-    if belongs s [] owner e then (if is_after_bound s.parts from (spot_of s.parts e) then lesser (is_before s.parts) (spot_of s.parts e) best else best) else best
+unfoldable pub sooner : Shape → List SubsetEntry → ℕ → Bound → Place × Record → Option Spot → Option Spot
+sooner s manual owner from e best =
+    if belongs s manual owner e then (if is_after_bound s.parts from (spot_of s.parts e) then lesser (is_before s.parts) (spot_of s.parts e) best else best) else best
 
-unfoldable pub later : Shape → ℕ → Bound → Place × Record → Option Spot → Option Spot
-later s owner upto e best =
-    if belongs s [] owner e then (if is_before_bound s.parts upto (spot_of s.parts e) then greater (is_before s.parts) (spot_of s.parts e) best else best) else best
+unfoldable pub later : Shape → List SubsetEntry → ℕ → Bound → Place × Record → Option Spot → Option Spot
+later s manual owner upto e best =
+    if belongs s manual owner e then (if is_before_bound s.parts upto (spot_of s.parts e) then greater (is_before s.parts) (spot_of s.parts e) best else best) else best
 
 -- the least after a bound, from the end of the entries on
-abbrev pub soonest : Shape → ℕ → Bound → List (Place × Record) → Option Spot
-soonest s owner from [] = None
-soonest s owner from (e ∷ es) = sooner s owner from e (soonest s owner from es)
+abbrev pub soonest : Shape → List SubsetEntry → ℕ → Bound → List (Place × Record) → Option Spot
+soonest s manual owner from [] = None
+soonest s manual owner from (e ∷ es) = sooner s manual owner from e (soonest s manual owner from es)
 
 -- the greatest before a bound
-abbrev pub latest : Shape → ℕ → Bound → List (Place × Record) → Option Spot
-latest s owner upto [] = None
-latest s owner upto (e ∷ es) = later s owner upto e (latest s owner upto es)
+abbrev pub latest : Shape → List SubsetEntry → ℕ → Bound → List (Place × Record) → Option Spot
+latest s manual owner upto [] = None
+latest s manual owner upto (e ∷ es) = later s manual owner upto e (latest s manual owner upto es)

@@ -1,10 +1,13 @@
-ghost use Rattle.std.specs.Prelude.{◌≡◌, [], map};
+ghost use Rattle.std.specs.Prelude.{◌≡◌, map, Some};
+ghost use Rattle.std.specs.List.{list_any};
 ghost use Rattle.dms_desc.specs.Shape.{shape_of};
-ghost use Rattle.dms_model.specs.Stores.{is_closed, is_other, has_equal};
+ghost use Rattle.dms_model.specs.Stores.{entered_owners, is_other, is_strict, has_equal, owners_in};
 ghost use Rattle.dms_plain.specs.Rows.{entries_of};
-ghost use Rattle.dms_plain.specs.Clashes.{clash_in};
+ghost use Rattle.dms_plain.specs.Clashes.{clash_in, clashes_at, clashes_for_owner, clashes_with};
 
+use crate::entry::Entry;
 use crate::keys::order_of_keys;
+use crate::manual::Manual;
 use crate::rows::RecordRow;
 use crate::scan::belongs;
 use dms_base::Value;
@@ -19,19 +22,21 @@ fn is_other(number: Option<u64>, m: u64) -> bool
     }
 }
 
-/// Whether another record of the owner stands in the structure with an equal key.
-fn has_equal(s: &Structure, number: Option<u64>, rec: &Record, rows: &[RecordRow]) -> bool
-    ensures { result ≡ has_equal (shape_of s.now) [] number rec.now (entries_of rows.now) }
+/// Whether another record of an owner stands in the structure with a key equal to that of these values.
+pub fn has_equal(
+    s: &Structure,
+    manual: &Manual,
+    number: Option<u64>,
+    owner: u64,
+    values: &[Value],
+    rows: &[RecordRow],
+) -> bool
+    ensures { result ≡ has_equal (shape_of s.now) manual.now.entries number (record { owner = owner; values = values.now }) (entries_of rows.now) }
 {
     for row in rows {
-        if belongs(s, rec.owner, row)
+        if belongs(s, manual, owner, row)
             && is_other(number, row.number)
-            && order_of_keys(
-                s.parts.as_slice(),
-                row.rec.values.as_slice(),
-                rec.values.as_slice(),
-            )
-            .is_eq()
+            && order_of_keys(s.parts.as_slice(), row.rec.values.as_slice(), values).is_eq()
         {
             return true;
         }
@@ -40,24 +45,107 @@ fn has_equal(s: &Structure, number: Option<u64>, rec: &Record, rows: &[RecordRow
 }
 
 /// Whether a structure may refuse a record of the data set.
-fn is_closed(s: &Structure, set: u16, values: &[Value]) -> bool
-    ensures { result ≡ is_closed (shape_of s.now) set values.now }
+fn is_strict(s: &Structure, set: u16, values: &[Value]) -> bool
+    ensures { result ≡ is_strict (shape_of s.now) set values.now }
 {
-    s.is_set_or_automatic() && s.set == set && !s.duplicates && s.takes(values)
+    2 < s.kind && s.kind < 6 && s.set == set && !s.duplicates && s.takes(values)
+}
+
+/// Whether an entry is one of a record in a subset, and another record of its owner has a key equal to that of these values.
+fn has_equal_for(
+    s: &Structure,
+    manual: &Manual,
+    number: u64,
+    values: &[Value],
+    rows: &[RecordRow],
+    entry: &Entry,
+) -> bool
+    ensures { result ≡ clashes_for_owner (shape_of s.now) manual.now.entries number values.now (entries_of rows.now) entry.now }
+{
+    entry.subset() == s.number
+        && entry.number() == number
+        && has_equal(s, manual, Some(number), entry.owner(), values, rows)
+}
+
+/// Whether for one of the owners of a record's entries in a manual subset another record has a key equal to that of these values.
+fn is_refused_of(
+    s: &Structure,
+    manual: &Manual,
+    number: u64,
+    values: &[Value],
+    rows: &[RecordRow],
+    entries: &[Entry],
+) -> bool
+    ensures { result ≡ list_any (clashes_for_owner (shape_of s.now) manual.now.entries number values.now (entries_of rows.now)) entries.now }
+{
+    for entry in entries {
+        if has_equal_for(s, manual, number, values, rows, entry) {
+            return true;
+        }
+    }
+    false
+}
+
+/// Whether it is so of a record that stands; a new one has no entries.
+fn is_refused_entered(
+    s: &Structure,
+    manual: &Manual,
+    number: Option<u64>,
+    values: &[Value],
+    rows: &[RecordRow],
+) -> bool
+    ensures { result ≡ list_any (clashes_at (shape_of s.now) manual.now.entries number values.now (entries_of rows.now)) (entered_owners s.now.number number manual.now.entries) }
+{
+    match number {
+        None => false,
+        Some(n) => is_refused_of(s, manual, n, values, rows, manual.entries()),
+    }
+}
+
+/// Whether a set or subset without DUPLICATES refuses a record.
+fn is_refused(
+    s: &Structure,
+    manual: &Manual,
+    rows: &[RecordRow],
+    number: Option<u64>,
+    rec: &Record,
+) -> bool
+    ensures { result ≡ list_any (clashes_at (shape_of s.now) manual.now.entries number rec.now.values (entries_of rows.now)) (owners_in (shape_of s.now) manual.now.entries number rec.now.owner) }
+{
+    let values = rec.values.as_slice();
+    if s.is_manual() {
+        return is_refused_entered(s, manual, number, values, rows);
+    }
+    has_equal(s, manual, number, rec.owner, values, rows)
+}
+
+/// Whether a set or subset refuses a record.
+fn refuses(
+    s: &Structure,
+    manual: &Manual,
+    rows: &[RecordRow],
+    set: u16,
+    number: Option<u64>,
+    rec: &Record,
+) -> bool
+    ensures { result ≡ clashes_with (shape_of s.now) manual.now.entries (entries_of rows.now) set number rec.now }
+{
+    is_strict(s, set, rec.values.as_slice()) && is_refused(s, manual, rows, number, rec)
 }
 
 /// The first structure that refuses a record.
 pub fn clash(
     structures: &[Structure],
+    manual: &Manual,
     rows: &[RecordRow],
     set: u16,
     number: Option<u64>,
     rec: &Record,
 ) -> Option<u16>
-    ensures { result ≡ clash_in (map shape_of structures.now) (entries_of rows.now) set number rec.now }
+    ensures { result ≡ clash_in (map shape_of structures.now) manual.now.entries (entries_of rows.now) set number rec.now }
 {
     for s in structures {
-        if is_closed(s, set, rec.values.as_slice()) && has_equal(s, number, rec, rows) {
+        if refuses(s, manual, rows, set, number, rec) {
             return Some(s.number);
         }
     }

@@ -2,12 +2,18 @@
 #![tactic(auto)]
 
 mod clash;
+mod entering;
+mod entry;
 mod keys;
 mod laws;
+mod linking;
+mod manual;
+mod removal;
 mod rows;
 mod scan;
 mod state;
 mod store;
+mod uses;
 
 pub use laws::number_law;
 pub use store::PlainStore;

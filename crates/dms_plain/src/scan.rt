@@ -1,4 +1,4 @@
-ghost use Rattle.std.specs.Prelude.{◌≡◌, [], take};
+ghost use Rattle.std.specs.Prelude.{◌≡◌, take};
 ghost use Rattle.std.specs.Option.{option_copied};
 ghost use Rattle.dms_desc.specs.Shape.{shape_of};
 ghost use Rattle.dms_model.specs.Members.{belongs, spot_of, is_before, bound_cmp};
@@ -6,18 +6,22 @@ ghost use Rattle.dms_plain.specs.Rows.{entry_of, entries_of};
 ghost use Rattle.dms_plain.specs.Scans.{spot_at, sooner, later, soonest, latest};
 
 use crate::keys::{order_of_keys, order_to_key};
+use crate::manual::Manual;
 use crate::rows::RecordRow;
 use dms_desc::{Bound, KeyPart, Structure};
 use std::cmp::Ordering;
 
-/// Whether a row is a member of a structure for an owner. A manual subset has none.
-pub fn belongs(s: &Structure, owner: u64, row: &RecordRow) -> bool
-    ensures { result ≡ belongs (shape_of s.now) [] owner (entry_of row.now) }
+/// Whether a row is a member of a structure for an owner: of a manual subset by an entry.
+pub fn belongs(s: &Structure, manual: &Manual, owner: u64, row: &RecordRow) -> bool
+    ensures { result ≡ belongs (shape_of s.now) manual.now.entries owner (entry_of row.now) }
 {
-    s.over() == row.set
-        && !s.is_manual()
-        && owner == row.rec.owner
-        && s.takes(row.rec.values.as_slice())
+    if s.over() != row.set {
+        return false;
+    }
+    if s.is_manual() {
+        return manual.has(s.number, owner, row.number);
+    }
+    owner == row.rec.owner && s.takes(row.rec.values.as_slice())
 }
 
 /// Whether a row stands before another.
@@ -61,14 +65,15 @@ fn bound_order(parts: &[KeyPart], bound: &Bound, row: &RecordRow) -> Ordering
 #[tactic(auto, unfolding(crate::specs::Scans::sooner))]
 fn sooner<'a>(
     s: &Structure,
+    manual: &Manual,
     owner: u64,
     from: &Bound,
     row: &'a RecordRow,
     best: Option<&'a RecordRow>,
 ) -> Option<&'a RecordRow>
-    ensures { spot_at (shape_of s.now) (option_copied result) ≡ sooner (shape_of s.now) owner from.now (entry_of row.now) (spot_at (shape_of s.now) (option_copied best.entry)) }
+    ensures { spot_at (shape_of s.now) (option_copied result) ≡ sooner (shape_of s.now) manual.now.entries owner from.now (entry_of row.now) (spot_at (shape_of s.now) (option_copied best.entry)) }
 {
-    if !belongs(s, owner, row) {
+    if !belongs(s, manual, owner, row) {
         return best;
     }
     if !bound_order(s.parts.as_slice(), from, row).is_gt() {
@@ -89,14 +94,15 @@ fn sooner<'a>(
 #[tactic(auto, unfolding(crate::specs::Scans::later))]
 fn later<'a>(
     s: &Structure,
+    manual: &Manual,
     owner: u64,
     upto: &Bound,
     row: &'a RecordRow,
     best: Option<&'a RecordRow>,
 ) -> Option<&'a RecordRow>
-    ensures { spot_at (shape_of s.now) (option_copied result) ≡ later (shape_of s.now) owner upto.now (entry_of row.now) (spot_at (shape_of s.now) (option_copied best.entry)) }
+    ensures { spot_at (shape_of s.now) (option_copied result) ≡ later (shape_of s.now) manual.now.entries owner upto.now (entry_of row.now) (spot_at (shape_of s.now) (option_copied best.entry)) }
 {
-    if !belongs(s, owner, row) {
+    if !belongs(s, manual, owner, row) {
         return best;
     }
     if !bound_order(s.parts.as_slice(), upto, row).is_lt() {
@@ -117,15 +123,16 @@ fn later<'a>(
 pub fn first<'a>(
     rows: &'a [RecordRow],
     s: &Structure,
+    manual: &Manual,
     owner: u64,
     from: &Bound,
 ) -> Option<&'a RecordRow>
-    ensures { spot_at (shape_of s.now) (option_copied result) ≡ soonest (shape_of s.now) owner from.now (entries_of rows.now) }
+    ensures { spot_at (shape_of s.now) (option_copied result) ≡ soonest (shape_of s.now) manual.now.entries owner from.now (entries_of rows.now) }
 {
     let mut best: Option<&RecordRow> = None;
     for k in 0..rows.len() {
         let row = &rows[rows.len() - 1 - k];
-        best = sooner(s, owner, from, row, best);
+        best = sooner(s, manual, owner, from, row, best);
     }
     best
 }
@@ -134,15 +141,16 @@ pub fn first<'a>(
 pub fn last<'a>(
     rows: &'a [RecordRow],
     s: &Structure,
+    manual: &Manual,
     owner: u64,
     upto: &Bound,
 ) -> Option<&'a RecordRow>
-    ensures { spot_at (shape_of s.now) (option_copied result) ≡ latest (shape_of s.now) owner upto.now (entries_of rows.now) }
+    ensures { spot_at (shape_of s.now) (option_copied result) ≡ latest (shape_of s.now) manual.now.entries owner upto.now (entries_of rows.now) }
 {
     let mut best: Option<&RecordRow> = None;
     for k in 0..rows.len() {
         let row = &rows[rows.len() - 1 - k];
-        best = later(s, owner, upto, row, best);
+        best = later(s, manual, owner, upto, row, best);
     }
     best
 }

@@ -1,8 +1,9 @@
-ghost use Rattle.std.specs.Prelude.{◌≡◌, [], IfOk, OnOk, OnErr};
+ghost use Rattle.std.specs.Prelude.{◌≡◌, List, [], IfOk, OnOk, OnErr};
 ghost use Rattle.std.specs.Option.{option_copied, option_map};
 ghost use Rattle.std.specs.FinMap.{insert, get};
 ghost use Rattle.dms_desc.specs.Shape.{shape_of, as_described};
 ghost use Rattle.dms_desc.specs.Lookups.{structure_of, items_of};
+ghost use Rattle.dms_model.specs.Db.{SubsetEntry};
 ghost use Rattle.dms_model.specs.Members.{first_member, last_member};
 ghost use Rattle.dms_model.specs.Stores.{is_full, kept_owner, with_links_of, old_of, put_after, put_answer, values_of};
 ghost use Rattle.dms_plain.specs.Rows.{entries_of, records_in, db_of, IsInOrder, restore, undo_all};
@@ -10,6 +11,7 @@ ghost use Rattle.dms_plain.specs.Clashes.{put_in};
 ghost use Rattle.dms_plain.specs.Scans.{spot_at, soonest, latest};
 
 use crate::clash::clash;
+use crate::manual::Manual;
 use crate::rows::{self, RecordRow, Undo};
 use crate::scan;
 use dms_base::{Memory, Value};
@@ -30,7 +32,8 @@ pub fn get(
     rows::get(alloc, rows, set, number)
 }
 
-fn is_full(s: Option<&Structure>, count: usize) -> bool
+/// Whether so many records or entries are as many as POPULATION.
+pub fn is_full(s: Option<&Structure>, count: usize) -> bool
     ensures { result ≡ is_full (option_map shape_of (option_copied s.entry)) count }
 {
     match s {
@@ -43,14 +46,15 @@ fn is_full(s: Option<&Structure>, count: usize) -> bool
 fn put_in(
     desc: &Description,
     rows: &[RecordRow],
+    manual: &Manual,
     set: u16,
     number: Option<u64>,
     made: &Record,
 ) -> Put
     requires { IsInOrder rows.now }
-    ensures { result ≡ put_in (as_described desc.now) (entries_of rows.now) set number made.now }
+    ensures { result ≡ put_in (as_described desc.now) manual.now.entries (entries_of rows.now) set number made.now }
 {
-    if let Some(s) = clash(desc.structures.as_slice(), rows, set, number, made) {
+    if let Some(s) = clash(desc.structures.as_slice(), manual, rows, set, number, made) {
         return Put::Duplicate(s);
     }
     match number {
@@ -137,7 +141,7 @@ fn old_of(
     number: Option<u64>,
 ) -> Result<Option<Record>, Memory>
     requires { IsInOrder rows.now }
-    ensures { IfOk result (λ r. r ≡ old_of (db_of (records_in rows.now)) set number) }
+    ensures { (manual : List SubsetEntry) → IfOk result (λ r. r ≡ old_of (db_of (records_in rows.now) manual) set number) }
 {
     match number {
         None => Ok(None),
@@ -151,21 +155,22 @@ pub fn put(
     desc: &Description,
     rows: &mut Vec<RecordRow>,
     undo: &mut Vec<Undo>,
+    manual: &Manual,
     set: u16,
     number: Option<u64>,
     rec: &Record,
 ) -> Result<Put, Memory>
     requires { IsInOrder rows.old.items }
     ensures in_order { IsInOrder rows.new.items }
-    ensures answer { IfOk result (λ a. a ≡ put_answer (as_described desc.now) (db_of (records_in rows.old.items)) set number rec.now) }
-    ensures db { IfOk result (λ a. db_of (records_in rows.new.items) ≡ put_after a (as_described desc.now) (db_of (records_in rows.old.items)) set rec.now) }
+    ensures answer { IfOk result (λ a. a ≡ put_answer (as_described desc.now) (db_of (records_in rows.old.items) manual.now.entries) set number rec.now) }
+    ensures db { IfOk result (λ a. db_of (records_in rows.new.items) manual.now.entries ≡ put_after a (as_described desc.now) (db_of (records_in rows.old.items) manual.now.entries) set rec.now) }
     ensures mark { OnOk result (undo_all undo.new.items (records_in rows.new.items) ≡ undo_all undo.old.items (records_in rows.old.items)) }
     ensures err_rows { OnErr result (rows.new.items ≡ rows.old.items) }
     ensures err_undo { OnErr result (undo.new.items ≡ undo.old.items) }
 {
     let old = old_of(alloc, rows.as_slice(), set, number)?;
     let made = linked_record(alloc, desc, set, &old, rec)?;
-    match put_in(desc, rows.as_slice(), set, number, &made) {
+    match put_in(desc, rows.as_slice(), manual, set, number, &made) {
         Put::Stored(found) => {
             let row = RecordRow {
                 set,
@@ -199,8 +204,8 @@ fn restore_row(rows: &mut Vec<RecordRow>, undo: Undo) -> Result<(), Memory>
     }
 }
 
-/// Takes all changes back, the newest first. Answers Err where memory is refused.
-pub fn take_back(rows: &mut Vec<RecordRow>, undo: &mut Vec<Undo>) -> Result<(), Memory>
+/// Takes all changes of rows back, the newest first. Answers Err where memory is refused.
+fn take_rows_back(rows: &mut Vec<RecordRow>, undo: &mut Vec<Undo>) -> Result<(), Memory>
     requires { IsInOrder rows.old.items }
     ensures in_order { IsInOrder rows.new.items }
     ensures db { OnOk result (records_in rows.new.items ≡ undo_all undo.old.items (records_in rows.old.items)) }
@@ -213,6 +218,23 @@ pub fn take_back(rows: &mut Vec<RecordRow>, undo: &mut Vec<Undo>) -> Result<(), 
         }
     }
     Ok(())
+}
+
+/// Takes all changes of rows and of entries back. Answers Err where memory is refused.
+pub fn take_back(
+    rows: &mut Vec<RecordRow>,
+    undo: &mut Vec<Undo>,
+    manual: &mut Manual,
+) -> Result<(), Memory>
+    requires { IsInOrder rows.old.items }
+    ensures in_order { IsInOrder rows.new.items }
+    ensures db { OnOk result (records_in rows.new.items ≡ undo_all undo.old.items (records_in rows.old.items)) }
+    ensures undo { OnOk result (undo.new.items ≡ []) }
+    ensures entries { OnOk result (manual.new.entries ≡ manual.old.mark) }
+    ensures mark { OnOk result (manual.new.mark ≡ manual.old.mark) }
+{
+    manual.take_back()?;
+    take_rows_back(rows, undo)
 }
 
 /// The spot of a row that was found.
@@ -233,24 +255,26 @@ fn soonest(
     alloc: Global,
     s: &Structure,
     rows: &[RecordRow],
+    manual: &Manual,
     owner: u64,
     from: &Bound,
 ) -> Result<Option<Spot>, Memory>
-    ensures { IfOk result (λ r. r ≡ soonest (shape_of s.now) owner from.now (entries_of rows.now)) }
+    ensures { IfOk result (λ r. r ≡ soonest (shape_of s.now) manual.now.entries owner from.now (entries_of rows.now)) }
 {
-    spot_of(alloc, s, scan::first(rows, s, owner, from))
+    spot_of(alloc, s, scan::first(rows, s, manual, owner, from))
 }
 
 fn latest(
     alloc: Global,
     s: &Structure,
     rows: &[RecordRow],
+    manual: &Manual,
     owner: u64,
     upto: &Bound,
 ) -> Result<Option<Spot>, Memory>
-    ensures { IfOk result (λ r. r ≡ latest (shape_of s.now) owner upto.now (entries_of rows.now)) }
+    ensures { IfOk result (λ r. r ≡ latest (shape_of s.now) manual.now.entries owner upto.now (entries_of rows.now)) }
 {
-    spot_of(alloc, s, scan::last(rows, s, owner, upto))
+    spot_of(alloc, s, scan::last(rows, s, manual, owner, upto))
 }
 
 /// The first member of a path after a bound.
@@ -258,16 +282,17 @@ pub fn first_member(
     alloc: Global,
     desc: &Description,
     rows: &[RecordRow],
+    manual: &Manual,
     path: u16,
     owner: u64,
     from: &Bound,
 ) -> Result<Option<Spot>, Memory>
     requires { IsInOrder rows.now }
-    ensures { IfOk result (λ r. r ≡ first_member (as_described desc.now) (db_of (records_in rows.now)) path owner from.now) }
+    ensures { IfOk result (λ r. r ≡ first_member (as_described desc.now) (db_of (records_in rows.now) manual.now.entries) path owner from.now) }
 {
     match desc.structure(path) {
         None => Ok(None),
-        Some(s) => soonest(alloc, s, rows, owner, from),
+        Some(s) => soonest(alloc, s, rows, manual, owner, from),
     }
 }
 
@@ -276,15 +301,16 @@ pub fn last_member(
     alloc: Global,
     desc: &Description,
     rows: &[RecordRow],
+    manual: &Manual,
     path: u16,
     owner: u64,
     upto: &Bound,
 ) -> Result<Option<Spot>, Memory>
     requires { IsInOrder rows.now }
-    ensures { IfOk result (λ r. r ≡ last_member (as_described desc.now) (db_of (records_in rows.now)) path owner upto.now) }
+    ensures { IfOk result (λ r. r ≡ last_member (as_described desc.now) (db_of (records_in rows.now) manual.now.entries) path owner upto.now) }
 {
     match desc.structure(path) {
         None => Ok(None),
-        Some(s) => latest(alloc, s, rows, owner, upto),
+        Some(s) => latest(alloc, s, rows, manual, owner, upto),
     }
 }

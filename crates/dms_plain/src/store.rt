@@ -9,12 +9,13 @@ ghost use Rattle.dms_plain.specs.Rows.{RowsFit, db_of, records_in, undo_all, IsI
 ghost use Rattle.dms_plain.specs.Speaking.{OnlySpeaks, only_none, only_on};
 ghost use Rattle.dms_plain.specs.Told.{text_if, point_of, no_clock};
 
+use crate::manual::Manual;
 use crate::rows::{self, RecordRow, Undo};
-use crate::state;
+use crate::{entering, linking, removal, state, uses};
 use dms_base::Memory;
 use dms_block::BlockFault;
 use dms_desc::{Bound, Description, Record};
-use dms_model::{Put, Spot, Store};
+use dms_model::{Places, Put, Spot, Store};
 use dms_site::Site;
 use std::alloc::Global;
 use std::mem;
@@ -26,6 +27,7 @@ pub struct PlainStore<S> {
     desc: Description,
     rows: Vec<RecordRow>,
     undo: Vec<Undo>,
+    manual: Manual,
     next: u64,
     /// How often quiet points were made durable, and how often it went back to the last one. A count stands still at its
     /// type's end.
@@ -52,6 +54,7 @@ impl<S: Site> PlainStore<S> {
                 desc,
                 rows: Vec::new(alloc),
                 undo: Vec::new(alloc),
+                manual: Manual::new(alloc),
                 next: 1,
                 syncs: 0,
                 outs: 0,
@@ -95,13 +98,13 @@ impl<S: Site> Store for PlainStore<S> {
       tells = ⊥;
       sound = ⊤;
       desc = as_described s.desc;
-      db = Some (db_of (records_in s.rows.items));
-      mark = Some (db_of (undo_all s.undo.items (records_in s.rows.items)));
+      db = Some (db_of (records_in s.rows.items) s.manual.entries);
+      mark = Some (db_of (undo_all s.undo.items (records_in s.rows.items)) s.manual.mark);
       next = s.next;
       said = text_if S.tells_said (S.said s.site);
       points = [];
       durable = 0;
-      here = point_of s.next (as_described s.desc) (db_of (records_in s.rows.items));
+      here = point_of s.next (as_described s.desc) (db_of (records_in s.rows.items) s.manual.entries);
       clock = no_clock;
       whole = λ files. ⊤;
       pace = record { last = 9999; every = 0 };
@@ -137,7 +140,15 @@ impl<S: Site> Store for PlainStore<S> {
         owner: u64,
         from: &Bound,
     ) -> Result<Option<Spot>, BlockFault> {
-        Ok(state::first_member(alloc, &self.desc, self.rows.as_slice(), path, owner, from)?)
+        Ok(state::first_member(
+            alloc,
+            &self.desc,
+            self.rows.as_slice(),
+            &self.manual,
+            path,
+            owner,
+            from,
+        )?)
     }
 
     fn last_to(
@@ -147,7 +158,15 @@ impl<S: Site> Store for PlainStore<S> {
         owner: u64,
         to: &Bound,
     ) -> Result<Option<Spot>, BlockFault> {
-        Ok(state::last_member(alloc, &self.desc, self.rows.as_slice(), path, owner, to)?)
+        Ok(state::last_member(
+            alloc,
+            &self.desc,
+            self.rows.as_slice(),
+            &self.manual,
+            path,
+            owner,
+            to,
+        )?)
     }
 
     fn put(
@@ -162,10 +181,76 @@ impl<S: Site> Store for PlainStore<S> {
             &self.desc,
             &mut self.rows,
             &mut self.undo,
+            &self.manual,
             set,
             number,
             rec,
         )?)
+    }
+
+    fn in_use(&mut self, _alloc: Global, set: u16, number: u64) -> Result<bool, BlockFault> {
+        Ok(uses::in_use(
+            &self.desc,
+            self.rows.as_slice(),
+            self.manual.entries(),
+            set,
+            number,
+        ))
+    }
+
+    fn linkers(&mut self, alloc: Global, set: u16, number: u64) -> Result<Places, BlockFault> {
+        Ok(uses::linkers(alloc, &self.desc, self.rows.as_slice(), set, number)?)
+    }
+
+    fn remove(&mut self, alloc: Global, set: u16, number: u64) -> Result<bool, BlockFault> {
+        Ok(removal::remove(
+            alloc,
+            &self.desc,
+            &mut self.rows,
+            &mut self.undo,
+            self.manual.entries(),
+            set,
+            number,
+        )?)
+    }
+
+    fn link(
+        &mut self,
+        alloc: Global,
+        set: u16,
+        number: u64,
+        item: u8,
+        to: Option<u64>,
+    ) -> Result<(), BlockFault> {
+        linking::link(alloc, &mut self.rows, &mut self.undo, set, number, item, to)?;
+        Ok(())
+    }
+
+    fn enter(
+        &mut self,
+        _alloc: Global,
+        subset: u16,
+        owner: u64,
+        number: u64,
+    ) -> Result<Put, BlockFault> {
+        Ok(entering::enter(
+            &self.desc,
+            self.rows.as_slice(),
+            &mut self.manual,
+            subset,
+            owner,
+            number,
+        )?)
+    }
+
+    fn leave(
+        &mut self,
+        _alloc: Global,
+        subset: u16,
+        owner: u64,
+        number: u64,
+    ) -> Result<bool, BlockFault> {
+        Ok(self.manual.leave(subset, owner, number)?)
     }
 
     fn quiet(&mut self) -> Result<u64, BlockFault> {
@@ -174,6 +259,7 @@ impl<S: Site> Store for PlainStore<S> {
             return Err(BlockFault::Memory);
         }
         self.undo.clear();
+        self.manual.settle();
         self.next = number + 1;
         Ok(number)
     }
@@ -186,7 +272,7 @@ impl<S: Site> Store for PlainStore<S> {
     fn back_out(&mut self, alloc: Global) -> Result<(), BlockFault> {
         let mut undo = mem::replace(&mut self.undo, Vec::new(alloc));
         let mut rows = mem::replace(&mut self.rows, Vec::new(alloc));
-        state::take_back(&mut rows, &mut undo)?;
+        state::take_back(&mut rows, &mut undo, &mut self.manual)?;
         self.rows = rows;
         self.outs = self.outs.saturating_add(1);
         Ok(())

@@ -2,7 +2,8 @@
 use Rattle.std.proofs.Common.{◌≡◌, ℕ, zero, suc, List, [], ◌∷◌, ◌++◌, Bool, true, false, cond, nat_le, length, refl}
 use Rattle.dms_desc.specs.Shape.{Described}
 use Rattle.dms_feed.specs.Lines.{line_text}
-use Rattle.dms_model.specs.Session.{Session, Outcome, step, is_waits}
+use Rattle.dms_model.specs.Counting.{counts_of}
+use Rattle.dms_model.specs.Session.{Session, step, is_waits}
 use Rattle.dms_script.specs.declared.line.Line.{Line}
 use Rattle.dms_script.specs.declared.line.Line.TheVariants.{Empty, Verb as Spoken, Bad}
 use Rattle.dms_script.specs.Lines.{line_of}
@@ -14,11 +15,11 @@ use Rattle.dms_runner.specs.Waiting.{answer_text, has_line, tries, said_to_wait,
 use Rattle.dms_runner.proofs.Happening.{answered_on}
 
 pub says_nothing_more : (text : List ℕ) → TakesNothing (says text)
-says_nothing_more text = record { quiets = refl; sync = refl; stores = refl; backs = refl }
+says_nothing_more text = record { quiets = refl; sync = refl; count = refl; backs = refl }
 
 -- a try ends with what it says
-pub tries_answered : (h : WaitingLine) (o : Outcome) → EndsAnswered (tries h o)
-tries_answered h o = says_nothing_more _
+pub tries_answered : (desc : Described) (s : Session) (h : WaitingLine) → EndsAnswered (tries desc s h)
+tries_answered desc s h = says_nothing_more _
 
 -- the waiting lines
 
@@ -33,7 +34,7 @@ retry_answered desc s front (h ∷ hs) =
     let o = step desc s h.program h.verb in
     let rest = retry desc o.session (front ++ said_to_wait h ∷ []) hs in
     if_answered (has_line front h.program) _ _ (retry_answered desc s (front ++ h ∷ []) hs)
-    (if_answered (is_waits o.reply) _ _ (answered_on (tries h o) rest.events (tries_answered h o) (retry_answered desc o.session (front ++ said_to_wait h ∷ []) hs)) (tries_answered h o))
+    (if_answered (is_waits o.reply) _ _ (answered_on (tries desc s h) rest.events (tries_answered desc s h) (retry_answered desc o.session (front ++ said_to_wait h ∷ []) hs)) (tries_answered desc s h))
 
 after_answered : (b : Bool) (first rest : RetryEffect) → EndsAnswered first.events → EndsAnswered rest.events → EndsAnswered (retry_after_answer b first rest).events
 after_answered true first rest h k = answered_on first.events rest.events h k
@@ -65,8 +66,8 @@ effect_answered desc g (Spoken name verb) =
     let o = step desc g.session name verb in
     let said = says (answer_text g.line name o.reply o.sync) in
     line_if (has_line g.waiting name) _ _ (waiting_answered g g.session (first_line g.line name verb false) [] [] tt)
-    (line_if (is_waits o.reply) _ _ (waiting_answered g o.session (first_line g.line name verb true) (calls verb o ∷ []) (said ∷ []) (says_nothing_more _))
-    (λ room. answered_on (calls verb o ∷ said ∷ []) (retries (length g.waiting) desc o.session g.waiting).events (says_nothing_more _) (retries_answered (length g.waiting) desc o.session g.waiting)))
+    (line_if (is_waits o.reply) _ _ (waiting_answered g o.session (first_line g.line name verb true) (calls (counts_of desc g.session name verb) verb o ∷ []) (said ∷ []) (says_nothing_more _))
+    (λ room. answered_on (calls (counts_of desc g.session name verb) verb o ∷ said ∷ []) (retries (length g.waiting) desc o.session g.waiting).events (says_nothing_more _) (retries_answered (length g.waiting) desc o.session g.waiting)))
 
 step_answered : (desc : Described) (g : RunState) (raw : List ℕ) → AnswersLine (line_step desc g raw)
 unfolding line_step

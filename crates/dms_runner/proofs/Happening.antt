@@ -1,5 +1,5 @@
 -- Events, one behind another.
-use Rattle.std.specs.Prelude.{IsErrAnd, IsOkUnless, OnOk, ◌<◌, ◌^◌, nat_le, not, ◌&&◌, is_some, slice_get}
+use Rattle.std.specs.Prelude.{IsErrAnd, IsOkUnless, OnOk, ◌<◌, ◌^◌, nat_le, ◌&&◌, is_some, slice_get}
 use Rattle.std.specs.declared.result.Result.{Result}
 use Rattle.std.specs.declared.result.Result.TheVariants.{Ok, Err}
 use Rattle.dms_block.specs.declared.block_fault.BlockFault.{BlockFault}
@@ -11,8 +11,8 @@ use Rattle.dms_model.specs.Programs.{Program, Wait}
 use Rattle.dms_model.specs.BackOut.{asks_back_out}
 use Rattle.dms_model.specs.declared.reply.Reply.{Reply}
 use Rattle.dms_model.specs.Seen.{Effort, GoesBack, Seen, IsMute, IsSilent, Keeps, SaysPart, StaysDurable}
-use Rattle.dms_storeverbs.specs.Costs.{Costs, IsFullFor, block_limit, limit_if, stores, up_if}
-use Rattle.std.proofs.Common.{ℕ, zero, suc, ◌≡◌, ◌≤◌, ◌+◌, ◌⊎◌, inl, inr, List, [], ◌∷◌, ◌++◌, length, take, map, Some, None, refl, sym, ◌∙◌, ap, subst, arith, append_assoc, length-append, Bool, true, false}
+use Rattle.dms_storeverbs.specs.Costs.{Costs, IsFullFor, SpendsUpTo, up_if}
+use Rattle.std.proofs.Common.{ℕ, zero, suc, ◌≡◌, ◌≤◌, ◌+◌, ◌⊎◌, inl, inr, List, [], ◌∷◌, ◌++◌, length, take, map, Some, None, refl, sym, ◌∙◌, ap, subst, arith, append_assoc, length-append, Bool, true, false, cond}
 use Rattle.std.specs.declared.option.Option.{Option}
 use Rattle.std.proofs.lemmas.List.{append-nil, map-append, length-map, take-append-le, take_all}
 use Rattle.std.proofs.lemmas.Option.{slice_get_within}
@@ -30,7 +30,7 @@ use Rattle.dms_storeverbs.specs.Laws.{MakesWhereQuiet}
 use Rattle.dms_storeverbs.proofs.Quiet.{quiet_rule}
 use Rattle.dms_storeverbs.specs.View.{View, PerformsCall, PointsGrow, LeavesQuiets, StandsFor, view_of}
 use Rattle.dms_storeverbs.proofs.Calls.{lower, stays}
-use Rattle.dms_runner.specs.Events.{IsTold, RunEvent, calls, says, goes_back, text_of, quiets_of, durable_by, durable_after, CrashesFrom, IsCutShort, Fate, fate_of, IsFullOver, IsFullIn, IsFullOf, SaidWhole, Performs, PerformsPrefix, SaidAtLeast, TakesEvents, TookAll, TookOneMore, TookPart, EndsAnswered, blocks_of, syncs_of, backs_of, may_store, one_if}
+use Rattle.dms_runner.specs.Events.{IsTold, RunEvent, calls, says, goes_back, text_of, quiets_of, durable_by, durable_after, CrashesFrom, IsCutShort, Fate, fate_of, IsFullOver, IsFullIn, IsFullOf, SaidWhole, Performs, PerformsPrefix, SaidAtLeast, TakesEvents, TookAll, TookOneMore, TookPart, EndsAnswered, blocks_begun, blocks_for, blocks_of, syncs_of, backs_of, one_if}
 use Rattle.dms_runner.specs.Blaming.{IsFullRun, run_fate}
 use Rattle.dms_runner.specs.declared.run.RunFault.TheVariants.{Block}
 use Rattle.dms_runner.proofs.Texts.{prints_none, prints_on, front_none, front_all, front_of_first, front_on}
@@ -230,13 +230,29 @@ took_all a b x ran =
     took_by a b x (length x) (omega arith) (subst (λ (e : List RunEvent). Prints a.said b.said (text_of e)) all ran.text) (subst (λ (e : List RunEvent). TakesEvents a.desc e a.effort b.effort) all ran.effort)
     (subst (λ (e : List RunEvent). b.next ≤ a.next + length (quiets_of e)) all ran.next_high)
 
+-- the event behind so many
+
+get_front : (x y : List RunEvent) (k : ℕ) (e : RunEvent) → slice_get x k ≡ Some e → slice_get (x ++ y) k ≡ Some e
+get_front [] y k e is = absurd (cc is)
+get_front (f ∷ x) y zero e is = is
+get_front (f ∷ x) y (suc k) e is = get_front x y k e is
+
+get_behind : (x y : List RunEvent) (k : ℕ) → slice_get (x ++ y) (length x + k) ≡ slice_get y k
+get_behind [] y k = let e : 0 + k ≡ k = omega arith in ap (slice_get y) e
+get_behind (f ∷ x) y k = let e : suc (length x) + k ≡ suc (length x + k) = omega arith in ap (slice_get (f ∷ (x ++ y))) e ∙ get_behind x y k
+
+same_front : (x y : List RunEvent) (k : ℕ) → k < length x → slice_get (x ++ y) k ≡ slice_get x k
+same_front [] y k low = absurd (omega (arith, low))
+same_front (f ∷ x) y zero low = refl
+same_front (f ∷ x) y (suc k) low = same_front x y k (omega (arith, low))
+
 -- one call more behind the first of them
 more_of_first : (a b : Seen) (whole k : ℕ) (x y : List RunEvent) → take k (x ++ y) ≡ take k x → TookOneMore a b whole k x → TookOneMore a b whole k (x ++ y)
 more_of_first a b whole k x y front p = record {
   said = p.said;
   more = omega (arith, p.more, length-append x y);
   answered = subst (λ (e : List RunEvent). EndsAnswered e) (sym front) p.answered;
-  spent = omega (arith, p.spent, ap (blocks_of a.desc) front);
+  spent = omega (arith, p.spent, ap (blocks_of a.desc) front, ap (blocks_begun a.desc) (same_front x y k p.more));
   next = omega (arith, p.next, ap (λ (e : List RunEvent). length (quiets_of e)) front);
   syncs = omega (arith, p.syncs, ap syncs_of front);
   outs = omega (arith, p.outs, ap backs_of front);
@@ -279,13 +295,13 @@ all_on a b c x y first next = record {
 more_on : (a b c : Seen) (whole k : ℕ) (x y : List RunEvent) → Performs a b x → EndsAnswered x → TookOneMore b c whole k y → TookOneMore a c (length x + whole) (length x + k) (x ++ y)
 more_on a b c whole k x y first answered next =
     let front : take (length x + k) (x ++ y) ≡ x ++ take k y = take-append-add x y k in
-    let spent : c.effort.spent ≤ b.effort.spent + blocks_of a.desc (take k y) + limit_if true a.desc =
-    subst (λ (d : Described). c.effort.spent ≤ b.effort.spent + blocks_of d (take k y) + limit_if true d) first.desc next.spent in
+    let spent : c.effort.spent ≤ b.effort.spent + blocks_of a.desc (take k y) + blocks_begun a.desc (slice_get y k) =
+    subst (λ (d : Described). c.effort.spent ≤ b.effort.spent + blocks_of d (take k y) + blocks_begun d (slice_get y k)) first.desc next.spent in
     record {
       said = omega (arith, next.said);
       more = omega (arith, next.more, length-append x y);
       answered = subst (λ (e : List RunEvent). EndsAnswered e) (sym front) (answered_on x (take k y) answered next.answered);
-      spent = omega (arith, first.effort.spent, spent, blocks_on a.desc x (take k y), ap (blocks_of a.desc) front);
+      spent = omega (arith, first.effort.spent, spent, blocks_on a.desc x (take k y), ap (blocks_of a.desc) front, ap (blocks_begun a.desc) (get_behind x y k));
       next = omega (arith, first.next_high, next.next, count_of_both x (take k y), ap (λ (e : List RunEvent). length (quiets_of e)) front);
       syncs = omega (arith, first.effort.syncs, next.syncs, syncs_on x (take k y), ap syncs_of front);
       outs = omega (arith, first.effort.outs, next.outs, backs_on x (take k y), ap backs_of front);
@@ -329,15 +345,6 @@ took_cut : {cut cut' : Type 0} (a b : Seen) (x : List RunEvent) → (cut → cut
 took_cut a b x f p = record { k = p.k; within = p.within; text = λ uncut. p.text (λ is. uncut (f is)); whole = p.whole; near = p.near; least = p.least; most = p.most; took = p.took }
 
 -- where the audit had no room
-
-get_front : (x y : List RunEvent) (k : ℕ) (e : RunEvent) → slice_get x k ≡ Some e → slice_get (x ++ y) k ≡ Some e
-get_front [] y k e is = absurd (cc is)
-get_front (f ∷ x) y zero e is = is
-get_front (f ∷ x) y (suc k) e is = get_front x y k e is
-
-get_behind : (x y : List RunEvent) (k : ℕ) → slice_get (x ++ y) (length x + k) ≡ slice_get y k
-get_behind [] y k = let e : 0 + k ≡ k = omega arith in ap (slice_get y) e
-get_behind (f ∷ x) y k = let e : suc (length x) + k ≡ suc (length x + k) = omega arith in ap (slice_get (f ∷ (x ++ y))) e ∙ get_behind x y k
 
 -- where it was so in the first events it is so in all
 full_front : (f : ℕ) (a b : Seen) (x y : List RunEvent) → IsFullOver f a b x → IsFullOver f a b (x ++ y)
@@ -567,10 +574,10 @@ numbered false s o m = omega (arith, m.next, ap length m.quiets)
 pub step_numbers : (desc : Described) (s : Session) (name : List ℕ) (verb : Verb) → (step desc s name verb).session.next ≡ s.next + length (step desc s name verb).quiets
 step_numbers desc s name verb = numbered _ s (step desc s name verb) (quiet_rule desc s name verb)
 
-stopped_calls : (a : Seen) (verb : Verb) (o : Outcome) (stop : Stop) → LeavesQuiets a.whole a.durable a.points a.next o.quiets stop × StopTextIs a.said stop → CrashesFrom a (calls verb o ∷ []) stop
-stopped_calls a verb o stop p = record {
+stopped_calls : (a : Seen) (count : ℕ) (verb : Verb) (o : Outcome) (stop : Stop) → LeavesQuiets a.whole a.durable a.points a.next o.quiets stop × StopTextIs a.said stop → CrashesFrom a (calls count verb o ∷ []) stop
+stopped_calls a count verb o stop p = record {
   before = [];
-  at = calls verb o;
+  at = calls count verb o;
   rest = [];
   all = refl;
   left = p.0;
@@ -582,31 +589,31 @@ covered_made None before all durable later synced = later
 covered_made (Some n) before all durable later synced = omega (arith, synced n refl)
 
 -- what a call takes by its answer
-spent_by : (s w : Bool) (desc : Described) (m n : ℕ) → n ≤ m + limit_if s desc → (w ≡ true → n ≤ m) → n ≤ m + (limit_if (s && not w) desc + 0)
-spent_by s true desc m n all none = omega (arith, none refl)
-spent_by true false desc m n all none = omega (arith, all)
-spent_by false false desc m n all none = omega (arith, all)
+
+spent_for : (a b : Seen) (count : ℕ) → SpendsUpTo a b count → b.effort.spent ≤ a.effort.spent + blocks_for a.desc count
+unfolding blocks_for
+spent_for a b count spends = spends
+
+spent_by : (w : Bool) (desc : Described) (count m n : ℕ) → n ≤ m + blocks_for desc count → (w ≡ true → n ≤ m) → n ≤ m + (blocks_for desc (cond w 0 count) + 0)
+spent_by true desc count m n all none = omega (arith, none refl)
+spent_by false desc count m n all none = omega (arith, all)
 
 up_by : (b : Bool) (m n : ℕ) → n ≡ up_if b m → n ≤ m + (one_if b + 0)
 up_by true m n is = omega (arith, is)
 up_by false m n is = omega (arith, is)
 
-call_takes : (desc : Described) (verb : Verb) (o : Outcome) (answer : Answer) {a b : Effort} → answer.reply ≡ o.reply → answer.sync ≡ o.sync → Costs (block_limit desc verb) (asks_back_out verb) (Ok answer) a b → (is_waits answer.reply ≡ true → b.spent ≤ a.spent)
-    → TakesEvents desc (calls verb o ∷ []) a b
-unfolding may_store
-call_takes desc verb o answer {a} {b} reply sync costs idle = record {
-  spent = spent_by (stores verb) (is_waits o.reply) desc a.spent b.spent costs.spent (λ waits. idle (ap is_waits reply ∙ waits));
+call_takes : (desc : Described) (count : ℕ) (verb : Verb) (o : Outcome) (answer : Answer) {a b : Effort} → answer.reply ≡ o.reply → answer.sync ≡ o.sync → Costs (asks_back_out verb) (Ok answer) a b → b.spent ≤ a.spent + blocks_for desc count
+    → (is_waits answer.reply ≡ true → b.spent ≤ a.spent) → TakesEvents desc (calls count verb o ∷ []) a b
+call_takes desc count verb o answer {a} {b} reply sync costs spends idle = record {
+  spent = spent_by (is_waits o.reply) desc count a.spent b.spent spends (λ waits. idle (ap is_waits reply ∙ waits));
   syncs = up_by (is_some o.sync) a.syncs b.syncs (costs.syncs ∙ ap (λ (s : Option ℕ). up_if (is_some s) a.syncs) sync);
   outs = up_by (asks_back_out verb && is_done o.reply) a.outs b.outs (costs.outs ∙ ap (λ (r : Reply). up_if (asks_back_out verb && is_done r) a.outs) reply);
 }
 
-limit_low : (b : Bool) (desc : Described) → limit_if b desc ≤ limit_if true desc
-limit_low true desc = omega arith
-limit_low false desc = omega arith
-
 -- or of one that was under way
-took_call : {cut : Type 0} (a b : Seen) (verb : Verb) (call : RunEvent) (result : Result Answer BlockFault) → IsMute a b → Costs (block_limit a.desc verb) (asks_back_out verb) result a.effort b.effort → TookPart cut a b (call ∷ [])
-took_call a b verb call result mute costs = record {
+took_call : {cut : Type 0} (a b : Seen) (verb : Verb) (call : RunEvent) (result : Result Answer BlockFault) → IsMute a b → Costs (asks_back_out verb) result a.effort b.effort → b.effort.spent ≤ a.effort.spent + blocks_for a.desc call.count
+    → TookPart cut a b (call ∷ [])
+took_call a b verb call result mute costs spends = record {
   k = 0;
   within = omega arith;
   text = λ uncut. prints_none a.said b.said mute.said;
@@ -618,16 +625,16 @@ took_call a b verb call result mute costs = record {
     said = refl;
     more = omega arith;
     answered = tt;
-    spent = omega (arith, costs.spent, limit_low (stores verb) a.desc);
+    spent = omega (arith, spends);
     next = omega (arith, mute.one_number);
     syncs = omega (arith, costs.few_syncs.1);
     outs = omega (arith, costs.few_outs.1);
   });
 }
 
-pub ran_calls : (a b : Seen) {programs : List Program} {pending : Bool} {since : ℕ} {waits : List Wait} (verb : Verb) (o : Outcome) (answer : Answer) → (a.tells → b.tells) → ((files : StopFiles) → b.whole files → a.whole files) → b.desc ≡ a.desc → b.pace ≡ a.pace → Costs (block_limit a.desc verb) (asks_back_out verb) (Ok answer) a.effort b.effort → (is_waits answer.reply ≡ true → b.effort.spent ≤ a.effort.spent)
-    → b.faults ≡ a.faults → IsMute a b → b.next ≡ a.next + length o.quiets → PerformsCall o a b (view_of b.db b.mark b.next programs pending since waits) (Ok answer) → Performs a b (calls verb o ∷ [])
-ran_calls a b verb o answer tells whole desc pace costs idle same mute next did = record {
+pub ran_calls : (a b : Seen) {programs : List Program} {pending : Bool} {since : ℕ} {waits : List Wait} (count : ℕ) (verb : Verb) (o : Outcome) (answer : Answer) → (a.tells → b.tells) → ((files : StopFiles) → b.whole files → a.whole files) → b.desc ≡ a.desc → b.pace ≡ a.pace → Costs (asks_back_out verb) (Ok answer) a.effort b.effort → SpendsUpTo a b count → (is_waits answer.reply ≡ true → b.effort.spent ≤ a.effort.spent)
+    → b.faults ≡ a.faults → IsMute a b → b.next ≡ a.next + length o.quiets → PerformsCall o a b (view_of b.db b.mark b.next programs pending since waits) (Ok answer) → Performs a b (calls count verb o ∷ [])
+ran_calls a b count verb o answer tells whole desc pace costs spends idle same mute next did = record {
   text = prints_none a.said b.said mute.said;
   tells = tells;
   whole = whole;
@@ -637,20 +644,20 @@ ran_calls a b verb o answer tells whole desc pace costs idle same mute next did 
   next_high = omega (arith, next, ap length (append-nil o.quiets));
   grew = λ t. subst (λ (q : List Quiet). PointsGrow a.points q b.points) (sym (append-nil o.quiets)) (did.made t).grew;
   durable = λ t. covered_made o.sync a.durable (length a.points + length o.quiets) b.durable (did.made t).later (λ n is. (did.made t).synced n (did.answers.sync ∙ is) ∙ length_grew (did.made t).grew);
-  moments = λ t. runs_weaken (did.leaves t) (stopped_calls a verb o);
+  moments = λ t. runs_weaken (did.leaves t) (stopped_calls a count verb o);
   desc = desc;
   pace = pace;
-  effort = call_takes a.desc verb o answer did.answers.reply did.answers.sync costs idle;
+  effort = call_takes a.desc count verb o answer did.answers.reply did.answers.sync costs (spent_for a b count spends) idle;
 }
 
-pub part_calls : {fate : Fate} (a b : Seen) (v : View) (verb : Verb) (o : Outcome) {result : Result Answer BlockFault} → ((f : ℕ) → fate.full f → IsFullFor a.pace.last verb o f) → Costs (block_limit a.desc verb) (asks_back_out verb) result a.effort b.effort → CausedBy result a.faults b.faults → IsMute a b → PerformsCall o a b v result → PerformsPrefix fate a b (calls verb o ∷ [])
-part_calls a b v verb o {result} changed costs cause mute did = record {
-  due = λ f full. full_first f a b (calls verb o) mute.said (changed f full);
-  said_whole = λ uncut. whole_none a.said b.said (calls verb o ∷ []) mute.said;
-  took = took_call a b verb (calls verb o) result mute costs;
+pub part_calls : {fate : Fate} (a b : Seen) (v : View) (count : ℕ) (verb : Verb) (o : Outcome) {result : Result Answer BlockFault} → ((f : ℕ) → fate.full f → IsFullFor a.pace.last verb o f) → Costs (asks_back_out verb) result a.effort b.effort → SpendsUpTo a b count → CausedBy result a.faults b.faults → IsMute a b → PerformsCall o a b v result → PerformsPrefix fate a b (calls count verb o ∷ [])
+part_calls a b v count verb o {result} changed costs spends cause mute did = record {
+  due = λ f full. full_first f a b (calls count verb o) mute.said (changed f full);
+  said_whole = λ uncut. whole_none a.said b.said (calls count verb o ∷ []) mute.said;
+  took = took_call a b verb (calls count verb o) result mute costs (spent_for a b count spends);
   undamaged = λ t. damaged_same result a.faults b.faults did.undamaged cause;
   text = front_none a.said b.said [] mute.said;
-  moments = λ t. runs_weaken (did.leaves t) (stopped_calls a verb o);
+  moments = λ t. runs_weaken (did.leaves t) (stopped_calls a count verb o);
 }
 
 -- the way back

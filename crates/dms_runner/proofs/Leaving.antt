@@ -4,6 +4,7 @@ use Rattle.std.proofs.lemmas.List.{append-nil}
 use Rattle.dms_desc.specs.Shape.{Described}
 use Rattle.dms_feed.specs.Lines.{line_text}
 use Rattle.dms_model.specs.declared.verb.Verb.{Verb}
+use Rattle.dms_model.specs.Counting.{counts_of}
 use Rattle.dms_model.specs.Db.{Db}
 use Rattle.dms_model.specs.Points.{Quiet}
 use Rattle.dms_model.specs.Session.{Session, Outcome, step, someone_works, end_session, is_waits}
@@ -18,8 +19,9 @@ use Rattle.dms_runner.specs.declared.waiting.WaitingLine.{WaitingLine}
 use Rattle.dms_runner.specs.Events.{RunEvent, calls, says, quiets_of}
 use Rattle.dms_runner.specs.EventLaws.{LeftLaw}
 use Rattle.dms_runner.specs.Waiting.{has_line, answer_text, tried_text, tries, said_to_wait, RetryEffect, retry, retries}
-use Rattle.dms_runner.specs.Answers.{RunState, LineEffect, put_to_wait, first_line, first_try_effect, line_effect, one_line_more, line_step, lines_run, lines_before, first_state, unanswered_events, end_events, script_events, last_quiet}
+use Rattle.dms_runner.specs.Answers.{RunState, LineEffect, put_to_wait, first_line, tried_first, line_effect, one_line_more, line_step, lines_run, lines_before, first_state, unanswered_events, end_events, script_events, last_quiet}
 use Rattle.dms_runner.proofs.Happening.{quiets_on}
+use Rattle.dms_runner.proofs.Lining.{tried_answered, tried_waits}
 use Rattle.dms_runner.proofs.Passes.{retry_skips, retry_waits, retry_answers, retry_ends, retries_again, retries_end}
 
 last_on : (db : Db) (x y : List Quiet) → last_quiet db (x ++ y) ≡ last_quiet (last_quiet db x) y
@@ -48,11 +50,11 @@ marked : (b : Bool) (s : Session) (o : Outcome) → MakesWhereQuiet b s o → o.
 marked true s o m = m.mark ∙ sym (ap (λ (q : List Quiet). last_quiet s.mark (q ++ [])) m.quiets)
 marked false s o m = m.mark ∙ sym (ap (λ (q : List Quiet). last_quiet s.mark (q ++ [])) m.quiets)
 
-follows_call : (desc : Described) (s : Session) (name : List ℕ) (verb : Verb) → Follows s (step desc s name verb).session (calls verb (step desc s name verb) ∷ [])
+follows_call : (desc : Described) (s : Session) (name : List ℕ) (verb : Verb) → Follows s (step desc s name verb).session (calls (counts_of desc s name verb) verb (step desc s name verb) ∷ [])
 follows_call desc s name verb = record { rests = rest_rule desc s name verb; mark = marked _ s (step desc s name verb) (quiet_rule desc s name verb) }
 
-follows_try : (desc : Described) (s : Session) (name : List ℕ) (verb : Verb) (x : List ℕ) → Follows s (step desc s name verb).session (calls verb (step desc s name verb) ∷ says x ∷ [])
-follows_try desc s name verb x = follows_on s _ _ (calls verb (step desc s name verb) ∷ []) (says x ∷ []) (follows_call desc s name verb) (follows_says _ x)
+follows_try : (desc : Described) (s : Session) (name : List ℕ) (verb : Verb) (x : List ℕ) → Follows s (step desc s name verb).session (calls (counts_of desc s name verb) verb (step desc s name verb) ∷ says x ∷ [])
+follows_try desc s name verb x = follows_on s _ _ (calls (counts_of desc s name verb) verb (step desc s name verb) ∷ []) (says x ∷ []) (follows_call desc s name verb) (follows_says _ x)
 
 -- retries
 
@@ -66,7 +68,7 @@ reply_follows : (desc : Described) (s : Session) (front : List WaitingLine) (h :
     → Retried (step desc s h.program h.verb).session (retry desc (step desc s h.program h.verb).session (front ++ said_to_wait h ∷ []) hs) → Retried s (retry desc s front (h ∷ hs))
 reply_follows desc s front h hs true other waits rest =
     let o = step desc s h.program h.verb in
-    retried_as s _ _ (retry_waits desc s front h hs other waits) (follows_on s o.session _ (tries h o) _ (follows_try desc s h.program h.verb (tried_text h o)) rest)
+    retried_as s _ _ (retry_waits desc s front h hs other waits) (follows_on s o.session _ (tries desc s h) _ (follows_try desc s h.program h.verb (tried_text h o)) rest)
 reply_follows desc s front h hs false other waits rest =
     retried_as s _ _ (retry_answers desc s front h hs other waits) (follows_try desc s h.program h.verb (tried_text h (step desc s h.program h.verb)))
 
@@ -99,20 +101,20 @@ waiting_leads : (s t : Session) (g : RunState) (h : WaitingLine) (before said : 
 waiting_leads s t g h before said true p q = p
 waiting_leads s t g h before said false p q = follows_on s t t before said p q
 
-tried_leads : (desc : Described) (g : RunState) (name : List ℕ) (verb : Verb) (b : Bool) → is_waits (step desc g.session name verb).reply ≡ b → Leads g.session (first_try_effect desc g name verb (step desc g.session name verb))
+tried_leads : (desc : Described) (g : RunState) (name : List ℕ) (verb : Verb) (b : Bool) → is_waits (step desc g.session name verb).reply ≡ b → Leads g.session (tried_first desc g name verb)
 tried_leads desc g name verb true waits =
     let o = step desc g.session name verb in
-    rw waits (waiting_leads g.session o.session g (first_line g.line name verb true) (calls verb o ∷ []) (says (answer_text g.line name o.reply o.sync) ∷ []) (nat_le 10000 (length g.waiting)) (follows_call desc g.session name verb) (follows_says o.session _))
+    subst (Leads g.session) (sym (tried_waits desc g name verb (counts_of desc g.session name verb) o waits)) (waiting_leads g.session o.session g (first_line g.line name verb true) (calls (counts_of desc g.session name verb) verb o ∷ []) (says (answer_text g.line name o.reply o.sync) ∷ []) (nat_le 10000 (length g.waiting)) (follows_call desc g.session name verb) (follows_says o.session _))
 tried_leads desc g name verb false waits =
     let o = step desc g.session name verb in
-    rw waits (follows_on g.session o.session _ (calls verb o ∷ says (answer_text g.line name o.reply o.sync) ∷ []) _ (follows_try desc g.session name verb (answer_text g.line name o.reply o.sync)) (retries_follow (length g.waiting) desc o.session g.waiting))
+    subst (Leads g.session) (sym (tried_answered desc g name verb (counts_of desc g.session name verb) o waits)) (follows_on g.session o.session _ (calls (counts_of desc g.session name verb) verb o ∷ says (answer_text g.line name o.reply o.sync) ∷ []) _ (follows_try desc g.session name verb (answer_text g.line name o.reply o.sync)) (retries_follow (length g.waiting) desc o.session g.waiting))
 
 spoken_leads : (desc : Described) (g : RunState) (l : Line) → Leads g.session (line_effect desc g l)
 spoken_leads desc g Empty = follows_none g.session
 spoken_leads desc g (Bad place) = follows_on g.session g.session _ (says (bad_text g.line place) ∷ []) _ (follows_says g.session _) (retries_follow (length g.waiting) desc g.session g.waiting)
 spoken_leads desc g (Spoken name verb) = at (has_line g.waiting name)
   where
-    at : (b : Bool) → Leads g.session (cond b (put_to_wait g g.session (first_line g.line name verb false) [] []) (first_try_effect desc g name verb (step desc g.session name verb)))
+    at : (b : Bool) → Leads g.session (cond b (put_to_wait g g.session (first_line g.line name verb false) [] []) (tried_first desc g name verb))
     at true = waiting_leads g.session g.session g (first_line g.line name verb false) [] [] (nat_le 10000 (length g.waiting)) (follows_none g.session) (follows_none g.session)
     at false = tried_leads desc g name verb (is_waits (step desc g.session name verb).reply) refl
 

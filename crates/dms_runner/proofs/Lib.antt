@@ -1,8 +1,9 @@
 pub mod Always
 pub mod Answered
 pub mod Blames
+pub mod Sizes
 pub mod Counting
-pub mod Exclusive
+pub mod InOrder
 pub mod Firsts
 pub mod Fronts
 pub mod Happening
@@ -19,5 +20,6 @@ pub mod Texts
 pub mod Tried
 pub mod Turns
 pub mod Unanswered
+pub mod ValidSizes
 pub mod Verbs
 pub mod Whole

@@ -8,6 +8,7 @@ use Rattle.dms_desc.specs.Shape.{Described}
 use Rattle.dms_feed.specs.Lines.{is_end, line_text}
 use Rattle.dms_model.specs.declared.verb.Verb.{Verb}
 use Rattle.dms_model.specs.declared.reply.Reply.{Reply}
+use Rattle.dms_model.specs.Counting.{counts_of}
 use Rattle.dms_model.specs.Session.{Session, Outcome, step, is_waits}
 use Rattle.dms_model.proofs.Rises.{step_small}
 use Rattle.dms_script.specs.declared.line.Line.{Line}
@@ -17,7 +18,7 @@ use Rattle.dms_storeverbs.specs.View.{View, StandsFor}
 use Rattle.dms_runner.specs.declared.waiting.WaitingLine.{WaitingLine}
 use Rattle.dms_runner.specs.Waiting.{has_line, answer_text, retries, events_before}
 use Rattle.dms_runner.specs.Events.{Fate, RunEvent, Performs, PerformsPrefix, calls, says, text_of}
-use Rattle.dms_runner.specs.Answers.{RunState, LineEffect, nothing_done, after_retries, put_to_wait, first_line, first_try_effect, line_effect, one_line_more, line_step}
+use Rattle.dms_runner.specs.Answers.{RunState, LineEffect, nothing_done, after_retries, put_to_wait, first_line, first_try_effect, tried_first, line_effect, one_line_more, line_step}
 use Rattle.dms_runner.specs.Trying.{PerformsRetries, MatchesLine}
 use Rattle.dms_runner.proofs.Happening.{ran_none, ran_on}
 use Rattle.dms_runner.proofs.Turns.{retries_low}
@@ -31,20 +32,27 @@ waiting_low : (g : RunState) (s : Session) (h : WaitingLine) (first_try_effect s
 waiting_low g s h first_try_effect said true same = (omega (arith, same), refl)
 waiting_low g s h first_try_effect said false same = (omega (arith, same, length-append g.waiting (h ∷ [])), refl)
 
-tried_low : (desc : Described) (g : RunState) (name : List ℕ) (verb : Verb) (b : Bool) → is_waits (step desc g.session name verb).reply ≡ b → LinedLow g (first_try_effect desc g name verb (step desc g.session name verb))
+pub tried_waits : (desc : Described) (g : RunState) (name : List ℕ) (verb : Verb) (count : ℕ) (o : Outcome) → is_waits o.reply ≡ true → first_try_effect desc g name verb count o ≡ put_to_wait g o.session (first_line g.line name verb true) (calls count verb o ∷ []) (says (answer_text g.line name o.reply o.sync) ∷ [])
+tried_waits desc g name verb count o waits = rw waits refl
+
+pub tried_answered : (desc : Described) (g : RunState) (name : List ℕ) (verb : Verb) (count : ℕ) (o : Outcome) → is_waits o.reply ≡ false
+    → first_try_effect desc g name verb count o ≡ after_retries g.line (events_before (calls count verb o ∷ says (answer_text g.line name o.reply o.sync) ∷ []) (retries (length g.waiting) desc o.session g.waiting))
+tried_answered desc g name verb count o waits = rw waits refl
+
+tried_low : (desc : Described) (g : RunState) (name : List ℕ) (verb : Verb) (b : Bool) → is_waits (step desc g.session name verb).reply ≡ b → LinedLow g (tried_first desc g name verb)
 tried_low desc g name verb true waits =
     let o = step desc g.session name verb in
-    rw waits (waiting_low g o.session (first_line g.line name verb true) (calls verb o ∷ []) (says (answer_text g.line name o.reply o.sync) ∷ []) (nat_le 10000 (length g.waiting)) (ap (λ (s : Session). s.next) ((step_small desc g.session name verb).waits waits)))
+    subst (LinedLow g) (sym (tried_waits desc g name verb (counts_of desc g.session name verb) o waits)) (waiting_low g o.session (first_line g.line name verb true) (calls (counts_of desc g.session name verb) verb o ∷ []) (says (answer_text g.line name o.reply o.sync) ∷ []) (nat_le 10000 (length g.waiting)) (ap (λ (s : Session). s.next) ((step_small desc g.session name verb).waits waits)))
 tried_low desc g name verb false waits =
     let o = step desc g.session name verb in
-    rw waits (omega (arith, (step_small desc g.session name verb).high, retries_low (length g.waiting) desc o.session g.waiting), refl)
+    subst (LinedLow g) (sym (tried_answered desc g name verb (counts_of desc g.session name verb) o waits)) (omega (arith, (step_small desc g.session name verb).high, retries_low (length g.waiting) desc o.session g.waiting), refl)
 
 spoken_low : (desc : Described) (g : RunState) (l : Line) → LinedLow g (line_effect desc g l)
 spoken_low desc g Empty = (omega arith, refl)
 spoken_low desc g (Bad place) = (omega (arith, retries_low (length g.waiting) desc g.session g.waiting), refl)
 spoken_low desc g (Spoken name verb) = at (has_line g.waiting name)
   where
-    at : (b : Bool) → LinedLow g (cond b (put_to_wait g g.session (first_line g.line name verb false) [] []) (first_try_effect desc g name verb (step desc g.session name verb)))
+    at : (b : Bool) → LinedLow g (cond b (put_to_wait g g.session (first_line g.line name verb false) [] []) (tried_first desc g name verb))
     at true = waiting_low g g.session (first_line g.line name verb false) [] [] (nat_le 10000 (length g.waiting)) refl
     at false = tried_low desc g name verb (is_waits (step desc g.session name verb).reply) refl
 
@@ -109,17 +117,10 @@ goes_full g s h first_try_effect said v waiting before after over stands same ra
     let e : nat_le 10000 (length g.waiting) ≡ true = grind (arith, nat_tests) in
     rw e (record { full = refl; session = stands; waiting_is = same; ran = ran })
 
-pub tried_waits : (desc : Described) (g : RunState) (name : List ℕ) (verb : Verb) (o : Outcome) → is_waits o.reply ≡ true → first_try_effect desc g name verb o ≡ put_to_wait g o.session (first_line g.line name verb true) (calls verb o ∷ []) (says (answer_text g.line name o.reply o.sync) ∷ [])
-tried_waits desc g name verb o waits = rw waits refl
-
-pub tried_answered : (desc : Described) (g : RunState) (name : List ℕ) (verb : Verb) (o : Outcome) → is_waits o.reply ≡ false
-    → first_try_effect desc g name verb o ≡ after_retries g.line (events_before (calls verb o ∷ says (answer_text g.line name o.reply o.sync) ∷ []) (retries (length g.waiting) desc o.session g.waiting))
-tried_answered desc g name verb o waits = rw waits refl
-
 pub spoken_waiting : (desc : Described) (g : RunState) (name : List ℕ) (verb : Verb) → has_line g.waiting name ≡ true → line_effect desc g (Spoken name verb) ≡ put_to_wait g g.session (first_line g.line name verb false) [] []
 spoken_waiting desc g name verb has = rw has refl
 
-pub spoken_tried : (desc : Described) (g : RunState) (name : List ℕ) (verb : Verb) → has_line g.waiting name ≡ false → line_effect desc g (Spoken name verb) ≡ first_try_effect desc g name verb (step desc g.session name verb)
+pub spoken_tried : (desc : Described) (g : RunState) (name : List ℕ) (verb : Verb) → has_line g.waiting name ≡ false → line_effect desc g (Spoken name verb) ≡ tried_first desc g name verb
 spoken_tried desc g name verb has = rw has refl
 
 -- the retries over the same list
@@ -137,12 +138,12 @@ says_answer l m name r q s t a b c =
     ap (λ (n : ℕ). says (answer_text n name r s) ∷ []) a ∙ ap (λ (x : Reply). says (answer_text m name x s) ∷ []) b ∙ ap (λ (x : Option ℕ). says (answer_text m name q x) ∷ []) c
 
 -- a first try begins with its call
-pub tried_starts : (desc : Described) (g : RunState) (name : List ℕ) (verb : Verb) (o : Outcome) → (rest : List RunEvent) × ((first_try_effect desc g name verb o).events ≡ calls verb o ∷ rest)
-tried_starts desc g name verb o = at (is_waits o.reply) (nat_le 10000 (length g.waiting))
+pub tried_starts : (desc : Described) (g : RunState) (name : List ℕ) (verb : Verb) (count : ℕ) (o : Outcome) → (rest : List RunEvent) × ((first_try_effect desc g name verb count o).events ≡ calls count verb o ∷ rest)
+tried_starts desc g name verb count o = at (is_waits o.reply) (nat_le 10000 (length g.waiting))
   where
     at : (b c : Bool) → (rest : List RunEvent)
-        × ((cond b (cond c (record { going = record g { session = o.session }; events = calls verb o ∷ []; full = true }) (record { going = record { session = o.session; waiting = g.waiting ++ first_line g.line name verb true ∷ []; line = g.line }; events = calls verb o ∷ says (answer_text g.line name o.reply o.sync) ∷ []; full = false }))
-        (after_retries g.line (events_before (calls verb o ∷ says (answer_text g.line name o.reply o.sync) ∷ []) (retries (length g.waiting) desc o.session g.waiting)))).events ≡ calls verb o ∷ rest)
+        × ((cond b (cond c (record { going = record g { session = o.session }; events = calls count verb o ∷ []; full = true }) (record { going = record { session = o.session; waiting = g.waiting ++ first_line g.line name verb true ∷ []; line = g.line }; events = calls count verb o ∷ says (answer_text g.line name o.reply o.sync) ∷ []; full = false }))
+        (after_retries g.line (events_before (calls count verb o ∷ says (answer_text g.line name o.reply o.sync) ∷ []) (retries (length g.waiting) desc o.session g.waiting)))).events ≡ calls count verb o ∷ rest)
     at true true = (_, refl)
     at true false = (_, refl)
     at false c = (_, refl)
@@ -171,18 +172,18 @@ waiting_silent : (g : RunState) (s : Session) (h : WaitingLine) (first_try_effec
 waiting_silent g s h first_try_effect said true none = λ full. none
 waiting_silent g s h first_try_effect said false none = λ full. absurd (cc)
 
-tried_silent : (desc : Described) (g : RunState) (name : List ℕ) (verb : Verb) (b : Bool) → is_waits (step desc g.session name verb).reply ≡ b → Silent (first_try_effect desc g name verb (step desc g.session name verb))
+tried_silent : (desc : Described) (g : RunState) (name : List ℕ) (verb : Verb) (b : Bool) → is_waits (step desc g.session name verb).reply ≡ b → Silent (tried_first desc g name verb)
 tried_silent desc g name verb true waits =
     let o = step desc g.session name verb in
-    rw waits (waiting_silent g o.session (first_line g.line name verb true) (calls verb o ∷ []) (says (answer_text g.line name o.reply o.sync) ∷ []) (nat_le 10000 (length g.waiting)) refl)
-tried_silent desc g name verb false waits = rw waits (λ full. absurd (cc))
+    subst Silent (sym (tried_waits desc g name verb (counts_of desc g.session name verb) o waits)) (waiting_silent g o.session (first_line g.line name verb true) (calls (counts_of desc g.session name verb) verb o ∷ []) (says (answer_text g.line name o.reply o.sync) ∷ []) (nat_le 10000 (length g.waiting)) refl)
+tried_silent desc g name verb false waits = subst Silent (sym (tried_answered desc g name verb (counts_of desc g.session name verb) (step desc g.session name verb) waits)) (λ full. absurd (cc))
 
 spoken_silent : (desc : Described) (g : RunState) (l : Line) → Silent (line_effect desc g l)
 spoken_silent desc g Empty = λ full. absurd (cc)
 spoken_silent desc g (Bad place) = λ full. absurd (cc)
 spoken_silent desc g (Spoken name verb) = at (has_line g.waiting name)
   where
-    at : (b : Bool) → Silent (cond b (put_to_wait g g.session (first_line g.line name verb false) [] []) (first_try_effect desc g name verb (step desc g.session name verb)))
+    at : (b : Bool) → Silent (cond b (put_to_wait g g.session (first_line g.line name verb false) [] []) (tried_first desc g name verb))
     at true = waiting_silent g g.session (first_line g.line name verb false) [] [] (nat_le 10000 (length g.waiting)) refl
     at false = tried_silent desc g name verb (is_waits (step desc g.session name verb).reply) refl
 

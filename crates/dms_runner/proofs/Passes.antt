@@ -5,15 +5,17 @@ use Rattle.std.specs.List.{list_any}
 use Rattle.std.specs.Str.{bytes_eq}
 use Rattle.std.proofs.lemmas.List.{append-nil}
 use Rattle.dms_desc.specs.Shape.{Described}
+use Rattle.dms_desc_bytes.specs.WellFormed.{IsWellFormed}
 use Rattle.dms_storeverbs.specs.View.{View, MayStep, StandsFor}
 use Rattle.dms_model.specs.Session.{Session, Outcome, step, is_waits}
+use Rattle.dms_model.specs.Verbs.{IsVerbOf}
 use Rattle.dms_model.proofs.Rises.{step_small}
 use Rattle.dms_runner.specs.declared.waiting.WaitingLine.{WaitingLine}
 use Rattle.dms_runner.specs.declared.waiting.WaitingLines.{WaitingLines}
 use Rattle.dms_runner.specs.Firsts.{standing}
 use Rattle.dms_runner.proofs.Firsts.{standing_on}
 use Rattle.dms_runner.proofs.Splits.{AreSeen, Reached, Split}
-use Rattle.dms_runner.proofs.Exclusive.{step_exclusive}
+use Rattle.dms_runner.proofs.InOrder.{in_order, may_go_on, step_in_order}
 use Rattle.dms_runner.proofs.Answered.{tries_answered}
 use Rattle.dms_runner.proofs.Happening.{answered_on, ran_none, ran_on, part_on, part_of_first}
 use Rattle.dms_runner.specs.Events.{Fate, RunEvent, EndsAnswered, Performs, PerformsPrefix}
@@ -28,12 +30,12 @@ unfolding retry
 retry_skips desc s front h hs has = rw has refl
 
 pub retry_waits : (desc : Described) (s : Session) (front : List WaitingLine) (h : WaitingLine) (hs : List WaitingLine) → has_line front h.program ≡ false → is_waits (step desc s h.program h.verb).reply ≡ true
-    → retry desc s front (h ∷ hs) ≡ events_before (tries h (step desc s h.program h.verb)) (retry desc (step desc s h.program h.verb).session (front ++ said_to_wait h ∷ []) hs)
+    → retry desc s front (h ∷ hs) ≡ events_before (tries desc s h) (retry desc (step desc s h.program h.verb).session (front ++ said_to_wait h ∷ []) hs)
 unfolding retry
 retry_waits desc s front h hs has waits = second (has_line front h.program) (is_waits (step desc s h.program h.verb).reply) _ _ _ has waits
 
 pub retry_answers : (desc : Described) (s : Session) (front : List WaitingLine) (h : WaitingLine) (hs : List WaitingLine) → has_line front h.program ≡ false → is_waits (step desc s h.program h.verb).reply ≡ false
-    → retry desc s front (h ∷ hs) ≡ answer_effect h (step desc s h.program h.verb) (front ++ hs)
+    → retry desc s front (h ∷ hs) ≡ answer_effect desc s h (front ++ hs)
 unfolding retry
 retry_answers desc s front h hs has waits = rw (has, waits) refl
 
@@ -76,18 +78,19 @@ pub record Passing (desc : Described) (s : Session) (first front hs : List Waiti
   pub at : Session
   pub is : retry desc s [] first ≡ events_before events (retry desc at front hs)
   pub stands : StandsFor v at
-  pub may : MayStep at
+  pub may : MayStep desc at
+  pub well : IsWellFormed desc
   pub ran : Performs before after events
   pub answered : EndsAnswered events
 
-pub passing_start : (desc : Described) (s : Session) (first : List WaitingLine) (v : View) (said : Seen) → StandsFor v s → MayStep s → Passing desc s first [] first v said said
-passing_start desc s first v said stands may = record { events = []; at = s; is = refl; stands = stands; may = may; ran = ran_none said; answered = tt }
+pub passing_start : (desc : Described) (s : Session) (first : List WaitingLine) (v : View) (said : Seen) → StandsFor v s → IsWellFormed desc → MayStep desc s → Passing desc s first [] first v said said
+passing_start desc s first v said stands well may = record { events = []; at = s; is = refl; stands = stands; may = may; well = well; ran = ran_none said; answered = tt }
 
 -- the same retry, told otherwise
 pub passing_as : (desc : Described) (s : Session) (first front hs front' hs' : List WaitingLine) (v : View) (before after : Seen) → ((t : Session) → retry desc t front hs ≡ retry desc t front' hs')
     → Passing desc s first front hs v before after → Passing desc s first front' hs' v before after
 passing_as desc s first front hs front' hs' v before after same p =
-    record { events = p.events; at = p.at; is = p.is ∙ ap (λ (w : RetryEffect). events_before p.events w) (same p.at); stands = p.stands; may = p.may; ran = p.ran; answered = p.answered }
+    record { events = p.events; at = p.at; is = p.is ∙ ap (λ (w : RetryEffect). events_before p.events w) (same p.at); stands = p.stands; may = p.may; well = p.well; ran = p.ran; answered = p.answered }
 
 -- the next first line is reached
 pub passing_reach : (desc : Described) (s : Session) (first : List WaitingLine) (w : WaitingLines) (j : ℕ) (c : Split w j) (r : Reached w j c) (v : View) (before after : Seen)
@@ -102,22 +105,20 @@ pub behind_on : (x y : List RunEvent) (w : RetryEffect) → events_before x (eve
 behind_on x y w = λ j. record w { events = sym (append_assoc x y w.events) j }
 
 -- a line was tried and waits
-pub passing_wait : (desc : Described) (s : Session) (first front : List WaitingLine) (h : WaitingLine) (hs : List WaitingLine) (v w : View) (before mid after : Seen) (answered : Bool) → has_line front h.program ≡ false → answered ≡ false
-    → (p : Passing desc s first front (h ∷ hs) v before mid) → PerformsTry (step desc p.at h.program h.verb) h answered w mid after → Passing desc s first (front ++ said_to_wait h ∷ []) hs w before after
-passing_wait desc s first front h hs v w before mid after answered has answered_is p t =
+pub passing_wait : (desc : Described) (s : Session) (first front : List WaitingLine) (h : WaitingLine) (hs : List WaitingLine) (v w : View) (before mid after : Seen) (answered : Bool) → has_line front h.program ≡ false → answered ≡ false → IsVerbOf desc h.verb
+    → (p : Passing desc s first front (h ∷ hs) v before mid) → PerformsTry desc p.at h answered w mid after → Passing desc s first (front ++ said_to_wait h ∷ []) hs w before after
+passing_wait desc s first front h hs v w before mid after answered has answered_is verb p t =
     let o = step desc p.at h.program h.verb in
     let waits : is_waits o.reply ≡ true = not_false (is_waits o.reply) (sym t.answers ∙ answered_is) in
     record {
-      events = p.events ++ tries h o;
+      events = p.events ++ tries desc p.at h;
       at = o.session;
-      is = p.is ∙ ap (λ (x : RetryEffect). events_before p.events x) (retry_waits desc p.at front h hs has waits) ∙ behind_on p.events (tries h o) _;
+      is = p.is ∙ ap (λ (x : RetryEffect). events_before p.events x) (retry_waits desc p.at front h hs has waits) ∙ behind_on p.events (tries desc p.at h) _;
       stands = t.session;
-      may = record {
-        room = omega (arith, p.may.room, ap (λ (x : Session). x.next) ((step_small desc p.at h.program h.verb).waits waits));
-        exclusive = step_exclusive desc p.at h.program h.verb p.may.exclusive;
-      };
-      ran = ran_on before mid after p.events (tries h o) p.ran t.ran;
-      answered = answered_on p.events (tries h o) p.answered (tries_answered h o);
+      may = may_go_on (omega (arith, p.may.room, ap (λ (x : Session). x.next) ((step_small desc p.at h.program h.verb).waits waits))) (step_in_order desc p.at h.program h.verb verb (in_order p.well p.may));
+      well = p.well;
+      ran = ran_on before mid after p.events (tries desc p.at h) p.ran t.ran;
+      answered = answered_on p.events (tries desc p.at h) p.answered (tries_answered desc p.at h);
     }
   where
     not_false : (b : Bool) → not b ≡ false → b ≡ true
@@ -126,16 +127,16 @@ passing_wait desc s first front h hs v w before mid after answered has answered_
 
 -- a line was tried and answered
 pub passing_answered : (desc : Described) (s : Session) (first front : List WaitingLine) (h : WaitingLine) (hs now : List WaitingLine) (v w : View) (before mid after : Seen) (answered : Bool) → has_line front h.program ≡ false → answered ≡ true → now ≡ front ++ hs
-    → (p : Passing desc s first front (h ∷ hs) v before mid) → PerformsTry (step desc p.at h.program h.verb) h answered w mid after → PerformsRetry (retry desc s [] first) w now true before after
+    → (p : Passing desc s first front (h ∷ hs) v before mid) → PerformsTry desc p.at h answered w mid after → PerformsRetry (retry desc s [] first) w now true before after
 passing_answered desc s first front h hs now v w before mid after answered has answered_is left p t =
     let o = step desc p.at h.program h.verb in
     let waits : is_waits o.reply ≡ false = not_true (is_waits o.reply) (sym t.answers ∙ answered_is) in
-    let e : retry desc s [] first ≡ events_before p.events (answer_effect h o (front ++ hs)) = p.is ∙ ap (λ (x : RetryEffect). events_before p.events x) (retry_answers desc p.at front h hs has waits) in
+    let e : retry desc s [] first ≡ events_before p.events (answer_effect desc p.at h (front ++ hs)) = p.is ∙ ap (λ (x : RetryEffect). events_before p.events x) (retry_answers desc p.at front h hs has waits) in
     record {
       session = subst (λ (x : Session). StandsFor w x) (sym (ap (λ (x : RetryEffect). x.session) e)) t.session;
       answered_is = ap (λ (x : RetryEffect). x.answered) e;
       waiting_is = ap (λ (x : RetryEffect). x.waiting) e ∙ sym left;
-      ran = subst (λ (x : List RunEvent). Performs before after x) (sym (ap (λ (x : RetryEffect). x.events) e)) (ran_on before mid after p.events (tries h o) p.ran t.ran);
+      ran = subst (λ (x : List RunEvent). Performs before after x) (sym (ap (λ (x : RetryEffect). x.events) e)) (ran_on before mid after p.events (tries desc p.at h) p.ran t.ran);
     }
   where
     not_true : (b : Bool) → not b ≡ true → b ≡ false
@@ -157,17 +158,17 @@ passing_end desc s first front hs now v before after all left p =
 
 -- a try that failed did a prefix of what the retry does
 pub passing_part : {fate : Fate} (desc : Described) (s : Session) (first front : List WaitingLine) (h : WaitingLine) (hs : List WaitingLine) (v : View) (before mid after : Seen) → has_line front h.program ≡ false
-    → (p : Passing desc s first front (h ∷ hs) v before mid) → PerformsPrefix fate mid after (tries h (step desc p.at h.program h.verb)) → PerformsPrefix fate before after (retry desc s [] first).events
+    → (p : Passing desc s first front (h ∷ hs) v before mid) → PerformsPrefix fate mid after (tries desc p.at h) → PerformsPrefix fate before after (retry desc s [] first).events
 passing_part {fate} desc s first front h hs v before mid after has p part =
     by_reply (is_waits (step desc p.at h.program h.verb).reply) refl
   where
     o : Outcome
     o = step desc p.at h.program h.verb
 
-    from : (x : RetryEffect) (rest : List RunEvent) → retry desc p.at front (h ∷ hs) ≡ x → x.events ≡ tries h o ++ rest → PerformsPrefix fate before after (retry desc s [] first).events
+    from : (x : RetryEffect) (rest : List RunEvent) → retry desc p.at front (h ∷ hs) ≡ x → x.events ≡ tries desc p.at h ++ rest → PerformsPrefix fate before after (retry desc s [] first).events
     from x rest e more = subst (λ (t : List RunEvent). PerformsPrefix fate before after t) (sym (ap (λ (y : RetryEffect). y.events) (p.is ∙ ap (λ (y : RetryEffect). events_before p.events y) e) ∙ ap (λ (t : List RunEvent). p.events ++ t) more))
-        (part_on before mid after p.events (tries h o ++ rest) p.ran p.answered (part_of_first mid after (tries h o) rest part))
+        (part_on before mid after p.events (tries desc p.at h ++ rest) p.ran p.answered (part_of_first mid after (tries desc p.at h) rest part))
 
     by_reply : (b : Bool) → is_waits o.reply ≡ b → PerformsPrefix fate before after (retry desc s [] first).events
     by_reply true waits = from _ _ (retry_waits desc p.at front h hs has waits) refl
-    by_reply false waits = from _ [] (retry_answers desc p.at front h hs has waits) (sym (append-nil (tries h o)))
+    by_reply false waits = from _ [] (retry_answers desc p.at front h hs has waits) (sym (append-nil (tries desc p.at h)))

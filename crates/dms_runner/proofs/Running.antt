@@ -4,6 +4,7 @@ use Rattle.std.proofs.Common.{◌≡◌, ◌≢◌, ◌+◌, ◌<◌, ◌≤◌,
 use Rattle.std.specs.declared.option.Option.{Option}
 use Rattle.std.proofs.lemmas.List.{append-nil, take_at}
 use Rattle.dms_desc.specs.Shape.{Described}
+use Rattle.dms_desc_bytes.specs.WellFormed.{IsWellFormed}
 use Rattle.dms_feed.specs.Feeds.{Remains}
 use Rattle.dms_feed.specs.Lines.{raw_lines, first_line, after_line, onto_first}
 use Rattle.dms_model.specs.Db.{Db}
@@ -11,14 +12,13 @@ use Rattle.dms_block.specs.Texts.{Prints}
 use Rattle.dms_model.specs.Session.{Session}
 use Rattle.dms_storeverbs.specs.View.{View, StandsFor}
 use Rattle.dms_runner.specs.declared.waiting.WaitingLine.{WaitingLine}
-use Rattle.dms_laws.specs.Exclusive.{IsExclusive}
-use Rattle.dms_laws.proofs.Locks.{locks_stay_exclusive}
-use Rattle.dms_runner.proofs.Exclusive.{line_exclusive}
-use Rattle.dms_runner.specs.Answers.{RunState, LineEffect, MayTakeLine, nothing_done, line_step, lines_run, lines_before, first_state, script_run}
+use Rattle.dms_runner.proofs.InOrder.{first_in_order, line_in_order}
+use Rattle.dms_runner.specs.Answers.{RunState, LineEffect, IsInOrder, MayTakeLine, nothing_done, line_step, lines_run, lines_before, first_state, script_run}
 use Rattle.dms_runner.specs.Events.{Fate, RunEvent, Performs, PerformsPrefix, text_of}
 use Rattle.dms_feed.specs.Raws.{CutLine, IsUnended, has_end}
 use Rattle.dms_runner.specs.Running.{AreEnded, bytes_of, front_events, text_of_lines, FitsScript, HasTooManyBytes, HasTooManyLines, InputBreaks, KeepsFront, TakesRawLine, TakesLines, PassesLines, PassesBytes, PassesWaiting, CutInput}
 use Rattle.dms_runner.specs.Trying.{MatchesLine}
+use Rattle.dms_runner.specs.Waiting.{AreVerbs}
 use Rattle.dms_runner.proofs.Texts.{prints_on}
 use Rattle.dms_runner.proofs.Answered.{run_answered}
 use Rattle.dms_runner.proofs.Happening.{ran_as, ran_none, ran_on, part_as, part_on}
@@ -228,22 +228,24 @@ pub record RunsLines (desc : Described) (g : RunState) (i room : ℕ) (all : Lis
   pub roomy : (lines_run desc g read.done).full ≡ false
   pub stands : StandsFor v (lines_run desc g read.done).going.session
   pub waiting_is : waiting ≡ (lines_run desc g read.done).going.waiting
-  pub exclusive : IsExclusive (lines_run desc g read.done).going.session
+  pub order : IsInOrder desc (lines_run desc g read.done).going.session
+  pub verbs : AreVerbs desc (lines_run desc g read.done).going.waiting
   pub line : (lines_run desc g read.done).going.line ≡ i
   pub low : (lines_run desc g read.done).going.session.next + length (lines_run desc g read.done).going.waiting ≤ g.session.next + length g.waiting + i
   pub ran : Performs before after (lines_run desc g read.done).events
 
-pub runs_start : (desc : Described) (db : Db) (first : ℕ) (all : List ℕ) (v : View) (feed : List ℕ) (left : Option (List ℕ)) (now : Seen) → StandsFor v (first_state db first).session → Remains feed left all
+pub runs_start : (desc : Described) → IsWellFormed desc → (db : Db) (first : ℕ) (all : List ℕ) (v : View) (feed : List ℕ) (left : Option (List ℕ)) (now : Seen) → StandsFor v (first_state db first).session → Remains feed left all
     → RunsLines desc (first_state db first) 0 2147483648 all v [] feed left now now
 unfolding read_start
-runs_start desc db first all v feed left now stands remains =
+runs_start desc well db first all v feed left now stands remains =
     let e : lines_run desc (first_state db first) [] ≡ nothing_done (first_state db first) = run_none desc (first_state db first) in
     record {
       read = read_start all feed left remains;
       roomy = ap (λ (l : LineEffect). l.full) e;
       stands = subst (λ (s : Session). StandsFor v s) (sym (ap (λ (l : LineEffect). l.going.session) e)) stands;
       waiting_is = sym (ap (λ (l : LineEffect). l.going.waiting) e);
-      exclusive = subst IsExclusive (sym (ap (λ (l : LineEffect). l.going.session) e)) (locks_stay_exclusive.first db first);
+      order = subst (IsInOrder desc) (sym (ap (λ (l : LineEffect). l.going.session) e)) (first_in_order desc well db first);
+      verbs = subst (AreVerbs desc) (sym (ap (λ (l : LineEffect). l.going.waiting) e)) tt;
       line = ap (λ (l : LineEffect). l.going.line) e;
       low = omega (arith, ap (λ (l : LineEffect). l.going.session.next) e, ap (λ (l : LineEffect). length l.going.waiting) e);
       ran = subst (λ (t : List RunEvent). Performs now now t) (sym (ap (λ (l : LineEffect). l.events) e)) (ran_none now);
@@ -251,8 +253,8 @@ runs_start desc db first all v feed left now stands remains =
 
 -- the next line may be taken
 pub runs_room : (desc : Described) (db : Db) (first : ℕ) (i room : ℕ) (all : List ℕ) (v : View) (waiting : List WaitingLine) (feed : List ℕ) (left : Option (List ℕ)) (before after : Seen)
-    (r : RunsLines desc (first_state db first) i room all v waiting feed left before after) → i < 1000000 → first + 1000003 < 2 ^ 64 → MayTakeLine (lines_run desc (first_state db first) r.read.done).going
-runs_room desc db first i room all v waiting feed left before after r more small = record { room = omega (arith, r.low, more, small); exclusive = r.exclusive }
+    (r : RunsLines desc (first_state db first) i room all v waiting feed left before after) → i < 1000000 → first + 1000003 < 2 ^ 64 → MayTakeLine desc (lines_run desc (first_state db first) r.read.done).going
+runs_room desc db first i room all v waiting feed left before after r more small = record { room = omega (arith, r.low, more, small); order = r.order }
 
 -- and for the one that the end asks for
 pub runs_next : (desc : Described) (db : Db) (first : ℕ) (i room : ℕ) (all : List ℕ) (v : View) (waiting : List WaitingLine) (feed : List ℕ) (left : Option (List ℕ)) (before after : Seen)
@@ -274,13 +276,15 @@ runs_on desc g i room room' all v w waiting next feed feed' left left' before mi
     let l = first_line r.read.rest in
     let s = line_step desc now l in
     let e = one_more desc g r.read.done l r.roomy goes.full in
-    let low = line_low desc now l in (
+    let low = line_low desc now l in
+    let kept = line_in_order desc now l r.verbs r.order in (
       record {
         read = read_on r.read t;
         roomy = ap (λ (x : LineEffect). x.full) e;
         stands = subst (λ (x : Session). StandsFor w x) (sym (ap (λ (x : LineEffect). x.going.session) e)) goes.session;
         waiting_is = goes.waiting_is ∙ sym (ap (λ (x : LineEffect). x.going.waiting) e);
-        exclusive = subst IsExclusive (sym (ap (λ (x : LineEffect). x.going.session) e)) (line_exclusive desc now l r.exclusive);
+        order = subst (IsInOrder desc) (sym (ap (λ (x : LineEffect). x.going.session) e)) kept.0;
+        verbs = subst (AreVerbs desc) (sym (ap (λ (x : LineEffect). x.going.waiting) e)) kept.1;
         line = ap (λ (x : LineEffect). x.going.line) e ∙ low.1 ∙ ap (λ (n : ℕ). n + 1) r.line;
         low = omega (arith, r.low, low.0, ap (λ (x : LineEffect). x.going.session.next) e, ap (λ (x : LineEffect). length x.going.waiting) e);
         ran = subst (λ (x : List RunEvent). Performs before after x) (sym (ap (λ (x : LineEffect). x.events) e ∙ ap (λ (x : List RunEvent). (lines_run desc g r.read.done).events ++ x) (append-nil s.events))) (ran_on before mid after (lines_run desc g r.read.done).events s.events r.ran goes.ran);

@@ -25,6 +25,7 @@ use Rattle.dms_runner.specs.Starting.{AnswersAll, AtInput, CarriesOut, DoesExact
 use Rattle.dms_runner.proofs.Always.{always_ok}
 use Rattle.dms_runner.proofs.Answered.{run_answered}
 use Rattle.dms_runner.proofs.Happening.{part_all, part_as, part_on, ran_as, ran_on}
+use Rattle.dms_runner.proofs.InOrder.{take_under}
 use Rattle.dms_runner.proofs.Lining.{lined_as}
 use Rattle.dms_runner.proofs.Running.{RunsLines, going_on, nothing_after, read_fits, read_keeps, read_keeps_more, runs_all, runs_bytes, runs_cut, runs_did, runs_did_more, runs_held, runs_lines, runs_next, runs_on, runs_part_more, runs_room, runs_roomy, runs_stands, runs_waiting}
 use Rattle.dms_runner.proofs.Texts.{prints_none}
@@ -59,8 +60,8 @@ module _ {St : Type 0} {g : Ghosts St} (old mid : Engine St g) (db : Db) (first 
   did = runs_did desc db first i room all (view mid) waiting feed left (engine_view old) (engine_view mid) r
 
   -- it holds of how the run stands here, and of what is left of the input
-  pub at_next : {P : RunState → List ℕ → Type 0} → AtInput mid waiting i feed left P → i < 1000000 → first + 1000003 < 2 ^ 64 → P going r.read.rest
-  at_next {P} holds few small = holds going r.read.rest r.stands (sym r.waiting_is) r.line (runs_room desc db first i room all _ waiting feed left _ _ r few small) r.read.remains
+  pub at_next : {P : RunState → List ℕ → Type 0} → mid.desc ≡ old.desc → AtInput mid waiting i feed left P → i < 1000000 → first + 1000003 < 2 ^ 64 → P going r.read.rest
+  at_next {P} same holds few small = holds going r.read.rest r.stands (sym r.waiting_is) r.line (take_under (ap as_described (sym same)) (runs_room desc db first i room all _ waiting feed left _ _ r few small)) r.read.remains
 
   -- what the next line does is told of the same description
   step_is : mid.desc ≡ old.desc → line_step (as_described mid.desc) going (first_line r.read.rest) ≡ line_step desc going (first_line r.read.rest)

@@ -3,15 +3,15 @@ use Rattle.dms_model.specs.Seen.{Seen}
 use Rattle.std.proofs.Common.{◌≡◌, ◌+◌, ◌<◌, ◌≤◌, ◌^◌, ℕ, zero, suc, List, [], ◌∷◌, ◌++◌, Bool, true, false, refl, sym, ap, ◌∙◌, subst, arith, length, length-append}
 use Rattle.std.proofs.lemmas.List.{append-nil}
 use Rattle.dms_desc.specs.Shape.{Described}
-use Rattle.dms_laws.specs.Exclusive.{IsExclusive}
 use Rattle.dms_storeverbs.specs.View.{View, StandsFor, Room}
 use Rattle.dms_model.specs.Session.{Session, step, is_waits}
 use Rattle.dms_model.proofs.Rises.{step_small}
 use Rattle.dms_runner.specs.declared.waiting.WaitingLine.{WaitingLine}
-use Rattle.dms_runner.specs.Waiting.{has_line, said_to_wait, RetryEffect, events_before, retry, retries}
+use Rattle.dms_runner.specs.Answers.{IsInOrder}
+use Rattle.dms_runner.specs.Waiting.{AreVerbs, has_line, said_to_wait, RetryEffect, events_before, retry, retries}
 use Rattle.dms_runner.specs.Trying.{PerformsRetry, PerformsRetries}
 use Rattle.dms_runner.specs.Events.{Fate, RunEvent, EndsAnswered, Performs, PerformsPrefix}
-use Rattle.dms_runner.proofs.Exclusive.{retry_exclusive}
+use Rattle.dms_runner.proofs.InOrder.{retry_in_order}
 use Rattle.dms_runner.proofs.Answered.{retry_answered}
 use Rattle.dms_runner.proofs.Happening.{answered_on, ran_none, ran_on, part_on, part_of_first}
 use Rattle.dms_runner.proofs.Passes.{retry_skips, retry_waits, retry_answers, retry_ends, retries_again, retries_end, behind_on}
@@ -57,21 +57,21 @@ pub record Retrying (desc : Described) (s : Session) (first : List WaitingLine) 
   pub fuel : left + turn ≡ length first
   pub is : retries (length first) desc s first ≡ events_before events (retries left desc at now)
   pub stands : StandsFor v at
-  pub exclusive : IsExclusive at
+  pub order : IsInOrder desc at
   pub low : at.next + length now ≤ s.next + length first
   pub ran : Performs before after events
   pub answered : EndsAnswered events
 
-pub retrying_start : (desc : Described) (s : Session) (first : List WaitingLine) (v : View) (said : Seen) → StandsFor v s → IsExclusive s → Retrying desc s first 0 first v said said
-retrying_start desc s first v said stands held = record { events = []; at = s; left = length first; fuel = omega arith; is = refl; stands = stands; exclusive = held; low = omega arith; ran = ran_none said; answered = tt }
+pub retrying_start : (desc : Described) (s : Session) (first : List WaitingLine) (v : View) (said : Seen) → StandsFor v s → IsInOrder desc s → Retrying desc s first 0 first v said said
+retrying_start desc s first v said stands held = record { events = []; at = s; left = length first; fuel = omega arith; is = refl; stands = stands; order = held; low = omega arith; ran = ran_none said; answered = tt }
 
 pub retrying_room : (desc : Described) (s : Session) (first : List WaitingLine) (turn : ℕ) (now : List WaitingLine) (v : View) (before after : Seen) (k : Retrying desc s first turn now v before after) → s.next + length first + 2 < 2 ^ 64 → Room k.at.next
 retrying_room desc s first turn now v before after k room = omega (arith, k.low, room)
 
 -- a retry answered a line
 pub retrying_on : (desc : Described) (s : Session) (first : List WaitingLine) (turn : ℕ) (now last : List WaitingLine) (v w : View) (before mid after : Seen) (k : Retrying desc s first turn now v before mid)
-    → turn < length first → PerformsRetry (retry desc k.at [] now) w last true mid after → Retrying desc s first (turn + 1) last w before after
-retrying_on desc s first turn now last v w before mid after k more p = from k.left k.fuel k.is
+    → AreVerbs desc now → turn < length first → PerformsRetry (retry desc k.at [] now) w last true mid after → Retrying desc s first (turn + 1) last w before after
+retrying_on desc s first turn now last v w before mid after k verbs more p = from k.left k.fuel k.is
   where
     x : RetryEffect
     x = retry desc k.at [] now
@@ -88,7 +88,7 @@ retrying_on desc s first turn now last v w before mid after k more p = from k.le
       fuel = omega (arith, fuel);
       is = is ∙ ap (λ (y : RetryEffect). events_before k.events y) (retries_again n desc k.at now p.answered_is) ∙ behind_on k.events x.events _ ∙ ap (λ (l : List WaitingLine). events_before (k.events ++ x.events) (retries n desc x.session l)) waiting_is;
       stands = p.session;
-      exclusive = retry_exclusive desc k.at [] now k.exclusive;
+      order = retry_in_order desc k.at now verbs k.order;
       low = omega (arith, k.low, retry_low desc k.at [] now, ap length waiting_is);
       ran = ran_on before mid after k.events x.events k.ran p.ran;
       answered = answered_on k.events x.events k.answered (retry_answered desc k.at [] now);

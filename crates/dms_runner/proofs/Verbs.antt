@@ -50,6 +50,14 @@ verbs_out desc (x ∷ xs) h ys all = (all.0, verbs_out desc xs h ys all.1)
 pub first_lines : (w : WaitingLines) (j : ℕ) (f : FirstAt w j) → lines_of w ≡ standing f.behind ++ f.line ∷ standing f.ahead
 first_lines w j f = ap standing f.are ∙ standing_on f.behind (Some f.line ∷ f.ahead)
 
+-- the verb of a first line
+pub verb_of : (desc : Described) (w : WaitingLines) (j : ℕ) (f : FirstAt w j) → AreVerbs desc (lines_of w) → IsVerbOf desc f.line.verb
+verb_of desc w j f all = at (standing f.behind) (subst (AreVerbs desc) (first_lines w j f) all)
+  where
+    at : (xs : List WaitingLine) → AreVerbs desc (xs ++ f.line ∷ standing f.ahead) → IsVerbOf desc f.line.verb
+    at [] all = all.0
+    at (x ∷ xs) all = at xs all.1
+
 pub held_said : (desc : Described) (w : WaitingLines) (j : ℕ) (f : FirstAt w j) (lines : List WaitingLine) → lines ≡ (standing f.behind ++ said_to_wait f.line ∷ []) ++ standing f.ahead → AreVerbs desc (lines_of w) → AreVerbs desc lines
 held_said desc w j f lines is all = subst (AreVerbs desc) (sym is) (verbs_said desc (standing f.behind) f.line (standing f.ahead) (subst (AreVerbs desc) (first_lines w j f) all))
 

@@ -2,8 +2,11 @@
 use Rattle.std.specs.Prelude.{◌<◌, ◌^◌, ℕ, ◌+◌, List, [], ◌∷◌, ◌++◌, Bool, true, false, if◌then◌else◌, nat_le, length}
 use Rattle.dms_desc.specs.Shape.{Described}
 use Rattle.dms_feed.specs.Lines.{line_text}
+use Rattle.dms_desc_bytes.specs.WellFormed.{IsWellFormed}
+use Rattle.dms_laws.specs.Coherent.{IsCoherent}
 use Rattle.dms_laws.specs.Exclusive.{IsExclusive}
 use Rattle.dms_model.specs.declared.verb.Verb.{Verb}
+use Rattle.dms_model.specs.Counting.{counts_of}
 use Rattle.dms_model.specs.Db.{Db}
 use Rattle.dms_model.specs.Points.{Quiet}
 use Rattle.dms_model.specs.Session.{Session, Outcome, step, fresh_session, someone_works, is_waits}
@@ -29,10 +32,17 @@ one_line_more g = record g { line = g.line + 1 }
 abbrev pub HasRoomForLine : RunState → Type 0
 HasRoomForLine g = g.session.next + length g.waiting + 3 < 2 ^ 64
 
--- one more line may be taken: there is room, no two programs lock one record, and what is locked is a record of the database
-pub record MayTakeLine (g : RunState) : Type 0 where
+-- a session from which a script may go on, under a well-formed description: no two programs lock one record, what is locked is a record of the
+-- database, and what programs have at hand hangs together with the database
+pub record IsInOrder (desc : Described) (s : Session) : Type 0 where
+  pub well : IsWellFormed desc
+  pub exclusive : IsExclusive s
+  pub coherent : IsCoherent desc s
+
+-- one more line may be taken: there is room, and the session is in order
+pub record MayTakeLine (desc : Described) (g : RunState) : Type 0 where
   pub room : HasRoomForLine g
-  pub exclusive : IsExclusive g.session
+  pub order : IsInOrder desc g.session
 
 -- what a line, or a row of lines, leaves and does, and whether one line too many would be held
 pub record LineEffect : Type 0 where
@@ -56,15 +66,15 @@ put_to_wait g s h first_try_effect said =
 abbrev pub first_line : ℕ → List ℕ → Verb → Bool → WaitingLine
 first_line line name verb printed = record { line = line; program = name; verb = verb; printed = printed }
 
--- a line was tried for the first time: it is held, or answered, and then the waiting lines are retried
-abbrev pub first_try_effect : Described → RunState → List ℕ → Verb → Outcome → LineEffect
-first_try_effect desc g name verb o =
-    if is_waits o.reply then put_to_wait g o.session (first_line g.line name verb true) (calls verb o ∷ []) (says (answer_text g.line name o.reply o.sync) ∷ [])
-    else after_retries g.line (events_before (calls verb o ∷ says (answer_text g.line name o.reply o.sync) ∷ []) (retries (length g.waiting) desc o.session g.waiting))
+-- a line with this count was tried for the first time: it is held, or answered, and then the waiting lines are retried
+abbrev pub first_try_effect : Described → RunState → List ℕ → Verb → ℕ → Outcome → LineEffect
+first_try_effect desc g name verb count o =
+    if is_waits o.reply then put_to_wait g o.session (first_line g.line name verb true) (calls count verb o ∷ []) (says (answer_text g.line name o.reply o.sync) ∷ [])
+    else after_retries g.line (events_before (calls count verb o ∷ says (answer_text g.line name o.reply o.sync) ∷ []) (retries (length g.waiting) desc o.session g.waiting))
 
 -- so a line of this program is tried
 abbrev pub tried_first : Described → RunState → List ℕ → Verb → LineEffect
-tried_first desc g name verb = first_try_effect desc g name verb (step desc g.session name verb)
+tried_first desc g name verb = first_try_effect desc g name verb (counts_of desc g.session name verb) (step desc g.session name verb)
 
 -- what a line leaves and does; g counts it already. A line whose program has a waiting line is held without a try
 abbrev pub line_effect : Described → RunState → Line → LineEffect

@@ -1,15 +1,15 @@
 -- What a stop within events leaves, told of all of them.
-use Rattle.std.specs.Prelude.{ℕ, ⊤, ◌≡◌, ◌≤◌, ◌<◌, ◌+◌, ◌-◌, ◌^◌, true, List, ◌∷◌, ◌++◌, length, take, Some}
+use Rattle.std.specs.Prelude.{ℕ, ⊤, ◌≡◌, ◌≤◌, ◌<◌, ◌+◌, ◌-◌, ◌^◌, List, ◌∷◌, ◌++◌, length, take, slice_get, Some}
 use Rattle.std.specs.declared.option.Option.{Option}
+use Rattle.std.specs.FinMap.{len}
 use Rattle.dms_desc.specs.Shape.{Described}
 use Rattle.dms_desc_bytes.specs.WellFormed.{IsWellFormed}
 use Rattle.dms_model.specs.Db.{Db}
 use Rattle.dms_model.specs.Points.{StopFiles, Point, Stop}
 use Rattle.dms_model.specs.Session.{end_session}
-use Rattle.dms_storeverbs.specs.Costs.{limit_if}
 use Rattle.dms_storeverbs.specs.View.{LeavesQuiets}
 use Rattle.dms_runner.specs.Answers.{script_events, script_run, left_by}
-use Rattle.dms_runner.specs.Events.{RunEvent, text_of, quiets_of, blocks_of, syncs_of, backs_of, CrashesWithin}
+use Rattle.dms_runner.specs.Events.{RunEvent, text_of, quiets_of, blocks_begun, blocks_of, syncs_of, backs_of, CrashesWithin}
 use Rattle.dms_runner.specs.Running.{KeepsFront, AreOfFront}
 
 -- these laws ask nothing of the files
@@ -55,13 +55,19 @@ LeftLaw = (desc : Described) (db : Db) (first : ℕ) (lines : List (List ℕ)) �
 abbrev pub FrontLaw : Type 0
 FrontLaw = (desc : Described) (db : Db) (first : ℕ) (lines : List (List ℕ)) (n : ℕ) (events : List RunEvent) → AreOfFront desc db first lines n events → (rest : List RunEvent) × (script_events desc db first lines ≡ events ++ rest)
 
--- The counts of 64 bits can tell what these events do.
-pub record AreCounted (desc : Described) (events : List RunEvent) : Type 0 where
-  pub blocks : blocks_of desc events + limit_if true desc < 2 ^ 64 - 1
-  pub syncs : syncs_of events + 1 < 2 ^ 64 - 1
-  pub backs : backs_of events + 1 < 2 ^ 64 - 1
+-- The counts of 64 bits can tell what the first k of these events do, and the call of the next one.
+pub record AreCounted (desc : Described) (events : List RunEvent) (k : ℕ) : Type 0 where
+  pub blocks : blocks_of desc (take k events) + blocks_begun desc (slice_get events k) < 2 ^ 64 - 1
+  pub syncs : syncs_of (take k events) + 1 < 2 ^ 64 - 1
+  pub backs : backs_of (take k events) + 1 < 2 ^ 64 - 1
 
--- So it is of what the first so many lines of a script do under a well-formed description.
+-- a database has so many records at most, and so many entries of manual subsets
+pub record HasSize (most : ℕ) (db : Db) : Type 0 where
+  pub records : len db.records ≤ most
+  pub entries : length db.entries ≤ most
+
+-- So it is of what the first so many lines of a script do, under a well-formed description, to a database with 1,000,000 records of each of 200 data sets
+-- at most, and as many entries of manual subsets.
 abbrev pub CountedLaw : Type 0
-CountedLaw = (desc : Described) → IsWellFormed desc → (db : Db) (first : ℕ) (lines : List (List ℕ)) (n : ℕ) (events : List RunEvent)
-    → KeepsFront lines n → AreOfFront desc db first lines n events → (k : ℕ) → AreCounted desc (take k events)
+CountedLaw = (desc : Described) → IsWellFormed desc → (db : Db) → HasSize 200000000 db → (first : ℕ) (lines : List (List ℕ)) (n : ℕ) (events : List RunEvent)
+    → KeepsFront lines n → AreOfFront desc db first lines n events → (k : ℕ) → AreCounted desc events k

@@ -1,5 +1,5 @@
 -- What a run does, event by event, and what a stop on the way leaves.
-use Rattle.std.specs.Prelude.{ℕ, ◌≡◌, ◌≤◌, ◌<◌, ◌+◌, ◌⊎◌, Bool, true, false, not, ◌&&◌, is_some, List, [], ◌∷◌, ◌++◌, length, take, slice_get, Some, None}
+use Rattle.std.specs.Prelude.{ℕ, ◌≡◌, ◌≤◌, ◌<◌, ◌+◌, ◌*◌, ◌⊎◌, Bool, true, false, ◌&&◌, is_some, List, [], ◌∷◌, ◌++◌, length, take, slice_get, Some, None, if◌then◌else◌}
 use Rattle.std.specs.declared.option.Option.{Option}
 use Rattle.std.specs.declared.result.Result.{Result}
 use Rattle.std.specs.declared.result.Result.TheVariants.{Ok, Err}
@@ -11,37 +11,33 @@ use Rattle.dms_block.specs.Texts.{Prints, PrintsPrefix}
 use Rattle.dms_model.specs.Db.{Db}
 use Rattle.dms_desc.specs.Shape.{Described}
 use Rattle.dms_model.specs.BackOut.{asks_back_out}
-use Rattle.dms_model.specs.declared.reply.Reply.{Reply}
 use Rattle.dms_model.specs.declared.verb.Verb.{Verb}
 use Rattle.dms_model.specs.Seen.{Effort, Seen}
 use Rattle.dms_model.specs.Session.{Outcome, is_waits}
-use Rattle.dms_storeverbs.specs.Costs.{appends, limit_if, stores}
+use Rattle.dms_storeverbs.specs.Costs.{appends}
 use Rattle.dms_storeverbs.specs.View.{PointsGrow, LeavesQuiets}
 use Rattle.dms_laws.specs.Exclusive.{is_done}
 
--- an event: the quiet points that are made in it, the syncpoint that it takes, and the bytes that are said; whether a record may be stored
--- in it, whether the database goes back to the last quiet point, and whether entries of the audit may be made,
--- other than those of a way back
+-- an event: the quiet points that are made in it, the syncpoint that it takes, and the bytes that are said; how many records and entries its call
+-- names, refers to, moves or nulls a link in, and whether its line waits, so that it changes none of them; whether the database goes back to the last
+-- quiet point, and whether entries of the audit may be made, other than those of a way back
 pub record RunEvent : Type 0 where
   pub quiets : List Quiet
   pub sync : Option ℕ
   pub text : List ℕ
-  pub stores : Bool
+  pub count : ℕ
+  pub waits : Bool
   pub backs : Bool
   pub appends : Bool
 
--- a record may be stored: the verb may store one, and its line doesn't wait
-unfoldable pub may_store : Verb → Reply → Bool
-may_store verb reply = stores verb && not (is_waits reply)
-
--- a verb is called; nothing is said yet. Only an ABORT that is done goes back, and other entries may be made only where a verb that is done stores
--- a record or makes a quiet point
-abbrev pub calls : Verb → Outcome → RunEvent
-calls verb o = record { quiets = o.quiets; sync = o.sync; text = []; stores = may_store verb o.reply; backs = asks_back_out verb && is_done o.reply; appends = appends verb o }
+-- a verb is called that has this count; nothing is said yet. Only an ABORT that is done goes back, and other entries may be made only where a verb that
+-- is done updates the database or makes a quiet point
+abbrev pub calls : ℕ → Verb → Outcome → RunEvent
+calls count verb o = record { quiets = o.quiets; sync = o.sync; text = []; count = count; waits = is_waits o.reply; backs = asks_back_out verb && is_done o.reply; appends = appends verb o }
 
 -- bytes are said; no quiet point is made
 abbrev pub says : List ℕ → RunEvent
-says text = record { quiets = []; sync = None; text = text; stores = false; backs = false; appends = false }
+says text = record { quiets = []; sync = None; text = text; count = 0; waits = false; backs = false; appends = false }
 
 -- nothing is done, and nothing said
 abbrev pub pause : RunEvent
@@ -50,7 +46,7 @@ pause = says []
 -- the script ends: where a program is in transaction state, the database goes back to the last quiet point; nothing is said, and no quiet point is
 -- made
 abbrev pub goes_back : Bool → RunEvent
-goes_back works = record { quiets = []; sync = None; text = []; stores = false; backs = works; appends = false }
+goes_back works = record { quiets = []; sync = None; text = []; count = 0; waits = false; backs = works; appends = false }
 
 -- all that is said
 abbrev pub text_of : List RunEvent → List ℕ
@@ -62,10 +58,23 @@ abbrev pub quiets_of : List RunEvent → List Quiet
 quiets_of [] = []
 quiets_of (e ∷ es) = e.quiets ++ quiets_of es
 
--- how many blocks these events may change: 64 of each structure for each record
+-- at most 64 blocks of each structure are changed for each of so many records and entries
+unfoldable pub blocks_for : Described → ℕ → ℕ
+blocks_for desc count = 64 * length desc.structures * count
+
+-- of how many an event may change blocks
+abbrev pub changed_in : RunEvent → ℕ
+changed_in e = if e.waits then 0 else e.count
+
+-- how many blocks these events may change
 abbrev pub blocks_of : Described → List RunEvent → ℕ
 blocks_of desc [] = 0
-blocks_of desc (e ∷ es) = limit_if e.stores desc + blocks_of desc es
+blocks_of desc (e ∷ es) = blocks_for desc (changed_in e) + blocks_of desc es
+
+-- how many blocks the call of an event may change while it is under way
+abbrev pub blocks_begun : Described → Option RunEvent → ℕ
+blocks_begun desc None = 0
+blocks_begun desc (Some e) = blocks_for desc e.count
 
 abbrev pub one_if : Bool → ℕ
 one_if true = 1
@@ -166,11 +175,11 @@ SaidWhole old new events = (k : ℕ) × Prints old new (text_of (take k events))
 abbrev pub SaidAtLeast : Option (List ℕ) → Option (List ℕ) → List ℕ → Type 0
 SaidAtLeast old new bytes = (t : List ℕ) → old ≡ Some t → (more : List ℕ) × (new ≡ Some ((t ++ bytes) ++ more))
 
--- an event takes nothing: no quiet point is made, no syncpoint taken, no record stored, and nothing gone back from; so it is where bytes are said
+-- an event takes nothing: no quiet point is made, no syncpoint taken, nothing changed, and nothing gone back from; so it is where bytes are said
 pub record TakesNothing (e : RunEvent) : Type 0 where
   pub quiets : e.quiets ≡ []
   pub sync : e.sync ≡ None
-  pub stores : e.stores ≡ false
+  pub count : e.count ≡ 0
   pub backs : e.backs ≡ false
 
 -- the last of these events, if there is one, takes nothing: no call that does waits for its answer
@@ -184,13 +193,13 @@ pub record TookAll (b a : Seen) (events : List RunEvent) : Type 0 where
   pub effort : TakesEvents b.desc events b.effort a.effort
   pub next : a.next ≤ b.next + length (quiets_of events)
 
--- Behind the first k events one call more was under way, that of the next event, where no text was cut off: the blocks of one record, one quiet
+-- Behind the first k events one call more was under way, that of the next event, where no text was cut off: the blocks of its count, one quiet
 -- point, one sync and one way back.
 pub record TookOneMore (b a : Seen) (whole k : ℕ) (events : List RunEvent) : Type 0 where
   pub said : whole ≡ k
   pub more : k < length events
   pub answered : EndsAnswered (take k events)
-  pub spent : a.effort.spent ≤ b.effort.spent + blocks_of b.desc (take k events) + limit_if true b.desc
+  pub spent : a.effort.spent ≤ b.effort.spent + blocks_of b.desc (take k events) + blocks_begun b.desc (slice_get events k)
   pub next : a.next ≤ b.next + length (quiets_of (take k events)) + 1
   pub syncs : a.effort.syncs ≤ b.effort.syncs + syncs_of (take k events) + 1
   pub outs : a.effort.outs ≤ b.effort.outs + backs_of (take k events) + 1
@@ -212,7 +221,7 @@ pub record TookPart (cut : Type 0) (b a : Seen) (events : List RunEvent) : Type 
 abbrev pub IsFullIn : ℕ → RunEvent → ℕ → Type 0
 IsFullIn last e f = ((e.appends ≡ true) × (f ≡ last)) ⊎ ((e.backs ≡ true) × (f ≡ 9999))
 
--- Exactly the text of the first k of these events was said, and the next of them is such a one: it stores a record or makes a quiet point, and the
+-- Exactly the text of the first k of these events was said, and the next of them is such a one: it updates the database or makes a quiet point, and the
 -- file is the last one that the audit goes on to for that; or it goes back, and the file is 9,999.
 pub record IsFullAtEvent (last f : ℕ) (before after : Option (List ℕ)) (events : List RunEvent) : Type 0 where
   pub k : ℕ

@@ -7,22 +7,21 @@ use Rattle.dms_block.specs.declared.block_fault.BlockFault.{BlockFault}
 use Rattle.dms_desc.specs.Shape.{as_described}
 use Rattle.dms_feed.specs.Feeds.{Remains}
 use Rattle.dms_feed.specs.Lines.{first_line, raw_lines}
-use Rattle.dms_laws.specs.Exclusive.{IsExclusive}
 use Rattle.dms_model.specs.declared.store.Store.{Ghosts}
 use Rattle.dms_model.specs.Db.{Db}
-use Rattle.dms_model.specs.Session.{Session, Outcome, end_session, fresh_session, step}
+use Rattle.dms_model.specs.Session.{Session, end_session, fresh_session}
 use Rattle.dms_storeverbs.specs.declared.engine.Engine.{Engine}
 use Rattle.dms_storeverbs.specs.View.{StandsFor, MayStep, engine_view, view}
 use Rattle.dms_script.specs.declared.line.Line.{Line}
 use Rattle.dms_runner.specs.declared.waiting.WaitingLine.{WaitingLine}
-use Rattle.dms_runner.specs.Answers.{RunState, LineEffect, MayTakeLine, line_effect, line_step, script_events, script_run}
+use Rattle.dms_runner.specs.Answers.{RunState, LineEffect, IsInOrder, MayTakeLine, line_effect, line_step, script_events, script_run}
 use Rattle.dms_runner.specs.Events.{RunEvent, EndsAnswered, Performs, PerformsPrefix, TakesEvents, fate_of, quiets_of}
 use Rattle.dms_runner.specs.Blaming.{run_fate}
 use Rattle.dms_runner.specs.declared.run.RunFault.{RunFault}
 use Rattle.dms_runner.specs.declared.run.RunFault.TheVariants.{Lines, Bytes, Held, Input}
 use Rattle.dms_runner.specs.Running.{AnswersWhole, AreExactly, AreOfFront, CutInput, FitsScript, KeepsFront, PassesBytes, PassesLines, PassesWaiting}
 use Rattle.dms_runner.specs.Trying.{MatchesLine, PerformsRetries, PerformsRetry, PerformsTry}
-use Rattle.dms_runner.specs.Waiting.{RetryEffect, retries}
+use Rattle.dms_runner.specs.Waiting.{RetryEffect, retries, tries}
 
 -- it holds of the waiting line in a slot
 abbrev pub AtSlot : List (Option WaitingLine) → ℕ → (WaitingLine → Type 0) → Type 0
@@ -39,11 +38,11 @@ InputEnds feed left feed' left' = OnInput feed left (λ all. (all ≡ []) × Rem
 module _ {St : Type 0} {g : Ghosts St} where
   -- it holds of the session that stands, in which a verb may be carried out
   abbrev pub AtSession : Engine St g → (Session → Type 0) → Type 0
-  AtSession e P = (s : Session) → StandsFor (view e) s → MayStep s → P s
+  AtSession e P = (s : Session) → StandsFor (view e) s → MayStep (as_described e.desc) s → P s
 
   -- it holds of the run that goes on here: these lines are held, and this is the line's number
   abbrev pub AtRunState : Engine St g → List WaitingLine → ℕ → (RunState → Type 0) → Type 0
-  AtRunState e waiting line P = (now : RunState) → StandsFor (view e) now.session → now.waiting ≡ waiting → now.line ≡ line → MayTakeLine now → P now
+  AtRunState e waiting line P = (now : RunState) → StandsFor (view e) now.session → now.waiting ≡ waiting → now.line ≡ line → MayTakeLine (as_described e.desc) now → P now
 
   -- it holds of the database, the first number and the input of a run that starts here
   abbrev pub AtStart : Engine St g → List ℕ → Option (List ℕ) → (Db → ℕ → List ℕ → Type 0) → Type 0
@@ -51,23 +50,23 @@ module _ {St : Type 0} {g : Ghosts St} where
 
   -- it holds of the run that goes on here by one line more, of which these bytes are kept
   abbrev pub AtRawLine : Engine St g → List WaitingLine → ℕ → List ℕ → (RunState → List ℕ → Type 0) → Type 0
-  AtRawLine e waiting line raw P = (now : RunState) (whole : List ℕ) → raw ≡ take 2003 whole → StandsFor (view e) now.session → now.waiting ≡ waiting → now.line + 1 ≡ line → MayTakeLine now → P now whole
+  AtRawLine e waiting line raw P = (now : RunState) (whole : List ℕ) → raw ≡ take 2003 whole → StandsFor (view e) now.session → now.waiting ≡ waiting → now.line + 1 ≡ line → MayTakeLine (as_described e.desc) now → P now whole
 
   -- it holds of the run that goes on here, and of the input that it has
   abbrev pub AtInput : Engine St g → List WaitingLine → ℕ → List ℕ → Option (List ℕ) → (RunState → List ℕ → Type 0) → Type 0
-  AtInput e waiting line feed left P = (now : RunState) (all : List ℕ) → StandsFor (view e) now.session → now.waiting ≡ waiting → now.line ≡ line → MayTakeLine now → Remains feed left all → P now all
+  AtInput e waiting line feed left P = (now : RunState) (all : List ℕ) → StandsFor (view e) now.session → now.waiting ≡ waiting → now.line ≡ line → MayTakeLine (as_described e.desc) now → Remains feed left all → P now all
 
   -- it holds of the session that stands, in which the waiting lines may be retried
   abbrev pub AtRetries : Engine St g → List WaitingLine → (Session → Type 0) → Type 0
-  AtRetries e waiting P = (s : Session) → StandsFor (view e) s → s.next + length waiting + 2 < 2 ^ 64 → IsExclusive s → P s
+  AtRetries e waiting P = (s : Session) → StandsFor (view e) s → s.next + length waiting + 2 < 2 ^ 64 → IsInOrder (as_described e.desc) s → P s
 
-  -- what the try of a waiting line gives
-  abbrev pub outcome_at : Engine St g → Session → WaitingLine → Outcome
-  outcome_at e s h = step (as_described e.desc) s h.program h.verb
+  -- what the try of a waiting line does
+  abbrev pub tries_at : Engine St g → Session → WaitingLine → List RunEvent
+  tries_at e s h = tries (as_described e.desc) s h
 
   -- a line was tried, and answered or not
-  abbrev pub LineTried : Engine St g → Engine St g → WaitingLine → Bool → Outcome → Type 0
-  LineTried old new h answered o = PerformsTry o h answered (view new) (engine_view old) (engine_view new)
+  abbrev pub LineTried : Engine St g → Engine St g → Session → WaitingLine → Bool → Type 0
+  LineTried old new s h answered = PerformsTry (as_described old.desc) s h answered (view new) (engine_view old) (engine_view new)
 
   -- one retry was made; answered: whether a line was answered
   abbrev pub RetryMade : Engine St g → Engine St g → List WaitingLine → Bool → RetryEffect → Type 0

@@ -5,6 +5,7 @@ use Rattle.std.specs.List.{list_any, AllByRecursion}
 use Rattle.std.specs.Str.{bytes_eq}
 use Rattle.dms_desc.specs.Shape.{Described}
 use Rattle.dms_model.specs.declared.reply.Reply.{Reply}
+use Rattle.dms_model.specs.Counting.{counts_of}
 use Rattle.dms_model.specs.Session.{Session, Outcome, step, is_waits}
 use Rattle.dms_model.specs.Verbs.{IsVerbOf}
 use Rattle.dms_script.specs.Replies.{reply_text, syncpoint_text}
@@ -38,9 +39,9 @@ tried_text h o = said_of h o.reply o.sync
 abbrev pub said_to_wait : WaitingLine → WaitingLine
 said_to_wait h = record h { printed = true }
 
--- a try: the verb is called, and then something is said of it
-abbrev pub tries : WaitingLine → Outcome → List RunEvent
-tries h o = calls h.verb o ∷ says (tried_text h o) ∷ []
+-- a try in a session: the verb is called, and then something is said of it
+abbrev pub tries : Described → Session → WaitingLine → List RunEvent
+tries desc s h = calls (counts_of desc s h.program h.verb) h.verb (step desc s h.program h.verb) ∷ says (tried_text h (step desc s h.program h.verb)) ∷ []
 
 -- what a retry leaves and does, and whether a line was answered
 pub record RetryEffect : Type 0 where
@@ -53,8 +54,8 @@ abbrev pub events_before : List RunEvent → RetryEffect → RetryEffect
 events_before events w = record w { events = events ++ w.events }
 
 -- a line is answered and leaves the list
-abbrev pub answer_effect : WaitingLine → Outcome → List WaitingLine → RetryEffect
-answer_effect h o waiting = record { session = o.session; waiting = waiting; events = tries h o; answered = true }
+abbrev pub answer_effect : Described → Session → WaitingLine → List WaitingLine → RetryEffect
+answer_effect desc s h waiting = record { session = (step desc s h.program h.verb).session; waiting = waiting; events = tries desc s h; answered = true }
 
 -- one retry: from the front, a line is tried if no earlier line of its program stands in the list, up to the first that is
 -- answered. In front are the lines that were passed over
@@ -63,8 +64,8 @@ retry desc s front [] = record { session = s; waiting = front; events = []; answ
 retry desc s front (h ∷ hs) =
     if has_line front h.program then retry desc s (front ++ h ∷ []) hs
     else (if is_waits (step desc s h.program h.verb).reply
-    then events_before (tries h (step desc s h.program h.verb)) (retry desc (step desc s h.program h.verb).session (front ++ said_to_wait h ∷ []) hs)
-    else answer_effect h (step desc s h.program h.verb) (front ++ hs))
+    then events_before (tries desc s h) (retry desc (step desc s h.program h.verb).session (front ++ said_to_wait h ∷ []) hs)
+    else answer_effect desc s h (front ++ hs))
 
 abbrev pub retry_after_answer : Bool → RetryEffect → RetryEffect → RetryEffect
 retry_after_answer true first rest = events_before first.events rest

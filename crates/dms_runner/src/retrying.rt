@@ -2,8 +2,8 @@ ghost use Rattle.std.specs.Prelude.{◌≡◌, ◌+◌, ◌<◌, ◌^◌, [], So
 ghost use Rattle.dms_desc.specs.Shape.{as_described};
 ghost use Rattle.dms_storeverbs.specs.View.{EngineLasts, engine_view};
 ghost use Rattle.dms_runner.specs.Firsts.{AreHeld, lines_of, standing};
-ghost use Rattle.dms_runner.specs.Waiting.{AreVerbs, tries, retry};
-ghost use Rattle.dms_runner.specs.Starting.{RetriesMade, AtRetries, AtSession, AtSlot, LineTried, PartHappened, RetryMade, outcome_at, retries_at};
+ghost use Rattle.dms_runner.specs.Waiting.{AreVerbs, retry};
+ghost use Rattle.dms_runner.specs.Starting.{RetriesMade, AtRetries, AtSession, AtSlot, LineTried, PartHappened, RetryMade, retries_at, tries_at};
 
 use crate::saying::try_line;
 use crate::slots::{line_in, note_waiting, take_out};
@@ -22,8 +22,8 @@ fn try_at<St: Store>(
 ) -> Result<bool, BlockFault>
     requires sound { (engine_view engine.old).sound }
     requires verbs { AreVerbs (as_described engine.old.desc) (standing slots.now) }
-    ensures tried { IfOk result (λ answered. AtSlot slots.now slot (λ h. AtSession engine.old (λ s. LineTried engine.old engine.new h answered (outcome_at engine.old s h)))) }
-    ensures part { AtSlot slots.now slot (λ h. AtSession engine.old (λ s. PartHappened result engine.old engine.new (tries h (outcome_at engine.old s h)))) }
+    ensures tried { IfOk result (λ answered. AtSlot slots.now slot (λ h. AtSession engine.old (λ s. LineTried engine.old engine.new s h answered))) }
+    ensures part { AtSlot slots.now slot (λ h. AtSession engine.old (λ s. PartHappened result engine.old engine.new (tries_at engine.old s h))) }
     ensures lasts { EngineLasts result engine.old engine.new }
 {
     match line_in(slots, slot) {

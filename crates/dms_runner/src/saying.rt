@@ -5,8 +5,8 @@ ghost use Rattle.dms_model.specs.Session.{is_waits};
 ghost use Rattle.dms_model.specs.Verbs.{IsVerbOf};
 ghost use Rattle.dms_storeverbs.specs.View.{EngineLasts, SameSession, engine_view};
 ghost use Rattle.dms_runner.specs.Events.{says, Performs};
-ghost use Rattle.dms_runner.specs.Waiting.{answer_text, said_of, tries, sync_text};
-ghost use Rattle.dms_runner.specs.Starting.{AtSession, LineTried, PartHappened, outcome_at};
+ghost use Rattle.dms_runner.specs.Waiting.{answer_text, said_of, sync_text};
+ghost use Rattle.dms_runner.specs.Starting.{AtSession, LineTried, PartHappened, tries_at};
 
 use crate::WaitingLine;
 use dms_base::{Bytes, Memory, Name};
@@ -110,8 +110,8 @@ pub fn try_line<St: Store>(
 ) -> Result<bool, BlockFault>
     requires sound { (engine_view engine.old).sound }
     requires verb { IsVerbOf (as_described engine.old.desc) waiting.now.verb }
-    ensures tried { IfOk result (λ answered. AtSession engine.old (λ s. LineTried engine.old engine.new waiting.now answered (outcome_at engine.old s waiting.now))) }
-    ensures part { AtSession engine.old (λ s. PartHappened result engine.old engine.new (tries waiting.now (outcome_at engine.old s waiting.now))) }
+    ensures tried { IfOk result (λ answered. AtSession engine.old (λ s. LineTried engine.old engine.new s waiting.now answered)) }
+    ensures part { AtSession engine.old (λ s. PartHappened result engine.old engine.new (tries_at engine.old s waiting.now)) }
     ensures lasts { EngineLasts result engine.old engine.new }
 {
     let answer = engine.call(alloc, &waiting.program, &waiting.verb)?;

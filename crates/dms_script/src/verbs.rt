@@ -1,8 +1,8 @@
 ghost use Rattle.dms_desc.specs.Shape.{shape_of, as_described};
 ghost use Rattle.dms_script.specs.Reads.{LineTakes, LinePasses};
-ghost use Rattle.dms_script.specs.Verbs.{open_at, close_at, first_at, last_at, next_at, prior_at, current_at, member_at, onward_at, path_at, find_at, lock_at, modify_at, free_at, record_at, create_at, store_at, put_at, all_shown_at, get_at, mode_at, begin_at, sync_at, finish_at, abort_at, transaction_at, area_at, verb_at, close_line_at};
+ghost use Rattle.dms_script.specs.Verbs.{open_at, close_at, first_at, last_at, next_at, prior_at, current_at, via_at, member_at, onward_at, path_at, find_at, lock_at, modify_at, free_at, record_at, create_at, store_at, delete_at, insert_at, remove_at, referent_at, assign_at, put_at, all_shown_at, get_at, mode_at, begin_at, sync_at, finish_at, abort_at, transaction_at, change_at, area_at, verb_at, close_line_at};
 
-use crate::expect::{expect_end, expect_sign, expect_word, read_structure};
+use crate::expect::{expect_end, expect_sign, expect_word, read_link, read_structure};
 use crate::fault::Fault;
 use crate::look::{Wanted, push_numbers, whole_run};
 use crate::shown::{key_literals, settings, shown_items};
@@ -82,6 +82,16 @@ fn current(cursor: &mut Cursor<'_>, desc: &Description) -> Result<Path, Fault>
     Ok(Path::Current(set.number))
 }
 
+/// VIA L OF D
+#[tactic(auto, unfolding(crate::specs::Verbs::via_at))]
+fn via(cursor: &mut Cursor<'_>, desc: &Description) -> Result<Path, Fault>
+    ensures { LineTakes result cursor.new (via_at (as_described desc.now) cursor.old) }
+{
+    expect_word(cursor, b"VIA")?;
+    let link = read_link(cursor, desc, None)?;
+    Ok(Path::Via(link.set, link.item))
+}
+
 /// x AT item = literal {AND item = literal}
 #[tactic(auto, unfolding(crate::specs::Verbs::member_at))]
 fn member(cursor: &mut Cursor<'_>, desc: &Description) -> Result<Path, Fault>
@@ -105,6 +115,9 @@ fn onward(cursor: &mut Cursor<'_>, desc: &Description) -> Result<Path, Fault>
     }
     if cursor.starts_word(b"CURRENT") {
         return current(cursor, desc);
+    }
+    if cursor.starts_word(b"VIA") {
+        return via(cursor, desc);
     }
     member(cursor, desc)
 }
@@ -180,6 +193,65 @@ fn store(cursor: &mut Cursor<'_>, desc: &Description) -> Result<Verb, Fault>
     expect_word(cursor, b"STORE")?;
     let set = read_structure(cursor, Wanted::DataSet, desc)?;
     Ok(Verb::Store(set.number))
+}
+
+/// DELETE D
+#[tactic(auto, unfolding(crate::specs::Verbs::delete_at))]
+fn delete(cursor: &mut Cursor<'_>, desc: &Description) -> Result<Verb, Fault>
+    ensures { LineTakes result cursor.new (delete_at (as_described desc.now) cursor.old) }
+{
+    expect_word(cursor, b"DELETE")?;
+    let set = read_structure(cursor, Wanted::DataSet, desc)?;
+    Ok(Verb::Delete(set.number))
+}
+
+/// INSERT D INTO S
+#[tactic(auto, unfolding(crate::specs::Verbs::insert_at))]
+fn insert(cursor: &mut Cursor<'_>, desc: &Description) -> Result<Verb, Fault>
+    ensures { LineTakes result cursor.new (insert_at (as_described desc.now) cursor.old) }
+{
+    expect_word(cursor, b"INSERT")?;
+    let set = read_structure(cursor, Wanted::DataSet, desc)?;
+    expect_word(cursor, b"INTO")?;
+    let subset = read_structure(cursor, Wanted::Manual(set.number), desc)?;
+    Ok(Verb::Insert(set.number, subset.number))
+}
+
+/// REMOVE D FROM S
+#[tactic(auto, unfolding(crate::specs::Verbs::remove_at))]
+fn remove(cursor: &mut Cursor<'_>, desc: &Description) -> Result<Verb, Fault>
+    ensures { LineTakes result cursor.new (remove_at (as_described desc.now) cursor.old) }
+{
+    expect_word(cursor, b"REMOVE")?;
+    let set = read_structure(cursor, Wanted::DataSet, desc)?;
+    expect_word(cursor, b"FROM")?;
+    let subset = read_structure(cursor, Wanted::Manual(set.number), desc)?;
+    Ok(Verb::Remove(set.number, subset.number))
+}
+
+/// What a link is to refer to: the current record of a data set, or NULL.
+#[tactic(auto, unfolding(crate::specs::Verbs::referent_at, crate::specs::Verbs::set_at))]
+fn referent(cursor: &mut Cursor<'_>, desc: &Description) -> Result<Option<u16>, Fault>
+    ensures { LineTakes result cursor.new (referent_at (as_described desc.now) cursor.old) }
+{
+    if cursor.starts_word(b"NULL") {
+        expect_word(cursor, b"NULL")?;
+        return Ok(None);
+    }
+    let set = read_structure(cursor, Wanted::DataSet, desc)?;
+    Ok(Some(set.number))
+}
+
+/// ASSIGN D TO L OF E, ASSIGN NULL TO L OF E
+#[tactic(auto, unfolding(crate::specs::Verbs::assign_at))]
+fn assign(cursor: &mut Cursor<'_>, desc: &Description) -> Result<Verb, Fault>
+    ensures { LineTakes result cursor.new (assign_at (as_described desc.now) cursor.old) }
+{
+    expect_word(cursor, b"ASSIGN")?;
+    let to = referent(cursor, desc)?;
+    expect_word(cursor, b"TO")?;
+    let link = read_link(cursor, desc, to)?;
+    Ok(Verb::Assign(to, link.set, link.item))
 }
 
 /// PUT D item = literal {, item = literal}
@@ -288,6 +360,26 @@ fn transaction(cursor: &mut Cursor<'_>, desc: &Description) -> Result<Verb, Faul
     abort(cursor, desc)
 }
 
+/// A verb that deletes a record, or changes a manual subset or a link.
+#[tactic(auto, unfolding(crate::specs::Verbs::change_at))]
+fn change(cursor: &mut Cursor<'_>, desc: &Description) -> Result<Verb, Fault>
+    ensures { LineTakes result cursor.new (change_at (as_described desc.now) cursor.old) }
+{
+    if cursor.starts_word(b"DELETE") {
+        return delete(cursor, desc);
+    }
+    if cursor.starts_word(b"INSERT") {
+        return insert(cursor, desc);
+    }
+    if cursor.starts_word(b"REMOVE") {
+        return remove(cursor, desc);
+    }
+    if cursor.starts_word(b"ASSIGN") {
+        return assign(cursor, desc);
+    }
+    transaction(cursor, desc)
+}
+
 #[tactic(auto, unfolding(crate::specs::Verbs::area_at))]
 fn area(cursor: &mut Cursor<'_>, desc: &Description) -> Result<Verb, Fault>
     ensures { LineTakes result cursor.new (area_at (as_described desc.now) cursor.old) }
@@ -304,7 +396,7 @@ fn area(cursor: &mut Cursor<'_>, desc: &Description) -> Result<Verb, Fault>
     if cursor.starts_word(b"STORE") {
         return store(cursor, desc);
     }
-    transaction(cursor, desc)
+    change(cursor, desc)
 }
 
 /// A verb that finds, locks or frees a record.

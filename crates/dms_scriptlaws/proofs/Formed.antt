@@ -2,6 +2,7 @@
 use Rattle.dms_desc.specs.Shape.{Described}
 use Rattle.dms_desc_bytes.specs.WellFormed.{IsWellFormed}
 use Rattle.dms_laws.proofs.Formed.{groups_at, in_number, item_of, of_number, well_made}
+use Rattle.dms_runner.proofs.LineVerbs.{line_verb}
 use Rattle.dms_scriptlaws.specs.Truths.{HasNames, IsRunnable}
 
 module _ (desc : Described) (well : IsWellFormed desc) where
@@ -16,5 +17,5 @@ module _ (desc : Described) (well : IsWellFormed desc) where
     made = well_made desc well;
     names = has_names;
     order = record { numbers = in_number desc well; groups = groups_at desc well };
-    kinds = λ n s here. (of_number desc well n s here).kind;
+    lines = line_verb desc well;
   }

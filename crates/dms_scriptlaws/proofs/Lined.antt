@@ -122,8 +122,8 @@ synced first count durable next quiets reply (Some n) at within none own =
     (closed_on [] reply _ none.closed (closed_line [] (codes "SYNCPOINT " ++ decimal n) line), safe_on first _ [] reply _ none.closed (none.safe first _) s)
 
 -- a try is honest: the call, and then what is said of it
-pub try_honest : (first count durable : ℕ) (s : Session) (verb : Verb) (o : Outcome) (reply : List ℕ) → s.next ≡ first + count → durable ≤ count → TellsNone reply → TakesOwn s o
-    → Honest first count durable (calls verb o ∷ says (reply ++ sync_text o.sync) ∷ [])
-try_honest first count durable s verb o reply at within none own =
+pub try_honest : (first count durable changed : ℕ) (s : Session) (verb : Verb) (o : Outcome) (reply : List ℕ) → s.next ≡ first + count → durable ≤ count → TellsNone reply → TakesOwn s o
+    → Honest first count durable (calls changed verb o ∷ says (reply ++ sync_text o.sync) ∷ [])
+try_honest first count durable changed s verb o reply at within none own =
     let t = synced first count durable s.next (length o.quiets) reply o.sync at within none own in
     (refl, (tt, (t.0, (t.1, tt))))

@@ -16,14 +16,15 @@ use Rattle.dms_desc.specs.Conds.{is_null, or_null, item_of}
 use Rattle.dms_desc.specs.declared.record.Record.{Record}
 use Rattle.dms_desc.specs.Plain.{IsPlain, ArePlain}
 use Rattle.dms_desc.specs.Shape.{Shape, Described}
-use Rattle.dms_locks.specs.Locks.{has_lock, no_locks}
+use Rattle.dms_locks.specs.Locks.{has_lock, no_locks, without_lock}
 use Rattle.dms_locks.specs.Places.{Place}
 use Rattle.dms_locks.specs.Waits.{closes_circle}
 use Rattle.dms_model.specs.Programs.{Program, Area, New, Old, Wait}
 use Rattle.dms_model.specs.declared.mode.Mode.{Mode}
 use Rattle.dms_model.specs.declared.verb.Verb.{Verb}
-use Rattle.dms_model.specs.declared.verb.Verb.TheVariants.{OpenUpdate, OpenInquiry, Close, Find, Lock, Free, Create, Put as PutItems, Get, Store, Begin, End, Abort}
+use Rattle.dms_model.specs.declared.verb.Verb.TheVariants.{OpenUpdate, OpenInquiry, Close, Find, Lock, Free, Create, Put as PutItems, Get, Store, Delete, Insert, Remove, Assign, Begin, End, Abort}
 use Rattle.dms_model.specs.declared.verb.Path.{Path}
+use Rattle.dms_model.specs.declared.verb.Path.TheVariants.{First, Last, Next, Prior, Current, Via, At}
 use Rattle.dms_model.specs.declared.verb.Setting.{Setting}
 use Rattle.dms_model.specs.declared.reply.Reply.{Reply}
 use Rattle.dms_model.specs.declared.reply.Reply.TheVariants.{Exception, Waits}
@@ -37,11 +38,13 @@ use Rattle.dms_model.specs.Fitting.{AreFitting}
 use Rattle.dms_model.specs.Seeking.{met_by, sought_from}
 use Rattle.dms_model.specs.FitLaws.{linked_fits, null_fits}
 use Rattle.dms_model.specs.Stores.{linked_from, old_of, values_of}
+use Rattle.dms_model.specs.Uses.{after_enter, after_leave, after_link, linkers}
 use Rattle.dms_model.specs.Valid.{IsValid, OfItems}
-use Rattle.dms_model.specs.Session.{Session, Outcome, StoreResult, Refused, Keeps, Filled, Misfit, Values', refuse, succeeds, shows, settle, keep, store_step, after_store, begin_step, after_begin, begin_transaction, begin_refusals, area_answer, area_of, area_refusals, duplicate_of, or_no_area, or_unknown, replies, stored_program, begin_blockers, blockers, has_some, wait_reply, workers, end_step, after_end, abort_step, find_step, after_find, found_by, found_in, path_of, moves, sought, Sought, Unbased, Missed, Met, lock_step, lock_unless, after_lock, locked_program, free_step, free_for, create_step, create_for, create_area, current_of, owner_for, owner_in, base_of, refuse_unowned, put_step, put_area, after_put, fill_values, item_name, setting_value, get_step, get_area, get_text, more_text, item_text, close_step, open_as, open_step, verb_step, step_at, after_answer, freed_named, programs_after, says_deadlock, carried_out, step, with_area, with_current, with_program, restart_of, someone_works, is_inquiry, opens, changes, new_program, place_of, activate, leave_transaction, without, idle, backed_out, found_program, let_go, missing_from, area_number, area_values, shown_values, open_in}
+use Rattle.dms_model.specs.Session.{Session, Outcome, StoreResult, Refused, Keeps, Filled, Misfit, Values', refuse, succeeds, shows, settle, keep, store_step, after_store, begin_step, after_begin, begin_transaction, begin_refusals, area_answer, area_of, area_refusals, duplicate_of, or_no_area, or_unknown, replies, stored_program, begin_blockers, blockers, has_some, wait_reply, workers, end_step, after_end, abort_step, find_step, after_find, assign_refusals, assign_step, assigned, delete_refusals, delete_step, deleted, done_unless, entered_as, first_held, insert_refusals, insert_step, inserted, linked, or_zero, remove_refusals, remove_step, removed, sought_name, without_current, found_by, found_in, moves, sought, Sought, Unbased, Missed, Met, lock_step, lock_unless, after_lock, locked_program, free_step, free_for, create_step, create_for, create_area, current_of, owner_for, owner_in, base_of, refuse_unowned, put_step, put_area, after_put, fill_values, item_name, setting_value, get_step, get_area, get_text, more_text, item_text, close_step, open_as, open_step, verb_step, step_at, after_answer, freed_named, programs_after, says_deadlock, carried_out, step, with_area, with_current, with_program, restart_of, someone_works, is_inquiry, opens, changes, new_program, place_of, activate, leave_transaction, without, idle, backed_out, found_program, let_go, missing_from, area_number, area_values, shown_values, open_in}
 use Rattle.dms_model.specs.Traits.{traits}
 use Rattle.dms_model.specs.Areas.{AreaFits, AreasFit}
 use Rattle.dms_laws.proofs.Lists.{all_at, all_set, all_mapped, all_pushed, all_without}
+use Rattle.dms_laws.proofs.Refusals.{done_all}
 use Rattle.dms_scriptlaws.specs.Truths.{HasNames}
 use Rattle.dms_scriptlaws.proofs.Digits.{NoFeed}
 use Rattle.dms_scriptlaws.proofs.Feeds.{IsClean, feed_on, feed_of, name_feed, unknown_feed, text_feed}
@@ -203,15 +206,15 @@ SoughtClean (Unbased set) = Unit {0}
 SoughtClean (Missed name) = NoFeed name
 SoughtClean (Met r) = Unit {0}
 
-met_clean : (o : Option Spot) (desc : Described) (path : Path) → NoFeed (name_of (structure_of desc (path_of path))) → SoughtClean (met_by o desc path)
+met_clean : (o : Option Spot) (desc : Described) (path : Path) → NoFeed (sought_name desc path) → SoughtClean (met_by o desc path)
 met_clean None desc path h = h
 met_clean (Some r) desc path h = tt
 
-sought_at : (o : Option ℕ) (desc : Described) (db : Db) (p : Program) (path : Path) → NoFeed (name_of (structure_of desc (path_of path))) → SoughtClean (sought_from o desc db p path)
+sought_at : (o : Option ℕ) (desc : Described) (db : Db) (p : Program) (path : Path) → NoFeed (sought_name desc path) → SoughtClean (sought_from o desc db p path)
 sought_at None desc db p path h = tt
 sought_at (Some base) desc db p path h = met_clean (found_by desc db p base path) desc path h
 
-sought_clean : (desc : Described) (db : Db) (p : Program) (path : Path) → NoFeed (name_of (structure_of desc (path_of path))) → SoughtClean (sought desc db p path)
+sought_clean : (desc : Described) (db : Db) (p : Program) (path : Path) → NoFeed (sought_name desc path) → SoughtClean (sought desc db p path)
 unfolding sought
 sought_clean desc db p path h = sought_at (owner_in p (base_of desc path)) desc db p path h
 
@@ -239,6 +242,16 @@ module _ (desc : Described) (names : HasNames desc) where
       by : (o : Option Shape) → structure_of desc n ≡ o → ItemsNamed (items_of o)
       by None h = tt
       by (Some shape) h = items_named shape.items (names.items n shape h)
+
+  -- what a path looks for has a name
+  sought_feed : (path : Path) → NoFeed (sought_name desc path)
+  sought_feed (First x) = shape_feed x
+  sought_feed (Last x) = shape_feed x
+  sought_feed (Next x) = shape_feed x
+  sought_feed (Prior x) = shape_feed x
+  sought_feed (Current set) = shape_feed set
+  sought_feed (Via set item) = item_name_feed (items_of (structure_of desc set)) (item - 1) (set_items set)
+  sought_feed (At x literals) = shape_feed x
 
   module _ (s : Session) (i : ℕ) (p : Program) (at : slice_get s.programs i ≡ Some p) (all : AreNamed s.programs) where
     mine : Named p
@@ -320,7 +333,7 @@ module _ (desc : Described) (names : HasNames desc) where
 
     -- values of an area fit, where its data set is there; else nothing is shown of them
     area_fitting : (shape : Shape) (a : Area) → AreaFits shape (Some a) → AreFitting shape.items (area_values a)
-    area_fitting shape (New values owner) h = h.1.1
+    area_fitting shape (New values owner) h = h.1
     area_fitting shape (Old values) h = h
 
     -- and so do those of a record that stands
@@ -361,6 +374,41 @@ module _ (desc : Described) (names : HasNames desc) where
         by None h = none_shown numbers (values None)
         by (Some shape) h = get_feed shape.items numbers (values (Some shape)) (items_named shape.items (names.items set shape h)) (shown_plain valid set shape a number h (subst (AreaFits shape) is (fit set shape h)))
 
+    -- deleting, entries and links
+
+    listed_named : (rs : List (Bool × Reply)) (o : Outcome) → AllAnswers IsClean rs → LeavesNamed o → LeavesNamed (cond p.in_transaction (done_unless (first_held rs) s o) (refuse s AuditError p.name))
+    listed_named rs o clean done =
+        leaves_if p.in_transaction (done_unless (first_held rs) s o) (refuse s AuditError p.name)
+        (done_all LeavesNamed s o rs (all_replied rs clean) (λ none. done)) (refused s AuditError p.name mine_feed all)
+      where
+        all_replied : (rs : List (Bool × Reply)) → AllAnswers IsClean rs → AllAnswers (λ r. LeavesNamed (replies s r)) rs
+        all_replied [] h = tt
+        all_replied (r ∷ rs) h = (replied s r.1 h.0 all, all_replied rs h.1)
+
+    without_named : (set n : ℕ) (x : Program) → Named x → Named (without_current desc set n x)
+    without_named set n x h = if_named (is_same (current_of x set) (Some n)) (with_area (with_current desc set None x) set None) x (current_named desc set None x h) h
+
+    deleted_named : (set n : ℕ) → LeavesNamed (deleted desc i p s set n)
+    deleted_named set n =
+        let gone = activate (record p { locks = without_lock p.locks (set, n) }) in
+        shown _ [] tt (all_mapped Named (without_current desc set n) (slice_set s.programs i gone) (without_named set n) (with_named gone mine))
+
+    delete_clean : (set n : ℕ) → AllAnswers IsClean (delete_refusals desc p s set n)
+    delete_clean set n = (shape_feed set, (shape_feed set, (shape_feed set, (wait_clean s.waits p.name (blockers (linkers desc s.db set n) p.name s.programs) (name_of (structure_of desc set)) (blockers_feed (linkers desc s.db set n) p.name s.programs all) (shape_feed set), tt))))
+
+    insert_clean : (set subset : ℕ) → AllAnswers IsClean (insert_refusals desc p s set subset)
+    insert_clean set subset = (shape_feed set, (shape_feed (owner_of (structure_of desc subset)), (shape_feed subset, (shape_feed subset, tt))))
+
+    remove_clean : (set subset : ℕ) → AllAnswers IsClean (remove_refusals desc p s set subset)
+    remove_clean set subset = (shape_feed set, (shape_feed (owner_of (structure_of desc subset)), (shape_feed subset, tt)))
+
+    assign_clean : (to : Option ℕ) (set : ℕ) → AllAnswers IsClean (assign_refusals to desc p set)
+    assign_clean None set = (shape_feed set, (shape_feed set, tt))
+    assign_clean (Some d) set = (shape_feed d, (shape_feed set, (shape_feed set, tt)))
+
+    done_named : (db : Db) → LeavesNamed (succeeds (record s { db = db; programs = slice_set s.programs i (activate p) }))
+    done_named db = shown _ [] tt (with_named (activate p) mine)
+
   awaited_feed : (s : Session) → AreNamed s.programs → AllByRecursion NoFeed (begin_blockers s)
   awaited_feed s all = by s.pending
     where
@@ -371,17 +419,26 @@ module _ (desc : Described) (names : HasNames desc) where
   -- every verb
 
   verb_named : (i : ℕ) (p : Program) (s : Session) (v : Verb) → slice_get s.programs i ≡ Some p → AreNamed s.programs → AreasFit desc p → IsValid desc s.db → LeavesNamed (verb_step desc i p s v)
-  unfolding verb_step store_step begin_step end_step abort_step find_step lock_step free_step create_step put_step get_step close_step
+  unfolding verb_step store_step delete_step insert_step remove_step assign_step begin_step end_step abort_step find_step lock_step free_step create_step put_step get_step close_step
   verb_named i p s OpenUpdate at all fit valid = refused s _ p.name (mine_feed s i p at all) all
   verb_named i p s OpenInquiry at all fit valid = refused s _ p.name (mine_feed s i p at all) all
   verb_named i p s Close at all fit valid = leaves_if p.in_transaction (refuse s AuditError p.name) (succeeds (record s { programs = without i s.programs })) (refused s _ p.name (mine_feed s i p at all) all) (shown _ [] tt (all_without Named s.programs i all))
-  verb_named i p s (Find path) at all fit valid = find_named s i p at all (sought desc s.db p path) path (sought_clean desc s.db p path (shape_feed (path_of path)))
-  verb_named i p s (Lock path) at all fit valid = lock_named s i p at all (sought desc s.db p path) path (sought_clean desc s.db p path (shape_feed (path_of path)))
+  verb_named i p s (Find path) at all fit valid = find_named s i p at all (sought desc s.db p path) path (sought_clean desc s.db p path (sought_feed path))
+  verb_named i p s (Lock path) at all fit valid = lock_named s i p at all (sought desc s.db p path) path (sought_clean desc s.db p path (sought_feed path))
   verb_named i p s (Free set) at all fit valid = free_named s i p at all (current_of p set) set
   verb_named i p s (Create set) at all fit valid = create_for_named s i p at all (owner_for desc p set) set
   verb_named i p s (PutItems set settings) at all fit valid = put_area_named s i p at all (area_of p set) set settings
   verb_named i p s (Get set items) at all fit valid = get_named s i p at all (area_of p set) set items valid fit refl
   verb_named i p s (Store set) at all fit valid = leaves_if p.in_transaction (after_store (keep desc p s.db set) i s) (refuse s AuditError p.name) (store_named s i p at all (keep desc p s.db set) (keep_named s i p at all s.db set)) (refused s _ p.name (mine_feed s i p at all) all)
+  verb_named i p s (Delete set) at all fit valid =
+      let n = or_zero (current_of p set) in
+      listed_named s i p at all (delete_refusals desc p s set n) (deleted desc i p s set n) (delete_clean s i p at all set n) (deleted_named s i p at all set n)
+  verb_named i p s (Insert set subset) at all fit valid =
+      listed_named s i p at all (insert_refusals desc p s set subset) (inserted desc i p s set subset) (insert_clean s i p at all set subset) (done_named s i p at all (after_enter (entered_as desc p s set subset) s.db subset (or_zero (owner_for desc p subset))))
+  verb_named i p s (Remove set subset) at all fit valid =
+      listed_named s i p at all (remove_refusals desc p s set subset) (removed desc i p s set subset) (remove_clean s i p at all set subset) (done_named s i p at all (after_leave s.db subset (or_zero (owner_for desc p subset)) (or_zero (current_of p set))))
+  verb_named i p s (Assign to set item) at all fit valid =
+      listed_named s i p at all (assign_refusals to desc p set) (linked desc i p s to set item) (assign_clean s i p at all to set) (done_named s i p at all (after_link s.db set (or_zero (current_of p set)) item (assigned to p)))
   verb_named i p s (Begin audit) at all fit valid =
       leaves_if p.in_transaction (refuse s AuditError p.name) (after_begin (begin_transaction desc p s audit) i s) (refused s _ p.name (mine_feed s i p at all) all)
       (begun_named s i p at all (begin_transaction desc p s audit) (begun_kept s i p at all audit (awaited_feed s all)))

@@ -7,6 +7,7 @@ use Rattle.dms_desc.specs.Shape.{Described}
 use Rattle.dms_feed.specs.Lines.{line_text}
 use Rattle.dms_model.specs.declared.verb.Verb.{Verb}
 use Rattle.dms_model.specs.declared.reply.Reply.{Reply}
+use Rattle.dms_model.specs.Counting.{counts_of}
 use Rattle.dms_model.specs.Db.{Db}
 use Rattle.dms_model.specs.Points.{Quiet}
 use Rattle.dms_model.specs.Session.{Session, Outcome, step, is_waits, fresh_session, someone_works}
@@ -22,6 +23,7 @@ use Rattle.dms_runner.specs.Events.{RunEvent, calls, says, goes_back, quiets_of,
 use Rattle.dms_runner.specs.Waiting.{has_line, answer_text, tries, said_to_wait, RetryEffect, retry, retries}
 use Rattle.dms_runner.specs.Answers.{RunState, LineEffect, put_to_wait, first_line, first_try_effect, line_effect, one_line_more, line_step, lines_run, lines_before, first_state, unanswered_events, script_run, script_events}
 use Rattle.dms_runner.proofs.Happening.{quiets_on, step_numbers}
+use Rattle.dms_runner.proofs.Lining.{tried_answered, tried_waits}
 use Rattle.dms_runner.proofs.Passes.{retry_skips, retry_waits, retry_answers, retry_ends, retries_again, retries_end}
 use Rattle.dms_scriptlaws.proofs.Telling.{Honest, AreNumberedFrom, covered_within}
 use Rattle.dms_scriptlaws.proofs.Lined.{TellsNone, TakesOwn, try_honest, honest_on, numbered_on, length_on}
@@ -88,7 +90,7 @@ module _ (desc : Described) (K : Session → Type 0) (V : List ℕ → Verb → 
   tells_says : (s : Session) (x : List ℕ) → K s → TellsNone x → Tells s s (says x ∷ [])
   tells_says s x k none = record { clean = k; next = omega arith; numbered = tt; points = tt; honest = λ first count durable at within. (none.closed, (none.safe first durable, tt)) }
 
-  tells_call : (s : Session) (name : List ℕ) (verb : Verb) → K s → V name verb → Tells s (step desc s name verb).session (calls verb (step desc s name verb) ∷ [])
+  tells_call : (s : Session) (name : List ℕ) (verb : Verb) → K s → V name verb → Tells s (step desc s name verb).session (calls (counts_of desc s name verb) verb (step desc s name verb) ∷ [])
   tells_call s name verb k v =
       let o = step desc s name verb in
       record {
@@ -100,7 +102,7 @@ module _ (desc : Described) (K : Session → Type 0) (V : List ℕ → Verb → 
       }
 
   tells_answer : (s : Session) (line : ℕ) (name : List ℕ) (verb : Verb) → K s → V name verb
-      → Tells s (step desc s name verb).session (calls verb (step desc s name verb) ∷ says (answer_text line name (step desc s name verb).reply (step desc s name verb).sync) ∷ [])
+      → Tells s (step desc s name verb).session (calls (counts_of desc s name verb) verb (step desc s name verb) ∷ says (answer_text line name (step desc s name verb).reply (step desc s name verb).sync) ∷ [])
   unfolding answer_text
   tells_answer s line name verb k v =
       let o = step desc s name verb in
@@ -110,22 +112,22 @@ module _ (desc : Described) (K : Session → Type 0) (V : List ℕ → Verb → 
         next = c.next;
         numbered = c.numbered;
         points = c.points;
-        honest = λ first count durable at within. try_honest first count durable s verb o (reply_text line name o.reply) at within (p.reply line s name verb v k) (own_at _ s o (quiet_rule desc s name verb));
+        honest = λ first count durable at within. try_honest first count durable (counts_of desc s name verb) s verb o (reply_text line name o.reply) at within (p.reply line s name verb v k) (own_at _ s o (quiet_rule desc s name verb));
       }
 
-  tells_silent : (s : Session) (name : List ℕ) (verb : Verb) → K s → V name verb → Tells s (step desc s name verb).session (calls verb (step desc s name verb) ∷ says [] ∷ [])
+  tells_silent : (s : Session) (name : List ℕ) (verb : Verb) → K s → V name verb → Tells s (step desc s name verb).session (calls (counts_of desc s name verb) verb (step desc s name verb) ∷ says [] ∷ [])
   tells_silent s name verb k v =
       let c = tells_call s name verb k v in
       record { clean = c.clean; next = c.next; numbered = c.numbered; points = c.points; honest = λ first count durable at within. (refl, (tt, (refl, (tt, tt)))) }
 
-  tells_if : (b : Bool) (s t : Session) (verb : Verb) (o : Outcome) (x : List ℕ) → Tells s t (calls verb o ∷ says [] ∷ []) → Tells s t (calls verb o ∷ says x ∷ []) → Tells s t (calls verb o ∷ says (cond b [] x) ∷ [])
-  tells_if true s t verb o x f g = f
-  tells_if false s t verb o x f g = g
+  tells_if : (b : Bool) (s t : Session) (count : ℕ) (verb : Verb) (o : Outcome) (x : List ℕ) → Tells s t (calls count verb o ∷ says [] ∷ []) → Tells s t (calls count verb o ∷ says x ∷ []) → Tells s t (calls count verb o ∷ says (cond b [] x) ∷ [])
+  tells_if true s t count verb o x f g = f
+  tells_if false s t count verb o x f g = g
 
-  tells_try : (s : Session) (h : WaitingLine) → K s → V h.program h.verb → Tells s (step desc s h.program h.verb).session (tries h (step desc s h.program h.verb))
+  tells_try : (s : Session) (h : WaitingLine) → K s → V h.program h.verb → Tells s (step desc s h.program h.verb).session (tries desc s h)
   tells_try s h k v =
       let o = step desc s h.program h.verb in
-      tells_if (is_waits o.reply && h.printed) s o.session h.verb o (answer_text h.line h.program o.reply o.sync) (tells_silent s h.program h.verb k v) (tells_answer s h.line h.program h.verb k v)
+      tells_if (is_waits o.reply && h.printed) s o.session (counts_of desc s h.program h.verb) h.verb o (answer_text h.line h.program o.reply o.sync) (tells_silent s h.program h.verb k v) (tells_answer s h.line h.program h.verb k v)
 
   -- the waiting lines can be read
   abbrev Spoke : List WaitingLine → Type 0
@@ -150,7 +152,7 @@ module _ (desc : Described) (K : Session → Type 0) (V : List ℕ → Verb → 
   reply_tells s front h hs true other waits k v f g rest =
       let o = step desc s h.program h.verb in
       retried_as s _ _ (retry_waits desc s front h hs other waits)
-      (record { tells = tells_on s o.session _ (tries h o) _ (tells_try s h k v) rest.tells; waiting = rest.waiting })
+      (record { tells = tells_on s o.session _ (tries desc s h) _ (tells_try s h k v) rest.tells; waiting = rest.waiting })
   reply_tells s front h hs false other waits k v f g rest =
       retried_as s _ _ (retry_answers desc s front h hs other waits) (record { tells = tells_try s h k v; waiting = spoke_on front hs f g })
 
@@ -200,19 +202,21 @@ module _ (desc : Described) (K : Session → Type 0) (V : List ℕ → Verb → 
   silent_wait s name verb same n is = absurd (omega (arith, step_numbers desc s name verb, same, (own_at _ s (step desc s name verb) (quiet_rule desc s name verb) n is).1))
 
   tried_leads : (g : RunState) (name : List ℕ) (verb : Verb) (b : Bool) → is_waits (step desc g.session name verb).reply ≡ b → K g.session → V name verb → Spoke g.waiting
-      → Leads g.session (first_try_effect desc g name verb (step desc g.session name verb))
+      → Leads g.session (first_try_effect desc g name verb (counts_of desc g.session name verb) (step desc g.session name verb))
   tried_leads g name verb true waits k v a =
       let o = step desc g.session name verb in
       let same : o.session.next ≡ g.session.next = ap (λ (t : Session). t.next) ((step_small desc g.session name verb).waits waits) in
-      rw waits (waiting_leads g.session o.session g (first_line g.line name verb true) (calls verb o ∷ []) (says (answer_text g.line name o.reply o.sync) ∷ []) (nat_le 10000 (length g.waiting)) a v
+      subst (Leads g.session) (sym (tried_waits desc g name verb (counts_of desc g.session name verb) o waits))
+      (waiting_leads g.session o.session g (first_line g.line name verb true) (calls (counts_of desc g.session name verb) verb o ∷ []) (says (answer_text g.line name o.reply o.sync) ∷ []) (nat_le 10000 (length g.waiting)) a v
       (tells_call g.session name verb k v)
       (tells_says o.session _ (p.keeps g.session name verb v k) (plain_answer g.line name o.reply o.sync (p.reply g.line g.session name verb v k) (silent_wait g.session name verb same))))
   tried_leads g name verb false waits k v a =
       let o = step desc g.session name verb in
-      rw waits (behind_leads g.session o.session g.line _ _ (tells_answer g.session g.line name verb k v) (retries_tell (length g.waiting) o.session g.waiting (p.keeps g.session name verb v k) a))
+      subst (Leads g.session) (sym (tried_answered desc g name verb (counts_of desc g.session name verb) o waits))
+      (behind_leads g.session o.session g.line (calls (counts_of desc g.session name verb) verb o ∷ says (answer_text g.line name o.reply o.sync) ∷ []) _ (tells_answer g.session g.line name verb k v) (retries_tell (length g.waiting) o.session g.waiting (p.keeps g.session name verb v k) a))
 
   skipped : (g : RunState) (name : List ℕ) (verb : Verb) (b : Bool) → K g.session → V name verb → Spoke g.waiting
-      → Leads g.session (cond b (put_to_wait g g.session (first_line g.line name verb false) [] []) (first_try_effect desc g name verb (step desc g.session name verb)))
+      → Leads g.session (cond b (put_to_wait g g.session (first_line g.line name verb false) [] []) (first_try_effect desc g name verb (counts_of desc g.session name verb) (step desc g.session name verb)))
   skipped g name verb true k v a = waiting_leads g.session g.session g (first_line g.line name verb false) [] [] (nat_le 10000 (length g.waiting)) a v (tells_none g.session k) (tells_none g.session k)
   skipped g name verb false k v a = tried_leads g name verb (is_waits (step desc g.session name verb).reply) refl k v a
 

@@ -8,12 +8,15 @@ use Rattle.dms_model.specs.Db.{Db}
 use Rattle.dms_desc.specs.Lookups.{structure_of}
 use Rattle.dms_model.specs.Points.{Point, Quiet, Stop}
 use Rattle.dms_model.specs.Session.{end_session}
+use Rattle.dms_model.specs.declared.verb.Verb.{Verb}
 use Rattle.dms_model.specs.Valid.{IsValid}
+use Rattle.dms_model.specs.Verbs.{IsVerbOf}
 use Rattle.dms_laws.specs.Made.{IsWellMade, OfAllItems}
-use Rattle.dms_laws.specs.Sound.{IsFlat}
 use Rattle.dms_runner.specs.Answers.{script_events, script_run, answers_quiets, left_by}
 use Rattle.dms_runner.specs.EventLaws.{any}
 use Rattle.dms_runner.specs.Events.{RunEvent, CrashesWithin, text_of, quiets_of, durable_after}
+use Rattle.dms_script.specs.declared.line.Line.TheVariants.{Verb as Spoken}
+use Rattle.dms_script.specs.Lines.{line_of}
 use Rattle.dms_script.specs.Spoken.{HasOrder}
 use Rattle.dms_scriptlaws.specs.Told.{told}
 
@@ -51,17 +54,13 @@ pub record HasNames (desc : Described) : Type 0 where
   pub structures : (n : ℕ) (shape : Shape) → structure_of desc n ≡ Some shape → IsName shape.name
   pub items : OfAllItems desc (λ (item : Item). IsName item.name)
 
--- a database that a run may begin with: a valid one, as the verbs of today make it
-pub record IsStart (desc : Described) (db : Db) : Type 0 where
-  pub valid : IsValid desc db
-  pub flat : IsFlat desc db
-
--- a description under which scripts run: its verbs keep a database valid, its structures and items have names, and it is in order
+-- A description under which scripts run: its verbs keep a database valid, its structures and items have names, it is in order, and what the
+-- verb of a line names is there and of its kind
 pub record IsRunnable (desc : Described) : Type 0 where
   pub made : IsWellMade desc
   pub names : HasNames desc
   pub order : HasOrder desc
-  pub kinds : (n : ℕ) (shape : Shape) → structure_of desc n ≡ Some shape → 1 ≤ shape.kind
+  pub lines : (line name : List ℕ) (verb : Verb) → line_of desc line ≡ Spoken name verb → IsVerbOf desc verb
 
 -- whatever a script says, wherever it breaks off, is true; and a stop within it leaves what it told
 abbrev pub TellsTrue : Described → Db → ℕ → List (List ℕ) → Type 0
@@ -70,10 +69,10 @@ TellsTrue desc db first lines = IsTruthful (script_events desc db first lines)
 abbrev pub StopsTold : Described → Db → ℕ → List (List ℕ) → Type 0
 StopsTold desc db first lines = LeavesTold (script_events desc db first lines)
 
--- a run may begin with the database of each quiet point that a script makes, and with the one that it leaves; the numbers of the quiet points rise one by
--- one from the first number on, and the next one follows them
+-- the database of each quiet point that a script makes is valid, and so is the one that it leaves; the numbers of the quiet points rise one by one from the
+-- first number on, and the next one follows them
 pub record StayValid (desc : Described) (db : Db) (first : ℕ) (lines : List (List ℕ)) : Type 0 where
-  pub valid : AllByRecursion (λ (q : Quiet). IsStart desc q.1) (answers_quiets desc db first lines)
-  pub left : IsStart desc (left_by desc db first lines)
+  pub valid : AllByRecursion (λ (q : Quiet). IsValid desc q.1) (answers_quiets desc db first lines)
+  pub left : IsValid desc (left_by desc db first lines)
   pub numbers : RiseFrom first (answers_quiets desc db first lines)
   pub next : (end_session (script_run desc db first lines).going.session).next ≡ first + length (answers_quiets desc db first lines)

@@ -6,8 +6,9 @@ ghost use Rattle.dms_model.specs.Verbs.{IsVerbOf};
 ghost use Rattle.dms_script.specs.declared.line.Line.TheVariants.{Verb as Spoken};
 ghost use Rattle.dms_script.specs.Lines.{line_of};
 ghost use Rattle.dms_model.specs.Db.{Db, empty_db};
+ghost use Rattle.dms_model.specs.Valid.{IsValid};
 ghost use Rattle.dasdl_laws.specs.Given.{OfEachText};
-ghost use Rattle.dms_scriptlaws.specs.Truths.{IsRunnable, IsStart, StayValid, TellsTrue};
+ghost use Rattle.dms_scriptlaws.specs.Truths.{IsRunnable, StayValid, TellsTrue};
 
 /// Scripts run under each well-formed description: its verbs keep a database valid, its structures and items have names, and
 /// it is in order.
@@ -21,10 +22,9 @@ pub fn verb_law()
     ensures { (desc : Described) → IsWellFormed desc → (line : List ℕ) (name : List ℕ) (verb : Verb) → line_of desc line ≡ Spoken name verb → IsVerbOf desc verb }
 {}
 
-/// The database of each quiet point of a script, and the one that it leaves, are such that a run may begin with them, where the first
-/// one is; their numbers rise one by one.
+/// The database of each quiet point of a script, and the one that it leaves, are valid, where the first one is; their numbers rise one by one.
 pub fn quiets_law()
-    ensures { (desc : Described) → IsRunnable desc → (db : Db) → IsStart desc db → (first : ℕ) (lines : List (List ℕ)) → StayValid desc db first lines }
+    ensures { (desc : Described) → IsRunnable desc → (db : Db) → IsValid desc db → (first : ℕ) (lines : List (List ℕ)) → StayValid desc db first lines }
 {}
 
 /// Every script over the empty database of a compiled schema stays valid, and what it tells is true.

@@ -3,6 +3,7 @@ ghost use Rattle.std.specs.Option.{option_copied};
 ghost use Rattle.dms_desc.specs.Conds.{is_null, or_null};
 ghost use Rattle.dms_model.specs.Session.{activate, area_of, area_owner, area_values, current_of, enter_transaction, found_in, found_program, holds, is_free, leave_transaction, let_go, locked_program, missing_from, moves, owner_for, path_of, record_of, with_area, with_position};
 ghost use Rattle.dms_desc.specs.Shape.{as_described};
+ghost use Rattle.dms_locks.specs.Locks.{without_lock};
 ghost use Rattle.dms_model.specs.Programs.{Area, New, Old};
 ghost use Rattle.dms_storeverbs.specs.Storing.{with_copy, with_created, with_stored};
 
@@ -12,6 +13,7 @@ use dms_findverbs::{found_in, moves, owner_in, path_of};
 use dms_model::{Path, Spot};
 use dms_paths::{
     Area, AreaKind, Program, let_go, lock, owner_of, set_area, set_current, set_position,
+    unlock as unlock_record,
 };
 use std::alloc::Global;
 
@@ -93,7 +95,7 @@ pub fn record_of(alloc: Global, area: &Area) -> Result<Record, Memory>
 }
 
 /// Whether a program holds a record locked.
-fn holds(program: &Program, set: u16, number: Option<u64>) -> bool
+pub fn holds(program: &Program, set: u16, number: Option<u64>) -> bool
     ensures { result ≡ holds program.now set number }
 {
     match number {
@@ -236,6 +238,14 @@ pub fn note_stored(
 {
     note_current(program, desc, set, number, values);
     lock(program, set, number)
+}
+
+/// A record of the program is no longer locked.
+pub fn unlock(program: &mut Program, set: u16, number: u64)
+    ensures { program.new ≡ activate (record program.old { locks = without_lock program.old.locks (set, number) }) }
+{
+    unlock_record(program, set, number);
+    program.active = true;
 }
 
 /// A verb of the program was carried out.

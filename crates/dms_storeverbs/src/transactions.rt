@@ -1,14 +1,15 @@
 ghost use Rattle.std.specs.Prelude.{◌≡◌, ◌^◌, ◌+◌, ◌≤◌, ◌<◌, true, false, Some, None, IfOk, OnOk, IsErrOf, slice_get, length};
-ghost use Rattle.dms_desc.specs.Lookups.{structure_of};
 ghost use Rattle.dms_desc.specs.Shape.{as_described};
 ghost use Rattle.dms_model.specs.Programs.{Program};
-ghost use Rattle.dms_model.specs.Seen.{IsMute, IsSilent, Spends, StaysDurable};
+ghost use Rattle.dms_model.specs.Seen.{IsMute, IsSilent, StaysDurable};
 ghost use Rattle.dms_model.specs.Session.{Session, keep, restart_of, settle, store_step, begin_step, end_step, abort_step, is_waits};
-ghost use Rattle.dms_model.specs.Spoken.{IsOuter};
+ghost use Rattle.dms_model.specs.Fitting.{IsDataSet};
 ghost use Rattle.dms_model.specs.declared.verb.Verb.{Verb};
 ghost use Rattle.dms_block.specs.Faults.{IfFull, NotFull, Undamaged};
 ghost use Rattle.dms_model.specs.Db.{Db};
-ghost use Rattle.dms_storeverbs.specs.Costs.{Costs, limit_if};
+ghost use Rattle.dms_storeverbs.specs.Costs.{Costs, SpendsWhere};
+ghost use Rattle.dms_model.specs.Changing.{ChangesSome};
+ghost use Rattle.dms_model.specs.Counting.{area_count, restart_count};
 ghost use Rattle.dms_storeverbs.specs.Keeping.{FullWhereKept, WasKept, kept_if};
 ghost use Rattle.dms_storeverbs.specs.Rooms.{FullFor, FullForQuiet, NoPointWhere};
 ghost use Rattle.dms_storeverbs.specs.View.{Does, DoesWhere, EngineLasts, MayStep, Room, engine_view, view};
@@ -27,18 +28,19 @@ impl<St: Store> Engine<St> {
     /// Stores a program's area of a data set, by the list of refusals that STORE, BEGIN and END share.
     #[tactic(auto, using(std::proofs::lemmas::Option::gets))]
     fn keep(&mut self, alloc: Global, i: usize, set: u16) -> Result<Option<Refusal>, BlockFault>
-        requires outer { IsOuter (structure_of (as_described self.old.desc) set) }
+        requires set { IsDataSet (as_described self.old.desc) set }
         requires place { i < length self.old.programs.items }
         requires sound { (engine_view self.old).sound }
-        ensures kept { IfOk result (λ r. WasKept i (λ p db. keep (as_described self.old.desc) p db set) self.old.programs.items (view self.old) r (view self.new)) }
+        ensures kept { IfOk result (λ r. WasKept (as_described self.old.desc) i (λ p db. keep (as_described self.old.desc) p db set) self.old.programs.items (view self.old) r (view self.new)) }
         ensures count { OnOk result (length self.new.programs.items ≡ length self.old.programs.items) }
         ensures points { OnOk result (StaysDurable (engine_view self.old) (engine_view self.new)) }
         ensures silent { IsSilent (engine_view self.old) (engine_view self.new) }
         ensures undamaged { (d : Db) → (engine_view self.old).db ≡ Some d → Undamaged result }
-        ensures spends { Spends (limit_if true (engine_view self.old).desc) (engine_view self.old).effort (engine_view self.new).effort }
+        ensures changes { ChangesSome (engine_view self.old).effort (engine_view self.new).effort }
+        ensures spends { (p : Program) → slice_get self.old.programs.items i ≡ Some p → SpendsWhere self.old self.new (λ s. area_count (as_described self.old.desc) p s.db set) }
         ensures mute_fault { IsErrOf result BlockFault.Say → ⊥ }
         ensures file { IfFull result (λ f. f ≡ (engine_view self.old).pace.last) }
-        ensures full { FullWhereKept i (λ p db. keep (as_described self.old.desc) p db set) self.old.programs.items (view self.old) result }
+        ensures full { FullWhereKept (as_described self.old.desc) i (λ p db. keep (as_described self.old.desc) p db set) self.old.programs.items (view self.old) result }
         ensures lasts { EngineLasts result self.old self.new }
     {
         let (number, rec) = match judge_record(alloc, &self.desc, &self.programs[i], set)? {
@@ -69,19 +71,20 @@ impl<St: Store> Engine<St> {
         i: usize,
         audit: bool,
     ) -> Result<Option<Refusal>, BlockFault>
-        requires restart { IsOuter (structure_of (as_described self.old.desc) (restart_of (as_described self.old.desc))) }
+        requires restart { IsDataSet (as_described self.old.desc) (restart_of (as_described self.old.desc)) }
         requires place { i < length self.old.programs.items }
         requires sound { (engine_view self.old).sound }
-        ensures kept { IfOk result (λ r. WasKept i (kept_if audit (as_described self.old.desc)) self.old.programs.items (view self.old) r (view self.new)) }
+        ensures kept { IfOk result (λ r. WasKept (as_described self.old.desc) i (kept_if audit (as_described self.old.desc)) self.old.programs.items (view self.old) r (view self.new)) }
         ensures count { OnOk result (length self.new.programs.items ≡ length self.old.programs.items) }
         ensures points { OnOk result (StaysDurable (engine_view self.old) (engine_view self.new)) }
         ensures silent { IsSilent (engine_view self.old) (engine_view self.new) }
         ensures undamaged { (d : Db) → (engine_view self.old).db ≡ Some d → Undamaged result }
-        ensures spends { Spends (limit_if audit (engine_view self.old).desc) (engine_view self.old).effort (engine_view self.new).effort }
+        ensures changes { ChangesSome (engine_view self.old).effort (engine_view self.new).effort }
+        ensures spends { (p : Program) → slice_get self.old.programs.items i ≡ Some p → SpendsWhere self.old self.new (λ s. restart_count audit (as_described self.old.desc) p s.db) }
         ensures no_memory { audit ≡ false → IsErrOf result BlockFault.Memory → ⊥ }
         ensures mute_fault { IsErrOf result BlockFault.Say → ⊥ }
         ensures file { IfFull result (λ f. f ≡ (engine_view self.old).pace.last) }
-        ensures full { FullWhereKept i (kept_if audit (as_described self.old.desc)) self.old.programs.items (view self.old) result }
+        ensures full { FullWhereKept (as_described self.old.desc) i (kept_if audit (as_described self.old.desc)) self.old.programs.items (view self.old) result }
         ensures none { audit ≡ false → NotFull result }
         ensures lasts { EngineLasts result self.old self.new }
     {
@@ -99,7 +102,8 @@ impl<St: Store> Engine<St> {
         requires sound { (engine_view self.old).sound }
         ensures step { DoesWhere (λ s. Room s.next) self.old self.new result (λ s. settle s) }
         ensures mute { IsMute (engine_view self.old) (engine_view self.new) }
-        ensures costs { Costs (limit_if false (engine_view self.old).desc) false result (engine_view self.old).effort (engine_view self.new).effort }
+        ensures costs { Costs false result (engine_view self.old).effort (engine_view self.new).effort }
+        ensures spent { (engine_view self.new).effort.spent ≤ (engine_view self.old).effort.spent }
         ensures no_memory { (engine_view self.old).next + 1 < 2 ^ 64 → IsErrOf result BlockFault.Memory → ⊥ }
         ensures no_wait { IfOk result (λ a. is_waits a.reply ≡ false) }
         ensures mute_fault { IsErrOf result BlockFault.Say → ⊥ }
@@ -128,17 +132,18 @@ impl<St: Store> Engine<St> {
     /// STORE.
     #[tactic(auto, using(std::proofs::lemmas::Option::gets), unfolding(dms_model::specs::Session::store_step))]
     pub(crate) fn store(&mut self, alloc: Global, i: usize, set: u16) -> Result<Answer, BlockFault>
-        requires outer { IsOuter (structure_of (as_described self.old.desc) set) }
+        requires set { IsDataSet (as_described self.old.desc) set }
         requires place { i < length self.old.programs.items }
         requires sound { (engine_view self.old).sound }
         ensures step { (p : Program) → slice_get self.old.programs.items i ≡ Some p → Does self.old self.new result (λ s. store_step (as_described self.old.desc) i p s set) }
         ensures mute { IsMute (engine_view self.old) (engine_view self.new) }
-        ensures costs { Costs (limit_if true (engine_view self.old).desc) false result (engine_view self.old).effort (engine_view self.new).effort }
+        ensures costs { Costs false result (engine_view self.old).effort (engine_view self.new).effort }
+        ensures spends { (p : Program) → slice_get self.old.programs.items i ≡ Some p → SpendsWhere self.old self.new (λ s. area_count (as_described self.old.desc) p s.db set) }
         ensures idle { IfOk result (λ a. is_waits a.reply ≡ true → (engine_view self.new).effort.spent ≤ (engine_view self.old).effort.spent) }
         ensures mute_fault { IsErrOf result BlockFault.Say → ⊥ }
         ensures file { IfFull result (λ f. f ≡ (engine_view self.old).pace.last) }
         ensures full { (p : Program) → slice_get self.old.programs.items i ≡ Some p → FullFor self.old result (Verb.Store set) (λ s. store_step (as_described self.old.desc) i p s set) }
-        ensures no_point { (p : Program) → slice_get self.old.programs.items i ≡ Some p → NoPointWhere MayStep self.old self.new result (λ s. store_step (as_described self.old.desc) i p s set) }
+        ensures no_point { (p : Program) → slice_get self.old.programs.items i ≡ Some p → NoPointWhere (MayStep (as_described self.old.desc)) self.old self.new result (λ s. store_step (as_described self.old.desc) i p s set) }
         ensures lasts { EngineLasts result self.old self.new }
     {
         if !programs::works(&self.programs[i]) {
@@ -162,17 +167,18 @@ impl<St: Store> Engine<St> {
         i: usize,
         audit: bool,
     ) -> Result<Answer, BlockFault>
-        requires restart { IsOuter (structure_of (as_described self.old.desc) (restart_of (as_described self.old.desc))) }
+        requires restart { IsDataSet (as_described self.old.desc) (restart_of (as_described self.old.desc)) }
         requires place { i < length self.old.programs.items }
         requires sound { (engine_view self.old).sound }
         ensures step { (p : Program) → slice_get self.old.programs.items i ≡ Some p → Does self.old self.new result (λ s. begin_step (as_described self.old.desc) i p s audit) }
         ensures mute { IsMute (engine_view self.old) (engine_view self.new) }
-        ensures costs { Costs (limit_if audit (engine_view self.old).desc) false result (engine_view self.old).effort (engine_view self.new).effort }
+        ensures costs { Costs false result (engine_view self.old).effort (engine_view self.new).effort }
+        ensures spends { (p : Program) → slice_get self.old.programs.items i ≡ Some p → SpendsWhere self.old self.new (λ s. restart_count audit (as_described self.old.desc) p s.db) }
         ensures idle { IfOk result (λ a. is_waits a.reply ≡ true → (engine_view self.new).effort.spent ≤ (engine_view self.old).effort.spent) }
         ensures mute_fault { IsErrOf result BlockFault.Say → ⊥ }
         ensures file { IfFull result (λ f. f ≡ (engine_view self.old).pace.last) }
         ensures full { (p : Program) → slice_get self.old.programs.items i ≡ Some p → FullFor self.old result (Verb.Begin audit) (λ s. begin_step (as_described self.old.desc) i p s audit) }
-        ensures no_point { (p : Program) → slice_get self.old.programs.items i ≡ Some p → NoPointWhere MayStep self.old self.new result (λ s. begin_step (as_described self.old.desc) i p s audit) }
+        ensures no_point { (p : Program) → slice_get self.old.programs.items i ≡ Some p → NoPointWhere (MayStep (as_described self.old.desc)) self.old self.new result (λ s. begin_step (as_described self.old.desc) i p s audit) }
         ensures lasts { EngineLasts result self.old self.new }
     {
         if programs::works(&self.programs[i]) {
@@ -210,18 +216,19 @@ impl<St: Store> Engine<St> {
         audit: bool,
         sync: bool,
     ) -> Result<Answer, BlockFault>
-        requires restart { IsOuter (structure_of (as_described self.old.desc) (restart_of (as_described self.old.desc))) }
+        requires restart { IsDataSet (as_described self.old.desc) (restart_of (as_described self.old.desc)) }
         requires place { i < length self.old.programs.items }
         requires sound { (engine_view self.old).sound }
         ensures step { (p : Program) → slice_get self.old.programs.items i ≡ Some p → Does self.old self.new result (λ s. end_step (as_described self.old.desc) i p s audit sync) }
         ensures mute { IsMute (engine_view self.old) (engine_view self.new) }
-        ensures costs { Costs (limit_if audit (engine_view self.old).desc) false result (engine_view self.old).effort (engine_view self.new).effort }
+        ensures costs { Costs false result (engine_view self.old).effort (engine_view self.new).effort }
+        ensures spends { (p : Program) → slice_get self.old.programs.items i ≡ Some p → SpendsWhere self.old self.new (λ s. restart_count audit (as_described self.old.desc) p s.db) }
         ensures no_memory { audit ≡ false → (engine_view self.old).next + 1 < 2 ^ 64 → IsErrOf result BlockFault.Memory → ⊥ }
         ensures no_wait { IfOk result (λ a. is_waits a.reply ≡ false) }
         ensures mute_fault { IsErrOf result BlockFault.Say → ⊥ }
         ensures file { IfFull result (λ f. f ≡ (engine_view self.old).pace.last) }
         ensures full { (p : Program) → slice_get self.old.programs.items i ≡ Some p → FullFor self.old result (Verb.End audit sync) (λ s. end_step (as_described self.old.desc) i p s audit sync) }
-        ensures no_point { (p : Program) → slice_get self.old.programs.items i ≡ Some p → NoPointWhere MayStep self.old self.new result (λ s. end_step (as_described self.old.desc) i p s audit sync) }
+        ensures no_point { (p : Program) → slice_get self.old.programs.items i ≡ Some p → NoPointWhere (MayStep (as_described self.old.desc)) self.old self.new result (λ s. end_step (as_described self.old.desc) i p s audit sync) }
         ensures lasts { EngineLasts result self.old self.new }
     {
         if !programs::works(&self.programs[i]) {
@@ -246,11 +253,12 @@ impl<St: Store> Engine<St> {
         requires sound { (engine_view self.old).sound }
         ensures step { (p : Program) → slice_get self.old.programs.items i ≡ Some p → Does self.old self.new result (λ s. abort_step i p s) }
         ensures mute { IsMute (engine_view self.old) (engine_view self.new) }
-        ensures costs { Costs (limit_if false (engine_view self.old).desc) true result (engine_view self.old).effort (engine_view self.new).effort }
+        ensures costs { Costs true result (engine_view self.old).effort (engine_view self.new).effort }
+        ensures spent { (engine_view self.new).effort.spent ≤ (engine_view self.old).effort.spent }
         ensures mute_fault { IsErrOf result BlockFault.Say → ⊥ }
         ensures file { IfFull result (λ f. f ≡ 9999) }
         ensures full { (p : Program) → slice_get self.old.programs.items i ≡ Some p → FullFor self.old result Verb.Abort (λ s. abort_step i p s) }
-        ensures no_point { (p : Program) → slice_get self.old.programs.items i ≡ Some p → NoPointWhere MayStep self.old self.new result (λ s. abort_step i p s) }
+        ensures no_point { (p : Program) → slice_get self.old.programs.items i ≡ Some p → NoPointWhere (MayStep (as_described self.old.desc)) self.old self.new result (λ s. abort_step i p s) }
         ensures lasts { EngineLasts result self.old self.new }
     {
         let name = programs::program_name(&self.programs[i]);

@@ -4,14 +4,14 @@ ghost use Rattle.dms_model.specs.Programs.{Program};
 ghost use Rattle.dms_model.specs.Db.{Db};
 ghost use Rattle.dms_model.specs.BackOut.{asks_back_out};
 ghost use Rattle.dms_model.specs.Seen.{IsMute, IsSilent, StaysDurable};
-ghost use Rattle.dms_desc.specs.Lookups.{structure_of};
 ghost use Rattle.dms_findverbs.specs.Seeks.{MetFits, TellsSought};
 ghost use Rattle.dms_findverbs.specs.Shows.{shown_of};
-ghost use Rattle.dms_model.specs.Spoken.{IsOuter};
+ghost use Rattle.dms_model.specs.Fitting.{IsDataSet};
 ghost use Rattle.dms_model.specs.Session.{Session, find_step, get_step, lock_step, sought, verb_step, carried_out, step, is_waits};
 ghost use Rattle.dms_model.specs.Verbs.{IsPathOf, IsVerbOf};
 ghost use Rattle.dms_block.specs.Faults.{IfFull, NotFull, Undamaged};
-ghost use Rattle.dms_storeverbs.specs.Costs.{Costs, block_limit, changes, full_file, takes_none};
+ghost use Rattle.dms_storeverbs.specs.Costs.{Costs, SpendsWhere, changes, full_file, takes_none};
+ghost use Rattle.dms_model.specs.Counting.{counts_of, verb_count};
 ghost use Rattle.dms_storeverbs.specs.Rooms.{FullFor, NoPointWhere};
 ghost use Rattle.dms_storeverbs.specs.View.{Does, EngineLasts, MayStep, SameSession, engine_view};
 
@@ -51,7 +51,7 @@ impl<St: Store> Engine<St> {
     /// The values of a program's area of a data set as GET shows them.
     #[tactic(auto, using(std::proofs::lemmas::Option::gets))]
     fn show(&mut self, alloc: Global, i: usize, set: u16) -> Result<Option<Values>, BlockFault>
-        requires outer { IsOuter (structure_of (as_described self.old.desc) set) }
+        requires set { IsDataSet (as_described self.old.desc) set }
         requires place { i < length self.old.programs.items }
         requires sound { (engine_view self.old).sound }
         ensures shown { IfOk result (λ o. (p : Program) → slice_get self.old.programs.items i ≡ Some p → (d : Db) → (engine_view self.old).db ≡ Some d → o ≡ shown_of (as_described self.old.desc) d p set) }
@@ -76,7 +76,8 @@ impl<St: Store> Engine<St> {
         requires sound { (engine_view self.old).sound }
         ensures step { (p : Program) → slice_get self.old.programs.items i ≡ Some p → Does self.old self.new result (λ s. find_step (as_described self.old.desc) i p s path.now) }
         ensures mute { IsMute (engine_view self.old) (engine_view self.new) }
-        ensures costs { Costs 0 false result (engine_view self.old).effort (engine_view self.new).effort }
+        ensures costs { Costs false result (engine_view self.old).effort (engine_view self.new).effort }
+        ensures spent { (engine_view self.new).effort.spent ≤ (engine_view self.old).effort.spent }
         ensures mute_fault { IsErrOf result BlockFault.Say → ⊥ }
         ensures room { NotFull result }
         ensures lasts { EngineLasts result self.old self.new }
@@ -97,7 +98,8 @@ impl<St: Store> Engine<St> {
         requires sound { (engine_view self.old).sound }
         ensures step { (p : Program) → slice_get self.old.programs.items i ≡ Some p → Does self.old self.new result (λ s. lock_step (as_described self.old.desc) i p s path.now) }
         ensures mute { IsMute (engine_view self.old) (engine_view self.new) }
-        ensures costs { Costs 0 false result (engine_view self.old).effort (engine_view self.new).effort }
+        ensures costs { Costs false result (engine_view self.old).effort (engine_view self.new).effort }
+        ensures spent { (engine_view self.new).effort.spent ≤ (engine_view self.old).effort.spent }
         ensures mute_fault { IsErrOf result BlockFault.Say → ⊥ }
         ensures room { NotFull result }
         ensures lasts { EngineLasts result self.old self.new }
@@ -130,12 +132,13 @@ impl<St: Store> Engine<St> {
         set: u16,
         numbers: &ItemNumbers,
     ) -> Result<Answer, BlockFault>
-        requires outer { IsOuter (structure_of (as_described self.old.desc) set) }
+        requires set { IsDataSet (as_described self.old.desc) set }
         requires place { i < length self.old.programs.items }
         requires sound { (engine_view self.old).sound }
         ensures step { (p : Program) → slice_get self.old.programs.items i ≡ Some p → Does self.old self.new result (λ s. get_step (as_described self.old.desc) i p s set numbers.now) }
         ensures mute { IsMute (engine_view self.old) (engine_view self.new) }
-        ensures costs { Costs 0 false result (engine_view self.old).effort (engine_view self.new).effort }
+        ensures costs { Costs false result (engine_view self.old).effort (engine_view self.new).effort }
+        ensures spent { (engine_view self.new).effort.spent ≤ (engine_view self.old).effort.spent }
         ensures mute_fault { IsErrOf result BlockFault.Say → ⊥ }
         ensures room { NotFull result }
         ensures lasts { EngineLasts result self.old self.new }
@@ -164,7 +167,8 @@ impl<St: Store> Engine<St> {
         requires sound { (engine_view self.old).sound }
         ensures step { (p : Program) → slice_get self.old.programs.items i ≡ Some p → Does self.old self.new result (λ s. verb_step (as_described self.old.desc) i p s verb.now) }
         ensures mute { IsMute (engine_view self.old) (engine_view self.new) }
-        ensures costs { Costs (block_limit (engine_view self.old).desc verb.now) (asks_back_out verb.now) result (engine_view self.old).effort (engine_view self.new).effort }
+        ensures costs { Costs (asks_back_out verb.now) result (engine_view self.old).effort (engine_view self.new).effort }
+        ensures spends { (p : Program) → slice_get self.old.programs.items i ≡ Some p → SpendsWhere self.old self.new (λ s. verb_count (as_described self.old.desc) p s.db verb.now) }
         ensures no_memory { takes_none verb.now ≡ true → (engine_view self.old).next + 1 < 2 ^ 64 → IsErrOf result BlockFault.Memory → ⊥ }
         ensures no_wait { takes_none verb.now ≡ true → IfOk result (λ a. is_waits a.reply ≡ false) }
         ensures idle { IfOk result (λ a. is_waits a.reply ≡ true → (engine_view self.new).effort.spent ≤ (engine_view self.old).effort.spent) }
@@ -172,7 +176,7 @@ impl<St: Store> Engine<St> {
         ensures room { changes verb.now ≡ false → NotFull result }
         ensures file { IfFull result (λ f. f ≡ full_file verb.now (engine_view self.old).pace.last) }
         ensures full { (p : Program) → slice_get self.old.programs.items i ≡ Some p → FullFor self.old result verb.now (λ s. verb_step (as_described self.old.desc) i p s verb.now) }
-        ensures no_point { (p : Program) → slice_get self.old.programs.items i ≡ Some p → NoPointWhere MayStep self.old self.new result (λ s. verb_step (as_described self.old.desc) i p s verb.now) }
+        ensures no_point { (p : Program) → slice_get self.old.programs.items i ≡ Some p → NoPointWhere (MayStep (as_described self.old.desc)) self.old self.new result (λ s. verb_step (as_described self.old.desc) i p s verb.now) }
         ensures lasts { EngineLasts result self.old self.new }
     {
         match verb {
@@ -197,6 +201,10 @@ impl<St: Store> Engine<St> {
             )?),
             Verb::Get(set, numbers) => self.get(alloc, i, *set, numbers),
             Verb::Store(set) => self.store(alloc, i, *set),
+            Verb::Delete(set) => self.delete(alloc, i, *set),
+            Verb::Insert(set, subset) => self.insert(alloc, i, *set, *subset),
+            Verb::Remove(set, subset) => self.remove(alloc, i, *set, *subset),
+            Verb::Assign(to, set, item) => self.assign(alloc, i, *to, *set, *item),
             Verb::Begin(audit) => self.begin(alloc, i, *audit),
             Verb::End(audit, sync) => self.end_transaction(alloc, i, *audit, *sync),
             Verb::Abort => self.abort(alloc, i),
@@ -215,7 +223,8 @@ impl<St: Store> Engine<St> {
         requires sound { (engine_view self.old).sound }
         ensures step { Does self.old self.new result (λ s. carried_out (as_described self.old.desc) s program.now verb.now) }
         ensures mute { IsMute (engine_view self.old) (engine_view self.new) }
-        ensures costs { Costs (block_limit (engine_view self.old).desc verb.now) (asks_back_out verb.now) result (engine_view self.old).effort (engine_view self.new).effort }
+        ensures costs { Costs (asks_back_out verb.now) result (engine_view self.old).effort (engine_view self.new).effort }
+        ensures spends { SpendsWhere self.old self.new (λ s. counts_of (as_described self.old.desc) s program.now verb.now) }
         ensures no_memory { takes_none verb.now ≡ true → (engine_view self.old).next + 1 < 2 ^ 64 → IsErrOf result BlockFault.Memory → ⊥ }
         ensures no_wait { takes_none verb.now ≡ true → IfOk result (λ a. is_waits a.reply ≡ false) }
         ensures idle { IfOk result (λ a. is_waits a.reply ≡ true → (engine_view self.new).effort.spent ≤ (engine_view self.old).effort.spent) }
@@ -223,7 +232,7 @@ impl<St: Store> Engine<St> {
         ensures room { changes verb.now ≡ false → NotFull result }
         ensures file { IfFull result (λ f. f ≡ full_file verb.now (engine_view self.old).pace.last) }
         ensures full { FullFor self.old result verb.now (λ s. carried_out (as_described self.old.desc) s program.now verb.now) }
-        ensures no_point { NoPointWhere MayStep self.old self.new result (λ s. carried_out (as_described self.old.desc) s program.now verb.now) }
+        ensures no_point { NoPointWhere (MayStep (as_described self.old.desc)) self.old self.new result (λ s. carried_out (as_described self.old.desc) s program.now verb.now) }
         ensures lasts { EngineLasts result self.old self.new }
     {
         let i = programs::place_of(self.programs.as_slice(), program);
@@ -237,9 +246,9 @@ impl<St: Store> Engine<St> {
     }
 
     /// One step of a program: its verb, one that a line can spell, is carried out, and its answer ends its wait or begins
-    /// one; DEADLOCK frees its locks. Answers the store's fault, which is never Say, and Full for STORE, BEGIN, END and
-    /// ABORT alone; and Memory where memory is refused. Where the store holds a database, Full comes only of a verb that
-    /// would be done and store a record or make a quiet point, or of such an ABORT. No stop then leaves the verb's quiet
+    /// one; DEADLOCK frees its locks. Answers the store's fault, which is never Say, and Full for STORE, DELETE, INSERT, REMOVE,
+    /// ASSIGN, BEGIN, END and ABORT alone; and Memory where memory is refused. Where the store holds a database, Full comes only of a
+    /// verb that would be done and update or make a quiet point, or of such an ABORT. No stop then leaves the verb's quiet
     /// point, unless a control point was due at the sync of its syncpoint.
     #[tactic(auto, using(std::proofs::lemmas::Option::gets), unfolding(dms_model::specs::Session::step))]
     pub fn call(&mut self, alloc: Global, program: &Name, verb: &Verb) -> Result<Answer, BlockFault>
@@ -247,14 +256,15 @@ impl<St: Store> Engine<St> {
         requires sound { (engine_view self.old).sound }
         ensures step { Does self.old self.new result (λ s. step (as_described self.old.desc) s program.now verb.now) }
         ensures mute { IsMute (engine_view self.old) (engine_view self.new) }
-        ensures costs { Costs (block_limit (engine_view self.old).desc verb.now) (asks_back_out verb.now) result (engine_view self.old).effort (engine_view self.new).effort }
+        ensures costs { Costs (asks_back_out verb.now) result (engine_view self.old).effort (engine_view self.new).effort }
+        ensures spends { SpendsWhere self.old self.new (λ s. counts_of (as_described self.old.desc) s program.now verb.now) }
         ensures no_memory { takes_none verb.now ≡ true → (engine_view self.old).next + 1 < 2 ^ 64 → IsErrOf result BlockFault.Memory → ⊥ }
         ensures idle { IfOk result (λ a. is_waits a.reply ≡ true → (engine_view self.new).effort.spent ≤ (engine_view self.old).effort.spent) }
         ensures mute_fault { IsErrOf result BlockFault.Say → ⊥ }
         ensures room { changes verb.now ≡ false → NotFull result }
         ensures file { IfFull result (λ f. f ≡ full_file verb.now (engine_view self.old).pace.last) }
         ensures full { FullFor self.old result verb.now (λ s. step (as_described self.old.desc) s program.now verb.now) }
-        ensures no_point { NoPointWhere MayStep self.old self.new result (λ s. step (as_described self.old.desc) s program.now verb.now) }
+        ensures no_point { NoPointWhere (MayStep (as_described self.old.desc)) self.old self.new result (λ s. step (as_described self.old.desc) s program.now verb.now) }
         ensures lasts { EngineLasts result self.old self.new }
     {
         let answer = self.carry_out(alloc, program, verb)?;

@@ -5,4 +5,4 @@ use Rattle.dms_plain.specs.Rows.{entries_of}
 use Rattle.dms_plain.proofs.clash.clash.Given as goal
 
 abbrev pub invariant-loop-s : goal.invariant-loop-s
-invariant-loop-s l = clash_in (map shape_of (drop l.s-index l.structures)) (entries_of l.rows) l.set l.number l.rec ≡ clash_in (map shape_of l.structures) (entries_of l.rows) l.set l.number l.rec
+invariant-loop-s l = clash_in (map shape_of (drop l.s-index l.structures)) l.manual.entries (entries_of l.rows) l.set l.number l.rec ≡ clash_in (map shape_of l.structures) l.manual.entries (entries_of l.rows) l.set l.number l.rec

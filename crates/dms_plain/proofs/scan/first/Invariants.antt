@@ -6,4 +6,4 @@ use Rattle.dms_plain.specs.Scans.{spot_at, soonest}
 use Rattle.dms_plain.proofs.scan.first.Given as goal
 
 abbrev pub invariant-loop-k : goal.invariant-loop-k
-invariant-loop-k l = spot_at (shape_of l.s) (option_copied l.best) ≡ soonest (shape_of l.s) l.owner l.from (entries_of (drop (length l.rows - l.k) l.rows))
+invariant-loop-k l = spot_at (shape_of l.s) (option_copied l.best) ≡ soonest (shape_of l.s) l.manual.entries l.owner l.from (entries_of (drop (length l.rows - l.k) l.rows))

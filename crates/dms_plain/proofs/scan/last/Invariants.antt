@@ -6,4 +6,4 @@ use Rattle.dms_plain.specs.Scans.{spot_at, latest}
 use Rattle.dms_plain.proofs.scan.last.Given as goal
 
 abbrev pub invariant-loop-k : goal.invariant-loop-k
-invariant-loop-k l = spot_at (shape_of l.s) (option_copied l.best) ≡ latest (shape_of l.s) l.owner l.upto (entries_of (drop (length l.rows - l.k) l.rows))
+invariant-loop-k l = spot_at (shape_of l.s) (option_copied l.best) ≡ latest (shape_of l.s) l.manual.entries l.owner l.upto (entries_of (drop (length l.rows - l.k) l.rows))

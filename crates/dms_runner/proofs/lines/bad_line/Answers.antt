@@ -6,6 +6,7 @@ use Rattle.dms_script.specs.Replies.{bad_text}
 use Rattle.dms_runner.specs.Events.{says}
 use Rattle.dms_runner.proofs.Verbs.{held_under}
 use Rattle.dms_runner.proofs.Answered.{says_nothing_more}
+use Rattle.dms_runner.proofs.InOrder.{order_under}
 use Rattle.dms_runner.proofs.Happening.{undamaged_by, ran_says, part_none, part_says, part_of_first, part_on, part_err, cut_as, had_room, say_failed}
 use Rattle.dms_runner.proofs.Lining.{goes_retried, retries_from, retries_part_from}
 use Rattle.dms_runner.proofs.lines.bad_line.Goals as goal
@@ -31,7 +32,7 @@ returns-in_err-retry_all-clause-part g c = λ now stands same line may.
     let text : c.as_slice.result.now ≡ bad_text now.line c.args.place = c.as_slice.ensures ∙ c.in_ok-text.ensures ∙ ap (λ (n : ℕ). bad_text n c.args.place) (sym line) in
     let said = ran_says _ _ _ _ text c.say.ensures.lasts.causes.tells c.say.ensures.lasts.causes.whole c.say.ensures.lasts.causes.desc c.say.ensures.lasts.causes.pace c.say.ensures.effort (undamaged_by _ (engine_view c.say.new.self) c.say.result c.say.ensures.undamaged c.say.ensures.lasts.causes.cause) c.in_ok-say.ensures.text c.say.ensures.part c.in_ok-say.ensures.keeps room' in
     part_on _ _ _ (says (bad_text now.line c.args.place) ∷ []) _ said (says_nothing_more _)
-    (retries_part_from _ _ now.session _ _ _ _ (ap as_described c.say.ensures.lasts.description) (sym same) (part_err (Unit {0}) c.from_residual-in_err-retry_all.result _ _ _ _ c.from_residual-in_err-retry_all.ensures.1 (c.in_err-retry_all.ensures.part now.session (c.in_ok-say.ensures.stands now.session stands) (omega (arith, may.room, ap length same)) may.exclusive)))
+    (retries_part_from _ _ now.session _ _ _ _ (ap as_described c.say.ensures.lasts.description) (sym same) (part_err (Unit {0}) c.from_residual-in_err-retry_all.result _ _ _ _ c.from_residual-in_err-retry_all.ensures.1 (c.in_err-retry_all.ensures.part now.session (c.in_ok-say.ensures.stands now.session stands) (omega (arith, may.room, ap length same)) (order_under (ap as_described (sym c.say.ensures.lasts.description)) may.order))))
 
 pub returns-clause-lined : goal.returns-clause-lined
 returns-clause-lined g c = λ now stands same line may.
@@ -39,7 +40,7 @@ returns-clause-lined g c = λ now stands same line may.
     let text : c.as_slice.result.now ≡ bad_text now.line c.args.place = c.as_slice.ensures ∙ c.in_ok-text.ensures ∙ ap (λ (n : ℕ). bad_text n c.args.place) (sym line) in
     let said = ran_says _ _ _ _ text c.say.ensures.lasts.causes.tells c.say.ensures.lasts.causes.whole c.say.ensures.lasts.causes.desc c.say.ensures.lasts.causes.pace c.say.ensures.effort (undamaged_by _ (engine_view c.say.new.self) c.say.result c.say.ensures.undamaged c.say.ensures.lasts.causes.cause) c.in_ok-say.ensures.text c.say.ensures.part c.in_ok-say.ensures.keeps room' in
     goes_retried _ now now.session (says (bad_text now.line c.args.place) ∷ []) _ _ _ _ _ said
-    (retries_from _ _ now.session _ _ _ _ _ _ (ap as_described c.say.ensures.lasts.description) (sym same) (c.in_ok-retry_all.ensures.retries now.session (c.in_ok-say.ensures.stands now.session stands) (omega (arith, may.room, ap length same)) may.exclusive))
+    (retries_from _ _ now.session _ _ _ _ _ _ (ap as_described c.say.ensures.lasts.description) (sym same) (c.in_ok-retry_all.ensures.retries now.session (c.in_ok-say.ensures.stands now.session stands) (omega (arith, may.room, ap length same)) (order_under (ap as_described (sym c.say.ensures.lasts.description)) may.order)))
 
 pub returns-clause-part : goal.returns-clause-part
 returns-clause-part g c = λ now stands same line may.
@@ -47,4 +48,4 @@ returns-clause-part g c = λ now stands same line may.
     let text : c.as_slice.result.now ≡ bad_text now.line c.args.place = c.as_slice.ensures ∙ c.in_ok-text.ensures ∙ ap (λ (n : ℕ). bad_text n c.args.place) (sym line) in
     let said = ran_says _ _ _ _ text c.say.ensures.lasts.causes.tells c.say.ensures.lasts.causes.whole c.say.ensures.lasts.causes.desc c.say.ensures.lasts.causes.pace c.say.ensures.effort (undamaged_by _ (engine_view c.say.new.self) c.say.result c.say.ensures.undamaged c.say.ensures.lasts.causes.cause) c.in_ok-say.ensures.text c.say.ensures.part c.in_ok-say.ensures.keeps room' in
     part_on _ _ _ (says (bad_text now.line c.args.place) ∷ []) _ said (says_nothing_more _)
-    (retries_part_from _ _ now.session _ _ _ _ (ap as_described c.say.ensures.lasts.description) (sym same) (c.in_ok-retry_all.ensures.part now.session (c.in_ok-say.ensures.stands now.session stands) (omega (arith, may.room, ap length same)) may.exclusive))
+    (retries_part_from _ _ now.session _ _ _ _ (ap as_described c.say.ensures.lasts.description) (sym same) (c.in_ok-retry_all.ensures.part now.session (c.in_ok-say.ensures.stands now.session stands) (omega (arith, may.room, ap length same)) (order_under (ap as_described (sym c.say.ensures.lasts.description)) may.order)))

@@ -3,11 +3,10 @@ use Rattle.dms_block.specs.declared.block_fault.BlockFault.TheVariants.{Memory}
 use Rattle.dms_desc.specs.Shape.{as_described}
 use Rattle.dms_runner.specs.Events.{fate_of, PerformsPrefix}
 use Rattle.dms_storeverbs.specs.View.{engine_view, view, StandsFor}
-use Rattle.dms_model.specs.Session.{step}
 use Rattle.dms_script.specs.declared.line.Line.TheVariants.{Verb as Spoken}
 use Rattle.dms_runner.specs.declared.waiting.WaitingLine.{WaitingLine as LineWaiting}
 use Rattle.dms_runner.specs.Waiting.{has_line}
-use Rattle.dms_runner.specs.Answers.{RunState, LineEffect, MayTakeLine, first_line, first_try_effect, line_effect}
+use Rattle.dms_runner.specs.Answers.{RunState, LineEffect, MayTakeLine, first_line, line_effect, tried_first}
 use Rattle.dms_runner.specs.Trying.{MatchesLine}
 use Rattle.dms_runner.proofs.Always.{then_ok}
 use Rattle.dms_runner.proofs.Happening.{ran_none, part_none, had_room}
@@ -18,8 +17,8 @@ use Rattle.dms_runner.proofs.lines.spoken_line.Goals as goal
 
 pub returns-then-not-has_line-clause-lined : goal.returns-then-not-has_line-clause-lined
 returns-then-not-has_line-clause-lined g c = then_ok c.first_try.result
-    (λ on. (now : RunState) → StandsFor (view c.args.engine.now) now.session → now.waiting ≡ (lines_of c.args.waiting.now) → now.line ≡ c.args.line → MayTakeLine now → MatchesLine (first_try_effect (as_described c.args.engine.now.desc) now c.args.name c.args.verb (step (as_described c.args.engine.now.desc) now.session c.args.name c.args.verb)) on (view c.first_try.new.engine) (lines_of c.first_try.new.waiting) (engine_view c.args.engine.now) (engine_view c.first_try.new.engine))
-    (λ on. (now : RunState) → StandsFor (view c.args.engine.now) now.session → now.waiting ≡ (lines_of c.args.waiting.now) → now.line ≡ c.args.line → MayTakeLine now → MatchesLine (line_effect (as_described c.args.engine.now.desc) now (Spoken c.args.name c.args.verb)) on (view c.first_try.new.engine) (lines_of c.first_try.new.waiting) (engine_view c.args.engine.now) (engine_view c.first_try.new.engine))
+    (λ on. (now : RunState) → StandsFor (view c.args.engine.now) now.session → now.waiting ≡ (lines_of c.args.waiting.now) → now.line ≡ c.args.line → MayTakeLine (as_described c.args.engine.now.desc) now → MatchesLine (tried_first (as_described c.args.engine.now.desc) now c.args.name c.args.verb) on (view c.first_try.new.engine) (lines_of c.first_try.new.waiting) (engine_view c.args.engine.now) (engine_view c.first_try.new.engine))
+    (λ on. (now : RunState) → StandsFor (view c.args.engine.now) now.session → now.waiting ≡ (lines_of c.args.waiting.now) → now.line ≡ c.args.line → MayTakeLine (as_described c.args.engine.now.desc) now → MatchesLine (line_effect (as_described c.args.engine.now.desc) now (Spoken c.args.name c.args.verb)) on (view c.first_try.new.engine) (lines_of c.first_try.new.waiting) (engine_view c.args.engine.now) (engine_view c.first_try.new.engine))
     (λ on lined now stands same line may.
     let has : has_line now.waiting c.args.name ≡ false = ap (λ (l : List LineWaiting). has_line l c.args.name) same ∙ sym c.has_line.ensures ∙ c.if-not-has_line.true in
     subst (λ (l : LineEffect). MatchesLine l on (view c.first_try.new.engine) (lines_of c.first_try.new.waiting) (engine_view c.args.engine.now) (engine_view c.first_try.new.engine)) (sym (spoken_tried (as_described c.args.engine.now.desc) now c.args.name c.args.verb has)) (lined now stands same line may))

@@ -1,4 +1,5 @@
 use Rattle.std.proofs.Common.{◌≡◌, ◌+◌, ◌∙◌, ℕ, List, true, sym, ap, subst, take}
+use Rattle.dms_block.specs.declared.block_fault.BlockFault.TheVariants.{Memory}
 use Rattle.dms_desc.specs.declared.description.Description.{Description}
 use Rattle.dms_desc.specs.Shape.{as_described}
 use Rattle.dms_runner.specs.Events.{fate_of, PerformsPrefix}
@@ -8,12 +9,15 @@ use Rattle.dms_script.specs.Lines.{line_of}
 use Rattle.dms_runner.specs.Answers.{RunState, LineEffect, MayTakeLine, line_step, line_effect, one_line_more}
 use Rattle.dms_runner.specs.Trying.{MatchesLine}
 use Rattle.dms_runner.proofs.Always.{then_ok}
-use Rattle.dms_runner.proofs.Exclusive.{line_more}
-use Rattle.dms_runner.proofs.Happening.{part_none}
+use Rattle.dms_runner.proofs.InOrder.{line_more}
+use Rattle.dms_runner.proofs.Happening.{had_room, part_none}
 use Rattle.dms_runner.proofs.LineVerbs.{line_verb}
 use Rattle.dms_runner.proofs.Lining.{goes_empty, line_is}
 use Rattle.dms_runner.specs.Firsts.{lines_of}
 use Rattle.dms_runner.proofs.lines.take_line.Goals as goal
+
+pub returns-in_err-read_line-clause-part : goal.returns-in_err-read_line-clause-part
+returns-in_err-read_line-clause-part g c = λ now whole raw stands same line may. part_none (had_room c.from_residual.result Memory c.from_residual.ensures.1 tt) _ _
 
 pub returns-in-Empty-clause-lined : goal.returns-in-Empty-clause-lined
 returns-in-Empty-clause-lined g c = λ now whole raw stands same line may.
@@ -25,8 +29,8 @@ returns-in-Empty-clause-part g c = λ now whole raw stands same line may. part_n
 
 pub returns-in-Bad-clause-lined : goal.returns-in-Bad-clause-lined
 returns-in-Bad-clause-lined g c = then_ok c.bad_line.result
-    (λ on. (now : RunState) → StandsFor (view c.args.engine.now) now.session → now.waiting ≡ (lines_of c.args.waiting.now) → now.line ≡ c.args.line → MayTakeLine now → MatchesLine (line_effect (as_described c.args.engine.now.desc) now (Bad c.in-Bad.place)) on (view c.bad_line.new.engine) (lines_of c.bad_line.new.waiting) (engine_view c.args.engine.now) (engine_view c.bad_line.new.engine))
-    (λ on. (now : RunState) (whole : List ℕ) → c.args.raw.now ≡ take 2003 whole → StandsFor (view c.args.engine.now) now.session → now.waiting ≡ (lines_of c.args.waiting.now) → now.line + 1 ≡ c.args.line → MayTakeLine now → MatchesLine (line_step (as_described c.args.engine.now.desc) now whole) on (view c.bad_line.new.engine) (lines_of c.bad_line.new.waiting) (engine_view c.args.engine.now) (engine_view c.bad_line.new.engine))
+    (λ on. (now : RunState) → StandsFor (view c.args.engine.now) now.session → now.waiting ≡ (lines_of c.args.waiting.now) → now.line ≡ c.args.line → MayTakeLine (as_described c.args.engine.now.desc) now → MatchesLine (line_effect (as_described c.args.engine.now.desc) now (Bad c.in-Bad.place)) on (view c.bad_line.new.engine) (lines_of c.bad_line.new.waiting) (engine_view c.args.engine.now) (engine_view c.bad_line.new.engine))
+    (λ on. (now : RunState) (whole : List ℕ) → c.args.raw.now ≡ take 2003 whole → StandsFor (view c.args.engine.now) now.session → now.waiting ≡ (lines_of c.args.waiting.now) → now.line + 1 ≡ c.args.line → MayTakeLine (as_described c.args.engine.now.desc) now → MatchesLine (line_step (as_described c.args.engine.now.desc) now whole) on (view c.bad_line.new.engine) (lines_of c.bad_line.new.waiting) (engine_view c.args.engine.now) (engine_view c.bad_line.new.engine))
     (λ on lined now whole raw stands same line may.
     let e : line_step (as_described c.args.engine.now.desc) now whole ≡ line_effect (as_described c.args.engine.now.desc) (one_line_more now) (Bad c.in-Bad.place) = line_is (as_described c.args.engine.now.desc) now whole c.args.raw.now c.line_text.result.now (Bad c.in-Bad.place) raw c.line_text.ensures (sym c.in-Bad.is ∙ c.in_ok-read_line.ensures ∙ ap (λ (d : Description). line_of (as_described d) c.line_text.result.now) c.description.ensures) in
     subst (λ (l : LineEffect). MatchesLine l on (view c.bad_line.new.engine) (lines_of c.bad_line.new.waiting) (engine_view c.args.engine.now) (engine_view c.bad_line.new.engine)) (sym e) (lined (one_line_more now) stands same line (line_more may)))
@@ -44,8 +48,8 @@ spoken_line-requires-clause-verb g c =
 
 pub returns-in-Verb-clause-lined : goal.returns-in-Verb-clause-lined
 returns-in-Verb-clause-lined g c = then_ok c.spoken_line.result
-    (λ on. (now : RunState) → StandsFor (view c.args.engine.now) now.session → now.waiting ≡ (lines_of c.args.waiting.now) → now.line ≡ c.args.line → MayTakeLine now → MatchesLine (line_effect (as_described c.args.engine.now.desc) now (Spoken c.in-Verb.name c.in-Verb.verb)) on (view c.spoken_line.new.engine) (lines_of c.spoken_line.new.waiting) (engine_view c.args.engine.now) (engine_view c.spoken_line.new.engine))
-    (λ on. (now : RunState) (whole : List ℕ) → c.args.raw.now ≡ take 2003 whole → StandsFor (view c.args.engine.now) now.session → now.waiting ≡ (lines_of c.args.waiting.now) → now.line + 1 ≡ c.args.line → MayTakeLine now → MatchesLine (line_step (as_described c.args.engine.now.desc) now whole) on (view c.spoken_line.new.engine) (lines_of c.spoken_line.new.waiting) (engine_view c.args.engine.now) (engine_view c.spoken_line.new.engine))
+    (λ on. (now : RunState) → StandsFor (view c.args.engine.now) now.session → now.waiting ≡ (lines_of c.args.waiting.now) → now.line ≡ c.args.line → MayTakeLine (as_described c.args.engine.now.desc) now → MatchesLine (line_effect (as_described c.args.engine.now.desc) now (Spoken c.in-Verb.name c.in-Verb.verb)) on (view c.spoken_line.new.engine) (lines_of c.spoken_line.new.waiting) (engine_view c.args.engine.now) (engine_view c.spoken_line.new.engine))
+    (λ on. (now : RunState) (whole : List ℕ) → c.args.raw.now ≡ take 2003 whole → StandsFor (view c.args.engine.now) now.session → now.waiting ≡ (lines_of c.args.waiting.now) → now.line + 1 ≡ c.args.line → MayTakeLine (as_described c.args.engine.now.desc) now → MatchesLine (line_step (as_described c.args.engine.now.desc) now whole) on (view c.spoken_line.new.engine) (lines_of c.spoken_line.new.waiting) (engine_view c.args.engine.now) (engine_view c.spoken_line.new.engine))
     (λ on lined now whole raw stands same line may.
     let e : line_step (as_described c.args.engine.now.desc) now whole ≡ line_effect (as_described c.args.engine.now.desc) (one_line_more now) (Spoken c.in-Verb.name c.in-Verb.verb) = line_is (as_described c.args.engine.now.desc) now whole c.args.raw.now c.line_text.result.now (Spoken c.in-Verb.name c.in-Verb.verb) raw c.line_text.ensures (sym c.in-Verb.is ∙ c.in_ok-read_line.ensures ∙ ap (λ (d : Description). line_of (as_described d) c.line_text.result.now) c.description.ensures) in
     subst (λ (l : LineEffect). MatchesLine l on (view c.spoken_line.new.engine) (lines_of c.spoken_line.new.waiting) (engine_view c.args.engine.now) (engine_view c.spoken_line.new.engine)) (sym e) (lined (one_line_more now) stands same line (line_more may)))

@@ -7,7 +7,6 @@ use Rattle.std.proofs.lemmas.Option.{get_or_from_slice_get, slice_get_within}
 use Rattle.dms_desc.specs.declared.description.Description.{Description}
 use Rattle.dms_desc.specs.Shape.{as_described}
 use Rattle.dms_runner.specs.Events.{fate_of, PerformsPrefix}
-use Rattle.dms_model.specs.Session.{step}
 use Rattle.dms_storeverbs.specs.View.{engine_view, view}
 use Rattle.dms_runner.specs.declared.waiting.WaitingLine.{WaitingLine as LineWaiting}
 use Rattle.dms_runner.specs.Firsts.{lines_of, standing}
@@ -16,7 +15,8 @@ use Rattle.dms_runner.specs.Trying.{PerformsTry}
 use Rattle.dms_runner.proofs.Firsts.{standing_on}
 use Rattle.dms_runner.proofs.Passes.{passing_as, passing_start, passing_reach, passing_wait, passing_answered, passing_end, passing_part}
 use Rattle.dms_runner.proofs.Splits.{first_in_slot, reach, reach_none, slot_is, split_first, split_next, split_start}
-use Rattle.dms_runner.proofs.Verbs.{held_out, held_said, verbs_under}
+use Rattle.dms_runner.proofs.InOrder.{may_under}
+use Rattle.dms_runner.proofs.Verbs.{held_out, held_said, verb_of, verbs_under}
 use Rattle.dms_runner.proofs.Happening.{had_room, part_all, part_err}
 use Rattle.dms_runner.proofs.retrying.pass.Goals as goal
 
@@ -25,7 +25,7 @@ loop-j-init g c = record {
   lasts = lasts_none g.met.St.Store.same_again _ c.requires.sound;
   verbs = c.requires.verbs.verbs;
   firsts = refl;
-  passing = (split_start c.args.waiting.now c.requires.verbs.firsts, λ s stands may. passing_start _ s _ _ _ stands may);
+  passing = (split_start c.args.waiting.now c.requires.verbs.firsts, λ s stands may. passing_start _ s _ _ _ stands c.args.engine.now.formed may);
 }
 
 pub try_at-requires-clause-verbs : goal.try_at-requires-clause-verbs
@@ -45,7 +45,7 @@ returns-in_err-try_at-clause-part g c = λ s stands may.
     let has : has_line (standing f.behind) f.line.program ≡ false = f.same f.line.program ∙ f.new in
     let p = passing_reach (as_described c.args.engine.now.desc) s (lines_of c.args.waiting.now) w c.loop-j.j cut.0 r _ _ _ (cut.1 s stands may) in
     passing_part (as_described c.args.engine.now.desc) s (lines_of c.args.waiting.now) (standing f.behind) f.line (standing f.ahead) _ _ _ _ has p
-    (subst (λ (d : Description). PerformsPrefix (fate_of c.from_residual.result) (engine_view c.loop-j.engine) (engine_view c.try_at.new.engine) (tries f.line (step (as_described d) p.at f.line.program f.line.verb))) c.loop-j.invariant.lasts.description (part_err Bool c.from_residual.result _ _ _ _ c.from_residual.ensures.1 (c.in_err-try_at.ensures.part f.line at p.at p.stands p.may)))
+    (subst (λ (d : Description). PerformsPrefix (fate_of c.from_residual.result) (engine_view c.loop-j.engine) (engine_view c.try_at.new.engine) (tries (as_described d) p.at f.line)) c.loop-j.invariant.lasts.description (part_err Bool c.from_residual.result _ _ _ _ c.from_residual.ensures.1 (c.in_err-try_at.ensures.part f.line at p.at p.stands (may_under (ap as_described (sym c.loop-j.invariant.lasts.description)) p.may))))
 
 pub take_out-requires-clause-slot : goal.take_out-requires-clause-slot
 take_out-requires-clause-slot g c = λ x is.
@@ -83,7 +83,7 @@ returns-in_err-take_out-clause-part g c = λ s stands may.
     let has : has_line (standing f.behind) f.line.program ≡ false = f.same f.line.program ∙ f.new in
     let p = passing_reach (as_described c.args.engine.now.desc) s (lines_of c.args.waiting.now) w c.loop-j.j cut.0 r _ _ _ (cut.1 s stands may) in
     let done = passing_answered (as_described c.args.engine.now.desc) s (lines_of c.args.waiting.now) (standing f.behind) f.line (standing f.ahead) _ _ _ _ _ _ _ has c.if-branch.true refl p
-    (subst (λ (d : Description). PerformsTry (step (as_described d) p.at f.line.program f.line.verb) f.line c.in_ok-try_at.field-0 (view c.try_at.new.engine) (engine_view c.loop-j.engine) (engine_view c.try_at.new.engine)) c.loop-j.invariant.lasts.description (c.in_ok-try_at.ensures.tried f.line at p.at p.stands p.may)) in
+    (subst (λ (d : Description). PerformsTry (as_described d) p.at f.line c.in_ok-try_at.field-0 (view c.try_at.new.engine) (engine_view c.loop-j.engine) (engine_view c.try_at.new.engine)) c.loop-j.invariant.lasts.description (c.in_ok-try_at.ensures.tried f.line at p.at p.stands (may_under (ap as_described (sym c.loop-j.invariant.lasts.description)) p.may))) in
     part_all (had_room c.from_residual-in_err-take_out.result Memory c.from_residual-in_err-take_out.ensures.1 tt) _ _ _ done.ran
 
 pub returns-then-branch-clause-passes : goal.returns-then-branch-clause-passes
@@ -99,7 +99,7 @@ returns-then-branch-clause-passes g c = λ s stands may.
     let has : has_line (standing f.behind) f.line.program ≡ false = f.same f.line.program ∙ f.new in
     let p = passing_reach (as_described c.args.engine.now.desc) s (lines_of c.args.waiting.now) w c.loop-j.j cut.0 r _ _ _ (cut.1 s stands may) in
     passing_answered (as_described c.args.engine.now.desc) s (lines_of c.args.waiting.now) (standing f.behind) f.line (standing f.ahead) _ _ _ _ _ _ _ has c.if-branch.true (c.in_ok-take_out.ensures.lines f) p
-    (subst (λ (d : Description). PerformsTry (step (as_described d) p.at f.line.program f.line.verb) f.line c.in_ok-try_at.field-0 (view c.try_at.new.engine) (engine_view c.loop-j.engine) (engine_view c.try_at.new.engine)) c.loop-j.invariant.lasts.description (c.in_ok-try_at.ensures.tried f.line at p.at p.stands p.may))
+    (subst (λ (d : Description). PerformsTry (as_described d) p.at f.line c.in_ok-try_at.field-0 (view c.try_at.new.engine) (engine_view c.loop-j.engine) (engine_view c.try_at.new.engine)) c.loop-j.invariant.lasts.description (c.in_ok-try_at.ensures.tried f.line at p.at p.stands (may_under (ap as_described (sym c.loop-j.invariant.lasts.description)) p.may)))
 
 pub returns-then-branch-clause-part : goal.returns-then-branch-clause-part
 returns-then-branch-clause-part g c = λ s stands may.
@@ -114,7 +114,7 @@ returns-then-branch-clause-part g c = λ s stands may.
     let has : has_line (standing f.behind) f.line.program ≡ false = f.same f.line.program ∙ f.new in
     let p = passing_reach (as_described c.args.engine.now.desc) s (lines_of c.args.waiting.now) w c.loop-j.j cut.0 r _ _ _ (cut.1 s stands may) in
     let done = passing_answered (as_described c.args.engine.now.desc) s (lines_of c.args.waiting.now) (standing f.behind) f.line (standing f.ahead) _ _ _ _ _ _ _ has c.if-branch.true refl p
-    (subst (λ (d : Description). PerformsTry (step (as_described d) p.at f.line.program f.line.verb) f.line c.in_ok-try_at.field-0 (view c.try_at.new.engine) (engine_view c.loop-j.engine) (engine_view c.try_at.new.engine)) c.loop-j.invariant.lasts.description (c.in_ok-try_at.ensures.tried f.line at p.at p.stands p.may)) in
+    (subst (λ (d : Description). PerformsTry (as_described d) p.at f.line c.in_ok-try_at.field-0 (view c.try_at.new.engine) (engine_view c.loop-j.engine) (engine_view c.try_at.new.engine)) c.loop-j.invariant.lasts.description (c.in_ok-try_at.ensures.tried f.line at p.at p.stands (may_under (ap as_described (sym c.loop-j.invariant.lasts.description)) p.may))) in
     part_all (λ n none. none) _ _ _ done.ran
 
 pub returns-then-branch-clause-verbs : goal.returns-then-branch-clause-verbs
@@ -151,8 +151,8 @@ loop-j-preserved g c =
         λ s stands may.
             let p = passing_reach (as_described c.args.engine.now.desc) s (lines_of c.args.waiting.now) w c.loop-j.j cut.0 r _ _ _ (cut.1 s stands may) in
             passing_as (as_described c.args.engine.now.desc) s (lines_of c.args.waiting.now) (standing f.behind ++ said_to_wait f.line ∷ []) (standing f.ahead) (standing next.split.behind) (standing next.split.ahead) _ _ _ (λ t. ap (λ (l : List LineWaiting). retry (as_described c.args.engine.now.desc) t l (standing f.ahead)) (sym next.is_behind) ∙ ap (λ (l : List (Option LineWaiting)). retry (as_described c.args.engine.now.desc) t (standing next.split.behind) (standing l)) (sym next.is_ahead))
-            (passing_wait (as_described c.args.engine.now.desc) s (lines_of c.args.waiting.now) (standing f.behind) f.line (standing f.ahead) _ _ _ _ _ _ has c.if-branch.false p
-            (subst (λ (d : Description). PerformsTry (step (as_described d) p.at f.line.program f.line.verb) f.line c.in_ok-try_at.field-0 (view c.try_at.new.engine) (engine_view c.loop-j.engine) (engine_view c.try_at.new.engine)) c.loop-j.invariant.lasts.description (c.in_ok-try_at.ensures.tried f.line at p.at p.stands p.may))),
+            (passing_wait (as_described c.args.engine.now.desc) s (lines_of c.args.waiting.now) (standing f.behind) f.line (standing f.ahead) _ _ _ _ _ _ has c.if-branch.false (verb_of (as_described c.args.engine.now.desc) w c.loop-j.j f c.loop-j.invariant.verbs) p
+            (subst (λ (d : Description). PerformsTry (as_described d) p.at f.line c.in_ok-try_at.field-0 (view c.try_at.new.engine) (engine_view c.loop-j.engine) (engine_view c.try_at.new.engine)) c.loop-j.invariant.lasts.description (c.in_ok-try_at.ensures.tried f.line at p.at p.stands (may_under (ap as_described (sym c.loop-j.invariant.lasts.description)) p.may)))),
       );
     }
 

@@ -13,5 +13,5 @@ invariant-loop-j g l = record {
   lasts : Lasted l.fn.engine l.engine;
   verbs : AreVerbs (as_described l.fn.engine.desc) (lines_of l.waiting);
   firsts : l.waiting.firsts ≡ l.fn.waiting.firsts;
-  passing : (c : Split l.waiting l.j) × ((s : Session) → StandsFor (view l.fn.engine) s → MayStep s → Passing (as_described l.fn.engine.desc) s (lines_of l.fn.waiting) (standing c.behind) (standing c.ahead) (view l.engine) (engine_view l.fn.engine) (engine_view l.engine));
+  passing : (c : Split l.waiting l.j) × ((s : Session) → StandsFor (view l.fn.engine) s → MayStep (as_described l.fn.engine.desc) s → Passing (as_described l.fn.engine.desc) s (lines_of l.fn.waiting) (standing c.behind) (standing c.ahead) (view l.engine) (engine_view l.fn.engine) (engine_view l.engine));
 }

@@ -26,7 +26,7 @@ loop-line-init g c = record {
   few = omega arith;
   read = λ all remains. read_start all _ _ remains;
   ended = λ all remains. tt;
-  runs = λ db first all stands small remains. subst (λ (hs : List WaitingLine). RunsLines (as_described c.args.engine.now.desc) (first_state db first) 0 2147483648 all (view c.args.engine.now) hs c.args.feed.now (g.I.Source.left c.args.source.now) (engine_view c.args.engine.now) (engine_view c.args.engine.now)) (sym c.requires.none) (runs_start _ db first all _ _ _ _ stands remains);
+  runs = λ db first all stands small remains. subst (λ (hs : List WaitingLine). RunsLines (as_described c.args.engine.now.desc) (first_state db first) 0 2147483648 all (view c.args.engine.now) hs c.args.feed.now (g.I.Source.left c.args.source.now) (engine_view c.args.engine.now) (engine_view c.args.engine.now)) (sym c.requires.none) (runs_start _ c.args.engine.now.formed db first all _ _ _ _ stands remains);
 }
 
 pub one_line-requires-clause-verbs : goal.one_line-requires-clause-verbs
@@ -49,15 +49,15 @@ loop-line-preserved g c =
       ended = λ all remains. let r = c.loop-line.invariant.read all remains in read_ended r (read r.rest r.remains).some (end r.rest r.remains) (c.loop-line.invariant.ended all remains);
       runs = λ db first all stands small remains.
           let r = c.loop-line.invariant.runs db first all stands small remains in
-          (takes_on c.args.engine.now c.loop-line.engine db first all _ _ _ _ _ r c.one_line.new.engine c.loop-line.invariant.lasts.description (read r.read.rest r.read.remains) (at_next c.args.engine.now c.loop-line.engine db first all _ _ _ _ _ r took few small)).0;
+          (takes_on c.args.engine.now c.loop-line.engine db first all _ _ _ _ _ r c.one_line.new.engine c.loop-line.invariant.lasts.description (read r.read.rest r.read.remains) (at_next c.args.engine.now c.loop-line.engine db first all _ _ _ _ _ r c.loop-line.invariant.lasts.description took few small)).0;
     }
 
 pub returns-in-Err-clause-stops : goal.returns-in-Err-clause-stops
 returns-in-Err-clause-stops g c = λ _ db first all stands small remains.
     let few : c.loop-line.line < 1000000 = omega (arith, c.loop-line-test.true) in
     let r = c.loop-line.invariant.runs db first all stands small remains in
-    stops_at c.args.engine.now c.loop-line.engine db first all _ _ _ _ _ r c.in-Err.fault _ c.one_line.new.engine c.loop-line.invariant.lasts.description few (c.loop-line.invariant.ended all remains) (λ f is. at_next c.args.engine.now c.loop-line.engine db first all _ _ _ _ _ r (c.in-Err.ensures.part f is) few small) c.in-Err.ensures.untouched
-    (λ is. c.in-Err.ensures.bytes is r.read.rest r.read.remains) (λ is. at_next c.args.engine.now c.loop-line.engine db first all _ _ _ _ _ r (c.in-Err.ensures.full_list is) few small) c.in-Err.ensures.no_lines (λ is. c.in-Err.ensures.failed is r.read.rest r.read.remains)
+    stops_at c.args.engine.now c.loop-line.engine db first all _ _ _ _ _ r c.in-Err.fault _ c.one_line.new.engine c.loop-line.invariant.lasts.description few (c.loop-line.invariant.ended all remains) (λ f is. at_next c.args.engine.now c.loop-line.engine db first all _ _ _ _ _ r c.loop-line.invariant.lasts.description (c.in-Err.ensures.part f is) few small) c.in-Err.ensures.untouched
+    (λ is. c.in-Err.ensures.bytes is r.read.rest r.read.remains) (λ is. at_next c.args.engine.now c.loop-line.engine db first all _ _ _ _ _ r c.loop-line.invariant.lasts.description (c.in-Err.ensures.full_list is) few small) c.in-Err.ensures.no_lines (λ is. c.in-Err.ensures.failed is r.read.rest r.read.remains)
 
 pub returns-in-Err-clause-too_many_lines : goal.returns-in-Err-clause-too_many_lines
 returns-in-Err-clause-too_many_lines g c = λ e. absurd (c.in-Err.ensures.no_lines (fault_as _ _ c.in-Err.fault _ refl refl e))
@@ -119,7 +119,7 @@ returns-in-Ok-Last-clause-all g c = λ db first all stands small remains.
     let read = (rw c.in-Ok-Last.field-0-is at c.in-Ok-Last.ensures.read) (λ is. cc) r.read.rest r.read.remains in
     let took = (rw c.in-Ok-Last.field-0-is at c.in-Ok-Last.ensures.took) (λ is. cc) in
     let last = (rw c.in-Ok-Last.field-0-is at c.in-Ok-Last.ensures.last) refl r.read.rest r.read.remains in
-    takes_last c.args.engine.now c.loop-line.engine db first all _ _ _ _ _ r c.one_line.new.engine c.loop-line.invariant.lasts.description read (at_next c.args.engine.now c.loop-line.engine db first all _ _ _ _ _ r took few small) last few small
+    takes_last c.args.engine.now c.loop-line.engine db first all _ _ _ _ _ r c.one_line.new.engine c.loop-line.invariant.lasts.description read (at_next c.args.engine.now c.loop-line.engine db first all _ _ _ _ _ r c.loop-line.invariant.lasts.description took few small) last few small
 
 pub returns-in-Ok-Last-clause-fits : goal.returns-in-Ok-Last-clause-fits
 returns-in-Ok-Last-clause-fits g c = λ all remains.

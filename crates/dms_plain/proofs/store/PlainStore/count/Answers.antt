@@ -15,4 +15,4 @@ returns g c db is =
     c.count.ensures
     ∙ ap (λ (rows : List RecordRow). length (rows_of c.args.set (entries_of rows))) c.as_slice.ensures.value
     ∙ ap (λ (es : List (Place × Record)). length (rows_of c.args.set es)) (sym (db_entries c.args.self.now.rows.items c.args.self.now.in_order))
-    ∙ ap (λ (d : Db). length (records_of d.records c.args.set)) (same_db (db_of (records_in c.args.self.now.rows.items)) db is)
+    ∙ ap (λ (d : Db). length (records_of d.records c.args.set)) (same_db (db_of (records_in c.args.self.now.rows.items) c.args.self.now.manual.entries) db is)

@@ -1,18 +1,25 @@
-use Rattle.std.proofs.Common.{◌∙◌, ap, refl, rules, List, subst, sym, Some}
-use Rattle.dms_model.specs.Db.{Records}
+use Rattle.std.proofs.Common.{◌≡◌, ◌∙◌, [], ap, refl, rules, List, subst, sym, Some}
+use Rattle.std.specs.FinMap.{empty}
 use Rattle.dms_plain.specs.declared.rows.RecordRow.{RecordRow}
+use Rattle.dms_plain.specs.declared.rows.Undo.{Undo}
 use Rattle.dms_plain.specs.Rows.{IsInOrder, records_in, db_of, undo_all}
 use Rattle.dms_desc.specs.Shape.{as_described}
 use Rattle.dms_plain.proofs.Fits.{nothing_fits}
 use Rattle.dms_plain.proofs.Maps.{no_rows}
 use Rattle.dms_plain.proofs.store.PlainStore.new.Goals as goal
 
+first_records : (rows : List RecordRow) → rows ≡ [] → records_in rows ≡ empty
+first_records rows none = ap records_in none ∙ no_rows
+
+first_mark : (rows : List RecordRow) (undo : List Undo) → rows ≡ [] → undo ≡ [] → undo_all undo (records_in rows) ≡ empty
+first_mark rows undo none nothing = (λ i. undo_all (nothing i) (records_in (none i))) ∙ no_rows
+
 pub returns-in-Ok-clause-starts : goal.returns-in-Ok-clause-starts
 returns-in-Ok-clause-starts g c = record {
   sound = tt;
   desc_is = search rules;
-  db_is = ap (λ (rows : List RecordRow). Some (db_of (records_in rows))) c.new.ensures.items ∙ ap (λ (records : Records). Some (db_of records)) no_rows;
-  mark = (λ i. Some (db_of (undo_all (c.new-in-Ok.ensures.items i) (records_in (c.new.ensures.items i))))) ∙ ap (λ (records : Records). Some (db_of records)) no_rows;
+  db_is = λ i. Some (db_of (first_records c.new.result.items c.new.ensures.items i) (c.new-in-Ok-2.ensures.entries i));
+  mark = λ i. Some (db_of (first_mark c.new.result.items c.new-in-Ok.result.items c.new.ensures.items c.new-in-Ok.ensures.items i) (c.new-in-Ok-2.ensures.mark i));
   next_is = refl;
   points = refl;
   durable = refl;

@@ -13,5 +13,5 @@ use Rattle.dms_plain.proofs.store.PlainStoreStore.last_to.Goals as goal
 pub returns-clause-fits : goal.returns-clause-fits
 returns-clause-fits g c =
     let d = as_described c.args.self.now.desc in
-    let is = c.in_ok-last_member.ensures ∙ ap (λ (rows : List RecordRow). last_member d (db_of (records_in rows)) c.args.path c.args.owner c.args.to.now) c.as_slice.ensures.value in
-    subst (λ (o : Option Spot). IfSome o (SpotFits d c.args.path)) (sym is) (last_fits d (db_of (records_in c.args.self.now.rows.items)) c.args.path c.args.owner c.args.self.now.fit.records c.args.to.now)
+    let is = c.in_ok-last_member.ensures ∙ ap (λ (rows : List RecordRow). last_member d (db_of (records_in rows) c.args.self.now.manual.entries) c.args.path c.args.owner c.args.to.now) c.as_slice.ensures.value in
+    subst (λ (o : Option Spot). IfSome o (SpotFits d c.args.path)) (sym is) (last_fits d (db_of (records_in c.args.self.now.rows.items) c.args.self.now.manual.entries) c.args.path c.args.owner c.args.self.now.fit.records c.args.to.now)

@@ -4,7 +4,7 @@ use Rattle.std.proofs.lemmas.Option.{gets}
 use Rattle.dms_model.specs.Session.{settle, someone_works}
 use Rattle.dms_storeverbs.proofs.Calls.{if_err, quieted, synced, told_known, settled_quiets}
 use Rattle.dms_block.specs.Faults.{Undamaged}
-use Rattle.dms_storeverbs.proofs.Costing.{failed_costs, plain_costs, spends_none, spends_same, synced_costs, unsynced_costs}
+use Rattle.dms_storeverbs.proofs.Costing.{failed_costs, plain_costs, changes_none, changes_same, synced_costs, unsynced_costs}
 use Rattle.std.proofs.Common.{List, ap, length, map}
 use Rattle.std.proofs.lemmas.List.{with_items_is, length-map}
 use Rattle.dms_desc.specs.Shape.{as_described}
@@ -94,13 +94,13 @@ returns-clause-step g c = λ s stands room.
     }
 
 pub returns-then-someone_works-clause-costs : goal.returns-then-someone_works-clause-costs
-returns-then-someone_works-clause-costs g c = plain_costs c.succeed.ensures.sync (spends_none _ _)
+returns-then-someone_works-clause-costs g c = plain_costs c.succeed.ensures.sync (changes_none _)
 
 pub returns-in_err-number-clause-costs : goal.returns-in_err-number-clause-costs
-returns-in_err-number-clause-costs g c = failed_costs false c.from_residual.ensures.0 (spends_same _ c.quiet.ensures.effort)
+returns-in_err-number-clause-costs g c = failed_costs false c.from_residual.ensures.0 (changes_same c.quiet.ensures.effort)
 
 pub returns-then-not-self-clause-costs : goal.returns-then-not-self-clause-costs
-returns-then-not-self-clause-costs g c = plain_costs c.succeed-then-not-self.ensures.sync (spends_same _ c.quiet.ensures.effort)
+returns-then-not-self-clause-costs g c = plain_costs c.succeed-then-not-self.ensures.sync (changes_same c.quiet.ensures.effort)
 
 pub returns-in_err-sync-clause-costs : goal.returns-in_err-sync-clause-costs
 returns-in_err-sync-clause-costs g c = unsynced_costs c.from_residual-in_err-sync.ensures.0 c.quiet.ensures.effort c.sync.ensures.effort

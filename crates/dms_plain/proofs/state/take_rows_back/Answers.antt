@@ -2,7 +2,7 @@ use Rattle.std.proofs.Common.{◌∙◌, ap, sym, List, [], ◌∷◌, length, l
 use Rattle.dms_plain.specs.declared.rows.Undo.{Undo}
 use Rattle.dms_plain.specs.Rows.{records_in, undo_all}
 use Rattle.dms_plain.proofs.Maps.{undone-push}
-use Rattle.dms_plain.proofs.state.take_back.Goals as goal
+use Rattle.dms_plain.proofs.state.take_rows_back.Goals as goal
 
 pub loop-turn-preserved : goal.loop-turn-preserved
 loop-turn-preserved c =

@@ -1,6 +1,6 @@
 use Rattle.std.proofs.Common.{◌≡◌, ◌+◌, length}
 use Rattle.dms_plain.specs.Rows.{records_in, undo_all, IsInOrder}
-use Rattle.dms_plain.proofs.state.take_back.Given as goal
+use Rattle.dms_plain.proofs.state.take_rows_back.Given as goal
 
 abbrev pub invariant-loop-turn : goal.invariant-loop-turn
 invariant-loop-turn l = record {
