@@ -34,7 +34,7 @@ use Rattle.dms_creation.specs.Creation.{IsMade, Initializes}
 use Rattle.dms_creation.specs.FoundAgain.{MadeIsFound}
 use Rattle.dms_running.proofs.FromDumps.{none_order}
 use Rattle.dms_restore.specs.Dumped.{IsDumpFound, dumps_of}
-use Rattle.dms_scriptlaws.proofs.Scripts.{empty_start}
+use Rattle.dms_laws.proofs.Sound.{empty_valid}
 use Rattle.dms_newdb.specs.State.{StandsNew, BecomesNew, MadeStands}
 use Rattle.dms_runtop.proofs.Formed.{some_bytes}
 
@@ -215,7 +215,7 @@ module _ (found : MadeIsFound) (sealed_control : ControlSealed) (first_agrees : 
             };
             last = ap (λ (l : List Event). last_point (history l)) events_are ∙ last_first n;
           };
-          valid = empty_start d;
+          valid = empty_valid d;
           next = record { entries = first_entries d; finds = f; is = ap next_number events_are ∙ next_first n };
           tagged = record { entries = first_entries d; finds = f; is = made.trail.writes.tags f.trail.first f.trail.span.low (first_within f.trail.span) };
         }

@@ -76,4 +76,4 @@ no_later events first truthful rises n made rest entry printed said front p said
     omega (arith, low, ap told text)
 
 pub tell_no_later : ScriptsTellNoLater
-tell_no_later desc runnable db start first lines = no_later _ first (tells_true desc runnable db start first lines) (rises_by first _ (stay_valid desc runnable db start first lines).numbers)
+tell_no_later desc runnable db valid first lines = no_later _ first (tells_true desc runnable db valid first lines) (rises_by first _ (stay_valid desc runnable db valid first lines).numbers)

@@ -7,7 +7,7 @@ use Rattle.dms_runner.specs.Answers.{answers_quiets, last_quiet}
 use Rattle.dms_running.specs.Points.{DescribedPoint, points_of, next_in}
 use Rattle.dms_restore.specs.Logging.{telling_of}
 use Rattle.dms_running.proofs.Wholes.{point_below}
-use Rattle.dms_scriptlaws.specs.Truths.{IsStart}
+use Rattle.dms_model.specs.Valid.{IsValid}
 use Rattle.dms_scriptlaws.proofs.Formed.{runnable}
 use Rattle.dms_scriptlaws.proofs.Scripts.{tells_true, stay_valid}
 use Rattle.dms_run.specs.State.{HasNext}
@@ -44,11 +44,11 @@ of_all P q (x ∷ qs) all (inl is) = subst P (sym is) all.0
 of_all P q (x ∷ qs) all (inr more) = of_all P q qs all.1 more
 
 pub stand : StopsStand
-stand files n desc db h start next has_next entry lines x r =
+stand files n desc db h begins next has_next entry lines x r =
     let t = telling_of h.total h.first in
     let points = points_of t files in
     let scripts = runnable desc h.formed in
-    let stay = stay_valid desc scripts db start next lines in
+    let stay = stay_valid desc scripts db begins next lines in
     let rises = rises_by next _ stay.numbers in
     let low : n < next = subst (λ (k : ℕ). n < k) (next_is_one h.total h.first next files h.whole has_next) (point_below t files n h.whole h.lives.found) in
     let point = last_quiet_number n r.made in
@@ -59,9 +59,9 @@ stand files n desc db h start next has_next entry lines x r =
       point = point;
       now = now;
       state = (stands.last h.total h.first x.files desc point now h.formed r.whole r.state);
-      valid = ⊎_elim (λ same. subst (IsStart desc) (sym same.1) start) (λ one. of_all (λ (q : Quiet). IsStart desc q.1) (point, now) (answers_quiets desc db next lines) stay.valid one) recovered;
+      valid = ⊎_elim (λ same. subst (IsValid desc) (sym same.1) begins) (λ one. of_all (λ (q : Quiet). IsValid desc q.1) (point, now) (answers_quiets desc db next lines) stay.valid one) recovered;
       recovered = recovered;
-      no_earlier = λ text printed is said. no_later _ next (tells_true desc scripts db start next lines) rises n r.made r.rest text printed x.said r.front_of (r.text text is) said;
+      no_earlier = λ text printed is said. no_later _ next (tells_true desc scripts db begins next lines) rises n r.made r.rest text printed x.said r.front_of (r.text text is) said;
       keeps = λ d m then a. stands.at h.total h.first x.files d (m, then) a.well_formed r.whole
           (subst (λ (l : List DescribedPoint). HasLive d l (m, then)) (sym r.kept) (has_more d points r.more (m, then) (state_lives h.total h.first files h.whole m d then a)));
       each = λ q one le. stands.at h.total h.first x.files desc q h.formed r.whole (
@@ -77,8 +77,8 @@ stand files n desc db h start next has_next entry lines x r =
     }
 
 pub end_stands : EndsStand
-end_stands total first files desc well n db start next lines whole state next_is =
-    let stay = stay_valid desc (runnable desc well) db start next lines in
+end_stands total first files desc well n db begins next lines whole state next_is =
+    let stay = stay_valid desc (runnable desc well) db begins next lines in
     let quiets = answers_quiets desc db next lines in
     record {
       state = stands.last total first files desc (last_quiet_number n quiets) (last_quiet db quiets) well whole state;

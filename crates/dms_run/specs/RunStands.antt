@@ -12,7 +12,7 @@ use Rattle.dms_running.specs.Points.{points_of, next_in}
 use Rattle.dms_site.specs.Files.{Files, Left}
 use Rattle.dms_restore.specs.Logging.{telling_of}
 use Rattle.dms_scriptlaws.specs.Told.{told}
-use Rattle.dms_scriptlaws.specs.Truths.{IsStart}
+use Rattle.dms_model.specs.Valid.{IsValid}
 use Rattle.dms_run.specs.Files.{RunLeavesFiles}
 use Rattle.dms_run.specs.State.{StateAt, StateOf, HasNext}
 use Rattle.dms_run.specs.States.{LivesEndWith}
@@ -20,14 +20,14 @@ use Rattle.dms_run.specs.Stops.{IsOneOf, last_quiet_number}
 use Rattle.dms_run.specs.Held.{HoldsLast}
 
 -- The files stand for the database of entry at point n, or for that of one of the quiet points, at a point that isn't below what the text tells
--- that was printed behind the text of entry, and a run may begin with it. Each state at a point that the files of entry stood for they stand for, and each
--- of the quiet points that isn't above the last point has its own. The next number hasn't fallen, and has risen by one at most for each of the quiet
--- points: so where there was room for the numbers of this run and of the runs after it, the number that is left has room for those.
+-- that was printed behind the text of entry, and it is valid, so that another run may begin with it. Each state at a point that the files of entry stood for
+-- they stand for, and each of the quiet points that isn't above the last point has its own. The next number hasn't fallen, and has risen by one at most
+-- for each of the quiet points: so where there was room for the numbers of this run and of the runs after it, the number that is left has room for those.
 pub record RunStands (files : Files) (desc : Described) (entry : Option (List ℕ)) (n : ℕ) (db : Db) (next : ℕ) (quiets : List Quiet) (x : Left) : Type 0 where
   pub point : ℕ
   pub now : Db
   pub state : StateOf x.files point desc now
-  pub valid : IsStart desc now
+  pub valid : IsValid desc now
   pub recovered : ((point ≡ n) × (now ≡ db)) ⊎ IsOneOf (point, now) quiets
   pub no_earlier : (text printed : List ℕ) → entry ≡ Some text → x.said ≡ text ++ printed → told printed ≤ point
   pub keeps : (d : Described) (m : ℕ) (then : Db) → StateAt files m d then → StateAt x.files m d then
@@ -37,20 +37,20 @@ pub record RunStands (files : Files) (desc : Described) (entry : Option (List �
   pub not_fallen : next ≤ next_left
   pub not_risen : next_left ≤ next + length quiets
 
--- The files stand for the database of the last of the quiet points, or for that of entry at point n where there is none, a run may begin with it, and
--- the next number follows those of the quiet points.
+-- The files stand for the database of the last of the quiet points, or for that of entry at point n where there is none, it is valid, and the next number
+-- follows those of the quiet points.
 pub record LastStands (files : Files) (desc : Described) (n : ℕ) (db : Db) (next : ℕ) (quiets : List Quiet) : Type 0 where
   pub state : StateOf files (last_quiet_number n quiets) desc (last_quiet db quiets)
-  pub valid : IsStart desc (last_quiet db quiets)
+  pub valid : IsValid desc (last_quiet db quiets)
   pub has_next : HasNext files (next + length quiets)
 
 -- So it is of files that hold what a script leaves that was carried out.
 abbrev pub EndsStand : Type 0
-EndsStand = (total first : ℕ) (files : Files) (desc : Described) → IsWellFormed desc → (n : ℕ) (db : Db) → IsStart desc db → (next : ℕ) (lines : List (List ℕ)) → IsWhole (telling_of total first) files
+EndsStand = (total first : ℕ) (files : Files) (desc : Described) → IsWellFormed desc → (n : ℕ) (db : Db) → IsValid desc db → (next : ℕ) (lines : List (List ℕ)) → IsWhole (telling_of total first) files
     → LivesEndWith desc (points_of (telling_of total first) files) (last_quiet_number n (answers_quiets desc db next lines)) (left_by desc db next lines)
     → next_in (telling_of total first) files ≡ (end_session (script_run desc db next lines).going.session).next → LastStands files desc n db next (answers_quiets desc db next lines)
 
 -- So it is of the files that a stop within the run of a script leaves, which began with files that stand for this state and have this next number.
 abbrev pub StopsStand : Type 0
-StopsStand = (files : Files) (n : ℕ) (desc : Described) (db : Db) (h : HoldsLast files n desc db) → IsStart desc db → (next : ℕ) → HasNext files next → (entry : Option (List ℕ)) (lines : List (List ℕ)) (x : Left)
+StopsStand = (files : Files) (n : ℕ) (desc : Described) (db : Db) (h : HoldsLast files n desc db) → IsValid desc db → (next : ℕ) → HasNext files next → (entry : Option (List ℕ)) (lines : List (List ℕ)) (x : Left)
     → RunLeavesFiles (telling_of h.total h.first) desc entry (points_of (telling_of h.total h.first) files) n db next (script_events desc db next lines) x → RunStands files desc entry n db next (answers_quiets desc db next lines) x

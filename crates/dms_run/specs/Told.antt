@@ -6,7 +6,8 @@ use Rattle.dms_model.specs.Points.{Quiet}
 use Rattle.dms_runner.specs.Answers.{script_events}
 use Rattle.dms_runner.specs.Events.{RunEvent, quiets_of}
 use Rattle.dms_scriptlaws.specs.Told.{told}
-use Rattle.dms_scriptlaws.specs.Truths.{IsRunnable, IsStart}
+use Rattle.dms_model.specs.Valid.{IsValid}
+use Rattle.dms_scriptlaws.specs.Truths.{IsRunnable}
 use Rattle.dms_run.specs.Stops.{PrintedUpTo, last_quiet_number}
 
 -- Where a stop within these events leaves the first so many of their quiet points, what was printed behind the text of entry tells no number
@@ -17,4 +18,4 @@ TellsNoLater events = (n : ℕ) (made rest : List Quiet) (entry printed said : L
 
 -- So it is of each script.
 abbrev pub ScriptsTellNoLater : Type 0
-ScriptsTellNoLater = (desc : Described) → IsRunnable desc → (db : Db) → IsStart desc db → (first : ℕ) (lines : List (List ℕ)) → TellsNoLater (script_events desc db first lines)
+ScriptsTellNoLater = (desc : Described) → IsRunnable desc → (db : Db) → IsValid desc db → (first : ℕ) (lines : List (List ℕ)) → TellsNoLater (script_events desc db first lines)

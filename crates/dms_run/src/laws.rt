@@ -51,7 +51,7 @@ pub fn told_law()
 {}
 
 /// The files that a stop within the run of a script leaves stand for the database of entry or of a quiet point, no earlier than the
-/// printed text tells, and each point up to it has its own state. With that database another run may begin. At the script's end that is the last quiet point's.
+/// printed text tells, and each point up to it has its own state. That database is valid. At the script's end it is the last quiet point's.
 pub fn stands_law()
     ensures stops { StopsStand }
     ensures ends { EndsStand }

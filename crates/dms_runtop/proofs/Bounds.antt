@@ -1,5 +1,6 @@
 -- How much audit a run takes, step by step.
-use Rattle.std.proofs.Common.{ℕ, ◌+◌, ◌-◌, ◌*◌, ◌^◌, ◌<◌, ◌≤◌, ◌≡◌, ◌⊎◌, ◌∙◌, inl, inr, false, true, IsTrue, List, [], ◌++◌, length, take, Option, Some, refl, sym, ap, subst, arith}
+use Rattle.std.proofs.Common.{ℕ, ◌+◌, ◌-◌, ◌*◌, ◌^◌, ◌<◌, ◌≤◌, ◌≡◌, ◌⊎◌, ◌∙◌, inl, inr, false, IsTrue, List, [], ◌++◌, length, take, Option, Some, refl, sym, ap, subst, arith}
+use Rattle.std.specs.Prelude.{slice_get}
 use Rattle.std.proofs.lemmas.List.{append-nil, take_all}
 use Rattle.dms_block.specs.declared.block_fault.BlockFault.TheVariants as block
 use Rattle.dms_block.specs.Texts.{Prints, PrintsPrefix}
@@ -8,7 +9,7 @@ use Rattle.dms_history.specs.Entries.{Entry}
 use Rattle.dms_history.proofs.Order.{append_none}
 use Rattle.dms_model.specs.Seen.{Effort, Seen}
 use Rattle.dms_runner.specs.EventLaws.{AreCounted}
-use Rattle.dms_runner.specs.Events.{RunEvent, SaidAtLeast, TakesEvents, TookAll, TookOneMore, TookPart, backs_of, blocks_of, quiets_of, syncs_of, text_of}
+use Rattle.dms_runner.specs.Events.{RunEvent, SaidAtLeast, TakesEvents, TookAll, TookOneMore, TookPart, backs_of, blocks_begun, blocks_of, quiets_of, syncs_of, text_of}
 use Rattle.dms_runner.specs.declared.run.RunFault.{RunFault}
 use Rattle.dms_runner.specs.declared.run.RunFault.TheVariants.{Block}
 use Rattle.dms_runner.proofs.Texts.{front_all, front_none, prints_none}
@@ -19,7 +20,6 @@ use Rattle.dms_site.specs.declared.site.Site.{Ghosts}
 use Rattle.dms_site.specs.Files.{Files}
 use Rattle.dms_status.specs.declared.status.Status.{Status}
 use Rattle.dms_status.specs.declared.status.Status.TheVariants.{Ok, SayFault}
-use Rattle.dms_storeverbs.specs.Costs.{limit_if}
 use Rattle.dms_wal.specs.declared.running.Running.{Running}
 use Rattle.dms_wal.specs.Growing.{GrowsBy, IsCounted, controls_among}
 use Rattle.dms_wal.proofs.Grown.{controls_low}
@@ -137,10 +137,7 @@ module _ {S : Type 0} (g : Ghosts S) (d : Described) (r r' : Running S) (t : Tel
     in_files = omega (arith, grows.sealed tells counted, ap (λ (k : Telling). length (k.entries (g.files r'.log.site))) told', entry_entries, controls, one, used, three)
 
   module _ (events : List RunEvent) (old new : Seen) (old_is : old.effort ≡ effort_is r) (new_is : new.effort ≡ effort_is r') (next_is : old.next ≡ r.next) (next_is' : new.next ≡ r'.next) (desc_is : old.desc ≡ d)
-      (counts : (k : ℕ) → AreCounted d (take k events)) where
-    all_counted : AreCounted d events
-    all_counted = subst (λ (es : List RunEvent). AreCounted d es) (take_all (length events) events (omega arith)) (counts (length events))
-
+      (counts : (k : ℕ) → AreCounted d events k) where
     blocks_same : (es : List RunEvent) → blocks_of old.desc es ≡ blocks_of d es
     blocks_same es = ap (λ (x : Described). blocks_of x es) desc_is
 
@@ -162,29 +159,42 @@ module _ {S : Type 0} (g : Ghosts S) (d : Described) (r r' : Running S) (t : Tel
     outs_then : old.effort.outs ≡ 0
     outs_then = ap (λ (x : Effort). x.outs) old_is ∙ outs
 
+    -- the counts of 64 bits can tell what these events do
+    record IsLow (es : List RunEvent) : Type 0 where
+      few_blocks : blocks_of d es < 2 ^ 64 - 1
+      few_syncs : syncs_of es < 2 ^ 64 - 1
+      few_backs : backs_of es < 2 ^ 64 - 1
+
+    front_low : (k : ℕ) → IsLow (take k events)
+    front_low k = let c = counts k in record { few_blocks = omega (arith, c.blocks); few_syncs = omega (arith, c.syncs); few_backs = omega (arith, c.backs) }
+
+    all_low : IsLow events
+    all_low = subst IsLow (take_all (length events) events (omega arith)) (front_low (length events))
+
     -- no more was done than these events may take
-    log_all : (es : List RunEvent) → r'.broken ≡ false → TakesEvents old.desc es old.effort new.effort → new.next ≤ old.next + length (quiets_of es) → AreCounted d es
+    log_all : (es : List RunEvent) → r'.broken ≡ false → TakesEvents old.desc es old.effort new.effort → new.next ≤ old.next + length (quiets_of es) → IsLow es
         → length (entries (view_of g r'.log)) ≤ length (t.entries (g.files r.log.site)) + audit_of d es
     log_all es unbroken takes numbers c =
         in_log (blocks_of d es) (length (quiets_of es)) (syncs_of es) (backs_of es) (omega (arith, takes.spent, spent_now, spent_then, blocks_same es)) (omega (arith, numbers, next_is, next_is')) (omega (arith, takes.syncs, syncs_now, syncs_then))
-        (omega (arith, takes.outs, outs_now, outs_then)) (omega (arith, c.blocks)) (omega (arith, c.syncs)) (omega (arith, c.backs)) unbroken
+        (omega (arith, takes.outs, outs_now, outs_then)) c.few_blocks c.few_syncs c.few_backs unbroken
 
-    files_all : (es : List RunEvent) → TookAll old new es → AreCounted d es → length (t.entries (g.files r'.log.site)) ≤ length (t.entries (g.files r.log.site)) + audit_of d es
+    files_all : (es : List RunEvent) → TookAll old new es → IsLow es → length (t.entries (g.files r'.log.site)) ≤ length (t.entries (g.files r.log.site)) + audit_of d es
     files_all es took c =
         let takes = took.effort in
         in_files (blocks_of d es) (length (quiets_of es)) (syncs_of es) (backs_of es) (omega (arith, takes.spent, spent_now, spent_then, blocks_same es)) (omega (arith, took.next, next_is, next_is')) (omega (arith, takes.syncs, syncs_now, syncs_then))
-        (omega (arith, takes.outs, outs_now, outs_then)) (omega (arith, c.blocks)) (omega (arith, c.syncs)) (omega (arith, c.backs))
+        (omega (arith, takes.outs, outs_now, outs_then)) c.few_blocks c.few_syncs c.few_backs
 
     -- and one call more was under way
-    files_more : (whole k : ℕ) → TookOneMore old new whole k events → AreCounted d (take k events) → length (t.entries (g.files r'.log.site)) ≤ length (t.entries (g.files r.log.site)) + audit_begun d (take k events)
+    files_more : (whole k : ℕ) → TookOneMore old new whole k events → AreCounted d events k → length (t.entries (g.files r'.log.site)) ≤ length (t.entries (g.files r.log.site)) + audit_begun d events k
     files_more whole k took c =
         let es = take k events in
-        let made = in_files (blocks_of d es + limit_if true d) (length (quiets_of es) + 1) (syncs_of es + 1) (backs_of es + 1) (omega (arith, took.spent, spent_now, spent_then, blocks_same es, ap (λ (x : Described). limit_if true x) desc_is))
+        let made = in_files (blocks_of d es + blocks_begun d (slice_get events k)) (length (quiets_of es) + 1) (syncs_of es + 1) (backs_of es + 1)
+        (omega (arith, took.spent, spent_now, spent_then, blocks_same es, ap (λ (x : Described). blocks_begun x (slice_get events k)) desc_is))
         (omega (arith, took.next, next_is, next_is')) (omega (arith, took.syncs, syncs_now, syncs_then)) (omega (arith, took.outs, outs_now, outs_then)) c.blocks c.syncs c.backs in
         omega (arith, made)
 
-    files_took : (n whole k : ℕ) → TookAll old new (take k events) ⊎ TookOneMore old new whole k events → AreCounted d (take k events) → GrewWithin n t d whole k events (g.files r.log.site) (g.files r'.log.site)
-    files_took n whole k (inl took) c = inl (omega (arith, files_all (take k events) took c))
+    files_took : (n whole k : ℕ) → TookAll old new (take k events) ⊎ TookOneMore old new whole k events → AreCounted d events k → GrewWithin n t d whole k events (g.files r.log.site) (g.files r'.log.site)
+    files_took n whole k (inl took) c = inl (omega (arith, files_all (take k events) took (front_low k)))
     files_took n whole k (inr took) c = inr (record { said = took.said; more = took.more; answered = took.answered }, omega (arith, files_more whole k took c))
 
     -- the script stopped before its end
@@ -212,4 +222,4 @@ module _ {S : Type 0} (g : Ghosts S) (d : Described) (r r' : Running S) (t : Tel
       pub closed_bound : (status : Status) (files : Files) (said : Option (List ℕ)) → r'.broken ≡ false → FilesGrew 18 (view_of g r'.log) files → Prints old.said said (text_of events) → AnswersPart 18 t d events (g.files r.log.site) files old.said said status
       closed_bound status files said unbroken few text =
           let closing : length (t.entries files) ≤ length (entries (view_of g r'.log)) + 18 = subst (λ (k : Telling). length (k.entries files) ≤ length (entries (view_of g r'.log)) + 18) told' few in
-          all_bound status files said text (omega (arith, closing, log_all events unbroken takes (omega (arith, numbers)) all_counted))
+          all_bound status files said text (omega (arith, closing, log_all events unbroken takes (omega (arith, numbers)) all_low))

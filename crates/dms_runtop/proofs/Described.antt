@@ -4,6 +4,7 @@ use Rattle.dms_desc.specs.Shape.{Described}
 use Rattle.dms_desc_bytes.specs.Spelling.{spelling}
 use Rattle.dms_desc_bytes.specs.WellFormed.{IsWellFormed}
 use Rattle.dms_model.specs.Db.{Db}
+use Rattle.dms_model.specs.Valid.{IsValid}
 use Rattle.dms_running.specs.Points.{DescribedPoint, points_of}
 use Rattle.dms_running.specs.Telling.{Telling}
 use Rattle.dms_site.specs.declared.site.Site.{Ghosts}
@@ -40,8 +41,8 @@ module _ {S : Type 0} (g : Ghosts S) (one : (d e : Described) → IsWellFormed d
   opened_under : (st : StandsOpened g o) → TellsOpened t st.files o.next (running_held g r)
   opened_under st = opened st.files (under_bytes g one o desc formed under bytes bytes_are st)
 
-  begins_opened : IsTrue g.tells → (st : StandsOpened g o) (n : ℕ) (db : Db) → LivesEndWith st.desc (points_of t st.files) n db → o.next + 1000003 < 2 ^ 64 → BeginsAt g r o.log.end.total o.log.first (points_of t st.files) st.desc n db
-  begins_opened told st n db state room =
+  begins_opened : IsTrue g.tells → (st : StandsOpened g o) (n : ℕ) (db : Db) → LivesEndWith st.desc (points_of t st.files) n db → IsValid st.desc db → o.next + 1000003 < 2 ^ 64 → BeginsAt g r o.log.end.total o.log.first (points_of t st.files) st.desc n db
+  begins_opened told st n db state valid room =
       let to = opened_under st in
       record {
         tells = told;
@@ -51,6 +52,7 @@ module _ {S : Type 0} (g : Ghosts S) (one : (d e : Described) → IsWellFormed d
         points_are = ap (map (point_of st.desc)) to.points_are;
         state = state;
         spells = spells_last st.desc (points (view_of g r.log)) (points_of t st.files) (running_held g r).content n db state to.points_are to.content_is;
+        valid = valid;
         durable = to.all_durable;
         room = subst (λ (m : ℕ). m + 1000003 < 2 ^ 64) (sym next_is) room;
         nothing = waiting (under_bytes g one o desc formed under bytes bytes_are st).nothing;
@@ -59,11 +61,11 @@ module _ {S : Type 0} (g : Ghosts S) (one : (d e : Described) → IsWellFormed d
       }
 
   pub runs_described : (site : S) (left left' : Option (List ℕ)) (status : Status) → RunsOver g r desc left left' status site → RunsOpened g o left left' status site
-  runs_described site left left' status ran told st n db all state room is =
+  runs_described site left left' status ran told st n db all state valid room is =
       let same : desc ≡ st.desc = same_description one o.schema.items desc st.desc formed under st.formed st.spelled in
       let over : RunsOver g r st.desc left left' status site = subst (λ (d : Described). RunsOver g r d left left' status site) same ran in
       let ps : List DescribedPoint = points_of t st.files in
-      let script : ScriptRuns 18 t st.desc ps n db r.next all (seen_site g r.log.site) (seen_site g site) left' status = over o.log.end.total o.log.first ps n db all (begins_opened told st n db state room) is in
+      let script : ScriptRuns 18 t st.desc ps n db r.next all (seen_site g r.log.site) (seen_site g site) left' status = over o.log.end.total o.log.first ps n db all (begins_opened told st n db state valid room) is in
       subst (λ (m : ℕ). ScriptRuns 18 t st.desc ps n db m all (seen_site g o.log.site) (seen_site g site) left' status) next_is
       (subst (λ (x : SiteSeen). ScriptRuns 18 t st.desc ps n db r.next all x (seen_site g site) left' status) (ap (seen_site g) site_is) script)
 

@@ -25,8 +25,8 @@ module _ {S I : Type 0} (g : Ghosts S) (i : source.Ghosts I) (old new : S) (from
     opens = opens;
     stands = stands_throughout g old state held stops told (i.left from) (i.left to) status new ran;
     ends = stands_at_end g old state ends told (i.left from) (i.left to) status new ran;
-    script = λ tells s is start next has_next room all left_is.
-        let r = ran tells s is start next has_next room all left_is in
+    script = λ tells s is valid next has_next room all left_is.
+        let r = ran tells s is valid next has_next room all left_is in
         record { total = r.total; first = r.first; trail = r.trail; does = r.runs.does };
     trail = trail;
     by_input = by_input;

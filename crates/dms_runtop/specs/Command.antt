@@ -5,7 +5,7 @@ use Rattle.dms_moments.specs.Moments.{Runs, Steps}
 use Rattle.dms_feed.specs.Lines.{raw_lines}
 use Rattle.dms_runner.specs.Answers.{answers_quiets}
 use Rattle.dms_run.specs.RunStands.{LastStands, RunStands}
-use Rattle.dms_scriptlaws.specs.Truths.{IsStart}
+use Rattle.dms_model.specs.Valid.{IsValid}
 use Rattle.dms_desc.specs.Shape.{Described}
 use Rattle.dms_desc_bytes.specs.Spelling.{spelling}
 use Rattle.dms_desc_bytes.specs.WellFormed.{IsWellFormed}
@@ -67,21 +67,21 @@ module _ {S : Type 0} (g : Ghosts S) where
     pub formed : IsWellFormed desc
     pub spelled : spelling desc ≡ o.schema.items
 
-  -- a run of the script over a database that was opened
+  -- a run of the script over a valid database that was opened
   abbrev pub RunsOpened : Opened S → Option (List ℕ) → Option (List ℕ) → Status → S → Type 0
   RunsOpened o left left' status site =
-      IsTrue g.tells → (st : StandsOpened o) (n : ℕ) (db : Db) (all : List ℕ) → LivesEndWith st.desc (points_of (telling (view_of g o.log)) st.files) n db → o.next + 1000003 < 2 ^ 64 → left ≡ Some all
+      IsTrue g.tells → (st : StandsOpened o) (n : ℕ) (db : Db) (all : List ℕ) → LivesEndWith st.desc (points_of (telling (view_of g o.log)) st.files) n db → IsValid st.desc db → o.next + 1000003 < 2 ^ 64 → left ≡ Some all
       → ScriptRuns 18 (telling (view_of g o.log)) st.desc (points_of (telling (view_of g o.log)) st.files) n db o.next all (seen_site g o.log.site) (seen_site g site) left' status
 
   -- the trail is the one of the opening and blocks behind it, each of which is in its grammar and holds an entry, now and at each stop
   abbrev pub GrowsOpened : Opened S → S → Type 0
   GrowsOpened o site = IsTrue g.tells → LogStays (view_of g o.log) (over_site g (view_of g o.log) site)
 
-  -- The one premise of what is said of a script: the files of a site, which are told, hold a database with which a run may begin; this is their next
+  -- The one premise of what is said of a script: the files of a site, which are told, hold a valid database; this is their next
   -- number, which leaves room for those of a script; and this is the input.
   abbrev pub OverDatabase : Option DatabaseState → S → Option (List ℕ) → (DatabaseState → ℕ → List ℕ → Type 0) → Type 0
   OverDatabase state old left Holds =
-      IsTrue g.tells → (s : DatabaseState) → state ≡ Some s → IsStart s.desc s.db → (next : ℕ) → HasNext (g.files old) next → HasNumbersLeft next → (all : List ℕ) → left ≡ Some all → Holds s next all
+      IsTrue g.tells → (s : DatabaseState) → state ≡ Some s → IsValid s.desc s.db → (next : ℕ) → HasNext (g.files old) next → HasNumbersLeft next → (all : List ℕ) → left ≡ Some all → Holds s next all
 
   -- A run of the script over the database that the files of a site stand for, whose next number is this one, along their trail.
   pub record RunsAlong (s : DatabaseState) (next : ℕ) (all : List ℕ) (old new : S) (left' : Option (List ℕ)) (status : Status) : Type 0 where
@@ -105,13 +105,12 @@ module _ {S : Type 0} (g : Ghosts S) where
   RunKeepsTrail state old new = IsTrue g.tells → (s : DatabaseState) → state ≡ Some s → KeepsTrail old new
 
   -- At every moment a stop leaves files that stand for that database or for that of one quiet point, no earlier than the printed text tells, and each
-  -- point up to it has its own state. With that database, too, a run may begin.
+  -- point up to it has its own state. That database is valid, too.
   abbrev pub StandsThroughout : Option DatabaseState → S → S → Option (List ℕ) → Type 0
   StandsThroughout state old new left =
       OverDatabase state old left (λ s next all. Runs (g.clock old) (g.clock new) (RunStands (g.files old) s.desc (seen_site g old).said s.point s.db next (answers_quiets s.desc s.db next (raw_lines all))))
 
-  -- And at status 0 the files stand for the database of the last quiet point, or for that of entry, with which a run may begin, too. A stop leaves no
-  -- other files.
+  -- And at status 0 the files stand for the database of the last quiet point, or for that of entry, which is valid, too. A stop leaves no other files.
   abbrev pub EndsInState : Option DatabaseState → S → S → Option (List ℕ) → Status → Type 0
   EndsInState state old new left status =
       OverDatabase state old left (λ s next all. status ≡ Ok → LastStands (g.files new) s.desc s.point s.db next (answers_quiets s.desc s.db next (raw_lines all)) × Only (g.files new) (g.clock new))

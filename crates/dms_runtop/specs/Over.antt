@@ -7,6 +7,7 @@ use Rattle.dms_desc.specs.Shape.{Described}
 use Rattle.dms_feed.specs.Lines.{raw_lines}
 use Rattle.dms_model.specs.Db.{Db}
 use Rattle.dms_model.specs.Session.{end_session}
+use Rattle.dms_model.specs.Valid.{IsValid}
 use Rattle.dms_site.specs.declared.site.Site.{Ghosts}
 use Rattle.dms_site.specs.Files.{Files, Left, Only}
 use Rattle.dms_running.specs.Telling.{Telling}
@@ -110,7 +111,7 @@ pub record ScriptRuns (most : ℕ) (t : Telling) (desc : Described) (ps : List D
 
 module _ {S : Type 0} (g : Ghosts S) where
   -- A run of a script begins with this database: its site tells its files, its points are these, which end with database db at point n and are all
-  -- durable, its blocks spell that database, there is room for the numbers of a script, and its audit may go on up to file FILES. Nothing waits, control
+  -- durable, its blocks spell that database, which is valid, there is room for the numbers of a script, and its audit may go on up to file FILES. Nothing waits, control
   -- points follow the syncs that the description says, and it wasn't used yet.
   pub record BeginsAt (r : Running S) (total first : ℕ) (ps : List DescribedPoint) (desc : Described) (n : ℕ) (db : Db) : Type 0 where
     pub tells : IsTrue g.tells
@@ -120,6 +121,7 @@ module _ {S : Type 0} (g : Ghosts S) where
     pub points_are : map (point_of desc) (running_held g r).points ≡ points_seen desc ps
     pub state : LivesEndWith desc ps n db
     pub spells : database_in desc (running_held g r).content ≡ Some db
+    pub valid : IsValid desc db
     pub durable : (running_held g r).durable ≡ length (running_held g r).points
     pub room : r.next + 1000003 < 2 ^ 64
     pub nothing : waits r.log.end ≡ []

@@ -44,7 +44,7 @@ module _ {S I : Type 0} (g : Ghosts S) (i : source.Ghosts I) where
     -- the database is opened, or refused and nothing done
     pub opens : Opens old new from to status
     -- where the files hold a database, at every moment a stop leaves files that stand for it or for that of one quiet point of the script, no earlier
-    -- than the last SYNCPOINT that was printed, and another run may begin with it
+    -- than the last SYNCPOINT that was printed, and it is valid, so that another run may begin with it
     pub stands : StandsThroughout g state old new (i.left from)
     -- where they do, at status 0 they stand for that of the last quiet point, or of entry, and a stop leaves no other files
     pub ends : EndsInState g state old new (i.left from) status

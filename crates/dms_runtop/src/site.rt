@@ -97,4 +97,8 @@ impl<S: Site, K: Knows> Site for RunSite<S, K> {
     fn say(&mut self, bytes: &[u8]) -> Result<(), Failed> {
         self.site.say(bytes)
     }
+
+    fn show(&mut self, done: u64, of: u64) {
+        self.site.show(done, of)
+    }
 }

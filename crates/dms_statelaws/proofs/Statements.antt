@@ -318,7 +318,7 @@ module _ {S : Type 0} (g : Ghosts S) (old : S) (o : Opened S) (opens : OpensOver
       made = record { point = o.point; blocks = content_of (counts_in counts) (stored_of v.files) }
 
       dump_is : dumps_of there d ≡ made
-      dump_is = dumping.dump_there there d some few ∙ ap dump_of h.written ∙ (dump_is_read 1 (record { tag = tag; point = o.point; audit = audit; counts = counts }) (stored_of v.files) h.head h.stored).dump
+      dump_is = dumping.dump_there there d some few ∙ ap dump_of h.written ∙ (dump_is_read 1 (record { tag = tag; point = o.point; audit = audit; counts = counts; end = o.point }) (stored_of v.files) h.head h.stored).dump
 
       true_made : IsTrueDump made (live_of es) (stored_of v.files)
       true_made = record {
@@ -343,8 +343,8 @@ module _ {S : Type 0} (g : Ghosts S) (old : S) (o : Opened S) (opens : OpensOver
         has = record {
           some = some;
           few = few;
-          head = record { tag = tag; point = o.point; audit = audit; counts = counts };
-          read = ap dump_read h.written ∙ dumping.dump_reads 1 (record { tag = tag; point = o.point; audit = audit; counts = counts }) (stored_of v.files) refl h.head h.stored;
+          head = record { tag = tag; point = o.point; audit = audit; counts = counts; end = o.point };
+          read = ap dump_read h.written ∙ dumping.dump_reads 1 (record { tag = tag; point = o.point; audit = audit; counts = counts; end = o.point }) (stored_of v.files) refl h.head h.stored;
           entries = trail_entries j k there;
           finds = held_then.whole.found.finds;
           tag_is =

@@ -97,7 +97,7 @@ module _ {S : Type 0} (g : Ghosts S) where
 
   -- It is the dump of what was opened, with the tag of its trail and these counts, and a stop leaves no other files.
   pub record HasDumped (o : Opened S) (new : S) (d tag audit : ℕ) (counts : List FileCount) : Type 0 where
-    pub head : IsHead (record { tag = tag; point = o.point; audit = audit; counts = counts })
+    pub head : IsHead (record { tag = tag; point = o.point; audit = audit; counts = counts; end = o.point })
     pub tag_is : tag ≡ o.log.end.tag
     pub counted : (f : ℕ) → counts_in counts f ≡ count_of o.counts.items f
     pub stored : AllStored (stored_of (g.files o.log.site)) counts

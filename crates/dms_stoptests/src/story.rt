@@ -7,6 +7,9 @@ pub enum Story {
     /// Behind line 26 ten blocks are changed and eight have room, and line 28 takes that back. Then a record moves in its set, one leaves the
     /// subset, and the last transaction doesn't end. The second syncpoint is followed by a control point.
     Overlap,
+    /// An account that a list of entries and both kinds of links lead to, with its key changed, deleted and its number given again; and a customer
+    /// that owns a note, deleted once nothing refers to it and it owns nothing. The last transaction deletes too, and doesn't end.
+    Linked,
     /// What `load 854 30` draws, worked out from the rule of its draws. P3 stores ANO 858 and ends alone, which makes point 1. Then all four programs
     /// are in transactions at once, two of which store 792 and 186, and the last one to end makes point 2. Those that begin behind it don't end.
     Drawn,
@@ -17,6 +20,7 @@ impl Story {
         match self {
             Story::Turns => TURNS_SCHEMA,
             Story::Overlap => OVERLAP_SCHEMA,
+            Story::Linked => LINKED_SCHEMA,
             Story::Drawn => DRAWN_SCHEMA,
         }
     }
@@ -25,6 +29,7 @@ impl Story {
         match self {
             Story::Turns => TURNS_SCRIPT,
             Story::Overlap => OVERLAP_SCRIPT,
+            Story::Linked => LINKED_SCRIPT,
             Story::Drawn => b"",
         }
     }
@@ -34,6 +39,7 @@ impl Story {
         match self {
             Story::Turns => TURNS_LOOK,
             Story::Overlap => OVERLAP_LOOK,
+            Story::Linked => LINKED_LOOK,
             Story::Drawn => DRAWN_LOOK,
         }
     }
@@ -43,6 +49,7 @@ impl Story {
         match self {
             Story::Turns => place_in(&TURNS_ANSWERS, answers),
             Story::Overlap => place_in(&OVERLAP_ANSWERS, answers),
+            Story::Linked => place_in(&LINKED_ANSWERS, answers),
             Story::Drawn => place_in(&DRAWN_ANSWERS, answers),
         }
     }
@@ -339,6 +346,155 @@ const OVERLAP_ANSWERS: [&[u8]; 5] = [
 9 A DONE
 10 A DONE
 11 A DONE X=20, T=\"NEW\"
+",
+];
+
+const LINKED_SCHEMA: &[u8] = b"PARAMETERS (CONTROLPOINT = 2 SYNCPOINTS, BUFFERS = 8 BLOCKS);
+AUDIT TRAIL (BLOCKS = 8, FILES = 100);
+RDS RESTART DATA SET (PID ALPHA(10););
+CUS DATA SET (N NUMBER(4); BEST LINK TO ACC;
+  NOTE DATA SET (M NUMBER(4););
+  NOTE-SET SET OF NOTE KEY IS M;
+  OWN SUBSET OF ACC KEY IS K;);
+CUS-SET SET OF CUS KEY IS N;
+ACC DATA SET (K NUMBER(4); HOLDER LINK TO CUS COUNTED;);
+ACC-SET SET OF ACC KEY IS K;
+";
+
+const LINKED_SCRIPT: &[u8] = b"P: OPEN UPDATE
+P: BEGIN-TRANSACTION NO-AUDIT RDS
+P: CREATE CUS
+P: PUT CUS N = 1
+P: STORE CUS
+P: CREATE ACC
+P: PUT ACC K = 10
+P: STORE ACC
+P: ASSIGN CUS TO HOLDER OF ACC
+P: ASSIGN ACC TO BEST OF CUS
+P: INSERT ACC INTO OWN
+P: CREATE NOTE
+P: PUT NOTE M = 5
+P: STORE NOTE
+P: END-TRANSACTION NO-AUDIT RDS SYNC
+P: BEGIN-TRANSACTION NO-AUDIT RDS
+P: LOCK ACC-SET AT K = 10
+P: PUT ACC K = 20
+P: STORE ACC
+P: END-TRANSACTION NO-AUDIT RDS
+P: BEGIN-TRANSACTION NO-AUDIT RDS
+P: LOCK ACC-SET AT K = 20
+P: REMOVE ACC FROM OWN
+P: DELETE ACC
+P: END-TRANSACTION NO-AUDIT RDS SYNC
+P: BEGIN-TRANSACTION NO-AUDIT RDS
+P: LOCK FIRST CUS
+P: LOCK FIRST NOTE
+P: DELETE NOTE
+P: DELETE CUS
+P: CREATE ACC
+P: PUT ACC K = 25
+P: STORE ACC
+P: END-TRANSACTION NO-AUDIT RDS
+P: BEGIN-TRANSACTION NO-AUDIT RDS
+P: CREATE ACC
+P: PUT ACC K = 30
+P: STORE ACC
+P: CREATE CUS
+P: PUT CUS N = 2
+P: STORE CUS
+P: INSERT ACC INTO OWN
+P: END-TRANSACTION NO-AUDIT RDS SYNC
+P: BEGIN-TRANSACTION NO-AUDIT RDS
+P: LOCK ACC-SET AT K = 30
+P: REMOVE ACC FROM OWN
+P: DELETE ACC
+";
+
+const LINKED_LOOK: &[u8] = b"P: OPEN INQUIRY
+P: FIND FIRST CUS
+P: GET CUS
+P: FIND FIRST NOTE-SET
+P: GET NOTE
+P: FIND FIRST OWN
+P: GET ACC
+P: FIND VIA BEST OF CUS
+P: FIND VIA HOLDER OF ACC
+P: FIND LAST ACC-SET
+P: GET ACC K
+";
+
+const LINKED_ANSWERS: [&[u8]; 6] = [
+    b"1 P DONE
+2 P EXCEPTION NOTFOUND CUS
+3 P EXCEPTION NORECORD CUS
+4 P EXCEPTION NORECORD CUS
+5 P EXCEPTION NORECORD NOTE
+6 P EXCEPTION NORECORD CUS
+7 P EXCEPTION NORECORD ACC
+8 P EXCEPTION NORECORD CUS
+9 P EXCEPTION NORECORD ACC
+10 P EXCEPTION NOTFOUND ACC-SET
+11 P EXCEPTION NORECORD ACC
+",
+    b"1 P DONE
+2 P DONE
+3 P DONE N=1, BEST=1
+4 P DONE
+5 P DONE M=5
+6 P DONE
+7 P DONE K=10, HOLDER=1
+8 P DONE
+9 P DONE
+10 P DONE
+11 P DONE K=10
+",
+    b"1 P DONE
+2 P DONE
+3 P DONE N=1, BEST=1
+4 P DONE
+5 P DONE M=5
+6 P DONE
+7 P DONE K=20, HOLDER=1
+8 P DONE
+9 P DONE
+10 P DONE
+11 P DONE K=20
+",
+    b"1 P DONE
+2 P DONE
+3 P DONE N=1, BEST=NULL
+4 P DONE
+5 P DONE M=5
+6 P EXCEPTION NOTFOUND OWN
+7 P EXCEPTION NORECORD ACC
+8 P EXCEPTION NOTFOUND BEST
+9 P EXCEPTION NORECORD ACC
+10 P EXCEPTION NOTFOUND ACC-SET
+11 P EXCEPTION NORECORD ACC
+",
+    b"1 P DONE
+2 P EXCEPTION NOTFOUND CUS
+3 P EXCEPTION NORECORD CUS
+4 P EXCEPTION NORECORD CUS
+5 P EXCEPTION NORECORD NOTE
+6 P EXCEPTION NORECORD CUS
+7 P EXCEPTION NORECORD ACC
+8 P EXCEPTION NORECORD CUS
+9 P EXCEPTION NORECORD ACC
+10 P DONE
+11 P DONE K=25
+",
+    b"1 P DONE
+2 P DONE
+3 P DONE N=2, BEST=NULL
+4 P EXCEPTION NOTFOUND NOTE-SET
+5 P EXCEPTION NORECORD NOTE
+6 P DONE
+7 P DONE K=30, HOLDER=NULL
+8 P EXCEPTION NOTFOUND BEST
+9 P EXCEPTION NOTFOUND HOLDER
+10 P DONE
+11 P DONE K=30
 ",
 ];
 

@@ -86,10 +86,10 @@ pub struct Row {
 }
 
 /// The first row of the statements that restore.
-pub const RESTORES: usize = 6;
+pub const RESTORES: usize = 7;
 
 /// The commands that write. One that comes adds a row.
-pub const ROWS: [Row; 9] = [
+pub const ROWS: [Row; 10] = [
     Row {
         story: Story::Turns,
         command: Written::Compile,
@@ -117,6 +117,13 @@ pub const ROWS: [Row; 9] = [
         start: Start::Initialized,
         points: &[0, 1, 2, 3, 4],
         point: 4,
+    },
+    Row {
+        story: Story::Linked,
+        command: Written::Run,
+        start: Start::Initialized,
+        points: &[0, 1, 2, 3, 4, 5],
+        point: 5,
     },
     Row {
         story: Story::Turns,

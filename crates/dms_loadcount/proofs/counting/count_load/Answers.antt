@@ -40,7 +40,7 @@ returns-in-Ok-ran-clause-counts c =
     ran.next
     ran.next_high
     (c.summary_of.ensures.records (load_left d c.args.seed c.args.n)
-    (ap (λ x. Some (db_of (records_in x.rows.items))) c.into_store-store.ensures ∙ ended.db ∙ ap (λ (db : Db). Some db) (c.left_law.ensures d empty_db 1 (load_lines c.args.seed c.args.n)))))
+    (ap (λ x. Some (db_of (records_in x.rows.items) x.manual.entries)) c.into_store-store.ensures ∙ ended.db ∙ ap (λ (db : Db). Some db) (c.left_law.ensures d empty_db 1 (load_lines c.args.seed c.args.n)))))
 
 pub returns-in-Err-ran-clause-held : goal.returns-in-Err-ran-clause-held
 returns-in-Err-ran-clause-held c = λ is.

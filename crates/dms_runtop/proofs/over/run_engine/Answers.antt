@@ -1,4 +1,4 @@
-use Rattle.std.proofs.Common.{◌≡◌, ◌∙◌, ℕ, IsTrue, List, take, inr, refl, sym, ap, subst}
+use Rattle.std.proofs.Common.{◌≡◌, ◌∙◌, ℕ, IsTrue, List, inr, refl, sym, ap, subst}
 use Rattle.dms_audfile.specs.Counting.{not_counted}
 use Rattle.dms_block.specs.Counts.{Faults}
 use Rattle.dms_status.specs.declared.status.Status.TheVariants.{DiskFault, SayFault}
@@ -23,6 +23,7 @@ use Rattle.dms_runner.specs.Events.{RunEvent}
 use Rattle.dms_storeverbs.specs.View.{engine_view}
 use Rattle.dms_wal.specs.Database.{running_held}
 use Rattle.dms_runner.proofs.Counting.{counted_law}
+use Rattle.dms_runner.proofs.ValidSizes.{valid_size}
 use Rattle.dms_runner.specs.EventLaws.{AreCounted}
 use Rattle.dms_runtop.proofs.Bounds.{closed_bound, failed_bound}
 use Rattle.dms_runtop.proofs.Grows.{grows_left, grows_over}
@@ -61,7 +62,7 @@ returns-in-Ok-clause-ran g c = λ total first ps n db all b left.
     (c.in-Ok.ensures.ended db r.next all stands b.room fed).next
     (closed_bound g.S.Site (as_described e.desc) r r' (telling_of total first) (λ i. telling_of (b.total_is i) (b.first_is i)) (λ i. telling_of ((pace.total ∙ b.total_is) i) ((pace.first ∙ b.first_is) i)) b.nothing b.every b.unused.0 b.unused.1 b.unused.2 b.tells c.in-Ok.ensures.lasts.same.2
     (script_events (as_described e.desc) db r.next (raw_lines all)) (engine_view e) (engine_view e') refl refl refl refl e.under
-    (subst (λ (es : List RunEvent). (i : ℕ) → AreCounted (as_described e.desc) (take i es)) carried.whole (counted_law (as_described e.desc) e.formed db r.next (raw_lines all) carried.n carried.events carried.front carried.are)) ran.effort (numbers_used (script_events (as_described e.desc) db r.next (raw_lines all)) ran) c.close_over.result.status (g.S.Site.files c.close_over.result.site) _
+    (subst (λ (es : List RunEvent). (i : ℕ) → AreCounted (as_described e.desc) es i) carried.whole (counted_law (as_described e.desc) e.formed db (valid_size (as_described e.desc) e.formed db b.valid) r.next (raw_lines all) carried.n carried.events carried.front carried.are)) ran.effort (numbers_used (script_events (as_described e.desc) db r.next (raw_lines all)) ran) c.close_over.result.status (g.S.Site.files c.close_over.result.site) _
     c.in-Ok.ensures.lasts.sound.sound.unbroken
     (subst (λ (x : Running g.row.S.Denot). FilesGrew 18 (view_of g.S.Site x.log) (g.S.Site.files c.close_over.result.site)) c.running_under-running.ensures (c.close_over.ensures.closes.grown b.tells).few)
     said.text)
@@ -91,7 +92,7 @@ returns-in-Err-clause-ran g c = λ total first ps n db all b left.
     (part_leaves e e' n db r.next starts carried.events (carried.part.moments b.tells))
     (no_damage c.in-Err.fault _ _ c.requires.found (carried.part.undamaged (record { db = db; mark = db; db_is = stands.db; mark_is = stands.mark })) c.in-Err.ensures.lasts.cause)
     (failed_bound g.S.Site (as_described e.desc) r r' (telling_of total first) (λ i. telling_of (b.total_is i) (b.first_is i)) (λ i. telling_of ((pace.total ∙ b.total_is) i) ((pace.first ∙ b.first_is) i)) b.nothing b.every b.unused.0 b.unused.1 b.unused.2 b.tells c.in-Err.ensures.lasts.same.2
-    carried.events (engine_view e) (engine_view e') refl refl refl refl e.under (counted_law (as_described e.desc) e.formed db r.next (raw_lines all) carried.n carried.events carried.front carried.are) c.running_under-running-in-Err.result.log.end.limit c.in-Err.fault c.fault_within-fault.result c.fault_within-fault.ensures carried.part.took)
+    carried.events (engine_view e) (engine_view e') refl refl refl refl e.under (counted_law (as_described e.desc) e.formed db (valid_size (as_described e.desc) e.formed db b.valid) r.next (raw_lines all) carried.n carried.events carried.front carried.are) c.running_under-running-in-Err.result.log.end.limit c.in-Err.fault c.fault_within-fault.result c.fault_within-fault.ensures carried.part.took)
 
 pub returns-in-Ok-clause-grown : goal.returns-in-Ok-clause-grown
 returns-in-Ok-clause-grown g c =
