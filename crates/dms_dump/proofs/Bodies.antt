@@ -143,15 +143,15 @@ pub written_size : (gate : ℕ) (h : Head) (stored : Stored) → EachWhole store
 unfolding dump_file
 written_size gate h stored whole = omega (arith, length-append (head_bytes h) (body_bytes stored h.counts), size_is h, body_size stored h.counts whole)
 
-front : (gate : ℕ) (h : Head) (stored : Stored) → IsHead h → range 1 1626 (dump_file gate h stored) ≡ head_bytes h ++ take (1626 - length (head_bytes h)) (body_bytes stored h.counts)
+front : (gate : ℕ) (h : Head) (stored : Stored) → IsHead h → range 1 1634 (dump_file gate h stored) ≡ head_bytes h ++ take (1634 - length (head_bytes h)) (body_bytes stored h.counts)
 unfolding range dump_file
-front gate h stored is = take_behind 1626 (head_bytes h) (body_bytes stored h.counts) (omega (arith, size_is h, size_bound h is))
+front gate h stored is = take_behind 1634 (head_bytes h) (body_bytes stored h.counts) (omega (arith, size_is h, size_bound h is))
 
 head_there : (gate : ℕ) (h : Head) (stored : Stored) → IsHead h → EachWhole stored h.counts → head_in (dump_file gate h stored) ≡ Some h
 unfolding head_in whole_head
 head_there gate h stored is whole =
     let file = dump_file gate h stored in
-    let rest = take (1626 - length (head_bytes h)) (body_bytes stored h.counts) in
+    let rest = take (1634 - length (head_bytes h)) (body_bytes stored h.counts) in
     let size = written_size gate h stored whole in
     let on : (length file == 1 + head_size h + 1024 * all_blocks h.counts) ≡ true = grind (arith, nat_tests, size) in
     ap (λ (o : Option (Head × List ℕ)). o >>= (λ x. whole_head file x.0)) (ap head_first (front gate h stored is) ∙ head_again h rest is)

@@ -70,7 +70,7 @@ head_again h rest is =
       number_again w32 (2 ^ 32) wide32 h.audit (r ++ (l ++ rest)) is.audit,
       number_again w16 (2 ^ 16) wide16 (length h.counts) (l ++ rest) few,
       counts_again_first h.counts rest is.rising,
-    ) refl
+    ) (λ i. Some (record { tag = h.tag; point = h.point; audit = h.audit; counts = h.counts; end = sym is.ends i }, rest))
 
 mark_size : (tag : ℕ) → length (mark_bytes tag) ≡ (if tag == 0 then 4 else 12)
 mark_size tag = elim (cases_eq tag 0) [
@@ -84,7 +84,7 @@ size_more : (b : Bool) → cond b 4 12 + 14 ≡ cond b 18 26
 size_more true = refl
 size_more false = refl
 
--- a head takes so many bytes, at most 1,626
+-- a head takes so many bytes, at most 1,634
 pub size_is : (h : Head) → length (head_bytes h) ≡ head_size h
 unfolding head_bytes
 size_is h =
@@ -111,5 +111,5 @@ size_few : (b : Bool) → cond b 18 26 ≤ 26
 size_few true = omega arith
 size_few false = omega arith
 
-pub size_bound : (h : Head) → IsHead h → head_size h ≤ 1626
+pub size_bound : (h : Head) → IsHead h → head_size h ≤ 1634
 size_bound h is = omega (arith, is.few, size_few (h.tag == 0))

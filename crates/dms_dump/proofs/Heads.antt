@@ -49,7 +49,7 @@ rise_200 cs rises = elim (rise_few 30001 cs rises) [
 
 -- ---- what the file of a dump is found to be
 
-front_is : (b : ℕ) (bytes file : List ℕ) → b ∷ bytes ≡ range 0 1627 file → (rest : List ℕ) × (file ≡ b ∷ rest) × (bytes ≡ range 1 1626 file)
+front_is : (b : ℕ) (bytes file : List ℕ) → b ∷ bytes ≡ range 0 1635 file → (rest : List ℕ) × (file ≡ b ∷ rest) × (bytes ≡ range 1 1634 file)
 unfolding range
 front_is b bytes [] is = absurd cc
 front_is b bytes (c ∷ rest) is = (rest, (let e : c ≡ b = sym (ap (λ (l : List ℕ). head_or l) is) in ap (λ k. k ∷ rest) e), ap (λ (l : List ℕ). drop 1 l) is)
@@ -58,25 +58,25 @@ front_is b bytes (c ∷ rest) is = (rest, (let e : c ≡ b = sym (ap (λ (l : Li
     head_or [] = 0
     head_or (x ∷ xs) = x
 
-pub nothing_there : (front file : List ℕ) → front ≡ [] → front ≡ range 0 1627 file → dump_read file ≡ missing
+pub nothing_there : (front file : List ℕ) → front ≡ [] → front ≡ range 0 1635 file → dump_read file ≡ missing
 unfolding range dump_read
 nothing_there front [] none is = refl
 nothing_there front (c ∷ rest) none is = absurd (omega (arith, ap length none, ap length is))
 
-pub shut_there : (b : ℕ) (bytes file : List ℕ) → b ≢ 1 → b ∷ bytes ≡ range 0 1627 file → dump_read file ≡ unsealed
+pub shut_there : (b : ℕ) (bytes file : List ℕ) → b ≢ 1 → b ∷ bytes ≡ range 0 1635 file → dump_read file ≡ unsealed
 unfolding dump_read
 shut_there b bytes file other is =
     let f = front_is b bytes file is in
     let off : (b == 1) ≡ false = grind (arith, nat_tests, other) in
     ap dump_read f.1 ∙ ap (λ t. if t then read_head (head_in (b ∷ f.0)) else unsealed) off
 
-open_there : (bytes file : List ℕ) → 1 ∷ bytes ≡ range 0 1627 file → dump_read file ≡ read_head (head_in file)
+open_there : (bytes file : List ℕ) → 1 ∷ bytes ≡ range 0 1635 file → dump_read file ≡ read_head (head_in file)
 unfolding dump_read
 open_there bytes file is =
     let f = front_is 1 bytes file is in
     ap dump_read f.1 ∙ ap (λ (l : List ℕ). read_head (head_in l)) (sym f.1)
 
-pub no_head_there : (bytes file : List ℕ) → 1 ∷ bytes ≡ range 0 1627 file → option_map (λ (x : Head × List ℕ). x.0) (head_first bytes) ≡ None → dump_read file ≡ damaged
+pub no_head_there : (bytes file : List ℕ) → 1 ∷ bytes ≡ range 0 1635 file → option_map (λ (x : Head × List ℕ). x.0) (head_first bytes) ≡ None → dump_read file ≡ damaged
 unfolding head_in
 no_head_there bytes file is none =
     open_there bytes file is ∙ ap (λ (l : List ℕ). read_head (head_first l >>= (λ x. whole_head file x.0))) (sym (front_is 1 bytes file is).2) ∙ go (head_first bytes) none
@@ -85,7 +85,7 @@ no_head_there bytes file is none =
     go None e = refl
     go (Some x) e = absurd cc
 
-head_there : (bytes file : List ℕ) (h : Head) → 1 ∷ bytes ≡ range 0 1627 file → option_map (λ (x : Head × List ℕ). x.0) (head_first bytes) ≡ Some h → dump_read file ≡ read_head (whole_head file h)
+head_there : (bytes file : List ℕ) (h : Head) → 1 ∷ bytes ≡ range 0 1635 file → option_map (λ (x : Head × List ℕ). x.0) (head_first bytes) ≡ Some h → dump_read file ≡ read_head (whole_head file h)
 unfolding head_in
 head_there bytes file h is some =
     open_there bytes file is ∙ ap (λ (l : List ℕ). read_head (head_first l >>= (λ x. whole_head file x.0))) (sym (front_is 1 bytes file is).2) ∙ go (head_first bytes) some
@@ -94,13 +94,13 @@ head_there bytes file h is some =
     go None e = absurd cc
     go (Some x) e = let same : x.0 ≡ h = cc in ap (λ (k : Head). read_head (whole_head file k)) same
 
-pub whole_there : (bytes file : List ℕ) (h : Head) → 1 ∷ bytes ≡ range 0 1627 file → option_map (λ (x : Head × List ℕ). x.0) (head_first bytes) ≡ Some h → length file ≡ 1 + head_size h + 1024 * all_blocks h.counts → dump_read file ≡ sealed h
+pub whole_there : (bytes file : List ℕ) (h : Head) → 1 ∷ bytes ≡ range 0 1635 file → option_map (λ (x : Head × List ℕ). x.0) (head_first bytes) ≡ Some h → length file ≡ 1 + head_size h + 1024 * all_blocks h.counts → dump_read file ≡ sealed h
 unfolding whole_head
 whole_there bytes file h is some size =
     let on : (length file == 1 + head_size h + 1024 * all_blocks h.counts) ≡ true = grind (arith, nat_tests, size) in
     head_there bytes file h is some ∙ ap (λ b. read_head (if b then Some h else None)) on
 
-pub short_there : (bytes file : List ℕ) (h : Head) → 1 ∷ bytes ≡ range 0 1627 file → option_map (λ (x : Head × List ℕ). x.0) (head_first bytes) ≡ Some h → length file ≢ 1 + head_size h + 1024 * all_blocks h.counts → dump_read file ≡ damaged
+pub short_there : (bytes file : List ℕ) (h : Head) → 1 ∷ bytes ≡ range 0 1635 file → option_map (λ (x : Head × List ℕ). x.0) (head_first bytes) ≡ Some h → length file ≢ 1 + head_size h + 1024 * all_blocks h.counts → dump_read file ≡ damaged
 unfolding whole_head
 short_there bytes file h is some size =
     let off : (length file == 1 + head_size h + 1024 * all_blocks h.counts) ≡ false = grind (arith, nat_tests, size) in
@@ -115,7 +115,7 @@ front_cons (x ∷ xs) b some is = ap (λ k. k ∷ xs) (sym is)
 head_same : (a h : Head) (o : Option Head) → Some a ≡ o → a ≡ h → o ≡ Some h
 head_same a h o some same = sym some ∙ ap (λ (k : Head). Some k) same
 
-module _ (front file : List ℕ) (is : front ≡ range 0 1627 file) where
+module _ (front file : List ℕ) (is : front ≡ range 0 1635 file) where
   pub none_read : length front ≡ 0 → dump_read file ≡ missing
   none_read none = nothing_there front file (no_bytes front none) is
     where

@@ -24,7 +24,7 @@ dump_file gate h stored = gate ∷ (head_bytes h ++ body_bytes stored h.counts)
 
 -- the file of a dump that is made of these files
 abbrev pub dump_made : ℕ → ℕ → ℕ → ℕ → List FileCount → Files → List ℕ
-dump_made gate tag point audit counts files = dump_file gate (record { tag = tag; point = point; audit = audit; counts = counts }) (stored_of files)
+dump_made gate tag point audit counts files = dump_file gate (record { tag = tag; point = point; audit = audit; counts = counts; end = point }) (stored_of files)
 
 -- how many blocks of other files stand before the first one of a file
 abbrev pub blocks_before : ℕ → List FileCount → ℕ

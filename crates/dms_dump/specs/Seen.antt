@@ -5,4 +5,4 @@ use Rattle.dms_dump.specs.Head.{Head}
 use Rattle.dms_dump.specs.declared.head.HeadAt.{HeadAt}
 
 abbrev pub head_at : HeadAt → Head
-head_at x = record { tag = x.tag; point = x.point; audit = x.audit; counts = counts_at (length x.list.now / 8) x.list.now }
+head_at x = record { tag = x.tag; point = x.point; audit = x.audit; counts = counts_at (length x.list.now / 8) x.list.now; end = x.point }

@@ -104,7 +104,7 @@ pub(crate) fn copy_all<S: Site>(
     buffer: &mut [u8],
 ) -> Result<(), DumpFault>
     requires behind { 1 ≤ at }
-    requires place { at ≤ 1627 }
+    requires place { at ≤ 1635 }
     requires few { length counts.now ≤ 200 }
     requires rising { counts_rise 30001 counts.now ≡ true }
     requires no_structure { dump ≤ 30000 }

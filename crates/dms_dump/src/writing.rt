@@ -38,7 +38,7 @@ fn fill<S: Site>(
     ensures disk { CountsAt (IsErrOf result DumpFault.Disk) (S.disk_faults site.old) (S.disk_faults site.new) }
     ensures say_faults { S.say_faults site.new ≡ S.say_faults site.old }
 {
-    let mut head = [0u8; 1626];
+    let mut head = [0u8; 1634];
     let used = spell_head(&mut head, tag, point, audit, counts);
     match site.write_at(file, 1, &head[..used]) {
         Ok(()) => {}

@@ -95,7 +95,7 @@ module _ {S : Type 0} (g : Ghosts S) (d : ℕ) (some : 1 ≤ d) (few : d ≤ 999
       tag = o.log.end.tag;
       audit = o.audit;
       counts = counts;
-      is = is ∙ ap (λ (st : Stored). dump_file 1 (record { tag = o.log.end.tag; point = o.point; audit = o.audit; counts = counts }) st) (sym same);
+      is = is ∙ ap (λ (st : Stored). dump_file 1 (record { tag = o.log.end.tag; point = o.point; audit = o.audit; counts = counts; end = o.point }) st) (sym same);
     }))
 
     left_on : (blocks : Left → Files) → ((y x : Left) → Now (g.clock mid) y → Others y.files x.files → stored_of (blocks x) ≡ stored_of (g.files mid)) → StaysBeside g old mid → Writes → Runs (g.clock old) (g.clock new) (λ x. LeavesDump d o.point (g.clock old) (blocks x) x)

@@ -13,7 +13,7 @@ WritesDump f made old new = InFile f (BecomesDump made) old.files new.files
 
 -- the head of a dump can be spelled
 abbrev pub IsHeadOf : ℕ → ℕ → ℕ → List FileCount → Type 0
-IsHeadOf tag point audit counts = IsHead (record { tag = tag; point = point; audit = audit; counts = counts })
+IsHeadOf tag point audit counts = IsHead (record { tag = tag; point = point; audit = audit; counts = counts; end = point })
 
 -- a line of these words and the number of a point
 unfoldable pub point_line : List ℕ → ℕ → List ℕ

@@ -59,6 +59,7 @@ impl DumpFound {
                     point: _,
                     audit: _,
                     counts: _counts,
+                    end: _,
                 },
             ) => {}
         }

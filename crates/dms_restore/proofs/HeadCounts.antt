@@ -59,7 +59,7 @@ all_most low (c ∷ cs) rises =
     let three = both (nat_le c.blocks 2097152) _ two.1 in
     omega (arith, le_of c.blocks 2097152 three.0, all_most (c.file + 1) cs three.1)
 
-size_most : (h : Head) → length h.counts ≤ 200 → head_size h ≤ 1626
+size_most : (h : Head) → length h.counts ≤ 200 → head_size h ≤ 1634
 size_most h few = elim (cases_Bool (h.tag == 0)) [
   | inl on ↦ let size : head_size h ≡ 18 + 8 * length h.counts = ap (λ t. cond t 18 26 + 8 * length h.counts) on in omega (arith, few, size)
   | inr off ↦ let size : head_size h ≡ 26 + 8 * length h.counts = ap (λ t. cond t 18 26 + 8 * length h.counts) off in omega (arith, few, size)
@@ -103,7 +103,7 @@ sealed_head (gate ∷ rest) h is = elim (cases_Bool (gate == 1)) [
 -- its file ends behind the last block
 pub head_ends : (file : List ℕ) (h : Head) → head_in file ≡ Some h → length file ≡ 1 + head_size h + 1024 * all_blocks h.counts
 unfolding head_in whole_head
-head_ends file h is = go (head_first (range 1 1626 file)) is
+head_ends file h is = go (head_first (range 1 1634 file)) is
   where
     ends : (k : Head) → cond (length file == 1 + head_size k + 1024 * all_blocks k.counts) (Some k) None ≡ Some h → length file ≡ 1 + head_size h + 1024 * all_blocks h.counts
     ends k e = elim (cases_Bool (length file == 1 + head_size k + 1024 * all_blocks k.counts)) [
@@ -121,5 +121,5 @@ head_ends file h is = go (head_first (range 1 1626 file)) is
 pub before_most : (h : DumpHead) (f : ℕ) → IsFitHead h → blocks_before f h.counts.items ≤ 419430400
 before_most h f fit = omega (arith, before_within h.counts.items f, all_most 30001 h.counts.items fit.0, fit.1)
 
-pub head_most : (h : DumpHead) → IsFitHead h → head_size (head_seen h) ≤ 1626
+pub head_most : (h : DumpHead) → IsFitHead h → head_size (head_seen h) ≤ 1634
 head_most h fit = size_most (head_seen h) fit.1

@@ -58,7 +58,7 @@ fn count_of(counts: &[u32], file: u32) -> u32
 fn head_size(head: &DumpHead) -> u64
     requires few { length head.now.counts.items ≤ 200 }
     ensures is { result ≡ head_size_of.head_size (head_seen head.now) }
-    ensures small { result ≤ 1626 }
+    ensures small { result ≤ 1634 }
 {
     let front = if head.tag == 0 { 18 } else { 26 };
     front + 8 * head.counts.len() as u64

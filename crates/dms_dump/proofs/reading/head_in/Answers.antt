@@ -56,10 +56,10 @@ pub returns-then-size-size_of-clause-refused : goal.returns-then-size-size_of-cl
 returns-then-size-size_of-clause-refused c file size is =
     let some : 0 < length c.args.front.now = search rules in
     let one : get_or c.args.front.now 0 0 ≡ 1 = search rules in
-    let a : Head = record { tag = c.in-Some.head.tag; point = c.in-Some.head.point; audit = c.in-Some.head.audit; counts = counts_at (length c.in-Some.head.list.now / 8) c.in-Some.head.list.now } in
-    let h : Head = record { tag = c.in-Some.head.tag; point = c.in-Some.head.point; audit = c.in-Some.head.audit; counts = c.in-Ok.counts.items } in
+    let a : Head = record { tag = c.in-Some.head.tag; point = c.in-Some.head.point; audit = c.in-Some.head.audit; counts = counts_at (length c.in-Some.head.list.now / 8) c.in-Some.head.list.now; end = c.in-Some.head.point } in
+    let h : Head = record { tag = c.in-Some.head.tag; point = c.in-Some.head.point; audit = c.in-Some.head.audit; counts = c.in-Ok.counts.items; end = c.in-Some.head.point } in
     let found : Some a ≡ option_map (λ (x : Head × List ℕ). x.0) (head_first (drop 1 c.args.front.now)) = c.in-Some.ensures.head ∙ ap (λ (l : List ℕ). option_map (λ (x : Head × List ℕ). x.0) (head_first l)) (to_end c.args.front.now) in
-    let same : a ≡ h = λ i. record { tag = c.in-Some.head.tag; point = c.in-Some.head.point; audit = c.in-Some.head.audit; counts = sym c.in-Ok.ensures i } in
+    let same : a ≡ h = λ i. record { tag = c.in-Some.head.tag; point = c.in-Some.head.point; audit = c.in-Some.head.audit; counts = sym c.in-Ok.ensures i; end = c.in-Some.head.point } in
     let blocks : c.total_blocks.result ≡ all_blocks c.in-Ok.counts.items = c.total_blocks.ensures.is ∙ ap (λ (l : List FileCount). all_blocks l) c.deref.ensures.value in
     let other : c.args.size ≢ 1 + head_size h + 1024 * all_blocks h.counts = λ e. c.if-size-size_of.true (omega (arith, e, c.size_of.ensures, c.len.ensures, blocks)) in
     (ap (λ k. 20000 + k) c.from-then-size-size_of.ensures, refl, short_head c.args.front.now file is a h c.args.size some one found same size other)
@@ -73,10 +73,10 @@ pub returns-clause-found : goal.returns-clause-found
 returns-clause-found c file size is =
     let some : 0 < length c.args.front.now = search rules in
     let one : get_or c.args.front.now 0 0 ≡ 1 = search rules in
-    let a : Head = record { tag = c.in-Some.head.tag; point = c.in-Some.head.point; audit = c.in-Some.head.audit; counts = counts_at (length c.in-Some.head.list.now / 8) c.in-Some.head.list.now } in
-    let h : Head = record { tag = c.in-Some.head.tag; point = c.in-Some.head.point; audit = c.in-Some.head.audit; counts = c.in-Ok.counts.items } in
+    let a : Head = record { tag = c.in-Some.head.tag; point = c.in-Some.head.point; audit = c.in-Some.head.audit; counts = counts_at (length c.in-Some.head.list.now / 8) c.in-Some.head.list.now; end = c.in-Some.head.point } in
+    let h : Head = record { tag = c.in-Some.head.tag; point = c.in-Some.head.point; audit = c.in-Some.head.audit; counts = c.in-Ok.counts.items; end = c.in-Some.head.point } in
     let found : Some a ≡ option_map (λ (x : Head × List ℕ). x.0) (head_first (drop 1 c.args.front.now)) = c.in-Some.ensures.head ∙ ap (λ (l : List ℕ). option_map (λ (x : Head × List ℕ). x.0) (head_first l)) (to_end c.args.front.now) in
-    let same : a ≡ h = λ i. record { tag = c.in-Some.head.tag; point = c.in-Some.head.point; audit = c.in-Some.head.audit; counts = sym c.in-Ok.ensures i } in
+    let same : a ≡ h = λ i. record { tag = c.in-Some.head.tag; point = c.in-Some.head.point; audit = c.in-Some.head.audit; counts = sym c.in-Ok.ensures i; end = c.in-Some.head.point } in
     let blocks : c.total_blocks.result ≡ all_blocks c.in-Ok.counts.items = c.total_blocks.ensures.is ∙ ap (λ (l : List FileCount). all_blocks l) c.deref.ensures.value in
     let equal : c.args.size ≡ 1 + head_size h + 1024 * all_blocks h.counts = omega (arith, c.if-size-size_of.false, c.size_of.ensures, c.len.ensures, blocks) in
     whole_read c.args.front.now file is a h c.args.size some one found same size equal

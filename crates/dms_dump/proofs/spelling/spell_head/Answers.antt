@@ -7,7 +7,7 @@ use Rattle.dms_dump.proofs.spelling.spell_head.Goals as goal
 
 pub returns-clause-head : goal.returns-clause-head
 returns-clause-head c =
-    let h : Head = record { tag = c.args.tag; point = c.args.point; audit = c.args.audit; counts = c.args.counts.now } in
+    let h : Head = record { tag = c.args.tag; point = c.args.point; audit = c.args.audit; counts = c.args.counts.now; end = c.args.point } in
     let one : take c.add_mark-next.result c.add_mark-next.new.into ≡ mark_bytes c.args.tag = c.add_mark-next.ensures.added in
     let two : take c.add_bytes-next.result c.add_bytes-next.new.into ≡ take c.add_mark-next.result c.add_mark-next.new.into ++ to_be_bytes w64 c.args.point = search rules in
     let three : take c.add_bytes-next-2.result c.add_bytes-next-2.new.into ≡ take c.add_bytes-next.result c.add_bytes-next.new.into ++ to_be_bytes w32 c.args.audit = search rules in
