@@ -62,7 +62,9 @@ fn write_damaged<W: fmt::Write>(file: u32, f: &mut fmt::Formatter<W>) -> fmt::Re
     match file {
         0..=20_000 => f.write_str("dms: put back a copy of the whole database\n"),
         20_001..=30_000 => write_back(file, f),
-        _ => f.write_str("dms: rebuild from a dump, or put back a copy of the whole database\n"),
+        _ => f.write_str(
+            "dms: rebuild or reconstruct from a dump, or put back a copy of the whole database\n",
+        ),
     }
 }
 

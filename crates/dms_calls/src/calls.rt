@@ -142,6 +142,12 @@ pub trait Calls {
         ensures moments { Steps (Speaks bytes.now) (clock self.old) (clock self.new) }
         ensures broken { broken self.new ≡ broken self.old };
 
+    /// Shows a person how far a long command is: so many lines of so many.
+    fn show(&mut self, done: u64, of: u64)
+        ensures world { world self.new ≡ world self.old }
+        ensures moments { Steps Unchanged (clock self.old) (clock self.new) }
+        ensures broken { broken self.new ≡ broken self.old };
+
     /// What calls see is one of the things that a stop may leave.
     ghost may_stay: { (s : Self) → IsTrue tells → Now (clock s) (world s) };
 

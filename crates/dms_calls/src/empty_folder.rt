@@ -91,4 +91,6 @@ impl Calls for EmptyFolder {
     fn print(&mut self, _bytes: &[u8]) -> Result<usize, Failed> {
         Err(Failed)
     }
+
+    fn show(&mut self, _done: u64, _of: u64) {}
 }

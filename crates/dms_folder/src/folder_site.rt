@@ -152,4 +152,8 @@ impl<C: Calls> Site for FolderSite<C> {
             Err(_) => Err(fail(&mut self.say_faults)),
         }
     }
+
+    fn show(&mut self, done: u64, of: u64) {
+        self.folder.calls.show(done, of)
+    }
 }

@@ -93,6 +93,13 @@ impl<R: Files + Clock + Eprint> Host<R> {
         }
     }
 
+    /// Something is about to be printed.
+    fn make_way(&mut self) {
+        if let Some(progress) = &mut self.progress {
+            progress.make_way(&self.rt);
+        }
+    }
+
     /// A call on this file of the folder ended at this place: shows it, where it is time.
     fn pass(&mut self, file: &NumberedFile<R::File>, at: u64) {
         let Subject::File(number) = file.on else {
@@ -274,12 +281,19 @@ where
     }
 
     fn print(&mut self, bytes: &[u8]) -> Result<usize, Failed> {
-        self.turn();
+        self.make_way();
         let written = io::writer(&self.rt).write(bytes);
         let count = self.keep(Subject::Output, written)?;
         if let Some(progress) = &mut self.progress {
             progress.read(&bytes[..count]);
         }
         Ok(count)
+    }
+
+    fn show(&mut self, done: u64, of: u64) {
+        if let Some(progress) = &mut self.progress {
+            progress.pass_lines(done, of);
+        }
+        self.turn();
     }
 }

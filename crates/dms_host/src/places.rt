@@ -1,5 +1,7 @@
 //! Which part of a database a command is at.
 
+use crate::progress::percent;
+
 /// Audit file k is file 10,000 + k, and dump d file 20,000 + d, each from 1 on.
 const AUDIT: u32 = 10_000;
 
@@ -20,10 +22,7 @@ pub(crate) struct Copied {
 impl Copied {
     /// How much of it was written or read, in percent.
     pub(crate) fn percent(&self) -> u64 {
-        if self.at >= self.whole {
-            return 100;
-        }
-        self.at.saturating_mul(100) / self.whole
+        percent(self.at, self.whole)
     }
 }
 

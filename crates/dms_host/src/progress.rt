@@ -19,7 +19,7 @@ const TURN: u64 = 1;
 pub enum Measure {
     /// By the answers that are printed.
     Answers,
-    /// By the audit file or the dump that is read or written.
+    /// By the audit file or the dump that is read or written, or by how many lines are done.
     Files,
 }
 
@@ -28,6 +28,16 @@ pub enum Measure {
 enum Known {
     Answers(Answers),
     Files(Part),
+    /// So many lines of so many are done.
+    Lines(u64, u64),
+}
+
+/// How much of it is done, in percent.
+pub(crate) fn percent(done: u64, of: u64) -> u64 {
+    if done >= of {
+        return 100;
+    }
+    done.saturating_mul(100) / of
 }
 
 /// How far a command is.
@@ -57,14 +67,22 @@ impl fmt::Display for Known {
                 let percent = copied.percent();
                 write!(f, "dump {dump}, {percent} %  ")
             }
+            Known::Lines(done, of) => {
+                let percent = percent(*done, *of);
+                write!(f, "{of} lines, {percent} %  ")
+            }
         }
     }
 }
 
 impl Progress {
-    /// Nothing done yet. None unless standard error is a terminal, standard output is none, and there is a clock.
+    /// Nothing done yet. None unless standard error is a terminal and there is a clock; nor where answers are printed on a
+    /// terminal, which show how far the command is.
     pub fn begin(rt: &HostRuntime, measure: Measure) -> Option<Progress> {
-        if !rt.stderr().is_terminal() || rt.stdout().is_terminal() {
+        if !rt.stderr().is_terminal() {
+            return None;
+        }
+        if measure == Measure::Answers && rt.stdout().is_terminal() {
             return None;
         }
         match Instant::now(rt) {
@@ -80,6 +98,20 @@ impl Progress {
         }
     }
 
+    /// Before something is printed: what is no answer of many stands on a line of its own.
+    pub(crate) fn make_way<R: Clock + Eprint>(&mut self, rt: &R) {
+        let answers = match &self.known {
+            Known::Answers(_) => true,
+            Known::Files(_) | Known::Lines(_, _) => false,
+        };
+        if answers {
+            self.turn(rt);
+        } else {
+            self.end(rt);
+            self.shown = false;
+        }
+    }
+
     /// Takes what was printed.
     pub(crate) fn read(&mut self, bytes: &[u8]) {
         if let Known::Answers(answers) = &mut self.known {
@@ -90,9 +122,14 @@ impl Progress {
     /// The part of the database that the command is at, where it is seen by that.
     pub(crate) fn part(&mut self) -> Option<&mut Part> {
         match &mut self.known {
-            Known::Answers(_) => None,
+            Known::Answers(_) | Known::Lines(_, _) => None,
             Known::Files(part) => Some(part),
         }
+    }
+
+    /// So many lines of so many are done.
+    pub(crate) fn pass_lines(&mut self, done: u64, of: u64) {
+        self.known = Known::Lines(done, of);
     }
 
     /// Rewrites the line, where a second has gone since it was written.

@@ -1,14 +1,30 @@
-//! The site of a load: nothing is printed on it.
+//! The site of a load: nothing is printed on it, and the answers show how far the load is.
 
 ghost use Rattle.std.specs.Prelude.{◌≡◌, [], false};
 ghost use Rattle.dms_load.specs.Muting.{SameMuted};
 
 use dms_site::{Failed, Site};
 
-/// A site on which nothing is printed: what is said is dropped, and each other call is that of the site. It tells no text.
+/// A site on which nothing is printed: each other call is that of the site. It tells no text. What is said is dropped, but the number
+/// with which an answer begins is shown as that of the line that is done.
 #[derive(Drop)]
 pub struct MuteSite<S: Site> {
     pub site: S,
+    /// How many lines the script has.
+    pub lines: u64,
+}
+
+/// The number with which a text begins, 0 where it begins with none. It stays at 2^64 - 1.
+fn first_number(bytes: &[u8]) -> u64 {
+    let mut number: u64 = 0;
+    for byte in bytes {
+        if !byte.is_ascii_digit() {
+            return number;
+        }
+        let digit = byte.saturating_sub(b'0');
+        number = number.saturating_mul(10).saturating_add(u64::from(digit));
+    }
+    number
 }
 
 impl<S: Site> Site for MuteSite<S> {
@@ -64,7 +80,15 @@ impl<S: Site> Site for MuteSite<S> {
         self.site.sync()
     }
 
-    fn say(&mut self, _bytes: &[u8]) -> Result<(), Failed> {
+    fn say(&mut self, bytes: &[u8]) -> Result<(), Failed> {
+        let line = first_number(bytes);
+        if line > 0 {
+            self.site.show(line, self.lines);
+        }
         Ok(())
+    }
+
+    fn show(&mut self, done: u64, of: u64) {
+        self.site.show(done, of)
     }
 }

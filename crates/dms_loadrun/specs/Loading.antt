@@ -21,7 +21,7 @@ OfLoad P = (d : Described) → judge_schema load_schema ≡ Ok d → P d
 abbrev pub HoldsNone : Files → Type 0
 HoldsNone files = IsUnsealed (files 1) ⊎ (slice_index (files 1) 1 ≢ 1)
 
--- The script was begun over a new database. The files stand for that one, or for the database of one quiet point of the script, and a run may begin with it.
+-- The script was begun over a new database. The files stand for that one, or for the database of one quiet point of the script, and it is valid.
 pub record StandsWithin (d : Described) (seed n : ℕ) (files : Files) : Type 0 where
   pub made : Files
   pub new : StandsNew 0 d made

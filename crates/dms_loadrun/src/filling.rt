@@ -39,9 +39,12 @@ fn fill_by<S: Site>(alloc: Global, site: S, seed: u64, n: u32) -> Ended<S>
     ensures same { SameMuted S.Site site result.site }
 {
     let mut source = LoadSource::new(seed, n + 4);
-    let mut muted = MuteSite { site };
+    let mut muted = MuteSite {
+        site,
+        lines: u64::from(n) + 4,
+    };
     let status = run_command(alloc, &mut muted, &mut source);
-    let MuteSite { site } = muted;
+    let MuteSite { site, lines: _ } = muted;
     Ended {
         status: status_of_filling(status),
         site,

@@ -268,4 +268,6 @@ impl Calls for MemCalls {
         self.keep(CallEvent::Printed(copy, done), done)?;
         Ok(bytes.len())
     }
+
+    fn show(&mut self, _done: u64, _of: u64) {}
 }

@@ -57,6 +57,10 @@ impl<S: Site> Site for &mut S {
     fn say(&mut self, bytes: &[u8]) -> Result<(), Failed> {
         (**self).say(bytes)
     }
+
+    fn show(&mut self, done: u64, of: u64) {
+        (**self).show(done, of)
+    }
 }
 
 impl<I: Source> Source for &mut I {

@@ -116,6 +116,15 @@ pub trait Site {
         ensures faults { HasCause (say_faults self.old) (say_faults self.new) result }
         ensures disk_faults { disk_faults self.new ≡ disk_faults self.old };
 
+    /// Shows a person how far a long command is: so many lines of so many. Nothing else changes by it.
+    fn show(&mut self, done: u64, of: u64)
+        ensures files { IsTrue tells → files self.new ≡ files self.old }
+        ensures said { said self.new ≡ said self.old }
+        ensures same_site { same_site self.old self.new }
+        ensures moments { Steps Same (clock self.old) (clock self.new) }
+        ensures disk_faults { disk_faults self.new ≡ disk_faults self.old }
+        ensures say_faults { say_faults self.new ≡ say_faults self.old };
+
     ghost same_again: { (s : Self) → same_site s s };
 
     ghost same_then: { (r s t : Self) → same_site r s → same_site s t → same_site r t };

@@ -293,4 +293,8 @@ impl Site for MemSite {
         let kept = self.journal.say(bytes);
         self.tally.of_say(kept)
     }
+
+    fn show(&mut self, _done: u64, _of: u64)
+        ensures same { self.new ≡ self.old }
+    {}
 }

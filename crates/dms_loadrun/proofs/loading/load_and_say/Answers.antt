@@ -1,10 +1,19 @@
 use Rattle.std.proofs.Common.{◌≡◌, ◌∙◌, subst}
 use Rattle.dms_audfile.specs.Counting.{CountedAt, not_counted}
-use Rattle.dms_desc.specs.Shape.{as_described}
+use Rattle.dms_desc.specs.Shape.{Described, as_described}
+use Rattle.dms_load.specs.Summary.{load_schema}
 use Rattle.dms_loadrun.specs.Statuses.{IsOfFilling}
+use Rattle.dms_newdb.specs.Judging.{judge_schema}
+use Rattle.dms_newdb.specs.State.{StandsNew}
 use Rattle.dms_status.specs.declared.status.Status.TheVariants.{DiskFault, SayFault}
 use Rattle.dms_loadrun.proofs.Ending.{cut, done, unfilled}
+use Rattle.dms_loadrun.proofs.Loaded.{same_described}
 use Rattle.dms_loadrun.proofs.loading.load_and_say.Goals as goal
+
+pub fill_database-requires-clause-new : goal.fill_database-requires-clause-new
+fill_database-requires-clause-new g c = λ tells d is.
+    let same : as_described c.args.desc.now ≡ d = same_described (judge_schema load_schema) (as_described c.args.desc.now) d c.requires.accepted is in
+    subst (λ (x : Described). StandsNew 0 x (g.S.Site.files c.make_database.new.site)) same (c.in-Ok.ensures.made tells).stands
 
 pub returns-in_default : goal.returns-in_default
 returns-in_default g c = record {
