@@ -134,14 +134,14 @@ Small letters, blanks and comments; structures within D, a group that is shown, 
   > A: PUT D T = "a""b", X = ?
   > A: FIND S AT T "Z"
   > A: FIND D
-  > A: FIND FIRST E
-  > A: FIND FIRST M
-  > A: STORE E
+  > A: FIND FIRST E AT
+  > A: FIND FIRST M OF D
+  > A: STORE E INTO M
   > A: FIND S AT T = 5
   > A: PUT D X = +
   > A: PUT D X = 4.
   > A: PUT D F = 123456789012345678 X
-  > A: GET D L
+  > A: GET D L OF D
   > A: GET D , X
   > A: BEGIN-TRANSACTION NO-AUDIT D
   > A: END-TRANSACTION NO-AUDIT RDS; SYNC
@@ -158,14 +158,14 @@ Small letters, blanks and comments; structures within D, a group that is shown, 
   5 BADLINE 26
   6 BADLINE 16
   7 BADLINE 10
-  8 BADLINE 15
-  9 BADLINE 15
-  10 BADLINE 10
+  8 BADLINE 17
+  9 BADLINE 17
+  10 BADLINE 12
   11 BADLINE 18
   12 BADLINE 14
   13 BADLINE 15
   14 BADLINE 33
-  15 BADLINE 10
+  15 BADLINE 12
   16 BADLINE 10
   17 BADLINE 31
   18 BADLINE 34
@@ -174,6 +174,71 @@ Small letters, blanks and comments; structures within D, a group that is shown, 
   21 A DONE
   22 A DONE
   23 A DONE F=NULL, T="", B=FALSE, F=NULL
+
+Bad lines of the verbs on links, embedded records and manual subsets: a subset that isn't a manual one, a link of another data set,
+a link that refers to another data set, words that are missing or too many.
+
+  $ "$DMS" try <<'END'
+  > RDS RESTART DATA SET (PID NUMBER(4););
+  > D DATA SET (X NUMBER(4); L LINK TO D; K LINK TO C; E DATA SET (Y NUMBER(4);); M SUBSET OF D;);
+  > C DATA SET (Z NUMBER(4););
+  > S SET OF D KEY IS X;
+  > SCRIPT
+  > A: DELETE
+  > A: DELETE S
+  > A: DELETE D E
+  > A: INSERT D
+  > A: INSERT D IN M
+  > A: INSERT D INTO S
+  > A: INSERT E INTO M
+  > A: REMOVE D
+  > A: REMOVE D INTO M
+  > A: REMOVE CURRENT M
+  > A: REMOVE CURRENT FROM S
+  > A: REMOVE C FROM M
+  > A: ASSIGN D
+  > A: ASSIGN D TO L
+  > A: ASSIGN D TO L OF
+  > A: ASSIGN D TO L OF E
+  > A: ASSIGN D TO X OF D
+  > A: ASSIGN D TO K OF D
+  > A: ASSIGN NULL TO L OF D D
+  > A: FIND VIA L
+  > A: FIND VIA X OF D
+  > A: FIND VIA L OF C
+  > A: FIND FIRST M AT X = 1
+  > A: FIND M AT X = 1
+  > A: PUT D L = 1
+  > A: PUT D E = 1
+  > A: GET D M
+  > END
+  1 BADLINE 10
+  2 BADLINE 11
+  3 BADLINE 13
+  4 BADLINE 12
+  5 BADLINE 13
+  6 BADLINE 18
+  7 BADLINE 18
+  8 BADLINE 12
+  9 BADLINE 13
+  10 BADLINE 11
+  11 BADLINE 11
+  12 BADLINE 18
+  13 BADLINE 12
+  14 BADLINE 17
+  15 BADLINE 20
+  16 BADLINE 16
+  17 BADLINE 16
+  18 BADLINE 16
+  19 BADLINE 26
+  20 BADLINE 14
+  21 BADLINE 13
+  22 BADLINE 13
+  23 BADLINE 17
+  24 BADLINE 14
+  25 BADLINE 10
+  26 BADLINE 10
+  27 BADLINE 10
 
 Bytes that no line holds, also behind a verb and in a line of its own; a line of 2,000 bytes, and one of 2,001.
 

@@ -95,3 +95,31 @@ The same lines over a database on disk.
   INITIALIZED AT POINT 0
   $ cut_all < ../lines | "$DMS" run > out
   $ cmp out ../out
+
+Lines of the verbs that change what stands, and of links. The good parts are the whole lines, REMOVE without its semicolon, ASSIGN NULL with
+a blank or without its semicolon, and GET D with a blank or without its item.
+
+  $ cat > schema <<'END'
+  > RDS RESTART DATA SET (PID ALPHA(10););
+  > C DATA SET (Z NUMBER(4); E DATA SET (Y NUMBER(4);); M SUBSET OF D;);
+  > D DATA SET (X NUMBER(4); L LINK TO C;);
+  > SCRIPT
+  > END
+  $ cat > lines <<'END'
+  > A: DELETE D
+  > A: INSERT D INTO M
+  > A: REMOVE D FROM M;
+  > A: ASSIGN C TO L OF D
+  > A: ASSIGN NULL TO L OF D ;
+  > A: FIND VIA L OF D
+  > A: LOCK VIA L OF D
+  > A: GET D L
+  > A: CREATE E
+  > A: FIND FIRST M
+  > END
+  $ cut_all < lines > script
+  $ grep -vc '^ *$' script
+  167
+  $ cat schema script | "$DMS" try | sed -E 's/^[0-9]+ //; s/BADLINE [0-9]+/BADLINE/' | sort | uniq -c | sed -E 's/^ +//'
+  15 A EXCEPTION OPENERROR A
+  152 BADLINE

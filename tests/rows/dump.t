@@ -75,7 +75,7 @@ A structure file that ends too early is refused before anything is written, wher
   $ cksum F*.DMS > ../short
   $ echo 'DUMP TO 3' | "$DMS" utility
   dms: file 30002 block 0 damaged
-  dms: rebuild from a dump, or put back a copy of the whole database
+  dms: rebuild or reconstruct from a dump, or put back a copy of the whole database
   [9]
   $ cksum F*.DMS | cmp - ../short
   $ cp ../D F30002.DMS

@@ -71,7 +71,7 @@ is made first: what was changed before that stays bad. A run that reads the bloc
   $ printf 'A: OPEN INQUIRY\nA: FIND ACCT-SET AT ANO = 1\n' | "$DMS" run
   1 A DONE
   dms: file 30002 block 0 damaged
-  dms: rebuild from a dump, or put back a copy of the whole database
+  dms: rebuild or reconstruct from a dump, or put back a copy of the whole database
   [9]
   $ echo 'RECONSTRUCT ACCOUNT ROW 0 FROM 1' | "$DMS" utility
   RECONSTRUCTED AT POINT 3

@@ -43,3 +43,13 @@ Of a statement it shows the audit file that is read or written, and how much of 
   $ sed -e '1d' -e '/^Script done/d' ../typescript | tr -d '\n' | tr '\r' '\n' | sed -e '/^$/d' -e 's/ *$//'
   dms: beginning
   dms: dump 1, 100 %
+
+
+A statement shows it on the terminal that its answer is printed on, too; the answer stands on a line of its own.
+
+  $ echo '(sleep 1.5; echo "DUMP TO 2") | "$DMS" utility' > ../dump
+  $ script -qec 'sh ../dump' ../typescript > /dev/null
+  $ sed -e '1d' -e '/^Script done/d' ../typescript | tr '\r' '\n' | sed -e '/^$/d' -e 's/ *$//' | sort -u
+  DUMPED 2 AT POINT 3
+  dms: beginning
+  dms: dump 2, 100 %

@@ -152,7 +152,7 @@ Behind point 21, which changed no block, it tells of none, and a block that is r
   $ "$DMS" run < ../look
   1 A DONE
   dms: file 30002 block 0 damaged
-  dms: rebuild from a dump, or put back a copy of the whole database
+  dms: rebuild or reconstruct from a dump, or put back a copy of the whole database
   [9]
   $ mv ../kept F30002.DMS; "$DMS" run < ../look
   1 A DONE
