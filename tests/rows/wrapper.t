@@ -18,18 +18,18 @@ The wrapper at the top of the repository, over a toolchain that only says what i
 Where the program isn't built, what needs no file is run without proof. The status is the program's own.
 
   $ echo input | top/dms try
-  dms: this run is not proved; ./dms build builds the proved program, in some two hours of processor time
+  dms: this run is not proved; ./dms build builds the proved program, in some two and a half hours of processor time
   input
   ran try
   rt: dms: try -- try
   [7]
   $ echo input | top/dms --version
-  dms: this run is not proved; ./dms build builds the proved program, in some two hours of processor time
+  dms: this run is not proved; ./dms build builds the proved program, in some two and a half hours of processor time
   ran --version
   rt: dms: try -- --version
   [7]
   $ top/dms run --help < /dev/null
-  dms: this run is not proved; ./dms build builds the proved program, in some two hours of processor time
+  dms: this run is not proved; ./dms build builds the proved program, in some two and a half hours of processor time
   ran run
   rt: dms: try -- run --help
   [7]
@@ -37,7 +37,7 @@ Where the program isn't built, what needs no file is run without proof. The stat
 Any other command builds first, crate by crate, and then runs the program.
 
   $ top/dms run < /dev/null
-  dms: building the program first, in some two hours of processor time
+  dms: building the program first, in some two and a half hours of processor time
   dms: proving crate 1 of 3, low
   dms: proving crate 2 of 3, middle
   dms: proving crate 3 of 3, dms
@@ -51,13 +51,13 @@ A source that is newer: what needs no file is run without proof again. A crate t
 
   $ touch -d 'next year' top/crates/low/src/lib.rt
   $ top/dms --help
-  dms: this run is not proved; ./dms build builds the proved program, in some two hours of processor time
+  dms: this run is not proved; ./dms build builds the proved program, in some two and a half hours of processor time
   ran --help
   rt: dms: try -- --help
   [7]
   $ touch top/refuse
   $ top/dms build
-  dms: building the program first, in some two hours of processor time
+  dms: building the program first, in some two and a half hours of processor time
   dms: proving crate 1 of 3, low
   rt: low: lib
   dms: the program could not be built
