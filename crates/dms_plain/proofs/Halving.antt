@@ -24,7 +24,7 @@ use Rattle.dms_plain.proofs.Placing.{IsPastPlace, IsPastPlace-here, IsPastPlace-
 abbrev pub place_of : RecordRow → Place
 place_of r = (r.set, r.number)
 
-less_is : (o : Ordering) → T (is_lt o) → o ≡ Less
+pub less_is : (o : Ordering) → T (is_lt o) → o ≡ Less
 less_is Less h = refl
 less_is Equal h = absurd h
 less_is Greater h = absurd h
@@ -73,7 +73,7 @@ past k (suc i) (r ∷ rs) before le =
     }
 
 -- a place that is none of theirs
-misses : (k : Place) (rows : List RecordRow) → ((j : ℕ) (d : RecordRow) → j < length rows → is_eq (place_cmp k (place_of (get_or rows j d))) ≡ false) → find place_cmp k (entries_of rows) ≡ None
+pub misses : (k : Place) (rows : List RecordRow) → ((j : ℕ) (d : RecordRow) → j < length rows → is_eq (place_cmp k (place_of (get_or rows j d))) ≡ false) → find place_cmp k (entries_of rows) ≡ None
 misses k [] none = refl
 misses k (r ∷ rs) none = ap (λ (b : Bool). cond b (Some r.rec) (find place_cmp k (entries_of rs))) (none 0 r (omega arith)) ∙ misses k rs (λ j d lt. none (suc j) d (omega arith))
 

@@ -12,7 +12,7 @@ use Rattle.dms_plain.specs.declared.rows.RecordRow.{RecordRow}
 use Rattle.dms_plain.specs.Rows.{entries_of, records_in, db_of, IsInOrder}
 use Rattle.dms_plain.specs.Scans.{lesser, least, greater, greatest, sooner, later, soonest, latest}
 use Rattle.dms_plain.proofs.Maps.{db_entries}
-use Rattle.dms_plain.proofs.Members.{first-sorted, last-sorted}
+use Rattle.dms_plain.proofs.Leasts.{first-sorted, last-sorted}
 use Rattle.dms_model.specs.MemberLaws.{before_through, before_one_way}
 
 soonest_is : (s : Shape) (manual : List SubsetEntry) (owner : ℕ) (from : Bound) (es : List (Place × Record)) → soonest s manual owner from es ≡ least (is_before s.parts) (is_after_bound s.parts from) (spots_of s manual owner es)

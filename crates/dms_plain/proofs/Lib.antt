@@ -2,12 +2,16 @@ mod Answering
 mod Calls
 mod CorrectedFits
 mod Correcting
+mod Equals
 mod Fits
+mod Following
 mod Gaps
 mod Halving
 mod Joining
+mod Leasts
+mod Listing
 mod Maps
-mod Members
+mod Ordered
 mod Placing
 mod Putting
 mod Removing

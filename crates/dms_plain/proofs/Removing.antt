@@ -40,7 +40,7 @@ module _ (desc : Described) (set number : ℕ) where
 
 -- ---- what stood at places is put back
 
-restore_get : (p : Place) (o : Option Record) (m : Records) (q : Place) → get (restore p o m) q ≡ cond (eq_by_cmp place_cmp q p) o (get m q)
+pub restore_get : (p : Place) (o : Option Record) (m : Records) (q : Place) → get (restore p o m) q ≡ cond (eq_by_cmp place_cmp q p) o (get m q)
 restore_get p None m q = get-remove places_total m p q
 restore_get p (Some r) m q = get-insert places_total m p r q
 

@@ -1,6 +1,7 @@
 pub mod Clashes
 pub mod Entered
 pub mod Linkers
+pub mod Listed
 pub mod Moves
 pub mod Props
 pub mod Removed

@@ -1,19 +1,25 @@
-ghost use Rattle.std.specs.Prelude.{◌≡◌, map, Some};
+ghost use Rattle.std.specs.Prelude.{◌≡◌, false, map, IfSome, Some};
+ghost use Rattle.std.specs.FinMap.{get};
 ghost use Rattle.std.specs.List.{list_any};
+ghost use Rattle.std.specs.Option.{option_copied};
+ghost use Rattle.dms_desc.specs.Kinds.{is_manual};
 ghost use Rattle.dms_desc.specs.Shape.{shape_of};
 ghost use Rattle.dms_model.specs.Stores.{entered_owners, is_other, is_strict, has_equal, owners_in};
-ghost use Rattle.dms_plain.specs.Rows.{entries_of};
+ghost use Rattle.dms_plain.specs.Listed.{AreLists, IsListOf};
+ghost use Rattle.dms_plain.specs.Rows.{IsInOrder, entries_of, records_in};
 ghost use Rattle.dms_plain.specs.Clashes.{clash_in, clashes_at, clashes_for_owner, clashes_with};
 
 use crate::entry::Entry;
 use crate::keys::order_of_keys;
 use crate::manual::Manual;
+use crate::members::Members;
 use crate::rows::RecordRow;
 use crate::scan::belongs;
 use dms_base::Value;
 use dms_desc::{Record, Structure};
 
-fn is_other(number: Option<u64>, m: u64) -> bool
+/// Whether a number is another one.
+pub fn is_other(number: Option<u64>, m: u64) -> bool
     ensures { result ≡ is_other number m }
 {
     match number {
@@ -42,6 +48,27 @@ pub fn has_equal(
         }
     }
     false
+}
+
+/// The same of a set or automatic subset, by its list where that is kept.
+fn has_equal_listed(
+    s: &Structure,
+    manual: &Manual,
+    list: Option<&Members>,
+    number: Option<u64>,
+    owner: u64,
+    values: &[Value],
+    rows: &[RecordRow],
+) -> bool
+    requires in_order { IsInOrder rows.now }
+    requires listed { IfSome (option_copied list) (λ ms. IsListOf (shape_of s.now) ms (get (records_in rows.now))) }
+    requires kind { is_manual (shape_of s.now) ≡ false }
+    ensures { result ≡ has_equal (shape_of s.now) manual.now.entries number (record { owner = owner; values = values.now }) (entries_of rows.now) }
+{
+    match list {
+        None => has_equal(s, manual, number, owner, values, rows),
+        Some(members) => members.has_other(s.parts.as_slice(), number, owner, values),
+    }
 }
 
 /// Whether a structure may refuse a record of the data set.
@@ -106,46 +133,55 @@ fn is_refused_entered(
 fn is_refused(
     s: &Structure,
     manual: &Manual,
+    list: Option<&Members>,
     rows: &[RecordRow],
     number: Option<u64>,
     rec: &Record,
 ) -> bool
+    requires in_order { IsInOrder rows.now }
+    requires listed { IfSome (option_copied list) (λ ms. IsListOf (shape_of s.now) ms (get (records_in rows.now))) }
     ensures { result ≡ list_any (clashes_at (shape_of s.now) manual.now.entries number rec.now.values (entries_of rows.now)) (owners_in (shape_of s.now) manual.now.entries number rec.now.owner) }
 {
     let values = rec.values.as_slice();
     if s.is_manual() {
         return is_refused_entered(s, manual, number, values, rows);
     }
-    has_equal(s, manual, number, rec.owner, values, rows)
+    has_equal_listed(s, manual, list, number, rec.owner, values, rows)
 }
 
 /// Whether a set or subset refuses a record.
 fn refuses(
     s: &Structure,
     manual: &Manual,
+    list: Option<&Members>,
     rows: &[RecordRow],
     set: u16,
     number: Option<u64>,
     rec: &Record,
 ) -> bool
+    requires in_order { IsInOrder rows.now }
+    requires listed { IfSome (option_copied list) (λ ms. IsListOf (shape_of s.now) ms (get (records_in rows.now))) }
     ensures { result ≡ clashes_with (shape_of s.now) manual.now.entries (entries_of rows.now) set number rec.now }
 {
-    is_strict(s, set, rec.values.as_slice()) && is_refused(s, manual, rows, number, rec)
+    is_strict(s, set, rec.values.as_slice()) && is_refused(s, manual, list, rows, number, rec)
 }
 
 /// The first structure that refuses a record.
 pub fn clash(
     structures: &[Structure],
     manual: &Manual,
+    lists: &[Members],
     rows: &[RecordRow],
     set: u16,
     number: Option<u64>,
     rec: &Record,
 ) -> Option<u16>
+    requires in_order { IsInOrder rows.now }
+    requires listed { AreLists (map shape_of structures.now) lists.now (records_in rows.now) }
     ensures { result ≡ clash_in (map shape_of structures.now) manual.now.entries (entries_of rows.now) set number rec.now }
 {
-    for s in structures {
-        if refuses(s, manual, rows, set, number, rec) {
+    for (i, s) in structures.iter().enumerate() {
+        if refuses(s, manual, lists.get(i), rows, set, number, rec) {
             return Some(s.number);
         }
     }

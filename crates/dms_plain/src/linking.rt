@@ -1,13 +1,16 @@
 ghost use Rattle.std.specs.Prelude.{◌≡◌, IfOk, OnOk, OnErr, Some};
 ghost use Rattle.std.specs.FinMap.{get};
+ghost use Rattle.dms_desc.specs.Shape.{as_described};
 ghost use Rattle.dms_model.specs.Uses.{link_value, linked_record};
+ghost use Rattle.dms_plain.specs.Listed.{AreLists};
 ghost use Rattle.dms_plain.specs.Rows.{IsInOrder, records_in, undo_all};
 ghost use Rattle.dms_plain.specs.Removed.{linked_at};
 
+use crate::members::Members;
 use crate::rows::{RecordRow, Undo};
 use crate::state::{self, store_row};
 use dms_base::{Memory, Value};
-use dms_desc::Record;
+use dms_desc::{Description, Record};
 use std::alloc::Global;
 
 /// A link that is null, or refers to the record with this number.
@@ -35,15 +38,19 @@ fn linked_record(alloc: Global, rec: &Record, item: u8, to: Option<u64>) -> Resu
 /// Sets a link of a record, where the record stands. Answers Err where memory is refused.
 pub fn link(
     alloc: Global,
+    desc: &Description,
     rows: &mut Vec<RecordRow>,
+    lists: &mut Vec<Members>,
     undo: &mut Vec<Undo>,
     set: u16,
     number: u64,
     item: u8,
     to: Option<u64>,
 ) -> Result<(), Memory>
-    requires { IsInOrder rows.old.items }
+    requires in_order { IsInOrder rows.old.items }
+    requires listed { AreLists (as_described desc.now).structures lists.old.items (records_in rows.old.items) }
     ensures in_order { IsInOrder rows.new.items }
+    ensures listed { AreLists (as_described desc.now).structures lists.new.items (records_in rows.new.items) }
     ensures db { OnOk result (records_in rows.new.items ≡ linked_at (get (records_in rows.old.items) (set, number)) (records_in rows.old.items) (set, number) item to) }
     ensures mark { OnOk result (undo_all undo.new.items (records_in rows.new.items) ≡ undo_all undo.old.items (records_in rows.old.items)) }
     ensures err_rows { OnErr result (rows.new.items ≡ rows.old.items) }
@@ -53,7 +60,8 @@ pub fn link(
         None => Ok(()),
         Some(old) => {
             let rec = linked_record(alloc, &old, item, to)?;
-            store_row(rows, undo, RecordRow { set, number, rec }, Some(old))
+            let row = RecordRow { set, number, rec };
+            store_row(alloc, desc, rows, lists, undo, row, Some(old))
         }
     }
 }

@@ -3,10 +3,13 @@ ghost use Rattle.std.specs.Option.{option_copied};
 ghost use Rattle.dms_desc.specs.Conds.{or_null};
 ghost use Rattle.dms_desc.specs.Shape.{as_described};
 ghost use Rattle.dms_model.specs.Uses.{after_remove, corrected, corrected_entry, in_use};
+ghost use Rattle.dms_plain.specs.Listed.{AreLists};
 ghost use Rattle.dms_plain.specs.Removed.{corrected_at, is_corrected, kept_at, removed_from};
 ghost use Rattle.dms_plain.specs.Rows.{IsInOrder, db_of, entries_of, entry_of, records_in, undo_all};
 
 use crate::entry::Entry;
+use crate::lists::follow_removal;
+use crate::members::Members;
 use crate::rows::{self, RecordRow, Undo};
 use crate::state;
 use crate::uses::{in_use, is_link_into, linkers, refers_to};
@@ -104,13 +107,16 @@ pub fn remove(
     alloc: Global,
     desc: &Description,
     rows: &mut Vec<RecordRow>,
+    lists: &mut Vec<Members>,
     undo: &mut Vec<Undo>,
     entries: &[Entry],
     set: u16,
     number: u64,
 ) -> Result<bool, Memory>
-    requires { IsInOrder rows.old.items }
+    requires in_order { IsInOrder rows.old.items }
+    requires listed { AreLists (as_described desc.now).structures lists.old.items (records_in rows.old.items) }
     ensures in_order { IsInOrder rows.new.items }
+    ensures listed { AreLists (as_described desc.now).structures lists.new.items (records_in rows.new.items) }
     ensures answer { IfOk result (λ b. b ≡ not (in_use (as_described desc.now) (db_of (records_in rows.old.items) entries.now) set number)) }
     ensures db { IfOk result (λ b. records_in rows.new.items ≡ (if b then removed_from (as_described desc.now) set number (records_in rows.old.items) else records_in rows.old.items)) }
     ensures mark { OnOk result (undo_all undo.new.items (records_in rows.new.items) ≡ undo_all undo.old.items (records_in rows.old.items)) }
@@ -124,6 +130,15 @@ pub fn remove(
     places.push((set, number))?;
     let mut kept = kept_at_all(alloc, rows.as_slice(), places.as_slice())?;
     undo.append(&mut kept)?;
+    follow_removal(
+        alloc,
+        desc,
+        lists,
+        rows.as_slice(),
+        set,
+        number,
+        places.as_slice(),
+    );
     take_out(desc, set, number, rows);
     Ok(true)
 }

@@ -8,12 +8,14 @@ ghost use Rattle.dms_model.specs.Members.{first_member, last_member};
 ghost use Rattle.dms_model.specs.Stores.{is_full, kept_owner, with_links_of, old_of, put_after, put_answer, values_of};
 ghost use Rattle.dms_plain.specs.Rows.{entries_of, records_in, db_of, IsInOrder, restore, undo_all};
 ghost use Rattle.dms_plain.specs.Clashes.{put_in};
+ghost use Rattle.dms_plain.specs.Listed.{AreLists};
 ghost use Rattle.dms_plain.specs.Scans.{spot_at, soonest, latest};
 
 use crate::clash::clash;
 use crate::manual::Manual;
+use crate::members::Members;
 use crate::rows::{self, RecordRow, Undo};
-use crate::scan;
+use crate::{lists, scan};
 use dms_base::{Memory, Value};
 use dms_desc::{Bound, Description, Record, Structure};
 use dms_model::{Put, Spot, key_of, with_links_of};
@@ -46,15 +48,25 @@ pub fn is_full(s: Option<&Structure>, count: usize) -> bool
 fn put_in(
     desc: &Description,
     rows: &[RecordRow],
+    lists: &[Members],
     manual: &Manual,
     set: u16,
     number: Option<u64>,
     made: &Record,
 ) -> Put
-    requires { IsInOrder rows.now }
+    requires in_order { IsInOrder rows.now }
+    requires listed { AreLists (as_described desc.now).structures lists.now (records_in rows.now) }
     ensures { result ≡ put_in (as_described desc.now) manual.now.entries (entries_of rows.now) set number made.now }
 {
-    if let Some(s) = clash(desc.structures.as_slice(), manual, rows, set, number, made) {
+    if let Some(s) = clash(
+        desc.structures.as_slice(),
+        manual,
+        lists,
+        rows,
+        set,
+        number,
+        made,
+    ) {
         return Put::Duplicate(s);
     }
     match number {
@@ -106,14 +118,19 @@ fn linked_record(
 
 /// Stores a row, and keeps what stood there.
 pub fn store_row(
+    alloc: Global,
+    desc: &Description,
     rows: &mut Vec<RecordRow>,
+    lists: &mut Vec<Members>,
     undo: &mut Vec<Undo>,
     row: RecordRow,
     old: Option<Record>,
 ) -> Result<(), Memory>
     requires in_order { IsInOrder rows.old.items }
+    requires listed { AreLists (as_described desc.now).structures lists.old.items (records_in rows.old.items) }
     requires old { old ≡ get (records_in rows.old.items) (row.set, row.number) }
     ensures in_order { IsInOrder rows.new.items }
+    ensures listed { AreLists (as_described desc.now).structures lists.new.items (records_in rows.new.items) }
     ensures db { OnOk result (records_in rows.new.items ≡ insert (records_in rows.old.items) (row.set, row.number) row.rec) }
     ensures mark { OnOk result (undo_all undo.new.items (records_in rows.new.items) ≡ undo_all undo.old.items (records_in rows.old.items)) }
     ensures err_rows { OnErr result (rows.new.items ≡ rows.old.items) }
@@ -124,10 +141,20 @@ pub fn store_row(
         number: row.number,
         old,
     })?;
+    lists::follow(
+        alloc,
+        desc.structures.as_slice(),
+        lists,
+        rows.as_slice(),
+        row.set,
+        row.number,
+        Some(&row.rec),
+    );
     match rows::place_row(rows, row) {
         Ok(()) => Ok(()),
         Err(e) => {
             let _undo = undo.pop();
+            lists.clear();
             Err(e)
         }
     }
@@ -154,30 +181,42 @@ pub fn put(
     alloc: Global,
     desc: &Description,
     rows: &mut Vec<RecordRow>,
+    lists: &mut Vec<Members>,
     undo: &mut Vec<Undo>,
     manual: &Manual,
     set: u16,
     number: Option<u64>,
     rec: &Record,
 ) -> Result<Put, Memory>
-    requires { IsInOrder rows.old.items }
+    requires in_order { IsInOrder rows.old.items }
+    requires listed { AreLists (as_described desc.now).structures lists.old.items (records_in rows.old.items) }
     ensures in_order { IsInOrder rows.new.items }
+    ensures listed { AreLists (as_described desc.now).structures lists.new.items (records_in rows.new.items) }
     ensures answer { IfOk result (λ a. a ≡ put_answer (as_described desc.now) (db_of (records_in rows.old.items) manual.now.entries) set number rec.now) }
     ensures db { IfOk result (λ a. db_of (records_in rows.new.items) manual.now.entries ≡ put_after a (as_described desc.now) (db_of (records_in rows.old.items) manual.now.entries) set rec.now) }
     ensures mark { OnOk result (undo_all undo.new.items (records_in rows.new.items) ≡ undo_all undo.old.items (records_in rows.old.items)) }
     ensures err_rows { OnErr result (rows.new.items ≡ rows.old.items) }
     ensures err_undo { OnErr result (undo.new.items ≡ undo.old.items) }
 {
+    lists::make(alloc, desc.structures.as_slice(), lists, rows.as_slice());
     let old = old_of(alloc, rows.as_slice(), set, number)?;
     let made = linked_record(alloc, desc, set, &old, rec)?;
-    match put_in(desc, rows.as_slice(), manual, set, number, &made) {
+    match put_in(
+        desc,
+        rows.as_slice(),
+        lists.as_slice(),
+        manual,
+        set,
+        number,
+        &made,
+    ) {
         Put::Stored(found) => {
             let row = RecordRow {
                 set,
                 number: found,
                 rec: made,
             };
-            store_row(rows, undo, row, old)?;
+            store_row(alloc, desc, rows, lists, undo, row, old)?;
             Ok(Put::Stored(found))
         }
         Put::Duplicate(other) => Ok(Put::Duplicate(other)),
@@ -186,18 +225,38 @@ pub fn put(
 }
 
 /// Takes one change back.
-fn restore_row(rows: &mut Vec<RecordRow>, undo: Undo) -> Result<(), Memory>
-    requires { IsInOrder rows.old.items }
+fn restore_row(
+    alloc: Global,
+    desc: &Description,
+    rows: &mut Vec<RecordRow>,
+    lists: &mut Vec<Members>,
+    undo: Undo,
+) -> Result<(), Memory>
+    requires in_order { IsInOrder rows.old.items }
+    requires listed { AreLists (as_described desc.now).structures lists.old.items (records_in rows.old.items) }
     ensures in_order { IsInOrder rows.new.items }
+    ensures listed { OnOk result (AreLists (as_described desc.now).structures lists.new.items (records_in rows.new.items)) }
     ensures db { OnOk result (records_in rows.new.items ≡ restore (undo.set, undo.number) undo.old (records_in rows.old.items)) }
 {
     let Undo { set, number, old } = undo;
     match old {
         None => {
+            let structures = desc.structures.as_slice();
+            lists::follow(alloc, structures, lists, rows.as_slice(), set, number, None);
             rows::remove_row(rows, set, number);
             Ok(())
         }
         Some(rec) => {
+            let structures = desc.structures.as_slice();
+            lists::follow(
+                alloc,
+                structures,
+                lists,
+                rows.as_slice(),
+                set,
+                number,
+                Some(&rec),
+            );
             rows::place_row(rows, RecordRow { set, number, rec })?;
             Ok(())
         }
@@ -205,16 +264,24 @@ fn restore_row(rows: &mut Vec<RecordRow>, undo: Undo) -> Result<(), Memory>
 }
 
 /// Takes all changes of rows back, the newest first. Answers Err where memory is refused.
-fn take_rows_back(rows: &mut Vec<RecordRow>, undo: &mut Vec<Undo>) -> Result<(), Memory>
-    requires { IsInOrder rows.old.items }
+fn take_rows_back(
+    alloc: Global,
+    desc: &Description,
+    rows: &mut Vec<RecordRow>,
+    lists: &mut Vec<Members>,
+    undo: &mut Vec<Undo>,
+) -> Result<(), Memory>
+    requires in_order { IsInOrder rows.old.items }
+    requires listed { AreLists (as_described desc.now).structures lists.old.items (records_in rows.old.items) }
     ensures in_order { IsInOrder rows.new.items }
+    ensures listed { OnOk result (AreLists (as_described desc.now).structures lists.new.items (records_in rows.new.items)) }
     ensures db { OnOk result (records_in rows.new.items ≡ undo_all undo.old.items (records_in rows.old.items)) }
     ensures undo { OnOk result (undo.new.items ≡ []) }
 {
     for _turn in 0..undo.len() {
         match undo.pop() {
             None => return Ok(()),
-            Some(u) => restore_row(rows, u)?,
+            Some(u) => restore_row(alloc, desc, rows, lists, u)?,
         }
     }
     Ok(())
@@ -222,19 +289,24 @@ fn take_rows_back(rows: &mut Vec<RecordRow>, undo: &mut Vec<Undo>) -> Result<(),
 
 /// Takes all changes of rows and of entries back. Answers Err where memory is refused.
 pub fn take_back(
+    alloc: Global,
+    desc: &Description,
     rows: &mut Vec<RecordRow>,
+    lists: &mut Vec<Members>,
     undo: &mut Vec<Undo>,
     manual: &mut Manual,
 ) -> Result<(), Memory>
-    requires { IsInOrder rows.old.items }
+    requires in_order { IsInOrder rows.old.items }
+    requires listed { AreLists (as_described desc.now).structures lists.old.items (records_in rows.old.items) }
     ensures in_order { IsInOrder rows.new.items }
+    ensures listed { OnOk result (AreLists (as_described desc.now).structures lists.new.items (records_in rows.new.items)) }
     ensures db { OnOk result (records_in rows.new.items ≡ undo_all undo.old.items (records_in rows.old.items)) }
     ensures undo { OnOk result (undo.new.items ≡ []) }
     ensures entries { OnOk result (manual.new.entries ≡ manual.old.mark) }
     ensures mark { OnOk result (manual.new.mark ≡ manual.old.mark) }
 {
     manual.take_back()?;
-    take_rows_back(rows, undo)
+    take_rows_back(alloc, desc, rows, lists, undo)
 }
 
 /// The spot of a row that was found.

@@ -4,12 +4,14 @@ ghost use Rattle.dms_desc.specs.Shape.{as_described};
 ghost use Rattle.dms_model.specs.Db.{Db, empty_db, records_of};
 ghost use Rattle.dms_model.specs.Seen.{Starts};
 ghost use Rattle.std.proofs.Props.{props};
-ghost use Rattle.dms_plain.specs.Props.{RowsFit-prop};
+ghost use Rattle.dms_plain.specs.Listed.{AreLists};
+ghost use Rattle.dms_plain.specs.Props.{AreLists-prop, RowsFit-prop};
 ghost use Rattle.dms_plain.specs.Rows.{RowsFit, db_of, records_in, undo_all, IsInOrder};
 ghost use Rattle.dms_plain.specs.Speaking.{OnlySpeaks, only_none, only_on};
 ghost use Rattle.dms_plain.specs.Told.{text_if, point_of, no_clock};
 
 use crate::manual::Manual;
+use crate::members::Members;
 use crate::rows::{self, RecordRow, Undo};
 use crate::{entering, linking, removal, state, uses};
 use dms_base::Memory;
@@ -20,12 +22,15 @@ use dms_site::Site;
 use std::alloc::Global;
 use std::mem;
 
-/// A database that is a list of records, with nothing indexed. It writes no file, and forgets all when it is dropped. It
-/// keeps what stood before each change since the last quiet point. A back-out that fails leaves nothing of it.
+/// A database that is a list of records, with lists of the members of its structures. It writes no file, and forgets all when it is
+/// dropped. It keeps what stood before each change since the last quiet point. A back-out that fails leaves nothing of it.
 #[derive(Drop)]
 pub struct PlainStore<S> {
     desc: Description,
     rows: Vec<RecordRow>,
+    /// The lists of the first structures. Those that are missing are made at the next store: all are dropped where memory for one is
+    /// refused, and where a removal makes links null.
+    lists: Vec<Members>,
     undo: Vec<Undo>,
     manual: Manual,
     next: u64,
@@ -36,6 +41,7 @@ pub struct PlainStore<S> {
     site: S,
     ghost in_order: { IsInOrder rows.items },
     ghost fit: { RowsFit (as_described desc) rows.items undo.items } by { Prim.hlevel (props, RowsFit-prop) },
+    ghost listed: { AreLists (as_described desc).structures lists.items (records_in rows.items) } by { Prim.hlevel (props, AreLists-prop) },
 }
 
 impl<S: Site> PlainStore<S> {
@@ -53,6 +59,7 @@ impl<S: Site> PlainStore<S> {
             Ok(desc) => Ok(PlainStore {
                 desc,
                 rows: Vec::new(alloc),
+                lists: Vec::new(alloc),
                 undo: Vec::new(alloc),
                 manual: Manual::new(alloc),
                 next: 1,
@@ -180,6 +187,7 @@ impl<S: Site> Store for PlainStore<S> {
             alloc,
             &self.desc,
             &mut self.rows,
+            &mut self.lists,
             &mut self.undo,
             &self.manual,
             set,
@@ -207,6 +215,7 @@ impl<S: Site> Store for PlainStore<S> {
             alloc,
             &self.desc,
             &mut self.rows,
+            &mut self.lists,
             &mut self.undo,
             self.manual.entries(),
             set,
@@ -222,7 +231,17 @@ impl<S: Site> Store for PlainStore<S> {
         item: u8,
         to: Option<u64>,
     ) -> Result<(), BlockFault> {
-        linking::link(alloc, &mut self.rows, &mut self.undo, set, number, item, to)?;
+        linking::link(
+            alloc,
+            &self.desc,
+            &mut self.rows,
+            &mut self.lists,
+            &mut self.undo,
+            set,
+            number,
+            item,
+            to,
+        )?;
         Ok(())
     }
 
@@ -272,8 +291,17 @@ impl<S: Site> Store for PlainStore<S> {
     fn back_out(&mut self, alloc: Global) -> Result<(), BlockFault> {
         let mut undo = mem::replace(&mut self.undo, Vec::new(alloc));
         let mut rows = mem::replace(&mut self.rows, Vec::new(alloc));
-        state::take_back(&mut rows, &mut undo, &mut self.manual)?;
+        let mut lists = mem::replace(&mut self.lists, Vec::new(alloc));
+        state::take_back(
+            alloc,
+            &self.desc,
+            &mut rows,
+            &mut lists,
+            &mut undo,
+            &mut self.manual,
+        )?;
         self.rows = rows;
+        self.lists = lists;
         self.outs = self.outs.saturating_add(1);
         Ok(())
     }

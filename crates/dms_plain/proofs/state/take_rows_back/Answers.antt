@@ -9,6 +9,7 @@ loop-turn-preserved c =
     let left = c.pop.new.self.items in
     record {
       in_order = c.in_ok-restore_row-in-Some.ensures.in_order;
+      listed = c.in_ok-restore_row-in-Some.ensures.listed;
       same = ap (undo_all left) c.in_ok-restore_row-in-Some.ensures.db
           ∙ sym (undone-push left c.in-Some.u (records_in c.loop-turn.rows.items))
           ∙ ap (λ (us : List Undo). undo_all us (records_in c.loop-turn.rows.items)) (sym c.in-Some.ensures.items)

@@ -5,6 +5,7 @@ use Rattle.dms_plain.specs.declared.rows.Undo.{Undo}
 use Rattle.dms_plain.specs.Rows.{IsInOrder, records_in, db_of, undo_all}
 use Rattle.dms_desc.specs.Shape.{as_described}
 use Rattle.dms_plain.proofs.Fits.{nothing_fits}
+use Rattle.dms_plain.proofs.Following.{no_lists}
 use Rattle.dms_plain.proofs.Maps.{no_rows}
 use Rattle.dms_plain.proofs.store.PlainStore.new.Goals as goal
 
@@ -18,8 +19,8 @@ pub returns-in-Ok-clause-starts : goal.returns-in-Ok-clause-starts
 returns-in-Ok-clause-starts g c = record {
   sound = tt;
   desc_is = search rules;
-  db_is = λ i. Some (db_of (first_records c.new.result.items c.new.ensures.items i) (c.new-in-Ok-2.ensures.entries i));
-  mark = λ i. Some (db_of (first_mark c.new.result.items c.new-in-Ok.result.items c.new.ensures.items c.new-in-Ok.ensures.items i) (c.new-in-Ok-2.ensures.mark i));
+  db_is = λ i. Some (db_of (first_records c.new.result.items c.new.ensures.items i) (c.new-in-Ok-3.ensures.entries i));
+  mark = λ i. Some (db_of (first_mark c.new.result.items c.new-in-Ok-2.result.items c.new.ensures.items c.new-in-Ok-2.ensures.items i) (c.new-in-Ok-3.ensures.mark i));
   next_is = refl;
   points = refl;
   durable = refl;
@@ -31,5 +32,6 @@ returns-in-Ok-clause-starts g c = record {
 pub invariant_of-result : goal.invariant_of-result
 invariant_of-result g c = record {
   in_order = subst IsInOrder (sym c.new.ensures.items) tt;
-  fit = nothing_fits (as_described c.in-Ok.desc) c.new.result.items c.new-in-Ok.result.items c.new.ensures.items c.new-in-Ok.ensures.items;
+  fit = nothing_fits (as_described c.in-Ok.desc) c.new.result.items c.new-in-Ok-2.result.items c.new.ensures.items c.new-in-Ok-2.ensures.items;
+  listed = no_lists (as_described c.in-Ok.desc).structures c.new-in-Ok.result.items (records_in c.new.result.items) c.new-in-Ok.ensures.items;
 }

@@ -15,6 +15,7 @@ invariant_of-self g c =
       fit = kept_fit d rows new c.args.self.now.undo.items c.link.new.undo.items c.link.result c.args.self.now.fit
           (link_fit d rows new c.args.set c.args.number c.args.item c.args.to c.link.result c.args.self.now.fit.records c.requires.item c.requires.to c.link.ensures.db)
           c.link.ensures.mark c.link.ensures.err_rows c.link.ensures.err_undo;
+      listed = c.link.ensures.listed;
     }
 
 pub returns-clause-linked : goal.returns-clause-linked

@@ -21,4 +21,5 @@ invariant_of-self g c =
       fit = kept_fit d rows new c.args.self.now.undo.items c.put.new.undo.items c.put.result c.args.self.now.fit
           (put_fit d rows new c.args.self.now.manual.entries c.args.set c.args.number c.args.rec.now c.put.result c.args.self.now.fit.records c.requires.fits c.requires.number c.put.ensures.answer c.put.ensures.db)
           c.put.ensures.mark c.put.ensures.err_rows c.put.ensures.err_undo;
+      listed = c.put.ensures.listed;
     }

@@ -15,6 +15,7 @@ invariant_of-self g c =
       fit = kept_fit d rows new c.args.self.now.undo.items c.remove.new.undo.items c.remove.result c.args.self.now.fit
           (removal_fit d c.args.set c.args.number rows new c.remove.result c.args.self.now.fit.records c.remove.ensures.db)
           c.remove.ensures.mark c.remove.ensures.err_rows c.remove.ensures.err_undo;
+      listed = c.remove.ensures.listed;
     }
 
 pub returns-clause-removed : goal.returns-clause-removed
