@@ -1,28 +1,25 @@
-ghost use Rattle.std.specs.Prelude.{◌≡◌, ◌^◌, ◌<◌, ℕ, true, false, Some};
+ghost use Rattle.std.specs.Prelude.{◌≡◌, ◌^◌, ◌<◌, ℕ, Some};
 ghost use Rattle.std.specs.FinMap.{get};
 ghost use Rattle.dms_desc.specs.Shape.{Shape, Described};
 ghost use Rattle.dms_desc.specs.declared.bound.Bound.{Bound};
 ghost use Rattle.dms_desc.specs.declared.record.Record.{Record};
 ghost use Rattle.dms_model.specs.Db.{Db};
-ghost use Rattle.dms_model.specs.Uses.{after_leave, enter_answer, has_entry};
-ghost use Rattle.dms_chain.specs.Lists.{with_entry, without};
+ghost use Rattle.dms_model.specs.Uses.{enter_answer};
 ghost use Rattle.dms_sets.specs.Sets.{kinds_over};
 ghost use Rattle.dms_manual.specs.CountedFor.{EntriesRise, TellsAsMany};
 ghost use Rattle.dms_manual.specs.Entered.{IsSmallPair, manual_of};
 ghost use Rattle.dms_manual.specs.Entering.{entry_put};
-ghost use Rattle.dms_manual.specs.Judged.{IfMember, IfTold, NamesIn};
+ghost use Rattle.dms_manual.specs.Judged.{IfMember, IfTold, ListGains, ListLoses, NamesIn};
 ghost use Rattle.dms_manual.specs.Listed.{SameIn, bytes_for};
 ghost use Rattle.dms_manual.specs.Members.{FirstByEntries, LastByEntries};
-ghost use Rattle.dms_manual.specs.Moves.{SmallIn, with_entry_of};
+ghost use Rattle.dms_manual.specs.Moves.{SmallIn};
 
 /// A law: the list of a manual subset, after an entry that didn't stand came, is the old one with the bytes of that
 /// entry in their place; after one that stood went, the old one without them. A subset with the same entries, and the
 /// same records where they name one, has the same list.
 pub fn lists_follow_entries()
-    ensures comes { (desc : Described) (s : Shape) (db : Db) (o n : ℕ) (r : Record) → IfMember s db o n r (has_entry db s.number o n ≡ false
-        → manual_of desc (with_entry_of db s.number o n) s ≡ with_entry (bytes_for (kinds_over desc s) s o n r) (manual_of desc db s)) }
-    ensures goes { (desc : Described) (s : Shape) (db : Db) (o n : ℕ) (r : Record) → IfMember s db o n r (has_entry db s.number o n ≡ true
-        → SmallIn s (after_leave db s.number o n) → manual_of desc (after_leave db s.number o n) s ≡ without (bytes_for (kinds_over desc s) s o n r) (manual_of desc db s)) }
+    ensures comes { (desc : Described) (s : Shape) (db : Db) (o n : ℕ) (r : Record) → IfMember s db o n r (ListGains desc s db o n r) }
+    ensures goes { (desc : Described) (s : Shape) (db : Db) (o n : ℕ) (r : Record) → IfMember s db o n r (ListLoses desc s db o n r) }
     ensures stays { (desc : Described) (s : Shape) (db d : Db) → SameIn s db d → manual_of desc d s ≡ manual_of desc db s }
 {}
 
