@@ -82,7 +82,7 @@ grown_on total first a b c one two = record {
 no_bytes : (e : Entry) (rest : List ℕ) → IsEntry e → spelling e ++ rest ≢ []
 no_bytes (schema_part part parts bytes) rest is none = absurd cc
 no_bytes (image f b before after) rest is none = absurd cc
-no_bytes (byte_range f b place bytes) rest is none = absurd is
+no_bytes (byte_range f b place bytes) rest is none = absurd cc
 no_bytes (quiet_point n) rest is none = absurd cc
 no_bytes (control_point n next counts) rest is none = absurd cc
 no_bytes (begin_restore n kind) rest is none = absurd cc
@@ -90,7 +90,7 @@ no_bytes (begin_restore n kind) rest is none = absurd cc
 pub entry_long : (e : Entry) → IsEntry e → 0 < length (spelling e)
 entry_long (schema_part part parts bytes) is = omega arith
 entry_long (image f b before after) is = omega arith
-entry_long (byte_range f b place bytes) is = absurd is
+entry_long (byte_range f b place bytes) is = omega arith
 entry_long (quiet_point n) is = omega arith
 entry_long (control_point n next counts) is = omega arith
 entry_long (begin_restore n kind) is = omega arith

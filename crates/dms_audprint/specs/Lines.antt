@@ -20,11 +20,11 @@ abbrev pub change_word : Option BlockBytes → List ℕ
 change_word None = codes " NEW"
 change_word (Some before) = codes " CHANGED"
 
--- an entry in words; a range of bytes isn't an entry of the audit's format, and has none
+-- an entry in words
 abbrev pub entry_words : Entry → List ℕ
 entry_words (schema_part part parts bytes) = around_number (codes "SCHEMA ") part (around_number (codes " OF ") parts (around_number (codes " LENGTH ") (length bytes) []))
 entry_words (image f b before after) = around_number (codes "IMAGE ") f (around_number (codes " ") b (change_word before))
-entry_words (byte_range f b place bytes) = []
+entry_words (byte_range f b place bytes) = around_number (codes "RANGE ") f (around_number (codes " ") b (around_number (codes " AT ") place (around_number (codes " LENGTH ") (length bytes) [])))
 entry_words (quiet_point n) = around_number (codes "QUIET ") n []
 entry_words (control_point n next counts) = around_number (codes "CONTROL ") n (around_number (codes " NEXT ") next [])
 entry_words (begin_restore n kind) = around_number (codes "BEGIN ") n (codes " " ++ kind_words kind)

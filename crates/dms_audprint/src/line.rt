@@ -52,6 +52,10 @@ impl fmt::Display for EntryText<'_> {
             }
             Entry::Image(file, block, None, _) => write!(f, "IMAGE {file} {block} NEW"),
             Entry::Image(file, block, Some(_), _) => write!(f, "IMAGE {file} {block} CHANGED"),
+            Entry::Range(file, block, place, bytes) => {
+                let length = bytes.len();
+                write!(f, "RANGE {file} {block} AT {place} LENGTH {length}")
+            }
             Entry::Quiet(n) => write!(f, "QUIET {n}"),
             Entry::Control(n, next, _) => write!(f, "CONTROL {n} NEXT {next}"),
             Entry::Begin(n, how) => write!(f, "BEGIN {n} {}", HowText(how)),

@@ -1,5 +1,5 @@
 -- An entry that is read is spelled so, and what is spelled so is read again.
-use Rattle.std.proofs.Common.{◌≡◌, ℕ, zero, suc, ◌*◌, ◌^◌, ◌<◌, ◌≤◌, Bool, true, cond, List, [], ◌∷◌, ◌++◌, length, take, drop, Option, Some, None, refl, sym, ap, subst, ◌∙◌, append_assoc, length-append, arith, inl, inr, ◌-◌}
+use Rattle.std.proofs.Common.{◌≡◌, ℕ, zero, suc, ◌+◌, ◌*◌, ◌^◌, ◌<◌, ◌≤◌, Bool, true, cond, List, [], ◌∷◌, ◌++◌, length, take, drop, Option, Some, None, refl, sym, ap, subst, ◌∙◌, append_assoc, length-append, arith, inl, inr, ◌-◌}
 use Rattle.std.specs.Prelude.{nat_le, nat_lt, ◌&&◌, ◌||◌, ◌==◌, IfSome}
 use Rattle.std.specs.Int.{w16, w32, w64, to_be_bytes}
 use Rattle.std.proofs.lemmas.Bool.{cases_eq}
@@ -9,9 +9,9 @@ use Rattle.std.proofs.lemmas.Option.{cond_some}
 use Rattle.dms_history.specs.Entries.{Entry, schema_part, image, byte_range, quiet_point, control_point, begin_restore, Kind, by_halt_load, by_back_out, by_roll_back, by_rebuild, by_reconstruct}
 use Rattle.dms_history.specs.declared.event.FileCount.{FileCount}
 use Rattle.dms_history.specs.declared.event.Row.{Row}
-use Rattle.dms_audrec.specs.Spelling.{spelling, before_bytes, IsSchemaSpelled, IsImage, IsControl, IsRestoreKind, IsEntry, counts_rise, rows_rise, how_number, dump_of, rows_of, pair_bytes, count_file, count_blocks, row_file, row_number, ArePairsSmall}
+use Rattle.dms_audrec.specs.Spelling.{spelling, before_bytes, IsSchemaSpelled, IsImage, IsRange, IsControl, IsRestoreKind, IsEntry, counts_rise, rows_rise, how_number, dump_of, rows_of, pair_bytes, count_file, count_blocks, row_file, row_number, ArePairsSmall}
 use Rattle.dms_fields.specs.Prefix.{byte_first, number_first, bytes_first}
-use Rattle.dms_audrec.specs.Reading.{schema_at, before_at, image_at, quiet_at, control_at, begin_at, entry_at, counts_at, rows_at, kind_of, kind_fits}
+use Rattle.dms_audrec.specs.Reading.{schema_at, before_at, image_at, range_fits, range_at, quiet_at, control_at, begin_at, entry_at, counts_at, rows_at, kind_of, kind_fits}
 use Rattle.dms_audrec.specs.PairLaws.{counts_take, counts_length, counts_again, rows_take, rows_length, rows_again}
 use Rattle.dms_fields.specs.PrefixLaws.{IsBytes, IsBytes-take, bind_some, TakesPrefix, takes_then, wide16, wide32, wide64, number_takes, number_again, bytes_takes, bytes_again}
 
@@ -340,6 +340,67 @@ kind_again n by_roll_back rest number is = begin_again n 3 0 [] by_roll_back res
 kind_again n (by_rebuild d) rest number is = begin_again n 4 d [] (by_rebuild d) rest number (omega (arith, is.1)) (omega arith) tt (let a = is.0 in let b = is.1 in grind (arith, nat_tests)) refl
 kind_again n (by_reconstruct d rs) rest number is = begin_again n 5 d rs (by_reconstruct d rs) rest number (omega (arith, is.0.1)) is.1.few is.1.small (let a = is.0.0 in let b = is.0.1 in let r = is.1.rising in grind (arith, nat_tests)) refl
 
+range_test : (file block place len : ℕ) → range_fits file block place len ≡ true → (30001 ≤ file) × (file ≤ 30200) × (block < 2097152) × (1 ≤ len) × (place + len ≤ 1024)
+range_test file block place len e = (grind (arith, nat_tests), grind (arith, nat_tests), grind (arith, nat_tests), grind (arith, nat_tests), grind (arith, nat_tests))
+
+range_tested : (file block place len : ℕ) → 30001 ≤ file → file ≤ 30200 → block < 2097152 → 1 ≤ len → place + len ≤ 1024 → range_fits file block place len ≡ true
+range_tested file block place len a b c d e = grind (arith, nat_tests)
+
+range_from : (bytes : List ℕ) (file block place len : ℕ × List ℕ) (text : List ℕ × List ℕ) (x : Entry × List ℕ) → IsBytes bytes
+    → number_first w32 bytes ≡ Some file → number_first w32 file.1 ≡ Some block → number_first w16 block.1 ≡ Some place → number_first w16 place.1 ≡ Some len → bytes_first len.0 len.1 ≡ Some text
+    → cond (range_fits file.0 block.0 place.0 len.0) (Some (byte_range file.0 block.0 place.0 text.0, text.1)) None ≡ Some x → ReadsEntry 6 bytes x
+range_from bytes file block place len text x fits e1 e2 e3 e4 e5 e6 =
+    let a = number_takes w32 (2 ^ 32) wide32 bytes file fits e1 in
+    let b = number_takes w32 (2 ^ 32) wide32 file.1 block a.0.rest_fits e2 in
+    let c = number_takes w16 (2 ^ 16) wide16 block.1 place b.0.rest_fits e3 in
+    let d = number_takes w16 (2 ^ 16) wide16 place.1 len c.0.rest_fits e4 in
+    let t = bytes_takes len.0 len.1 text d.0.rest_fits e5 in
+    let g = cond_some (range_fits file.0 block.0 place.0 len.0) (byte_range file.0 block.0 place.0 text.0, text.1) x e6 in
+    let r = range_test file.0 block.0 place.0 len.0 g.0 in
+    let whole = takes_then bytes _ _ _ _ (takes_then bytes _ _ _ _ (takes_then bytes _ _ _ _ (takes_then bytes _ _ _ _ a.0 b.0) c.0) d.0) t.0 in
+    let p = to_be_bytes w32 file.0 in
+    let q = to_be_bytes w32 block.0 in
+    let o = to_be_bytes w16 place.0 in
+    let l = to_be_bytes w16 len.0 in
+    let size : l ≡ to_be_bytes w16 (length text.0) = ap (λ k. to_be_bytes w16 k) (sym t.1) in
+    subst (λ x. ReadsEntry 6 bytes x) g.1 (record {
+      parts = ap (λ (l : List ℕ). 6 ∷ l) (whole.parts
+          ∙ ap (λ (s : List ℕ). s ++ text.1) (append_assoc ((p ++ q) ++ o) l text.0 ∙ append_assoc (p ++ q) o (l ++ text.0) ∙ append_assoc p q (o ++ (l ++ text.0))
+          ∙ ap (λ (s : List ℕ). p ++ (q ++ (o ++ (s ++ text.0)))) size));
+      is = record { low = r.0; high = r.1; block = r.2; some = omega (arith, r.3, t.1); within = omega (arith, r.4, t.1) };
+    })
+
+pub range_takes : (bytes : List ℕ) (x : Entry × List ℕ) → IsBytes bytes → range_at bytes ≡ Some x → ReadsEntry 6 bytes x
+unfolding range_at
+range_takes bytes x fits e =
+    let (file, e1, r1) = bind_some (number_first w32 bytes) _ x e in
+    let (block, e2, r2) = bind_some (number_first w32 file.1) _ x r1 in
+    let (place, e3, r3) = bind_some (number_first w16 block.1) _ x r2 in
+    let (len, e4, r4) = bind_some (number_first w16 place.1) _ x r3 in
+    let (text, e5, r5) = bind_some (bytes_first len.0 len.1) _ x r4 in
+    range_from bytes file block place len text x fits e1 e2 e3 e4 e5 r5
+
+range_again : (file block place : ℕ) (bytes rest : List ℕ) → IsRange file block place bytes
+    → range_at ((to_be_bytes w32 file ++ (to_be_bytes w32 block ++ (to_be_bytes w16 place ++ (to_be_bytes w16 (length bytes) ++ bytes)))) ++ rest) ≡ Some (byte_range file block place bytes, rest)
+unfolding range_at
+range_again file block place bytes rest is =
+    let p = to_be_bytes w32 file in
+    let q = to_be_bytes w32 block in
+    let o = to_be_bytes w16 place in
+    let l = to_be_bytes w16 (length bytes) in
+    let e : (p ++ (q ++ (o ++ (l ++ bytes)))) ++ rest ≡ p ++ (q ++ (o ++ (l ++ (bytes ++ rest)))) =
+    append_assoc p (q ++ (o ++ (l ++ bytes))) rest ∙ ap (λ (t : List ℕ). p ++ t) (append_assoc q (o ++ (l ++ bytes)) rest
+    ∙ ap (λ (t : List ℕ). q ++ t) (append_assoc o (l ++ bytes) rest ∙ ap (λ (t : List ℕ). o ++ t) (append_assoc l bytes rest))) in
+    ap range_at e ∙
+    rw (
+      number_again w32 (2 ^ 32) wide32 file (q ++ (o ++ (l ++ (bytes ++ rest)))) (omega (arith, is.high)),
+      number_again w32 (2 ^ 32) wide32 block (o ++ (l ++ (bytes ++ rest))) (omega (arith, is.block)),
+      number_again w16 (2 ^ 16) wide16 place (l ++ (bytes ++ rest)) (omega (arith, is.within)),
+      number_again w16 (2 ^ 16) wide16 (length bytes) (bytes ++ rest) (omega (arith, is.within)),
+      bytes_again (length bytes) bytes rest refl,
+      range_tested file block place (length bytes) is.low is.high is.block is.some is.within,
+    ) refl
+
 -- what is read from the front
 pub record BeginsWithEntry (bytes : List ℕ) (x : Entry × List ℕ) : Type 0 where
   pub parts : bytes ≡ spelling x.0 ++ x.1
@@ -349,7 +410,7 @@ front_of : (kind : ℕ) (bytes : List ℕ) (x : Entry × List ℕ) (k : ℕ) →
 front_of kind bytes x k is read = record { parts = ap (λ j. j ∷ bytes) is ∙ read.parts; is = read.is }
 
 abbrev read_as : ℕ → List ℕ → Option (Entry × List ℕ)
-read_as k rest = cond (k == 1) (schema_at rest) (cond (k == 2) (image_at rest) (cond (k == 3) (quiet_at rest) (cond (k == 4) (control_at rest) (cond (k == 5) (begin_at rest) None))))
+read_as k rest = cond (k == 1) (schema_at rest) (cond (k == 2) (image_at rest) (cond (k == 3) (quiet_at rest) (cond (k == 4) (control_at rest) (cond (k == 5) (begin_at rest) (cond (k == 6) (range_at rest) None)))))
 
 pub entry_takes : (bytes : List ℕ) (x : Entry × List ℕ) → IsBytes bytes → entry_at bytes ≡ Some x → BeginsWithEntry bytes x
 unfolding entry_at
@@ -364,21 +425,24 @@ entry_takes (k ∷ rest) x fits e = elim (cases_eq k 1) [
         | inl four ↦ front_of 4 rest x k four (control_takes rest x (λ i. fits (suc i)) (subst (λ j. read_as j rest ≡ Some x) four e))
         | inr not_four ↦ elim (cases_eq k 5) [
           | inl five ↦ front_of 5 rest x k five (begin_takes rest x (λ i. fits (suc i)) (subst (λ j. read_as j rest ≡ Some x) five e))
-          | inr other ↦ absurd (none_else k rest x not_one not_two not_three not_four other e)
+          | inr not_five ↦ elim (cases_eq k 6) [
+            | inl six ↦ front_of 6 rest x k six (range_takes rest x (λ i. fits (suc i)) (subst (λ j. read_as j rest ≡ Some x) six e))
+            | inr other ↦ absurd (none_else k rest x not_one not_two not_three not_four not_five other e)
+          ]
         ]
       ]
     ]
   ]
 ]
   where
-    none_else : (k : ℕ) (rest : List ℕ) (x : Entry × List ℕ) → (k ≡ 1 → ⊥) → (k ≡ 2 → ⊥) → (k ≡ 3 → ⊥) → (k ≡ 4 → ⊥) → (k ≡ 5 → ⊥) → read_as k rest ≡ Some x → ⊥
-    none_else k rest x a b c d f e = grind (arith, nat_tests)
+    none_else : (k : ℕ) (rest : List ℕ) (x : Entry × List ℕ) → (k ≡ 1 → ⊥) → (k ≡ 2 → ⊥) → (k ≡ 3 → ⊥) → (k ≡ 4 → ⊥) → (k ≡ 5 → ⊥) → (k ≡ 6 → ⊥) → read_as k rest ≡ Some x → ⊥
+    none_else k rest x a b c d f h e = grind (arith, nat_tests)
 
 pub entry_again : (e : Entry) (rest : List ℕ) → IsEntry e → entry_at (spelling e ++ rest) ≡ Some (e, rest)
 unfolding entry_at
 entry_again (schema_part part parts text) rest is = schema_again part parts text rest is
 entry_again (image file block before after) rest is = image_again file block before after rest is
-entry_again (byte_range f b place bytes) rest is = absurd is
+entry_again (byte_range f b place bytes) rest is = range_again f b place bytes rest is
 entry_again (quiet_point n) rest is = quiet_again n rest is
 entry_again (control_point n next cs) rest is = control_again n next cs rest is
 entry_again (begin_restore n kind) rest is = kind_again n kind rest is.0 is.1

@@ -1,7 +1,7 @@
 -- Reading an entry from the front of bytes.
-use Rattle.std.specs.Prelude.{ℕ, zero, suc, ◌*◌, List, [], ◌∷◌, length, Bool, Option, Some, None, nat_lt, nat_le, ◌==◌, ◌&&◌, ◌||◌, if◌then◌else◌}
+use Rattle.std.specs.Prelude.{ℕ, zero, suc, ◌+◌, ◌*◌, List, [], ◌∷◌, length, Bool, Option, Some, None, nat_lt, nat_le, ◌==◌, ◌&&◌, ◌||◌, if◌then◌else◌}
 use Rattle.std.specs.Int.{w16, w32, w64}
-use Rattle.dms_history.specs.Entries.{Entry, schema_part, image, quiet_point, control_point, begin_restore, Kind, by_halt_load, by_back_out, by_roll_back, by_rebuild, by_reconstruct}
+use Rattle.dms_history.specs.Entries.{Entry, schema_part, image, byte_range, quiet_point, control_point, begin_restore, Kind, by_halt_load, by_back_out, by_roll_back, by_rebuild, by_reconstruct}
 use Rattle.dms_history.specs.declared.event.FileCount.{FileCount}
 use Rattle.dms_history.specs.declared.event.Row.{Row}
 use Rattle.dms_fields.specs.Prefix.{◌>>=◌, byte_first, number_first, bytes_first, pairs_first}
@@ -74,6 +74,19 @@ begin_at bytes = do
   list ← bytes_first (8 * rows.0) rows.1
   if kind_fits how.0 dump.0 (rows_at rows.0 list.0) then Some (begin_restore n.0 (kind_of how.0 dump.0 (rows_at rows.0 list.0)), list.1) else None
 
+-- the bytes are at least one, and stand within the block
+abbrev pub range_fits : ℕ → ℕ → ℕ → ℕ → Bool
+range_fits file block place len = nat_le 30001 file && (nat_le file 30200 && (nat_lt block 2097152 && (nat_le 1 len && nat_le (place + len) 1024)))
+
+unfoldable pub range_at : List ℕ → Option (Entry × List ℕ)
+range_at bytes = do
+  file ← number_first w32 bytes
+  block ← number_first w32 file.1
+  place ← number_first w16 block.1
+  len ← number_first w16 place.1
+  text ← bytes_first len.0 len.1
+  if range_fits file.0 block.0 place.0 len.0 then Some (byte_range file.0 block.0 place.0 text.0, text.1) else None
+
 unfoldable pub entry_at : List ℕ → Option (Entry × List ℕ)
 entry_at [] = None
-entry_at (kind ∷ rest) = if kind == 1 then schema_at rest else if kind == 2 then image_at rest else if kind == 3 then quiet_at rest else if kind == 4 then control_at rest else if kind == 5 then begin_at rest else None
+entry_at (kind ∷ rest) = if kind == 1 then schema_at rest else if kind == 2 then image_at rest else if kind == 3 then quiet_at rest else if kind == 4 then control_at rest else if kind == 5 then begin_at rest else if kind == 6 then range_at rest else None

@@ -56,7 +56,7 @@ begin_bytes n how dump rows =
 abbrev pub spelling : Entry → List ℕ
 spelling (schema_part part parts bytes) = 1 ∷ (to_be_bytes w16 part ++ (to_be_bytes w16 parts ++ (to_be_bytes w16 (length bytes) ++ bytes)))
 spelling (image f b before after) = 2 ∷ (to_be_bytes w32 f ++ (to_be_bytes w32 b ++ (before_bytes before ++ after)))
-spelling (byte_range f b place bytes) = []
+spelling (byte_range f b place bytes) = 6 ∷ (to_be_bytes w32 f ++ (to_be_bytes w32 b ++ (to_be_bytes w16 place ++ (to_be_bytes w16 (length bytes) ++ bytes))))
 spelling (quiet_point n) = 3 ∷ to_be_bytes w64 n
 spelling (control_point n next counts) = 4 ∷ (to_be_bytes w64 n ++ (to_be_bytes w64 next ++ (to_be_bytes w16 (length counts) ++ pair_bytes count_file count_blocks counts)))
 spelling (begin_restore n kind) = begin_bytes n (how_number kind) (dump_of kind) (rows_of kind)
@@ -92,6 +92,14 @@ pub record IsImage (f b : ℕ) (before : Option (List ℕ)) (after : List ℕ) :
   pub old_size : IfSome before (λ bytes. length bytes ≡ 1024)
   pub new_size : length after ≡ 1024
 
+-- some bytes of a block of a structure file, at a place in it
+pub record IsRange (f b place : ℕ) (bytes : List ℕ) : Type 0 where
+  pub low : 30001 ≤ f
+  pub high : f ≤ 30200
+  pub block : b < 2097152
+  pub some : 1 ≤ length bytes
+  pub within : place + length bytes ≤ 1024
+
 pub record IsControl (n next : ℕ) (counts : List FileCount) : Type 0 where
   pub number : n < 2 ^ 64
   pub next_number : next < 2 ^ 64
@@ -118,7 +126,7 @@ IsRestoreKind (by_reconstruct d rows) = IsDump d × AreRows rows
 abbrev pub IsEntry : Entry → Type 0
 IsEntry (schema_part part parts bytes) = IsSchemaSpelled part parts bytes
 IsEntry (image f b before after) = IsImage f b before after
-IsEntry (byte_range f b place bytes) = ⊥
+IsEntry (byte_range f b place bytes) = IsRange f b place bytes
 IsEntry (quiet_point n) = n < 2 ^ 64
 IsEntry (control_point n next counts) = IsControl n next counts
 IsEntry (begin_restore n kind) = (n < 2 ^ 64) × IsRestoreKind kind

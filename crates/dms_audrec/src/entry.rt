@@ -18,6 +18,8 @@ pub enum Entry<'a> {
     Schema(u16, u16, &'a [u8]),
     /// A block of a structure file: the file, the block, its 1,024 bytes before a change, none where it is new, and after it.
     Image(u32, u32, Option<&'a [u8]>, &'a [u8]),
+    /// Changed bytes of a block of a structure file: the file, the block, the place of the first in it, and the bytes after the change.
+    Range(u32, u32, u16, &'a [u8]),
     /// A quiet point with its number.
     Quiet(u64),
     /// A control point: its number, the next number, and the counts of blocks: a structure file and its count, four bytes

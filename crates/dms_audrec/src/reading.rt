@@ -4,7 +4,7 @@ ghost use Rattle.std.specs.Prelude.{◌≡◌, ◌&&◌, nat_le, ◌≤◌, ◌/
 ghost use Rattle.dms_history.specs.Entries as meaning;
 ghost use Rattle.dms_audrec.specs.Spelling.{spelling, IsEntry};
 ghost use Rattle.dms_audrec.specs.Seen.{how_seen, entry_seen, IsRead};
-ghost use Rattle.dms_audrec.specs.Reading.{before_at, schema_at, image_at, quiet_at, control_at, begin_at, entry_at, kind_of, kind_fits, rows_at};
+ghost use Rattle.dms_audrec.specs.Reading.{before_at, schema_at, image_at, quiet_at, control_at, begin_at, range_at, range_fits, entry_at, kind_of, kind_fits, rows_at};
 
 use crate::pairs::{counts_rise, rows_rise};
 use crate::{BeginHow, Entry};
@@ -77,6 +77,17 @@ fn control_of(bytes: &[u8]) -> Option<(Entry<'_>, &[u8])>
     }
 }
 
+// Whether a Range may be of this block, at this place and so long.
+fn range_fits(file: u32, block: u32, place: u16, len: u16) -> bool
+    ensures { result ≡ range_fits file block place len }
+{
+    30001 <= file
+        && file <= 30200
+        && block < 2097152
+        && 1 <= len
+        && u32::from(place) + u32::from(len) <= 1024
+}
+
 // Whether this is the number of a dump.
 fn is_dump(dump: u16) -> bool
     ensures { result ≡ (nat_le 1 dump && nat_le dump 9999) }
@@ -130,6 +141,22 @@ fn begin_of(bytes: &[u8]) -> Option<(Entry<'_>, &[u8])>
     }
 }
 
+#[tactic(auto, unfolding(crate::specs::Reading::range_at))]
+fn range_of(bytes: &[u8]) -> Option<(Entry<'_>, &[u8])>
+    ensures { option_map (λ x. (entry_seen x.0, x.1.now)) result ≡ range_at bytes.now }
+{
+    let (file, rest) = u32_at(bytes)?;
+    let (block, rest) = u32_at(rest)?;
+    let (place, rest) = u16_at(rest)?;
+    let (len, rest) = u16_at(rest)?;
+    let (text, rest) = slice_at(rest, len as usize)?;
+    if range_fits(file, block, place, len) {
+        Some((Entry::Range(file, block, place, text), rest))
+    } else {
+        None
+    }
+}
+
 #[tactic(auto, unfolding(crate::specs::Reading::entry_at))]
 fn entry_of(bytes: &[u8]) -> Option<(Entry<'_>, &[u8])>
     ensures { option_map (λ x. (entry_seen x.0, x.1.now)) result ≡ entry_at bytes.now }
@@ -140,6 +167,7 @@ fn entry_of(bytes: &[u8]) -> Option<(Entry<'_>, &[u8])>
         [3, rest @ ..] => quiet_of(rest),
         [4, rest @ ..] => control_of(rest),
         [5, rest @ ..] => begin_of(rest),
+        [6, rest @ ..] => range_of(rest),
         _ => None,
     }
 }

@@ -2,7 +2,7 @@
 
 ghost use Rattle.std.specs.Prelude.{◌≡◌, ◌≤◌, ◌<◌, ◌+◌, ◌*◌, ◌/◌, ◌^◌, length, Some, None};
 ghost use Rattle.dms_fields.specs.Fields.{lay_bytes};
-ghost use Rattle.dms_history.specs.Entries.{schema_part, image, quiet_point, control_point, begin_restore};
+ghost use Rattle.dms_history.specs.Entries.{schema_part, image, byte_range, quiet_point, control_point, begin_restore};
 ghost use Rattle.dms_audrec.specs.Reading.{counts_at, rows_at};
 ghost use Rattle.dms_audrec.specs.Spelling.{spelling, IsEntry, how_number, dump_of, rows_of, begin_bytes};
 ghost use Rattle.dms_audrec.specs.Seen.{entry_seen, how_seen};
@@ -44,6 +44,19 @@ fn put_changed(to: &mut [u8], file: u32, block: u32, before: &[u8], after: &[u8]
     put_u8(to, 9, 1);
     put_bytes(to, 10, before);
     put_bytes(to, 1034, after);
+}
+
+fn put_range(to: &mut [u8], file: u32, block: u32, place: u16, bytes: &[u8])
+    requires short { length bytes.now < 2 ^ 16 }
+    requires room { 13 + length bytes.now ≤ length to.old }
+    ensures { to.new ≡ lay_bytes 0 (spelling (byte_range file block place bytes.now)) to.old }
+{
+    put_u8(to, 0, 6);
+    put_u32(to, 1, file);
+    put_u32(to, 5, block);
+    put_u16(to, 9, place);
+    put_u16(to, 11, bytes.len() as u16);
+    put_bytes(to, 13, bytes);
 }
 
 fn put_quiet(to: &mut [u8], n: u64)
@@ -116,6 +129,7 @@ pub fn length(entry: &Entry<'_>) -> usize
         Entry::Schema(_, _, text) => 7 + text.len(),
         Entry::Image(_, _, None, _) => 1034,
         Entry::Image(_, _, Some(_), _) => 2058,
+        Entry::Range(_, _, _, bytes) => 13 + bytes.len(),
         Entry::Quiet(_) => 9,
         Entry::Control(_, _, list) => 19 + 8 * (list.len() / 8),
         Entry::Begin(_, how) => {
@@ -138,6 +152,7 @@ pub fn encode(entry: &Entry<'_>, to: &mut [u8]) -> usize
         Entry::Image(file, block, Some(before), after) => put_changed(
             to, *file, *block, before, after,
         ),
+        Entry::Range(file, block, place, bytes) => put_range(to, *file, *block, *place, bytes),
         Entry::Quiet(n) => put_quiet(to, *n),
         Entry::Control(n, next, list) => put_control(to, *n, *next, list),
         Entry::Begin(n, how) => put_begin(to, *n, how),

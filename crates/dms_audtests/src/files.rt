@@ -6,7 +6,7 @@ use std::alloc::Global;
 use std::test::Fail;
 
 /// A description of two structures.
-const DESCRIPTION: [u8; 62] = [
+pub(crate) const DESCRIPTION: [u8; 62] = [
     0x44, 0x4d, 0x53, 0x53, 0x00, 0x01, 0x00, 0x64, 0x00, 0x0a, 0x01, 0x00, 0x02, 0x00, 0x27, 0x0f,
     0x00, 0x02, 0x02, 0x03, 0x52, 0x44, 0x53, 0x00, 0x00, 0x00, 0x0f, 0x42, 0x40, 0x01, 0x03, 0x50,
     0x49, 0x44, 0x01, 0x0a, 0x00, 0x00, 0x00, 0x00, 0x00, 0x00, 0x01, 0x01, 0x44, 0x00, 0x00, 0x00,
@@ -14,7 +14,7 @@ const DESCRIPTION: [u8; 62] = [
 ];
 
 /// Counts of two structures without blocks.
-const COUNTS: [u8; 16] = [0, 0, 0x75, 0x31, 0, 0, 0, 0, 0, 0, 0x75, 0x32, 0, 0, 0, 0];
+pub(crate) const COUNTS: [u8; 16] = [0, 0, 0x75, 0x31, 0, 0, 0, 0, 0, 0, 0x75, 0x32, 0, 0, 0, 0];
 
 #[test]
 #[tactic(auto, unfolding(dms_audrec::specs::Reading::counts_at))]
@@ -83,7 +83,7 @@ fn a_first_block_is_sealed_and_found(rt: HostRuntime) -> Result<(), Fail> {
 }
 
 /// Why a scan is refused.
-fn refusal(alloc: Global, site: &mut MemSite) -> Option<AudFault> {
+pub(crate) fn refusal(alloc: Global, site: &mut MemSite) -> Option<AudFault> {
     match AuditStart::scan(alloc, site) {
         Ok(_) => None,
         Err(fault) => Some(fault),
