@@ -150,7 +150,7 @@ module _ (p : Pending) (a : LogView) (r : BegunAt p a) (read : ReadsNow a) where
 
     pub table_restored : (runs : List Run) (table : List Told) → Writes p a.files runs table → Holds a.files (all_in runs ++ table) files → Only files clock → RestoredAt p then_
     table_restored runs table is holds only = record {
-      restored = restored_all (telling a) tells_it p (state a) r.begun read (state then_) written (λ f b low x told size. holds f b x (is.all f b x low told size));
+      restored = restored_all (telling a) tells_it p (state a) r.begun read (state then_) written (λ f b low x told size. (holds f b x (is.all f b x low told size)).1);
       only = only;
     }
 

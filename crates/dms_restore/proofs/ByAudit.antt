@@ -7,13 +7,10 @@ use Rattle.dms_moments.specs.MomentLaws.{steps_weaken}
 use Rattle.dms_site.specs.Files.{Files, Left}
 use Rattle.dms_history.specs.Events.{BlockBytes, How, halt_load, back_out, roll_back, rebuild, reconstruct, Event}
 use Rattle.dms_history.specs.History.{Pending}
-use Rattle.dms_history.specs.Images.{is_at, or_else}
 use Rattle.dms_history.specs.Pick.{Dumps, count_at}
 use Rattle.dms_history.specs.Restores.{takes_stored}
 use Rattle.dms_history.specs.Told.{told_block}
-use Rattle.dms_history.proofs.Picks.{place_cases}
 use Rattle.dms_history.proofs.ToldBlocks.{tells_blocks}
-use Rattle.dms_history.proofs.Turns.{some_not_none}
 use Rattle.dms_running.specs.Begun.{ByAudit}
 use Rattle.dms_running.specs.ByHow.{IsKeptBy, told_by}
 use Rattle.dms_running.specs.Restoring.{Rewritten, Rewrites}
@@ -21,7 +18,7 @@ use Rattle.dms_restore.specs.Dumped.{dumps_of}
 use Rattle.dms_restore.specs.declared.told.Told.{Told}
 use Rattle.dms_restore.specs.declared.run.Run.{Run}
 use Rattle.dms_restore.specs.declared.restore_table.RestoreTable.{RestoreTable}
-use Rattle.dms_restore.specs.Table.{bytes_at, Kept, keeps_by, AreFree, AreWhole, last_of, IsAmong, EachIsTold, IsTable, Writes, IsPlan}
+use Rattle.dms_restore.specs.Table.{Kept, keeps_by, AreFree, IsAmong, IsTable, Writes, IsPlan}
 
 -- by the test
 lt_test : (a b : ℕ) → a < b → nat_lt a b ≡ true
@@ -57,59 +54,20 @@ told_is (reconstruct d named) by_audit dumps live m f b = absurd by_audit
 
 -- ---- a table of the audit is a plan of a restore by the audit
 
-module _ (live : List Event) (m : ℕ) (files : Files) where
-  abbrev here_told : ℕ → ℕ → Told → Option BlockBytes
-  here_told f b t = cond (is_at f b t.file t.block) (Some (bytes_at files t)) None
-
-  last_told : (ts : List Told) (f b : ℕ) (y : BlockBytes) → EachIsTold live m files ts → last_of files f b ts ≡ Some y → told_block live m f b ≡ Some y
-  last_told [] f b y each is = absurd cc
-  last_told (t ∷ ts) f b y each is = go (λ z e. last_told ts f b z each.1 e) (last_of files f b ts) refl
-    where
-      go : ((z : BlockBytes) → last_of files f b ts ≡ Some z → told_block live m f b ≡ Some z) → (o : Option BlockBytes) → last_of files f b ts ≡ o → told_block live m f b ≡ Some y
-      go more (Some z) e = more z e ∙ (sym (ap (λ (o : Option BlockBytes). or_else o (here_told f b t)) e) ∙ is)
-      go more None e =
-          let now : here_told f b t ≡ Some y = sym (ap (λ (o : Option BlockBytes). or_else o (here_told f b t)) e) ∙ is in
-          elim (place_cases f b t.file t.block) [
-            | inl at ↦ (λ i. told_block live m (sym at.0 i) (sym at.1 i)) ∙ each.0.0 ∙ sym (ap (λ k. cond k (Some (bytes_at files t)) None) at.2) ∙ now
-            | inr other ↦ absurd (some_not_none y (sym now ∙ ap (λ k. cond k (Some (bytes_at files t)) None) other.1))
-          ]
-
-  pub among_last : (ts : List Told) (f b : ℕ) → IsAmong f b ts → (y : BlockBytes) × (last_of files f b ts ≡ Some y)
-  among_last [] f b among = absurd among
-  among_last (t ∷ ts) f b among = go (λ more. among_last ts f b more) (last_of files f b ts) refl among
-    where
-      go : (IsAmong f b ts → (y : BlockBytes) × (last_of files f b ts ≡ Some y)) → (o : Option BlockBytes) → last_of files f b ts ≡ o → ((t.file ≡ f) × (t.block ≡ b)) ⊎ IsAmong f b ts → (y : BlockBytes) × (or_else (last_of files f b ts) (here_told f b t) ≡ Some y)
-      go more (Some z) e one = (z, ap (λ (o : Option BlockBytes). or_else o (here_told f b t)) e)
-      go more None e (inl here) = (
-        bytes_at files t,
-        ap (λ (o : Option BlockBytes). or_else o (here_told f b t)) e ∙ elim (place_cases f b t.file t.block) [
-          | inl at ↦ ap (λ k. cond k (Some (bytes_at files t)) None) at.2
-          | inr other ↦ absurd (other.0 (sym here.0) (sym here.1))
-        ],
-      )
-      go more None e (inr behind) = let r = more behind in absurd (some_not_none r.0 (sym r.1 ∙ e))
-
-  each_whole : (ts : List Told) → EachIsTold live m files ts → AreWhole files ts
-  each_whole [] each = tt
-  each_whole (t ∷ ts) each = (each.0.1, each_whole ts each.1)
-
-  each_free : (how : How) → ByAudit how → (ts : List Told) → EachIsTold live m files ts → AreFree (Kept (keeps_by how live m)) ts
-  each_free how by_audit [] each = tt
-  each_free how by_audit (t ∷ ts) each = (
-    (λ kept. some_not_none (bytes_at files t) (sym each.0.0 ∙ takes_is how by_audit live m t.file t.block (and_second (nat_lt t.block (count_at live m t.file)) (takes_stored how live m t.file t.block) kept))),
-    each_free how by_audit ts each.1,
-  )
+-- none that is kept is among them
+pub free_among : (keeps : ℕ → ℕ → Type 0) (ts : List Told) → ((f b : ℕ) → IsAmong f b ts → keeps f b → ⊥) → AreFree keeps ts
+free_among keeps [] none = tt
+free_among keeps (t ∷ ts) none = (none t.file t.block (inl (refl, refl)), free_among keeps ts (λ f b among. none f b (inr among)))
 
 pub plan_by_audit : (p : Pending) → ByAudit p.how → (files : Files) (table : List Told) → IsTable p.entries p.point files table → Writes p files [] table
 plan_by_audit p by_audit files table is = record {
   runs_free = tt;
   runs_whole = tt;
-  free = each_free p.entries p.point files p.how by_audit table is.each;
-  whole = each_whole p.entries p.point files table is.each;
-  all = λ f b x low told size.
-      let known : told_block p.entries p.point f b ≡ Some x = sym (told_is p.how by_audit (dumps_of files) p.entries p.point f b) ∙ told in
-      let last = among_last p.entries p.point files table f b (is.all f b x known) in
-      last.1 ∙ sym (last_told p.entries p.point files table f b last.0 is.each last.1) ∙ known;
+  free = free_among (Kept (keeps_by p.how p.entries p.point)) table (λ f b among kept.
+      is.among f b among
+      (sym (is.tells f b) ∙ takes_is p.how by_audit p.entries p.point f b (and_second (nat_lt b (count_at p.entries p.point f)) (takes_stored p.how p.entries p.point f b) kept)));
+  whole = is.whole;
+  all = λ f b x low told size. sym (is.tells f b) ∙ sym (told_is p.how by_audit (dumps_of files) p.entries p.point f b) ∙ told;
 }
 
 -- the same, of lists that were lent

@@ -3,19 +3,18 @@ use Rattle.std.specs.Prelude.{nat_lt}
 use Rattle.std.proofs.Common.{ℕ, zero, suc, ◌<◌, ◌≤◌, ◌≡◌, ◌⊎◌, inl, inr, Bool, true, false, cond, List, [], ◌∷◌, ◌++◌, length, Option, Some, None, refl, sym, ◌∙◌, ap, arith, slice_index_or}
 use Rattle.dms_site.specs.Files.{Files}
 use Rattle.dms_history.specs.Events.{BlockBytes, rebuild, reconstruct, Event, block_in}
-use Rattle.dms_history.specs.Images.{is_at, or_else, value, last_after}
+use Rattle.dms_history.specs.Images.{or_else, value, last_after}
 use Rattle.dms_history.specs.Pick.{Dump, Dumps, count_at, between, dump_pick}
 use Rattle.dms_history.specs.Restores.{is_unlogged, takes_stored}
 use Rattle.dms_history.specs.Told.{told_block}
-use Rattle.dms_history.proofs.Picks.{some_is, place_cases}
+use Rattle.dms_history.proofs.Picks.{some_is}
 use Rattle.dms_history.proofs.ToldBlocks.{tells_blocks}
-use Rattle.dms_history.proofs.Turns.{some_not_none}
 use Rattle.dms_running.specs.ByHow.{told_by}
 use Rattle.dms_restore.specs.declared.run.Run.{Run}
 use Rattle.dms_restore.specs.declared.told.Told.{Told}
-use Rattle.dms_restore.specs.Table.{bytes_at, Kept, keeps_by, AreFree, last_of, all_in, IsPlanOf}
+use Rattle.dms_restore.specs.Table.{Kept, keeps_by, AreFree, IsAmong, last_of, all_in, IsPlanOf}
 use Rattle.dms_restore.specs.ByDump.{PlansByDump, RebuildPlans, ReconstructPlans}
-use Rattle.dms_restore.proofs.ByAudit.{and_second}
+use Rattle.dms_restore.proofs.ByAudit.{and_second, free_among}
 use Rattle.dms_restore.proofs.Tables.{last_on}
 
 below_or : (a b : ℕ) → (a < b) ⊎ (b ≤ a)
@@ -37,12 +36,12 @@ free_by : (keeps others : ℕ → ℕ → Type 0) (ts : List Told) → ((f b : �
 free_by keeps others [] is free = tt
 free_by keeps others (t ∷ ts) is free = ((λ k. free.0 (is t.file t.block k)), free_by keeps others ts is free.1)
 
-module _ (live : List Event) (m : ℕ) (files : Files) (runs : List Run) (table : List Told) (dump : Dump) (f b : ℕ) (x : BlockBytes) (size : length x ≡ 1024) where
+module _ (live : List Event) (m : ℕ) (files : Files) (runs : List Run) (table : List Told) (among : (f b : ℕ) → IsAmong f b table → last_of files f b table ≡ None → ⊥) (dump : Dump) (f b : ℕ) (x : BlockBytes) (size : length x ≡ 1024) where
   abbrev of_runs : Option BlockBytes
   of_runs = last_of files f b (all_in runs)
 
   from_table : (y : BlockBytes) → last_of files f b table ≡ Some y → y ≡ x → last_of files f b (all_in runs ++ table) ≡ Some x
-  from_table y e same = last_on files f b (all_in runs) table ∙ ap (λ (o : Option BlockBytes). or_else o of_runs) e ∙ ap (λ (k : BlockBytes). Some k) same
+  from_table y e same = last_on files f b (all_in runs) table (among f b) ∙ ap (λ (o : Option BlockBytes). or_else o of_runs) e ∙ ap (λ (k : BlockBytes). Some k) same
 
   by_dump : dump_pick live dump m f b ≡ x → last_of files f b table ≡ last_after f b (between dump.point m live) → (b < length (dump.blocks f) → of_runs ≡ Some (block_in dump.blocks f b))
       → last_of files f b (all_in runs ++ table) ≡ Some x
@@ -53,7 +52,7 @@ module _ (live : List Event) (m : ℕ) (files : Files) (runs : List Run) (table 
       go (Some y) e = from_table y (tells ∙ e) (sym (ap (λ (o : Option BlockBytes). value o None (block_in dump.blocks f b)) e) ∙ picked)
       go None e =
           let block : block_in dump.blocks f b ≡ x = sym (ap (λ (o : Option BlockBytes). value o None (block_in dump.blocks f b)) e) ∙ picked in
-          last_on files f b (all_in runs) table ∙ ap (λ (o : Option BlockBytes). or_else o of_runs) (tells ∙ e)
+          last_on files f b (all_in runs) table (among f b) ∙ ap (λ (o : Option BlockBytes). or_else o of_runs) (tells ∙ e)
           ∙ elim (below_or b (length (dump.blocks f))) [
             | inl low ↦ there low ∙ ap (λ (k : BlockBytes). Some k) block
             | inr past ↦ absurd (omega (arith, size, ap length (sym block ∙ past_end (dump.blocks f) b past)))
@@ -69,33 +68,8 @@ rebuild_plans d dumps live m files runs table p = record {
   runs_whole = p.runs_whole;
   free = free_all (Kept (keeps_by (rebuild d) live m)) table (λ f b k. never (and_second (nat_lt b (count_at live m f)) false k));
   whole = p.whole;
-  all = λ f b x low told size. by_dump live m files runs table (dumps d) f b x size (some_is (dump_pick live (dumps d) m f b) x told) (p.tells f b) (p.runs_all f b low refl);
+  all = λ f b x low told size. by_dump live m files runs table p.among (dumps d) f b x size (some_is (dump_pick live (dumps d) m f b) x told) (p.tells f b) (p.runs_all f b low refl);
 }
-
--- one that is among them is told
-abbrev here_told : Files → ℕ → ℕ → Told → Option BlockBytes
-here_told files f b t = cond (is_at f b t.file t.block) (Some (bytes_at files t)) None
-
-is_told : (files : Files) (f b : ℕ) (t : Told) (ts : List Told) (o : Option BlockBytes) → last_of files f b ts ≡ o → t.file ≡ f → t.block ≡ b → last_of files f b (t ∷ ts) ≡ None → ⊥
-is_told files f b t ts (Some y) e at there none = some_not_none y (sym (ap (λ (o : Option BlockBytes). or_else o (here_told files f b t)) e) ∙ none)
-is_told files f b t ts None e at there none =
-    let now : here_told files f b t ≡ None = sym (ap (λ (o : Option BlockBytes). or_else o (here_told files f b t)) e) ∙ none in
-    elim (place_cases f b t.file t.block) [
-      | inl same ↦ some_not_none (bytes_at files t) (sym (ap (λ k. cond k (Some (bytes_at files t)) None) same.2) ∙ now)
-      | inr other ↦ other.0 (sym at) (sym there)
-    ]
-
--- each of them has a last one
-each_told : (files : Files) (keeps : ℕ → ℕ → Type 0) (all ts : List Told) → ((f b : ℕ) → last_of files f b all ≡ None → last_of files f b ts ≡ None) → ((f b : ℕ) → keeps f b → last_of files f b all ≡ None) → AreFree keeps ts
-each_told files keeps all [] more none = tt
-each_told files keeps all (t ∷ ts) more none = (
-  (λ k. is_told files t.file t.block t ts (last_of files t.file t.block ts) refl refl refl (more t.file t.block (none t.file t.block k))),
-  each_told files keeps all ts (λ f b is. first_none (last_of files f b ts) (cond (is_at f b t.file t.block) (Some (bytes_at files t)) None) (more f b is)) none,
-)
-  where
-    first_none : (a c : Option BlockBytes) → or_else a c ≡ None → a ≡ None
-    first_none None c is = refl
-    first_none (Some y) c is = is
 
 module _ (d : ℕ) (named : ℕ → ℕ → Bool) (dumps : Dumps) (live : List Event) (m : ℕ) (files : Files) (runs : List Run) (table : List Told) (p : PlansByDump (reconstruct d named) (dumps d) live m files runs table) where
   -- a block that is kept isn't named, and the audit doesn't tell of it
@@ -116,10 +90,10 @@ module _ (d : ℕ) (named : ℕ → ℕ → Bool) (dumps : Dumps) (live : List E
   all_told f b x low told size = go (named f b) refl
     where
       go : (n : Bool) → named f b ≡ n → last_of files f b (all_in runs ++ table) ≡ Some x
-      go true is = by_dump live m files runs table (dumps d) f b x size
+      go true is = by_dump live m files runs table p.among (dumps d) f b x size
           (some_is (dump_pick live (dumps d) m f b) x (sym (ap (λ t. cond t (Some (dump_pick live (dumps d) m f b)) (told_block live m f b)) is) ∙ told))
           (p.tells f b ∙ ap (λ t. cond t (last_after f b (between (dumps d).point m live)) (told_block live m f b)) is) (p.runs_all f b low is)
-      go false is = from_table live m files runs table (dumps d) f b x size x
+      go false is = from_table live m files runs table p.among (dumps d) f b x size x
           (p.tells f b ∙ ap (λ t. cond t (last_after f b (between (dumps d).point m live)) (told_block live m f b)) is
           ∙ (sym (ap (λ t. cond t (Some (dump_pick live (dumps d) m f b)) (told_block live m f b)) is) ∙ told)) refl
 
@@ -127,7 +101,7 @@ module _ (d : ℕ) (named : ℕ → ℕ → Bool) (dumps : Dumps) (live : List E
   plans = record {
     runs_free = free_by (Kept (keeps_by (reconstruct d named) live m)) (λ f b. named f b ≡ false) (all_in runs) (λ f b k. (kept_is f b k).0) p.runs_by;
     runs_whole = p.runs_whole;
-    free = each_told files (Kept (keeps_by (reconstruct d named) live m)) table table (λ f b is. is) untold;
+    free = free_among (Kept (keeps_by (reconstruct d named) live m)) table (λ f b among kept. p.among f b among (untold f b kept));
     whole = p.whole;
     all = all_told;
   }

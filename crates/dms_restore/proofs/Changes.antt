@@ -1,6 +1,6 @@
 -- Live entries by themselves, Ranges among them, and as changes.
 use Rattle.std.specs.Prelude.{◌||◌}
-use Rattle.std.proofs.Common.{ℕ, suc, ◌≡◌, inl, inr, Bool, true, false, cond, List, [], ◌∷◌, ◌++◌, map, length, Option, Some, None, refl, sym, ◌∙◌, ap, append_assoc}
+use Rattle.std.proofs.Common.{ℕ, ◌≡◌, inl, inr, Bool, true, false, cond, List, [], ◌∷◌, ◌++◌, map, Option, Some, None, refl, sym, ◌∙◌, ap, append_assoc}
 use Rattle.std.proofs.lemmas.Bool.{cases_Bool, true≢false}
 use Rattle.std.proofs.lemmas.List.{map-append}
 use Rattle.dms_site.specs.Files.{Files}
@@ -17,9 +17,8 @@ use Rattle.dms_history.proofs.Base.{has_append}
 use Rattle.dms_history.proofs.Cuts.{after_none}
 use Rattle.dms_history.proofs.Order.{append_none}
 use Rattle.dms_history.proofs.Schemas.{logged_append}
-use Rattle.dms_history.proofs.Turns.{changes_until, live_of_ranges, no_ranges}
+use Rattle.dms_history.proofs.Turns.{live_of_ranges}
 use Rattle.dms_restore.specs.declared.live.LiveEntry.{LiveEntry}
-use Rattle.dms_restore.specs.declared.live.LiveEntry.TheVariants.{Changed, Quiet, Controlled}
 use Rattle.dms_restore.specs.LiveEntries.{logged_at, logged_live, changes_at, own_events, events_at}
 
 -- ---- the events themselves
@@ -28,6 +27,9 @@ pub own_append : (xs ys : List Logged) → own_events (xs ++ ys) ≡ own_events 
 own_append [] ys = refl
 own_append (event e ∷ xs) ys = ap (λ (l : List Event). e ∷ l) (own_append xs ys)
 own_append (range f b place bytes ∷ xs) ys = own_append xs ys
+
+pub events_append : (files : Files) (xs ys : List LiveEntry) → events_at files (xs ++ ys) ≡ events_at files xs ++ events_at files ys
+events_append files xs ys = ap own_events (map-append (logged_at files) xs ys) ∙ own_append (logged_live files xs) (logged_live files ys)
 
 pub own_controls : (xs : List Logged) → has is_control_logged xs ≡ has is_control (own_events xs)
 own_controls [] = refl
@@ -69,7 +71,7 @@ from_append : (xs ys : List Logged) (live : List Event) → changes_from live (x
 from_append [] ys live = refl
 from_append (x ∷ xs) ys live = from_append xs ys (live ++ changes_of live x)
 
-all_append : (xs ys : List Logged) → all_changes (xs ++ ys) ≡ all_changes xs ++ changes_on (all_changes xs) ys
+pub all_append : (xs ys : List Logged) → all_changes (xs ++ ys) ≡ all_changes xs ++ changes_on (all_changes xs) ys
 unfolding all_changes
 all_append xs ys = from_append xs ys [] ∙ changes_parts (changes_from [] xs) ys
 
@@ -151,33 +153,3 @@ live_more entries e x is =
 -- one that says nothing
 pub live_same : (entries : List Entry) (e : Entry) → said_by (parts_from no_parts entries) e ≡ [] → live_logged [] (events_in (entries ++ e ∷ [])) ≡ live_logged [] (events_in entries)
 live_same entries e is = ap (live_logged []) (logged_append entries (e ∷ []) no_parts ∙ ap (λ (l : List Logged). events_in entries ++ (l ++ [])) is ∙ append_none (events_in entries))
-
--- ---- entries without Ranges
-
-pub logged_own : (files : Files) (es : List LiveEntry) → logged_live files es ≡ map event (events_at files es)
-logged_own files [] = refl
-logged_own files (Changed i ∷ es) = ap (λ (l : List Logged). logged_at files (Changed i) ∷ l) (logged_own files es)
-logged_own files (Quiet n ∷ es) = ap (λ (l : List Logged). logged_at files (Quiet n) ∷ l) (logged_own files es)
-logged_own files (Controlled c ∷ es) = ap (λ (l : List Logged). logged_at files (Controlled c) ∷ l) (logged_own files es)
-
-pub changes_own : (files : Files) (es : List LiveEntry) → changes_at files es ≡ events_at files es
-changes_own files es = ap all_changes (logged_own files es) ∙ no_ranges (events_at files es)
-
--- up to a point and behind it
-pub until_own : (files : Files) (live : List Logged) (m : ℕ) (front : List LiveEntry) → until_first (is_point_logged m) live ≡ logged_live files front → until_first (is_point m) (all_changes live) ≡ events_at files front
-until_own files live m front is = sym (changes_until m live) ∙ ap all_changes is ∙ changes_own files front
-
-pub after_own : (files : Files) (live : List Logged) (m : ℕ) (behind : List LiveEntry) → after_first (is_point_logged m) live ≡ logged_live files behind → after_first (is_point m) (all_changes live) ≡ events_at files behind
-after_own files live m behind is =
-    let front = all_changes (until_first (is_point_logged m) live) in
-    after_point m live ∙ ap (changes_on front) (is ∙ logged_own files behind) ∙ on_events front (events_at files behind)
-
-pub events_append : (files : Files) (xs ys : List LiveEntry) → events_at files (xs ++ ys) ≡ events_at files xs ++ events_at files ys
-events_append files xs ys = ap own_events (map-append (logged_at files) xs ys) ∙ own_append (logged_live files xs) (logged_live files ys)
-
--- without Ranges each says one event
-pub own_length : (files : Files) (es : List LiveEntry) → length (events_at files es) ≡ length es
-own_length files [] = refl
-own_length files (Changed i ∷ es) = ap suc (own_length files es)
-own_length files (Quiet n ∷ es) = ap suc (own_length files es)
-own_length files (Controlled c ∷ es) = ap suc (own_length files es)

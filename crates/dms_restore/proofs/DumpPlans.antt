@@ -1,15 +1,13 @@
 -- Runs of a dump and a table are what a restore by it writes.
-use Rattle.std.specs.Prelude.{option_map}
 use Rattle.std.proofs.Common.{ℕ, ◌+◌, ◌<◌, ◌≤◌, ◌≡◌, ◌⊎◌, inl, inr, Bool, true, false, cond, List, [], ◌∷◌, length, drop, Option, Some, None, refl, sym, ◌∙◌, ap, subst, arith}
 use Rattle.dms_site.specs.Files.{Files}
 use Rattle.dms_history.specs.Events.{BlockBytes, How, halt_load, back_out, roll_back, rebuild, reconstruct, Event, block_in}
 use Rattle.dms_history.specs.History.{Pending}
-use Rattle.dms_history.specs.Lists.{until_first, after_first, after_last}
-use Rattle.dms_history.specs.Places.{is_control, is_point}
+use Rattle.dms_history.specs.Lists.{until_first, after_first}
 use Rattle.dms_history.specs.Ranges.{Logged, all_changes, is_point_logged}
-use Rattle.dms_history.specs.Images.{or_else, last_after, first_before}
+use Rattle.dms_history.specs.Images.{last_after}
 use Rattle.dms_history.specs.Pick.{Dump, between, count_at, content_of}
-use Rattle.dms_history.specs.Told.{undone_to, told_block}
+use Rattle.dms_history.specs.Told.{told_block}
 use Rattle.dms_history.specs.Entries.{counts_in, named_by}
 use Rattle.dms_history.specs.Restores.{may_hold_anything}
 use Rattle.dms_history.specs.declared.event.Row.{Row}
@@ -27,19 +25,17 @@ use Rattle.dms_restore.specs.declared.run.Run.{Run}
 use Rattle.dms_restore.specs.declared.told.Told.{Told}
 use Rattle.dms_restore.specs.Counts.{count_of}
 use Rattle.dms_restore.specs.Dumped.{dumps_of}
-use Rattle.dms_restore.specs.LiveEntries.{logged_live, events_at, AllStandWhole}
-use Rattle.dms_restore.specs.Named.{named_in, named_with, IsTableOf}
+use Rattle.dms_restore.specs.LiveEntries.{logged_live, AllStandWhole}
+use Rattle.dms_restore.specs.Named.{IsTableOf, TellsByRows, TellsBetween}
 use Rattle.dms_restore.specs.Table.{AreFree, AreWhole, IsAmong, last_of, all_in, IsPlanOf, Writes}
 use Rattle.dms_restore.specs.Tracing.{MatchesHow}
 use Rattle.dms_restore.specs.ByDump.{table_tells, PlansByDump}
 use Rattle.dms_restore.specs.Planned.{HasHead, IsHeadFor, AreRunsOf, IsInRuns, CutsAt, PlansDump, PlansCut}
-use Rattle.dms_restore.proofs.Changes.{until_own, after_own, changes_own}
-use Rattle.dms_restore.proofs.TableParts.{told_cases}
-use Rattle.dms_restore.proofs.ByAudit.{plan_by_audit}
+use Rattle.dms_restore.proofs.ByAudit.{free_among, plan_by_audit}
 use Rattle.dms_restore.proofs.ByDump.{rebuild_plans, reconstruct_plans}
 use Rattle.dms_restore.proofs.DumpRuns.{dump_is}
 use Rattle.dms_restore.proofs.HeadCounts.{sealed_head}
-use Rattle.dms_restore.proofs.RunBlocks.{free_of, among_runs, runs_are_whole, run_tells}
+use Rattle.dms_restore.proofs.RunBlocks.{among_runs, runs_are_whole, run_tells}
 
 true_not_false : true ≡ false → ⊥
 true_not_false e = absurd cc
@@ -47,19 +43,6 @@ true_not_false e = absurd cc
 module _ (files : Files) (logged : List Logged) (m : ℕ) (front behind : List LiveEntry) (cut : CutsAt files logged m front behind) where
   abbrev live : List Event
   live = all_changes logged
-
-  -- what stands between an earlier point and this one
-  between_is : (n from : ℕ) → after_first (is_point_logged n) (logged_live files front) ≡ logged_live files (drop from front) → between n m live ≡ events_at files (drop from front)
-  between_is n from is =
-      ap (after_first (is_point n)) (until_own files logged m front cut.until ∙ sym (changes_own files front))
-      ∙ after_own files (logged_live files front) n (drop from front) is
-
-  -- what the audit tells at the point
-  told_named : (f b : ℕ) → told_block live m f b ≡ undone_to (named_in (events_at files front) (events_at files behind) f b)
-  unfolding told_block
-  told_named f b =
-      (λ i. or_else (last_after f b (after_last is_control (until_own files logged m front cut.until i))) (undone_to (first_before f b (after_own files logged m behind cut.after i))))
-      ∙ sym (told_cases (last_after f b (after_last is_control (events_at files front))) (first_before f b (events_at files behind)))
 
   module _ (d : ℕ) (head : DumpHead) (has : HasHead files d (Some head)) (counts : List ℕ) (counted : (f : ℕ) → count_of counts f ≡ count_at live m f) (runs : List Run) (are : AreRunsOf (head_seen head) d counts runs) where
     abbrev dump : Dump
@@ -82,39 +65,31 @@ module _ (files : Files) (logged : List Logged) (m : ℕ) (front behind : List L
     all_runs f b covered low within =
         run_tells files d (head_seen head) has.0 has.1 there counts runs f b are (covered (subst (λ n. b < n) (dump_length f) within) (subst (λ n. b < n) (sym (counted f)) low))
 
-    between_dump : (from : ℕ) → after_first (is_point_logged head.point) (logged_live files front) ≡ logged_live files (drop from front) → between dump.point m live ≡ events_at files (drop from front)
-    between_dump from is = ap (λ (k : Dump). between k.point m live) is_dump ∙ between_is head.point from is
-
     pub rebuilt : (told : List Told) (from : ℕ) → after_first (is_point_logged head.point) (logged_live files front) ≡ logged_live files (drop from front)
         → ((f b : ℕ) → b < counts_in head.counts.items f → b < count_of counts f → IsInRuns f b runs)
-        → AreWhole files told → ((f b : ℕ) → last_of files f b told ≡ last_after f b (events_at files (drop from front))) → PlansByDump (rebuild d) dump live m files runs told
-    rebuilt told from is covered whole tells = record {
-      runs_by = free_of (λ f b. may_hold_anything (rebuild d) f b ≡ false) (all_in runs) (λ f b among no. true_not_false no);
+        → AreWhole files told → TellsBetween front from told → ((f b : ℕ) → IsAmong f b told → last_of files f b told ≡ None → ⊥) → PlansByDump (rebuild d) dump live m files runs told
+    rebuilt told from is covered whole tells some = record {
+      runs_by = free_among (λ f b. may_hold_anything (rebuild d) f b ≡ false) (all_in runs) (λ f b among no. true_not_false no);
       runs_whole = whole_runs;
       runs_all = λ f b low any within. all_runs f b (covered f b) low within;
       whole = whole;
-      tells = λ f b. tells f b ∙ ap (λ (l : List Event). last_after f b l) (sym (between_dump from is));
+      tells = λ f b. tells files logged m head.point cut.until cut.front_whole is f b ∙ ap (λ (k : Dump). last_after f b (between k.point m live)) (sym is_dump);
+      among = some;
     }
 
     pub reconstructed : (rows : List Row) (told : List Told) (from : ℕ) → after_first (is_point_logged head.point) (logged_live files front) ≡ logged_live files (drop from front)
         → ((f b : ℕ) → named_by rows f b ≡ true → b < counts_in head.counts.items f → b < count_of counts f → IsInRuns f b runs) → ((f b : ℕ) → IsInRuns f b runs → named_by rows f b ≡ true) → AreWhole files told
-        → ((f b : ℕ) → last_of files f b told ≡ undone_to (named_with (named_by rows f b) (events_at files (drop from front)) (events_at files front) (events_at files behind) f b))
-        → PlansByDump (reconstruct d (named_by rows)) dump live m files runs told
-    reconstructed rows told from is covered only whole tells = record {
-      runs_by = free_of (λ f b. may_hold_anything (reconstruct d (named_by rows)) f b ≡ false) (all_in runs) (λ f b among no. true_not_false (sym (only f b (among_runs f b runs among)) ∙ no));
+        → TellsByRows front from behind rows told → ((f b : ℕ) → IsAmong f b told → last_of files f b told ≡ None → ⊥) → PlansByDump (reconstruct d (named_by rows)) dump live m files runs told
+    reconstructed rows told from is covered only whole tells some = record {
+      runs_by = free_among (λ f b. may_hold_anything (reconstruct d (named_by rows)) f b ≡ false) (all_in runs) (λ f b among no. true_not_false (sym (only f b (among_runs f b runs among)) ∙ no));
       runs_whole = whole_runs;
       runs_all = λ f b low any within. all_runs f b (covered f b any) low within;
       whole = whole;
-      tells = λ f b. tells f b ∙ go f b (named_by rows f b);
+      tells = λ f b.
+          tells files logged m head.point cut.until cut.after cut.front_whole cut.behind_whole is f b
+          ∙ ap (λ (k : Dump). cond (named_by rows f b) (last_after f b (between k.point m live)) (told_block live m f b)) (sym is_dump);
+      among = some;
     }
-      where
-        some_undone : (o : Option BlockBytes) → undone_to (option_map (λ (x : BlockBytes). Some x) o) ≡ o
-        some_undone None = refl
-        some_undone (Some x) = refl
-
-        go : (f b : ℕ) (t : Bool) → undone_to (named_with t (events_at files (drop from front)) (events_at files front) (events_at files behind) f b) ≡ cond t (last_after f b (between dump.point m live)) (told_block live m f b)
-        go f b true = some_undone (last_after f b (events_at files (drop from front))) ∙ ap (λ (l : List Event). last_after f b l) (sym (between_dump from is))
-        go f b false = sym (told_named f b)
 
 -- ---- of any kind
 

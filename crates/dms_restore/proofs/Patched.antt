@@ -56,7 +56,7 @@ range_last f b g k place bytes live = elim (place_cases f b g k) [
         last_append live (range_change g k place bytes (Some old)) f b ∙ either (is_at f b g k) (patch_bytes place bytes old) (last_after f b live)
         ∙ (λ i. cond (on i) (Some (patch_bytes place bytes old)) (last_after f b live)) ∙ sym (ap (λ t. cond t (Some (patch_bytes place bytes old)) (Some old)) on)
 
-one_last : (f b : ℕ) (live : List Event) (x : Logged) → last_after f b (live ++ changes_of live x) ≡ patched_by f b (last_after f b live) x
+pub one_last : (f b : ℕ) (live : List Event) (x : Logged) → last_after f b (live ++ changes_of live x) ≡ patched_by f b (last_after f b live) x
 one_last f b live (event (change g k before after)) = last_append live (change g k before after ∷ []) f b ∙ either (is_at f b g k) after (last_after f b live)
 one_last f b live (event (quiet n)) = last_append live (quiet n ∷ []) f b
 one_last f b live (event (control n next counts described)) = last_append live (control n next counts described ∷ []) f b
@@ -74,7 +74,7 @@ last_is_patched xs f b = last_from f b xs []
 
 -- ---- the first block
 
-has_more : (p : Logged → Bool) (xs : List Logged) (x : Logged) → has p (xs ++ x ∷ []) ≡ (has p xs || p x)
+pub has_more : (p : Logged → Bool) (xs : List Logged) (x : Logged) → has p (xs ++ x ∷ []) ≡ (has p xs || p x)
 has_more p [] x = ap (λ k. k) (or_false (p x))
   where
     or_false : (b : Bool) → b || false ≡ b
@@ -87,7 +87,7 @@ has_more p (y ∷ xs) x = ap (λ k. p y || k) (has_more p xs x) ∙ or_assoc (p 
     or_assoc false b c = refl
 
 -- behind the last Control there is one entry more
-behind_more : (xs : List Logged) (x : Logged) → is_control_logged x ≡ false → after_last is_control_logged (xs ++ x ∷ []) ≡ after_last is_control_logged xs ++ x ∷ []
+pub behind_more : (xs : List Logged) (x : Logged) → is_control_logged x ≡ false → after_last is_control_logged (xs ++ x ∷ []) ≡ after_last is_control_logged xs ++ x ∷ []
 behind_more [] x off = ap (λ k. cond (k || false) [] (x ∷ [])) off
 behind_more (y ∷ xs) x off =
     let same : has is_control_logged (xs ++ x ∷ []) ≡ has is_control_logged xs = has_more is_control_logged xs x ∙ ap (λ k. has is_control_logged xs || k) off ∙ or_false (has is_control_logged xs) in
@@ -102,13 +102,13 @@ behind_more (y ∷ xs) x off =
     pushed false us vs = refl
 
 -- no Image itself of the block stands behind the last Control
-abbrev NoImage : ℕ → ℕ → List Logged → Type 0
+abbrev pub NoImage : ℕ → ℕ → List Logged → Type 0
 NoImage f b xs = has (is_image f b) (after_last is_control_logged xs) ≡ false
 
 no_more : (f b : ℕ) (xs : List Logged) (x : Logged) → is_control_logged x ≡ false → is_image f b x ≡ false → NoImage f b xs → NoImage f b (xs ++ x ∷ [])
 no_more f b xs x plain other none = ap (λ (l : List Logged). has (is_image f b) l) (behind_more xs x plain) ∙ has_more (is_image f b) (after_last is_control_logged xs) x ∙ (λ i. none i || other i)
 
-no_behind : (f b : ℕ) (xs : List Logged) (x : Logged) → is_control_logged x ≡ true → NoImage f b (xs ++ x ∷ [])
+pub no_behind : (f b : ℕ) (xs : List Logged) (x : Logged) → is_control_logged x ≡ true → NoImage f b (xs ++ x ∷ [])
 no_behind f b xs x on = ap (λ (l : List Logged). has (is_image f b) l) (nothing xs)
   where
     nothing : (l : List Logged) → after_last is_control_logged (l ++ x ∷ []) ≡ []
@@ -189,7 +189,7 @@ logged_head (event (control n next counts described)) on = (n, next, counts, des
 logged_head (event (begin n how)) on = absurd (true≢false (sym on))
 logged_head (range f b place bytes) on = absurd (true≢false (sym on))
 
-last_none : {A : Type 0} (p : A → Bool) (xs : List A) → has p xs ≡ false → after_last p xs ≡ xs
+pub last_none : {A : Type 0} (p : A → Bool) (xs : List A) → has p xs ≡ false → after_last p xs ≡ xs
 last_none p [] off = refl
 last_none p (x ∷ xs) off = ap (λ k. cond k (after_last p xs) (x ∷ xs)) off
 
@@ -203,7 +203,7 @@ pub record AtControl (ls late : List Logged) : Type 0 where
   pub are : ls ≡ front ++ event (control number next counts described) ∷ late
   pub none : has is_control_logged late ≡ false
 
-at_control : (ls : List Logged) → has is_control_logged ls ≡ true → AtControl ls (after_last is_control_logged ls)
+pub at_control : (ls : List Logged) → has is_control_logged ls ≡ true → AtControl ls (after_last is_control_logged ls)
 at_control [] found = absurd (true≢false (sym found))
 at_control (x ∷ ls) found = elim (cases_Bool (has is_control_logged ls)) [
   | inl more ↦
@@ -218,7 +218,7 @@ at_control (x ∷ ls) found = elim (cases_Bool (has is_control_logged ls)) [
       (record { front = []; number = head.0; next = head.1; counts = head.2; described = head.3; are = ap (λ (y : Logged). y ∷ ls) head.4; none = off })
 ]
 
-no_control : (xs : List Logged) (live : List Event) → has is_control live ≡ false → has is_control_logged xs ≡ false → has is_control (changes_from live xs) ≡ false
+pub no_control : (xs : List Logged) (live : List Event) → has is_control live ≡ false → has is_control_logged xs ≡ false → has is_control (changes_from live xs) ≡ false
 no_control [] live none off = none
 no_control (x ∷ xs) live none off =
     let both = or_no (is_control_logged x) (has is_control_logged xs) off in
@@ -238,7 +238,7 @@ control_from n next counts described [] live = refl
 control_from n next counts described (event e ∷ xs) live = control_from n next counts described xs (live ++ e ∷ [])
 control_from n next counts described (range f b place bytes ∷ xs) live = control_from n next counts described xs (live ++ range_change f b place bytes (last_after f b live))
 
-behind_control : (front late : List Event) (n next : ℕ) (counts : Counts) (described : Bool) → has is_control late ≡ false → after_last is_control (front ++ control n next counts described ∷ late) ≡ late
+pub behind_control : (front late : List Event) (n next : ℕ) (counts : Counts) (described : Bool) → has is_control late ≡ false → after_last is_control (front ++ control n next counts described ∷ late) ≡ late
 behind_control [] late n next counts described none = last_none is_control late none
 behind_control (e ∷ front) late n next counts described none =
     let found : has is_control (front ++ control n next counts described ∷ late) ≡ true = some front in
@@ -270,7 +270,7 @@ late_changes ls images = elim (cases_Bool (has is_control_logged ls)) [
 
 -- ---- what is told of a block
 
-cut_in_two : (p : Logged → Bool) (xs : List Logged) → has p xs ≡ true → until_first p xs ++ after_first p xs ≡ xs
+pub cut_in_two : (p : Logged → Bool) (xs : List Logged) → has p xs ≡ true → until_first p xs ++ after_first p xs ≡ xs
 cut_in_two p [] found = absurd (true≢false (sym found))
 cut_in_two p (x ∷ xs) found = elim (cases_Bool (p x)) [
   | inl on ↦ λ i. cond (on i) (x ∷ []) (cond (has p xs) (x ∷ until_first p xs) []) ++ cond (on i) xs (after_first p xs)

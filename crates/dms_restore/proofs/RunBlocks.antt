@@ -1,40 +1,26 @@
 -- The blocks of runs.
+use Rattle.std.specs.Prelude.{◌==◌, option_map}
 use Rattle.std.proofs.Common.{ℕ, zero, suc, ◌+◌, ◌-◌, ◌*◌, ◌<◌, ◌≤◌, ◌≡◌, ◌⊎◌, inl, inr, cond, List, [], ◌∷◌, ◌++◌, length, Option, Some, None, refl, sym, ◌∙◌, ap, subst, arith}
 use Rattle.dms_site.specs.Files.{Files, range}
 use Rattle.dms_site.specs.Laws.{length-range}
 use Rattle.dms_history.specs.Events.{BlockBytes, Stored, block_in}
 use Rattle.dms_history.specs.Entries.{counts_in}
-use Rattle.dms_history.specs.Images.{is_at, or_else}
+use Rattle.dms_history.specs.Images.{is_at}
 use Rattle.dms_history.specs.Pick.{Dump}
+use Rattle.dms_history.specs.Ranges.{patch_bytes}
 use Rattle.dms_history.proofs.Picks.{place_cases}
-use Rattle.dms_history.proofs.Turns.{some_not_none}
 use Rattle.dms_dump.specs.Head.{Head, head_size, head_in, all_blocks}
 use Rattle.dms_dump.specs.Body.{blocks_before, dumped_block}
 use Rattle.dms_restore.specs.declared.run.Run.{Run}
 use Rattle.dms_restore.specs.declared.told.Told.{Told}
 use Rattle.dms_restore.specs.Dumped.{dumps_of}
-use Rattle.dms_restore.specs.Table.{bytes_at, IsAmong, AreFree, AreWhole, last_of, told_at, blocks_in, all_in}
+use Rattle.dms_restore.specs.Table.{bytes_at, IsAmong, AreWhole, laid_on, told_on, last_of, told_at, blocks_in, all_in}
 use Rattle.dms_restore.specs.Planned.{IsRunOf, AreRunsOf, IsInRun, IsInRuns}
-use Rattle.dms_restore.proofs.ByAudit.{among_last}
+use Rattle.dms_restore.proofs.Tables.{among_front, among_back, among_parts}
 use Rattle.dms_restore.proofs.DumpRuns.{dump_is, block_is}
 use Rattle.dms_restore.proofs.HeadCounts.{before_within, head_ends}
 
 -- ---- which blocks they are
-
-among_front : (f b : ℕ) (xs ys : List Told) → IsAmong f b xs → IsAmong f b (xs ++ ys)
-among_front f b [] ys among = absurd among
-among_front f b (x ∷ xs) ys among = elim among [ inl here ↦ inl here | inr more ↦ inr (among_front f b xs ys more) ]
-
-among_back : (f b : ℕ) (xs ys : List Told) → IsAmong f b ys → IsAmong f b (xs ++ ys)
-among_back f b [] ys among = among
-among_back f b (x ∷ xs) ys among = inr (among_back f b xs ys among)
-
-among_parts : (f b : ℕ) (xs ys : List Told) → IsAmong f b (xs ++ ys) → IsAmong f b xs ⊎ IsAmong f b ys
-among_parts f b [] ys among = inr among
-among_parts f b (x ∷ xs) ys among = elim among [
-  | inl here ↦ inl (inl here)
-  | inr more ↦ elim (among_parts f b xs ys more) [ inl one ↦ inl (inr one) | inr two ↦ inr two ]
-]
 
 next_or : (i n : ℕ) → i < suc n → (i < n) ⊎ (i ≡ n)
 next_or zero zero low = inr refl
@@ -78,16 +64,13 @@ among_runs f b (r ∷ rs) among = elim (among_parts f b (blocks_in r r.blocks) (
   | inr more ↦ inr (among_runs f b rs more)
 ]
 
-pub free_of : (keeps : ℕ → ℕ → Type 0) (ts : List Told) → ((f b : ℕ) → IsAmong f b ts → keeps f b → ⊥) → AreFree keeps ts
-free_of keeps [] none = tt
-free_of keeps (t ∷ ts) none = (none t.file t.block (inl (refl, refl)), free_of keeps ts (λ f b among. none f b (inr among)))
-
 -- ---- what stands at their places
 
 -- what is wanted stands there, as a whole block
 record IsStanding (files : Files) (want : Stored) (t : Told) : Type 0 where
   bytes_are : bytes_at files t ≡ want t.file t.block
-  whole : length (bytes_at files t) ≡ 1024
+  whole : length (bytes_at files t) ≡ t.length
+  whole_block : t.length ≡ 1024
 
 abbrev AreStanding : Files → Stored → List Told → Type 0
 AreStanding files want [] = Unit {0}
@@ -101,29 +84,26 @@ standing_whole : (files : Files) (want : Stored) (ts : List Told) → AreStandin
 standing_whole files want [] are = tt
 standing_whole files want (t ∷ ts) are = (are.0.whole, standing_whole files want ts are.1)
 
-abbrev here_told : Files → ℕ → ℕ → Told → Option BlockBytes
-here_told files f b t = cond (is_at f b t.file t.block) (Some (bytes_at files t)) None
-
-some_same : (x y : BlockBytes) → Some x ≡ Some y → x ≡ y
-some_same x y e = cc
-
-standing_last : (files : Files) (want : Stored) (ts : List Told) (f b : ℕ) (y : BlockBytes) → AreStanding files want ts → last_of files f b ts ≡ Some y → want f b ≡ y
-standing_last files want [] f b y are is = absurd cc
-standing_last files want (t ∷ ts) f b y are is = go (λ z e. standing_last files want ts f b z are.1 e) (last_of files f b ts) refl
-  where
-    go : ((z : BlockBytes) → last_of files f b ts ≡ Some z → want f b ≡ z) → (o : Option BlockBytes) → last_of files f b ts ≡ o → want f b ≡ y
-    go more (Some z) e = more z e ∙ some_same z y (sym (ap (λ (o : Option BlockBytes). or_else o (here_told files f b t)) e) ∙ is)
-    go more None e =
-        let now : here_told files f b t ≡ Some y = sym (ap (λ (o : Option BlockBytes). or_else o (here_told files f b t)) e) ∙ is in
-        elim (place_cases f b t.file t.block) [
-          | inl at ↦ (λ i. want (sym at.0 i) (sym at.1 i)) ∙ sym are.0.bytes_are ∙ some_same (bytes_at files t) y (sym (ap (λ k. cond k (Some (bytes_at files t)) None) at.2) ∙ now)
-          | inr other ↦ absurd (some_not_none y (sym now ∙ ap (λ k. cond k (Some (bytes_at files t)) None) other.1))
-        ]
+-- what they make of a block is what is wanted
+standing_on_to : (files : Files) (want : Stored) (ts : List Told) (f b : ℕ) (o : Option BlockBytes) → AreStanding files want ts → (o ≡ Some (want f b)) ⊎ IsAmong f b ts → told_on files f b o ts ≡ Some (want f b)
+standing_on_to files want [] f b o are is = elim is [ inl now ↦ now | inr none ↦ absurd none ]
+standing_on_to files want (t ∷ ts) f b o are is = elim (place_cases f b t.file t.block) [
+  | inl at ↦
+      let whole : laid_on files t o ≡ Some (want f b) =
+      ap (λ k. cond (k == 1024) (Some (bytes_at files t)) (option_map (patch_bytes t.place (bytes_at files t)) o)) are.0.whole_block
+      ∙ ap (λ (x : BlockBytes). Some x) are.0.bytes_are ∙ (λ i. Some (want (at.0 i) (at.1 i))) in
+      standing_on_to files want ts f b (cond (is_at f b t.file t.block) (laid_on files t o) o) are.1 (inl (ap (λ k. cond k (laid_on files t o) o) at.2 ∙ whole))
+  | inr other ↦ standing_on_to files want ts f b (cond (is_at f b t.file t.block) (laid_on files t o) o) are.1 (elim is [
+    | inl now ↦ inl (ap (λ k. cond k (laid_on files t o) o) other.1 ∙ now)
+    | inr among ↦ elim among [
+      | inl here ↦ absurd (other.0 (sym here.0) (sym here.1))
+      | inr more ↦ inr more
+    ]
+  ])
+]
 
 standing_among : (files : Files) (want : Stored) (ts : List Told) (f b : ℕ) → AreStanding files want ts → IsAmong f b ts → last_of files f b ts ≡ Some (want f b)
-standing_among files want ts f b are among =
-    let last = among_last [] 0 files ts f b among in
-    last.1 ∙ ap (λ (x : BlockBytes). Some x) (sym (standing_last files want ts f b last.0 are last.1))
+standing_among files want ts f b are among = standing_on_to files want ts f b None are (inr among)
 
 module _ (files : Files) (d : ℕ) (h : Head) (some : 1 ≤ d) (few : d ≤ 9999) (is : head_in (files (20000 + d)) ≡ Some h) (counts : List ℕ) where
   abbrev file : List ℕ
@@ -143,6 +123,7 @@ module _ (files : Files) (d : ℕ) (h : Head) (some : 1 ≤ d) (few : d ≤ 9999
       record {
         bytes_are = there ∙ sym (block_is h file r.file (r.block + i) under) ∙ ap (λ (dump : Dump). block_in dump.blocks r.file (r.block + i)) (sym (dump_is files d h some few is));
         whole = ap (λ (l : List ℕ). length l) there ∙ (let size : length (range at 1024 file) ≡ 1024 = omega (arith, length-range at 1024 file, within) in size);
+        whole_block = refl;
       }
 
   run_standing : (r : Run) (n : ℕ) → IsRunOf h d counts r → n ≤ r.blocks → AreStanding files want (blocks_in r n)

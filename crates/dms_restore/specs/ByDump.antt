@@ -1,5 +1,5 @@
 -- What a restore by a dump writes: runs of the dump's blocks, and a table of what the audit tells behind its point.
-use Rattle.std.specs.Prelude.{ℕ, ◌+◌, ◌*◌, ◌<◌, ◌≤◌, ◌≡◌, if◌then◌else◌, Bool, true, false, List, length, Option, Some}
+use Rattle.std.specs.Prelude.{ℕ, ◌+◌, ◌*◌, ◌<◌, ◌≤◌, ◌≡◌, if◌then◌else◌, Bool, true, false, List, length, Option, Some, None}
 use Rattle.dms_site.specs.Files.{Files}
 use Rattle.dms_history.specs.Events.{BlockBytes, How, rebuild, reconstruct, Event, block_in}
 use Rattle.dms_history.specs.Images.{last_after}
@@ -12,7 +12,7 @@ use Rattle.dms_dump.specs.Body.{blocks_before}
 use Rattle.dms_restore.specs.Dumped.{dumps_of}
 use Rattle.dms_restore.specs.declared.run.Run.{Run}
 use Rattle.dms_restore.specs.declared.told.Told.{Told}
-use Rattle.dms_restore.specs.Table.{bytes_at, told_at, AreFree, AreWhole, last_of, all_in, IsPlanOf}
+use Rattle.dms_restore.specs.Table.{bytes_at, told_at, AreFree, AreWhole, last_of, all_in, IsAmong, IsPlanOf}
 
 -- What the table tells of a block: where it goes by the dump, the last after-image between the dump's point and the restore's; else what the
 -- audit tells.
@@ -26,6 +26,7 @@ pub record PlansByDump (how : How) (dump : Dump) (live : List Event) (m : ℕ) (
   pub runs_all : (f b : ℕ) → b < count_at live m f → may_hold_anything how f b ≡ true → b < length (dump.blocks f) → last_of files f b (all_in runs) ≡ Some (block_in dump.blocks f b)
   pub whole : AreWhole files table
   pub tells : (f b : ℕ) → last_of files f b table ≡ table_tells how dump live m f b
+  pub among : (f b : ℕ) → IsAmong f b table → last_of files f b table ≡ None → ⊥
 
 -- Law: so they are what the restore writes.
 abbrev pub RebuildPlans : Type 0

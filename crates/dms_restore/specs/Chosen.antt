@@ -1,26 +1,24 @@
--- The blocks of some rows, and all others.
-use Rattle.std.specs.Prelude.{ℕ, ◌≡◌, if◌then◌else◌, Bool, true, false, List}
+-- The blocks of some rows, and from which place on the changes of a block name it.
+use Rattle.std.specs.Prelude.{ℕ, nat_le, if◌then◌else◌, Bool, false, List}
 use Rattle.dms_history.specs.Entries.{named_by}
-use Rattle.dms_history.specs.Images.{is_at}
 use Rattle.dms_history.specs.declared.event.Row.{Row}
-use Rattle.dms_restore.specs.declared.chosen.Chosen.{Chosen}
-use Rattle.dms_restore.specs.declared.chosen.Chosen.TheVariants.{Named, Others}
 use Rattle.dms_restore.specs.declared.live.LiveEntry.{LiveEntry}
-use Rattle.dms_restore.specs.declared.live.LiveEntry.TheVariants.{Changed, Quiet, Controlled}
+use Rattle.dms_restore.specs.declared.live.LiveEntry.TheVariants.{Changed, Ranged, Quiet, Controlled}
 
--- the block is chosen
-abbrev pub is_chosen : Chosen → List Row → ℕ → ℕ → Bool
-is_chosen Named rows f b = named_by rows f b
-is_chosen Others rows f b = if named_by rows f b then false else true
+-- the entry is an Image or a Range of a block of the rows
+abbrev pub is_of_rows : List Row → LiveEntry → Bool
+is_of_rows rows (Changed i) = named_by rows i.file i.block
+is_of_rows rows (Ranged r) = named_by rows r.file r.block
+is_of_rows rows (Quiet n) = false
+is_of_rows rows (Controlled c) = false
 
--- the entry is an Image of such a block, or no Image
-abbrev pub takes : Chosen → List Row → LiveEntry → Bool
-takes chosen rows (Changed i) = is_chosen chosen rows i.file i.block
-takes chosen rows (Quiet n) = true
-takes chosen rows (Controlled c) = true
+-- the place, which is another one for a block of the rows
+abbrev pub place_from : List Row → ℕ → ℕ → ℕ → ℕ → ℕ
+place_from rows of_rows of_others f b = if named_by rows f b then of_rows else of_others
 
--- the entry is no Image of the block
-abbrev pub IsElsewhere : LiveEntry → ℕ → ℕ → Type 0
-IsElsewhere (Changed i) f b = is_at f b i.file i.block ≡ false
-IsElsewhere (Quiet n) f b = Unit {0}
-IsElsewhere (Controlled c) f b = Unit {0}
+-- the entry, before which so many stand, names the block that it changes
+abbrev pub is_naming : List Row → ℕ → ℕ → ℕ → LiveEntry → Bool
+is_naming rows of_rows of_others i (Changed c) = nat_le (place_from rows of_rows of_others c.file c.block) i
+is_naming rows of_rows of_others i (Ranged r) = nat_le (place_from rows of_rows of_others r.file r.block) i
+is_naming rows of_rows of_others i (Quiet n) = false
+is_naming rows of_rows of_others i (Controlled c) = false

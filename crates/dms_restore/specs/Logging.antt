@@ -1,14 +1,13 @@
 -- The end of an audit trail over its files, as a running database.
-use Rattle.std.specs.Prelude.{ℕ, ◌+◌, ◌<◌, ◌≤◌, ◌==◌, ◌≡◌, List, [], ◌∷◌, ◌++◌, length, take, Option, Some, None}
+use Rattle.std.specs.Prelude.{ℕ, ◌+◌, ◌<◌, ◌≤◌, ◌==◌, ◌≡◌, Bool, true, List, [], ◌∷◌, ◌++◌, length, take, Option}
 use Rattle.dms_moments.specs.Moments.{Clock, Steps}
 use Rattle.dms_site.specs.Files.{Files, Left, stored_of}
-use Rattle.dms_history.specs.Events.{BlockBytes, AllBlocks}
+use Rattle.dms_history.specs.Events.{BlockBytes, AllBlocks, block_in}
 use Rattle.dms_history.specs.Replay.{with_block}
-use Rattle.dms_history.specs.Lists.{after_last}
-use Rattle.dms_history.specs.Places.{is_control}
-use Rattle.dms_history.specs.Images.{last_after}
-use Rattle.dms_history.specs.Entries.{Entry, image, quiet_point}
-use Rattle.dms_history.specs.EntryEvents.{events, live_of}
+use Rattle.dms_history.specs.Lists.{has, after_last}
+use Rattle.dms_history.specs.Ranges.{patch_bytes, is_control_logged, is_image, live_logged}
+use Rattle.dms_history.specs.Entries.{Entry, image, byte_range, quiet_point}
+use Rattle.dms_history.specs.EntryEvents.{events_in}
 use Rattle.dms_audfile.specs.declared.audit_end.AuditEnd.{AuditEnd}
 use Rattle.dms_audfile.specs.Blocks.{block_entries}
 use Rattle.dms_audfile.specs.Header.{tag_said}
@@ -99,12 +98,6 @@ next v = next_now (telling v) (state v)
 abbrev pub content : LogView → AllBlocks
 content v = content_now (telling v) (state v)
 
--- The newest Image of block b of file f since the last Control is sealed, and it has these bytes: so the sealed audit tells of the
--- block, and no Image of it waits.
-pub record IsNewestSealed (v : LogView) (f b : ℕ) (bytes : BlockBytes) : Type 0 where
-  pub sealed : last_after f b (after_last is_control (live_of (trail_entries v.end.total v.first v.files))) ≡ Some bytes
-  pub none_waits : last_after f b (events (waits v.end)) ≡ None
-
 -- block b of file f has a change since the last Control, sealed or waiting
 abbrev pub IsChangedBlock : LogView → ℕ → ℕ → Type 0
 IsChangedBlock v f b = IsChanged (telling v) (state v) f b
@@ -120,6 +113,14 @@ PrintsNothing old new = new.said ≡ old.said
 -- all entries, those that wait among them
 abbrev pub entries : LogView → List Entry
 entries v = entries_now (telling v) (state v)
+
+-- an Image itself of block b of file f waits
+abbrev pub waits_image : LogView → ℕ → ℕ → Bool
+waits_image v f b = has (is_image f b) (events_in (waits v.end))
+
+-- block b of file f has an Image itself since the last Control, sealed or waiting
+abbrev pub IsImagedBlock : LogView → ℕ → ℕ → Type 0
+IsImagedBlock v f b = has (is_image f b) (after_last is_control_logged (live_logged [] (events_in (entries v)))) ≡ true
 
 -- Files hold at most so many entries more than a log has, waiting ones among them.
 abbrev pub FilesGrew : ℕ → LogView → Files → Type 0
@@ -141,6 +142,14 @@ pub record LogsImage (a b : LogView) (f k : ℕ) (before : Option BlockBytes) (a
   pub points_same : points b ≡ points a
   pub next_same : next b ≡ next a
   pub content_is : content b ≡ with_block (content a) f k after
+  pub blocks_same : stored_of b.files ≡ stored_of a.files
+
+-- A Range was logged: it stands behind the old entries, the content has its bytes over the block, and no structure file changed.
+pub record LogsRange (a b : LogView) (f k place : ℕ) (bytes : List ℕ) : Type 0 where
+  pub entries_are : entries b ≡ entries a ++ byte_range f k place bytes ∷ []
+  pub points_same : points b ≡ points a
+  pub next_same : next b ≡ next a
+  pub content_is : content b ≡ with_block (content a) f k (patch_bytes place bytes (block_in (content a) f k))
   pub blocks_same : stored_of b.files ≡ stored_of a.files
 
 -- A quiet point was made, with the content of now, and no structure file changed.

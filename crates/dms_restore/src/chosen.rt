@@ -1,20 +1,11 @@
-//! The blocks of some rows, and all others.
+//! The blocks of some rows, and from which place on the changes of a block name it.
 
 ghost use Rattle.std.specs.Prelude.{◌≡◌};
 ghost use Rattle.dms_history.specs.Entries.{is_in_row, named_by};
-ghost use Rattle.dms_restore.specs.Chosen.{is_chosen, takes};
+ghost use Rattle.dms_restore.specs.Chosen.{is_of_rows, place_from, is_naming};
 
 use crate::LiveEntry;
 use dms_history::Row;
-
-/// Which blocks are looked at.
-#[derive(Clone, Copy)]
-pub(crate) enum Chosen {
-    /// Those of the rows.
-    Named,
-    /// All but those of the rows.
-    Others,
-}
 
 /// Whether a block of a file is in a row.
 fn is_in_row(row: &Row, file: u32, block: u32) -> bool
@@ -36,23 +27,47 @@ fn is_named(rows: &[Row], file: u32, block: u32) -> bool
     false
 }
 
-/// Whether a block of a file is chosen.
-fn is_chosen(chosen: Chosen, rows: &[Row], file: u32, block: u32) -> bool
-    ensures { result ≡ is_chosen chosen rows.now file block }
+/// Whether a live entry is an Image or a Range of a block of the rows.
+pub(crate) fn is_of_rows(rows: &[Row], entry: &LiveEntry) -> bool
+    ensures { result ≡ is_of_rows rows.now entry.now }
 {
-    match chosen {
-        Chosen::Named => is_named(rows, file, block),
-        Chosen::Others => !is_named(rows, file, block),
+    match entry {
+        LiveEntry::Changed(image) => is_named(rows, image.file, image.block),
+        LiveEntry::Ranged(range) => is_named(rows, range.file, range.block),
+        LiveEntry::Quiet(_) => false,
+        LiveEntry::Controlled(_) => false,
     }
 }
 
-/// Whether a live entry is looked at: an Image of a block that is chosen, or no Image.
-pub(crate) fn takes(chosen: Chosen, rows: &[Row], entry: &LiveEntry) -> bool
-    ensures { result ≡ takes chosen rows.now entry.now }
+/// The place from which on changes of a block name it.
+fn place_from(rows: &[Row], of_rows: usize, of_others: usize, file: u32, block: u32) -> usize
+    ensures { result ≡ place_from rows.now of_rows of_others file block }
+{
+    if is_named(rows, file, block) {
+        of_rows
+    } else {
+        of_others
+    }
+}
+
+/// Whether a live entry, before which so many stand, names the block that it changes.
+pub(crate) fn is_naming(
+    rows: &[Row],
+    of_rows: usize,
+    of_others: usize,
+    before: usize,
+    entry: &LiveEntry,
+) -> bool
+    ensures { result ≡ is_naming rows.now of_rows of_others before entry.now }
 {
     match entry {
-        LiveEntry::Changed(image) => is_chosen(chosen, rows, image.file, image.block),
-        LiveEntry::Quiet(_) => true,
-        LiveEntry::Controlled(_) => true,
+        LiveEntry::Changed(image) => {
+            place_from(rows, of_rows, of_others, image.file, image.block) <= before
+        }
+        LiveEntry::Ranged(range) => {
+            place_from(rows, of_rows, of_others, range.file, range.block) <= before
+        }
+        LiveEntry::Quiet(_) => false,
+        LiveEntry::Controlled(_) => false,
     }
 }

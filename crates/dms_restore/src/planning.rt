@@ -64,7 +64,8 @@ fn plan_rebuild(
         Ok(runs) => runs,
         Err(_) => return Err(AudFault::Memory),
     };
-    match table_between(alloc, &front[behind_place(front, head.point)..]) {
+    let from = behind_place(front, head.point);
+    match table_between(alloc, front, from) {
         Ok(told) => Ok(RestoreTable { runs, told }),
         Err(fault) => Err(fault),
     }
@@ -179,7 +180,7 @@ fn plan_at(
 /// What the restore that is pending writes; nothing where none is pending. `counts` says how many blocks each of the files 30,001 and on has at
 /// its point; `head` is the head of its dump, as it was read. A restore by the audit needs none.
 ///
-/// Reads no file. Answers Memory, and Damaged where an Image isn't of a block of a structure file, which is so of no trail that was
+/// Reads no file. Answers Memory, and Damaged where an Image or a Range isn't of a block of a structure file, which is so of no trail that was
 /// scanned.
 pub fn plan_of(
     alloc: Global,

@@ -189,6 +189,9 @@ last_stays es e goes none =
 pub last_image : (es : List Entry) (f b : ℕ) (before : Option BlockBytes) (after : BlockBytes) → schema_of (live_entries (es ++ image f b before after ∷ [])) ≡ schema_of (live_entries es)
 last_image es f b before after = last_stays es (image f b before after) refl (λ p. refl)
 
+pub last_range : (es : List Entry) (f b place : ℕ) (bytes : List ℕ) → schema_of (live_entries (es ++ byte_range f b place bytes ∷ [])) ≡ schema_of (live_entries es)
+last_range es f b place bytes = last_stays es (byte_range f b place bytes) refl (λ p. refl)
+
 pub last_quiet : (es : List Entry) (n : ℕ) → schema_of (live_entries (es ++ quiet_point n ∷ [])) ≡ schema_of (live_entries es)
 last_quiet es n = last_stays es (quiet_point n) refl (λ p. refl)
 

@@ -1,22 +1,25 @@
 -- Frames over a running database.
-use Rattle.std.proofs.Common.{ℕ, ◌+◌, ◌*◌, ◌≤◌, ◌<◌, ◌≡◌, ◌⊎◌, inl, inr, true, false, cond, List, [], ◌∷◌, ◌++◌, length, Option, Some, None, refl, sym, ◌∙◌, ap, subst, arith}
-use Rattle.std.proofs.lemmas.Bool.{cases_eq, true≢false}
+use Rattle.std.proofs.Common.{ℕ, ◌+◌, ◌*◌, ◌≤◌, ◌<◌, ◌≡◌, ◌⊎◌, inl, inr, true, false, cond, List, [], ◌∷◌, ◌++◌, length, Bool, Option, Some, None, refl, sym, ◌∙◌, ap, subst, arith}
+use Rattle.std.specs.Prelude.{◌||◌}
+use Rattle.std.proofs.lemmas.Bool.{cases_Bool, cases_eq, true≢false}
 use Rattle.std.proofs.lemmas.Option.{none-some}
 use Rattle.dms_site.specs.Files.{Files, with_file, overlay_bytes, InFile, Torn, stored_of}
 use Rattle.dms_site.specs.Laws.{torn_overlaid, in_file_with}
 use Rattle.dms_site.specs.StoredLaws.{stored_whole, stored_apart}
 use Rattle.dms_history.specs.Events.{BlockBytes, AllBlocks, Stored, Event, change, block_in}
 use Rattle.dms_history.specs.Replay.{TellsBefore, with_block}
-use Rattle.dms_history.specs.Lists.{after_last}
+use Rattle.dms_history.specs.Lists.{has, after_last}
+use Rattle.dms_history.specs.Ranges.{patch_bytes, is_control_logged, is_image, live_logged}
 use Rattle.dms_history.specs.Places.{is_control}
 use Rattle.dms_history.specs.Images.{is_at, last_after}
 use Rattle.dms_history.specs.History.{History, history}
-use Rattle.dms_history.specs.Entries.{Entry, image}
-use Rattle.dms_history.specs.EntryEvents.{events, live_of}
+use Rattle.dms_history.specs.Entries.{Entry, image, byte_range}
+use Rattle.dms_history.specs.EntryEvents.{events, events_in, live_of}
 use Rattle.dms_history.specs.Sizes.{AllSized}
-use Rattle.dms_history.proofs.Picks.{laid_length, in_file, tells_le, write_here, write_other, write_length, write_old, place_cases, or_none, if_none, last_append, some_is}
+use Rattle.dms_history.proofs.Picks.{laid_length, in_file, tells_le, write_here, write_other, write_length, write_old, place_cases, or_none, if_none, last_append, option_cases, some_is}
+use Rattle.dms_history.proofs.Turns.{left_out, live_of_ranges}
 use Rattle.dms_history.proofs.Runs.{after_push}
-use Rattle.dms_history.proofs.Sealed.{image_sealed, one_more_event}
+use Rattle.dms_history.proofs.Sealed.{image_sealed, range_sealed, one_more_event}
 use Rattle.dms_running.specs.Telling.{Telling}
 use Rattle.dms_running.specs.Running.{State, entries_now, content_now, IsChanged, AllWritten}
 use Rattle.dms_running.specs.Frames.{Frame, Frames, with_frame, HoldsOne, FramesHold}
@@ -85,28 +88,42 @@ holds_same t a b frames h content blocks changes f k = record {
   changed = λ x is dirty. changes f k ((h f k).changed x is dirty);
 }
 
+-- a block with an Image itself since the last Control has a live change
+behind_found : {A : Type 0} (p q : A → Bool) (xs : List A) → has p (after_last q xs) ≡ true → has p xs ≡ true
+behind_found p q [] found = found
+behind_found p q (x ∷ xs) found = elim (cases_Bool (has q (x ∷ xs))) [
+  | inl on ↦ ap (λ k. p x || k) (behind_found p q xs (sym (ap (λ k. has p (cond k (after_last q xs) (x ∷ xs))) on) ∙ found)) ∙ or_true (p x)
+  | inr off ↦ sym (ap (λ k. has p (cond k (after_last q xs) (x ∷ xs))) off) ∙ found
+]
+  where
+    or_true : (k : Bool) → k || true ≡ true
+    or_true true = refl
+    or_true false = refl
+
+ranged_old : (es : List Entry) (f b : ℕ) → has (is_image f b) (after_last is_control_logged (live_logged [] (events_in es))) ≡ true → (old : BlockBytes) × (last_after f b (live_of es) ≡ Some old)
+ranged_old es f b itself = elim (option_cases (last_after f b (live_of es))) [
+  | inl none ↦ absurd (true≢false (sym (behind_found (is_image f b) is_control_logged (live_logged [] (events_in es)) itself)
+      ∙ (left_out (live_logged [] (events_in es)) f b).1 (ap (λ (l : List Event). last_after f b l) (sym (live_of_ranges (events_in es))) ∙ none)))
+  | inr some ↦ some
+]
+
 -- ---- a block is changed
 
-module _ (t : Telling) (a later : State) (frames : Frames) (h : FramesHold t a frames) (f b : ℕ) (before : Option BlockBytes) (after : BlockBytes)
-    (tells : TellsBefore b before (content_now t a f)) (grown : content_now t later ≡ with_block (content_now t a) f b after)
-    (entries : entries_now t later ≡ entries_now t a ++ image f b before after ∷ []) (blocks : stored_of later.files ≡ stored_of a.files) where
-  le : b ≤ length (content_now t a f)
-  le = tells_le b before (content_now t a f) tells
-
-  live_more : live_of (entries_now t later) ≡ live_of (entries_now t a) ++ change f b before after ∷ []
-  live_more = ap live_of entries ∙ ap (λ (l : List Event). (history l).live) (image_sealed (entries_now t a) f b before after) ∙ ap (λ (k : History). k.live) (one_more_event (events (entries_now t a)) (change f b before after))
-
-  behind : after_last is_control (live_of (entries_now t later)) ≡ after_last is_control (live_of (entries_now t a)) ++ change f b before after ∷ []
-  behind = ap (λ (l : List Event). after_last is_control l) live_more ∙ after_push is_control (live_of (entries_now t a)) (change f b before after) refl
+module _ (t : Telling) (a later : State) (frames : Frames) (h : FramesHold t a frames) (f b : ℕ) (told : Option BlockBytes) (left after : BlockBytes)
+    (le : b ≤ length (content_now t a f)) (grown : content_now t later ≡ with_block (content_now t a) f b after)
+    (live : live_of (entries_now t later) ≡ live_of (entries_now t a) ++ change f b told left ∷ []) (blocks : stored_of later.files ≡ stored_of a.files) where
+  behind : after_last is_control (live_of (entries_now t later)) ≡ after_last is_control (live_of (entries_now t a)) ++ change f b told left ∷ []
+  behind = ap (λ (l : List Event). after_last is_control l) live ∙ after_push is_control (live_of (entries_now t a)) (change f b told left) refl
 
   both : (g k : ℕ) → last_after g k (after_last is_control (live_of (entries_now t later))) ≡ None → (is_at g k f b ≡ false) × (last_after g k (after_last is_control (live_of (entries_now t a))) ≡ None)
   both g k none =
-      let r = or_none (last_after g k (change f b before after ∷ [])) (last_after g k (after_last is_control (live_of (entries_now t a))))
-      (sym (last_append (after_last is_control (live_of (entries_now t a))) (change f b before after ∷ []) g k) ∙ ap (λ (l : List Event). last_after g k l) (sym behind) ∙ none) in
-      (if_none (is_at g k f b) after r.0, r.1)
+      let r = or_none (last_after g k (change f b told left ∷ [])) (last_after g k (after_last is_control (live_of (entries_now t a))))
+      (sym (last_append (after_last is_control (live_of (entries_now t a))) (change f b told left ∷ []) g k) ∙ ap (λ (l : List Event). last_after g k l) (sym behind) ∙ none) in
+      (if_none (is_at g k f b) left r.0, r.1)
 
-  pub holds_changed : FramesHold t later (with_frame frames f b (Some (record { block = after; dirty = true })))
-  holds_changed =
+  -- one change more is live, which is the block's
+  pub holds_more : FramesHold t later (with_frame frames f b (Some (record { block = after; dirty = true })))
+  holds_more =
       let x : Frame = record { block = after; dirty = true } in
       let was = content_now t a in
       let long : b < length (with_block was f b after f) = omega (arith, ap length (in_file was f b after), laid_length b after (was f) le, le) in
@@ -128,6 +145,23 @@ module _ (t : Telling) (a later : State) (frames : Frames) (h : FramesHold t a f
             ap (λ (st : Stored). st g k) blocks ∙ (h g k).stands old clean ∙ sym (ap (λ (l : AllBlocks). block_in l g k) grown ∙ write_other was f b after g k le apart old);
         changed = λ y is dirty none. (h g k).changed y is dirty (both g k none).1;
       })
+
+-- by an Image
+pub holds_changed : (t : Telling) (a later : State) (frames : Frames) → FramesHold t a frames → (f b : ℕ) (before : Option BlockBytes) (after : BlockBytes) → TellsBefore b before (content_now t a f) → content_now t later ≡ with_block (content_now t a) f b after
+    → entries_now t later ≡ entries_now t a ++ image f b before after ∷ [] → stored_of later.files ≡ stored_of a.files → FramesHold t later (with_frame frames f b (Some (record { block = after; dirty = true })))
+holds_changed t a later frames h f b before after tells grown entries blocks =
+    holds_more t a later frames h f b before after after (tells_le b before (content_now t a f) tells) grown
+    (ap live_of entries ∙ ap (λ (l : List Event). (history l).live) (image_sealed (entries_now t a) f b before after) ∙ ap (λ (k : History). k.live) (one_more_event (events (entries_now t a)) (change f b before after))) blocks
+
+-- by a Range of a block with an Image itself since the last Control
+pub holds_ranged : (t : Telling) (a later : State) (frames : Frames) → FramesHold t a frames → (f b place : ℕ) (bytes : List ℕ) (after : BlockBytes)
+    → has (is_image f b) (after_last is_control_logged (live_logged [] (events_in (entries_now t a)))) ≡ true → b < length (content_now t a f) → content_now t later ≡ with_block (content_now t a) f b after
+    → entries_now t later ≡ entries_now t a ++ byte_range f b place bytes ∷ [] → stored_of later.files ≡ stored_of a.files → FramesHold t later (with_frame frames f b (Some (record { block = after; dirty = true })))
+holds_ranged t a later frames h f b place bytes after itself low grown entries blocks =
+    let es = entries_now t a in
+    let old = ranged_old es f b itself in
+    holds_more t a later frames h f b (Some old.0) (patch_bytes place bytes old.0) after (omega (arith, low)) grown
+    (ap live_of entries ∙ ap (λ (l : List Event). (history l).live) ((range_sealed es f b place bytes).0 old.0 old.1) ∙ ap (λ (k : History). k.live) (one_more_event (events es) (change f b (Some old.0) (patch_bytes place bytes old.0)))) blocks
 
 -- ---- a block is written, and its frame isn't to be written any more, or is given up
 

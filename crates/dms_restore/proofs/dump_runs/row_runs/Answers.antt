@@ -1,4 +1,4 @@
-use Rattle.std.proofs.Common.{◌<◌, inl, inr, sym, ◌∙◌, subst, arith}
+use Rattle.std.proofs.Common.{◌<◌, inl, inr, sym, subst}
 use Rattle.dms_history.specs.Entries.{counts_in}
 use Rattle.dms_history.specs.declared.event.Row.{Row}
 use Rattle.dms_restore.specs.Counts.{count_of}

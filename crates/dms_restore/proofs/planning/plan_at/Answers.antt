@@ -17,7 +17,7 @@ returns-else-at-clause-plan c = one_if_ok c.plan_cut-else-at.result c.plan_cut-e
     (sym (ap (λ t. cond t (logged_live files c.args.removed.now) []) c.if-at.false)) (λ w. tt) plan)
 
 pub returns-then-at-clause-only : goal.returns-then-at-clause-only
-returns-then-at-clause-only c = parts_fault c.plan_cut.result c.min.result c.args.live.now c.args.removed.now c.args.removed.now (λ f b s among. among) c.plan_cut.ensures.only
+returns-then-at-clause-only c = parts_fault c.plan_cut.result c.min.result c.args.live.now c.args.removed.now c.args.removed.now (λ t among. among) c.plan_cut.ensures.only
 
 pub returns-else-at-clause-only : goal.returns-else-at-clause-only
-returns-else-at-clause-only c = parts_fault c.plan_cut-else-at.result c.min.result c.args.live.now [] c.args.removed.now (λ f b s among. absurd among) c.plan_cut-else-at.ensures.only
+returns-else-at-clause-only c = parts_fault c.plan_cut-else-at.result c.min.result c.args.live.now [] c.args.removed.now (λ t among. absurd among) c.plan_cut-else-at.ensures.only

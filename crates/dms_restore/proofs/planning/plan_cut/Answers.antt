@@ -1,4 +1,4 @@
-use Rattle.std.proofs.Common.{List, inl, inr, Option, sym, ◌∙◌, ap, subst}
+use Rattle.std.proofs.Common.{inl, inr, sym, ap, subst}
 use Rattle.std.specs.Option.{option_copied}
 use Rattle.dms_history.specs.Events.{halt_load, back_out, roll_back}
 use Rattle.dms_restore.specs.declared.live.HowAt.{HowAt}

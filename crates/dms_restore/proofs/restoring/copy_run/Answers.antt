@@ -1,8 +1,9 @@
-use Rattle.std.proofs.Common.{◌≡◌, Err, inl, inr, ◌∙◌, ◌+◌, ◌++◌, refl, sym, ap, subst, arith, length, ◌*◌}
+use Rattle.std.proofs.Common.{◌≡◌, Option, Err, inl, inr, ◌∙◌, ◌+◌, ◌++◌, refl, sym, ap, subst, arith, length, ◌*◌}
 use Rattle.dms_running.proofs.Rewriting.{rewritten_same, rewritten_on, steps_still, steps_more}
 use Rattle.dms_site.specs.Files.{range}
-use Rattle.dms_restore.specs.Table.{Kept, KeepsNone, told_at, Holds, blocks_in}
-use Rattle.dms_restore.proofs.Tables.{bytes_low, file_others, run_free, run_bytes, run_step, holds_none}
+use Rattle.dms_history.specs.Events.{BlockBytes}
+use Rattle.dms_restore.specs.Table.{Kept, KeepsNone, told_at, laid_on, StandsAs, Holds, blocks_in}
+use Rattle.dms_restore.proofs.Tables.{written_low, bytes_low, file_others, run_free, run_bytes, run_step, holds_none}
 use Rattle.dms_restore.proofs.Results.{is_fault}
 use Rattle.dms_restore.proofs.restoring.copy_run.Goals as goal
 
@@ -13,7 +14,6 @@ loop-number-init g c = record {
   done = λ start ts tells low one two holds. holds_none start ts _ holds;
   left = λ tells. steps_still KeepsNone _;
   others = λ tells h low. refl;
-  room = c.requires.room;
   said = refl;
   same = g.met.S.Site.same_again _;
   disk = refl;
@@ -32,10 +32,14 @@ loop-number-preserved g c =
     record {
       moments = λ keeps tells free. steps_more (Kept keeps) _ _ _ (inv.moments keeps tells free) (c.write_told.ensures.moments keeps tells (run_free (Kept keeps) c.args.run.now c.args.run.now.blocks c.loop-number.number c.loop-number-test.true free));
       written = λ keeps tells free. rewritten_on (Kept keeps) _ _ _ (inv.written keeps tells free) (c.write_told.ensures.written keeps tells (run_free (Kept keeps) c.args.run.now c.args.run.now.blocks c.loop-number.number c.loop-number-test.true free));
-      done = λ start ts tells low one two holds. run_step start ts c.args.run.now c.args.run.now.blocks c.loop-number.number _ _ c.loop-number-test.true one two (inv.done start ts tells low one two holds) (c.write_told.ensures.torn tells) (c.in-Ok.ensures.done tells ∙ ap (λ k. range (c.args.run.now.at + 1024 * k) 1024 (g.S.Site.files c.loop-number.site c.args.run.now.dump)) c.from.ensures ∙ bytes_low start _ (told_at c.args.run.now c.loop-number.number) c.requires.below (λ h upto. inv.others tells h upto ∙ low h upto));
+      done = λ start ts tells low one two holds.
+          run_step start ts c.args.run.now c.loop-number.number _ _ (inv.done start ts tells low one two holds) (c.write_told.ensures.torn tells)
+          (written_low start _ _ (told_at c.args.run.now c.loop-number.number) c.requires.below (λ h upto. inv.others tells h upto ∙ low h upto)
+          (subst (λ k. (o : Option BlockBytes) → StandsAs (g.S.Site.files c.loop-number.site) c.args.run.now.file (c.args.run.now.block + c.loop-number.number) o
+          → StandsAs (g.S.Site.files c.write_told.new.site) c.args.run.now.file (c.args.run.now.block + c.loop-number.number) (laid_on (g.S.Site.files c.loop-number.site)
+          (record { file = c.args.run.now.file; block = c.args.run.now.block + c.loop-number.number; place = 0; length = 1024; audit = c.args.run.now.dump; at = c.args.run.now.at + 1024 * k }) o)) c.from.ensures (c.in-Ok.ensures.done tells)));
       left = λ tells. steps_more KeepsNone _ _ _ (inv.left tells) (c.write_told.ensures.left tells);
       others = λ tells h low. file_others _ _ _ _ c.requires.structure (c.write_told.ensures.torn tells) h low ∙ inv.others tells h low;
-      room = c.write_told.ensures.room;
       said = c.write_told.ensures.said ∙ inv.said;
       same = g.met.S.Site.same_then _ _ _ inv.same c.write_told.ensures.same_site;
       disk = c.in-Ok.ensures.disk.clean (λ e. subst (λ r. is_fault r) (sym e) tt) ∙ inv.disk;

@@ -1,4 +1,4 @@
-use Rattle.std.proofs.Common.{◌≡◌, ◌≤◌, ℕ, Bool, IsTrue, List, length, ◌++◌}
+use Rattle.std.proofs.Common.{◌≡◌, ◌≤◌, ℕ, Bool, IsTrue, List, ◌++◌}
 use Rattle.dms_moments.specs.Moments.{Steps}
 use Rattle.dms_site.specs.Files.{Files}
 use Rattle.dms_running.specs.Restoring.{Rewritten, Rewrites}
@@ -13,7 +13,6 @@ invariant-loop-number g l = record {
   done : (start : Files) (ts : List Told) → IsTrue g.S.Site.tells → SameLow start (g.S.Site.files l.fn.site) → AreWhole start ts → AreWhole start (blocks_in l.run l.run.blocks) → Holds start ts (g.S.Site.files l.fn.site) → Holds start (ts ++ blocks_in l.run l.number) (g.S.Site.files l.site);
   left : IsTrue g.S.Site.tells → Steps (Rewrites KeepsNone) (g.S.Site.clock l.fn.site) (g.S.Site.clock l.site);
   others : IsTrue g.S.Site.tells → (h : ℕ) → h ≤ 30000 → g.S.Site.files l.site h ≡ g.S.Site.files l.fn.site h;
-  room : length l.buffer ≡ 1024;
   said : g.S.Site.said l.site ≡ g.S.Site.said l.fn.site;
   same : g.S.Site.same_site l.fn.site l.site;
   disk : g.S.Site.disk_faults l.site ≡ g.S.Site.disk_faults l.fn.site;

@@ -24,7 +24,6 @@ loop-run-init g c = record {
   done = λ tells whole f b x is. absurd cc;
   left = λ tells. steps_still KeepsNone _;
   others = λ tells h low. refl;
-  room = refl;
   said = refl;
   same = g.met.S.Site.same_again _;
   disk = refl;
@@ -46,7 +45,6 @@ loop-run-preserved g c =
       done = λ tells whole. runs_more _ c.args.runs.now c.loop-run.run-index (record { file = 0; block = 0; blocks = 0; dump = 0; at = 0 }) _ c.loop-run-test.true (c.in-Ok.ensures.done _ _ tells (inv.others tells) (runs_whole_to _ c.args.runs.now c.loop-run.run-index whole) (runs_whole_at _ c.args.runs.now c.loop-run.run-index (record { file = 0; block = 0; blocks = 0; dump = 0; at = 0 }) whole c.loop-run-test.true) (inv.done tells whole));
       left = λ tells. steps_more KeepsNone _ _ _ (inv.left tells) (c.copy_run.ensures.left tells);
       others = λ tells h low. c.copy_run.ensures.others tells h low ∙ inv.others tells h low;
-      room = c.copy_run.ensures.room;
       said = c.copy_run.ensures.said ∙ inv.said;
       same = g.met.S.Site.same_then _ _ _ inv.same c.copy_run.ensures.same_site;
       disk = c.in-Ok.ensures.disk.clean (λ e. subst (λ r. is_fault r) (sym e) tt) ∙ inv.disk;
