@@ -43,6 +43,7 @@ use Rattle.dms_wal.specs.Lifting.{block_point, last_blocks, lift_clock, point_un
 use Rattle.dms_wal.specs.Marks.{IsMarkOf}
 use Rattle.dms_wal.proofs.Marked.{mark_on}
 use Rattle.dms_wal.proofs.Under.{under_on}
+use Rattle.dms_wal.proofs.Imaging.{images_on}
 
 -- the same end of a trail, which may go on up to another file
 pub record EndsAlike (a b : AuditEnd) : Type 0 where
@@ -134,6 +135,8 @@ module _ {S : Type 0} (g : Ghosts S) (r : Running S) (e : AuditEnd) (alike : End
     table = u.table;
     marked = u.marked;
     counted = u.counted;
+    images_counted = u.images_counted;
+    imaged = λ t. images_on (view_of g r.log) (view e r.log.first (g.files r.log.site) (g.clock r.log.site)) r.imaged (entries_alike r.log.end e alike r.log.first (g.files r.log.site) (g.clock r.log.site)) (u.imaged t);
     goes = λ t. goes_alike r.log.end e alike r.log.first (g.files r.log.site) (g.clock r.log.site) r.pool r.next r.counts.items (u.goes t);
     pointed = λ t. subst (λ (ps : List DescribedPoint). IsMarkOf ps r.point r.marks.items) (sym (points_alike r.log.end e alike r.log.first (g.files r.log.site) (g.clock r.log.site))) (u.pointed t);
     unchanged = λ no t.
