@@ -16,7 +16,7 @@ use Rattle.dms_history.proofs.Counts.{reached_append, reached_any}
 use Rattle.dms_history.proofs.Cuts.{to_end}
 use Rattle.dms_audrec.specs.Reading.{counts_at}
 use Rattle.dms_restore.specs.declared.live.LiveEntry.{LiveEntry}
-use Rattle.dms_restore.specs.declared.live.LiveEntry.TheVariants.{Changed, Quiet, Controlled}
+use Rattle.dms_restore.specs.declared.live.LiveEntry.TheVariants.{Changed, Ranged, Quiet, Controlled}
 use Rattle.dms_restore.specs.Counts.{count_of, AllAtMost}
 use Rattle.dms_audrec.specs.Spelling.{counts_rise}
 use Rattle.dms_audfile.specs.declared.fault.AudFault.{AudFault}
@@ -197,6 +197,7 @@ split_entry (e ∷ es) (suc i) low = ap (λ (l : List LiveEntry). e ∷ l) (spli
 
 no_count_as : (tells : Bool) (files other : Files) (e : LiveEntry) (fault : AudFault) → (IsTrue tells → other ≡ files) → IsNoCount tells other e fault → IsNoCount tells files e fault
 no_count_as tells files other (Changed i) fault same none = none
+no_count_as tells files other (Ranged r) fault same none = none
 no_count_as tells files other (Quiet n) fault same none = none
 no_count_as tells files other (Controlled c) fault same none = (
   none.0,

@@ -1,9 +1,8 @@
 -- The bytes of a Schema are read from the places of its parts.
 use Rattle.std.proofs.Common.{ℕ, zero, suc, ◌+◌, ◌-◌, ◌<◌, ◌≤◌, min, ◌≡◌, ◌⊎◌, inl, inr, Bool, true, false, List, [], ◌∷◌, ◌++◌, map, length, take, drop, get_or, Some, None, refl, sym, ◌∙◌, ap, arith, append_assoc}
 use Rattle.std.proofs.lemmas.Bool.{cases_lt, true≢false}
-use Rattle.std.proofs.lemmas.List.{take_all}
+use Rattle.std.proofs.lemmas.List.{length-map, take_all}
 use Rattle.dms_site.specs.Files.{Files}
-use Rattle.dms_history.specs.Events.{Event}
 use Rattle.dms_history.specs.Lists.{has, until_first}
 use Rattle.dms_history.specs.Places.{is_point}
 use Rattle.dms_history.specs.Entries.{Entry, schema_part, image, byte_range, quiet_point, control_point, begin_restore}
@@ -17,11 +16,9 @@ use Rattle.dms_audfile.specs.declared.fault.AudFault.TheVariants.{Disk, Memory}
 use Rattle.dms_restore.specs.declared.live.LiveEntry.{LiveEntry}
 use Rattle.dms_restore.specs.declared.schemas.SchemaSpan.{SchemaSpan}
 use Rattle.dms_restore.specs.declared.trace.TrailTrace.{TrailTrace}
-use Rattle.dms_restore.specs.LiveEntries.{logged_live, changes_at, events_at}
-use Rattle.dms_history.specs.Ranges.{is_point_logged}
-use Rattle.dms_restore.proofs.Changes.{until_own, changes_own, own_length}
-use Rattle.dms_restore.proofs.Traced.{live_at}
-use Rattle.dms_opening.proofs.Logged.{has_changes, point_kind}
+use Rattle.dms_restore.specs.LiveEntries.{logged_at, logged_live}
+use Rattle.dms_history.specs.Ranges.{Logged, is_point_logged}
+use Rattle.dms_restore.proofs.Points.{live_in, point_is_logged}
 use Rattle.dms_restore.specs.Scanned.{IsNoEntryOf}
 use Rattle.dms_restore.specs.SchemaSpans.{part_bytes, span_bytes}
 use Rattle.dms_restore.specs.Traces.{IsTraceOf}
@@ -39,15 +36,15 @@ pub record SchemaThere (entries : List Entry) (t : TrailTrace) (point k : ℕ) :
 pub schema_there : (files : Files) (entries : List Entry) (t : TrailTrace) (point k : ℕ) (lent : List LiveEntry) → lent ≡ t.history.live.items → k ≤ length lent → until_first (is_point_logged point) (logged_live files lent) ≡ logged_live files (take k lent)
     → IsTraceOf files entries t → has (is_point point) (live_of entries) ≡ true → SchemaThere entries t point k
 schema_there files entries t point k lent same le front is found =
-    let all : live_of entries ≡ changes_at files lent = live_at files entries t.history is.history ∙ ap (changes_at files) (sym same) in
-    let live : live_of entries ≡ events_at files lent = all ∙ changes_own files lent in
-    let size : length (until_first (is_point point) (live_of entries)) ≡ k =
-    ap (λ (l : List Event). length (until_first (is_point point) l)) all ∙ ap length (until_own files (logged_live files lent) point (take k lent) front) ∙ own_length files (take k lent) ∙ length_take k lent le in
-    let some : 0 < k = omega (arith, until_some (is_point point) (live_of entries) found, size) in
+    let live : live_in entries ≡ logged_live files lent = is.history.live_is ∙ ap (logged_live files) (sym same) in
+    let place : has (is_point_logged point) (live_in entries) ≡ true = sym (point_is_logged entries point) ∙ found in
+    let size : length (until_first (is_point_logged point) (live_in entries)) ≡ k =
+    ap (λ (l : List Logged). length (until_first (is_point_logged point) l)) live ∙ ap length front ∙ length-map (take k lent) (logged_at files) ∙ length_take k lent le in
+    let some : 0 < k = omega (arith, until_some (is_point_logged point) (live_in entries) place, size) in
     record {
       some = some;
-      within = omega (arith, le, is.schemas.count, ap length live, own_length files lent);
-      is = is.schemas.each point (k - 1) found (size ∙ up k some);
+      within = omega (arith, le, is.schemas.count, ap length live, length-map lent (logged_at files));
+      is = is.schemas.each point (k - 1) place (size ∙ up k some);
     }
   where
     up : (k : ℕ) → 0 < k → k ≡ suc (k - 1)
@@ -55,7 +52,7 @@ schema_there files entries t point k lent same le front is found =
 
 pub no_place_there : (files : Files) (entries : List Entry) (t : TrailTrace) (point : ℕ) (lent : List LiveEntry) → lent ≡ t.history.live.items → has (is_point_logged point) (logged_live files lent) ≡ false → IsTraceOf files entries t → has (is_point point) (live_of entries) ≡ true → ⊥
 no_place_there files entries t point lent same off is found =
-    true≢false (sym found ∙ ap (λ (l : List Event). has (is_point point) l) (live_at files entries t.history is.history ∙ ap (changes_at files) (sym same)) ∙ has_changes (is_point point) (is_point_logged point) (point_kind point) (logged_live files lent) ∙ off)
+    true≢false (sym found ∙ point_is_logged entries point ∙ ap (λ (l : List Logged). has (is_point_logged point) l) (is.history.live_is ∙ ap (logged_live files) (sym same)) ∙ off)
 
 -- ---- the parts, one after another
 

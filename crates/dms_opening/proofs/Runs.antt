@@ -10,15 +10,18 @@ use Rattle.dms_running.specs.Points.{DescribedPoint}
 use Rattle.dms_restore.specs.declared.log.Log.{Log}
 use Rattle.dms_restore.specs.Logging.{LogView, telling, points}
 use Rattle.dms_restore.specs.Views.{view_of}
-use Rattle.dms_restore.specs.Counts.{count_of}
+use Rattle.dms_restore.specs.Counts.{count_of, file_counts}
+use Rattle.dms_audfile.specs.TrailEntries.{trail_entries}
+use Rattle.dms_history.specs.EntryEvents.{history_of}
 use Rattle.dms_wal.specs.declared.running.Running.{Running}
 use Rattle.dms_wal.specs.declared.running.Start.{Start}
 use Rattle.dms_wal.specs.Database.{running_held}
 use Rattle.dms_wal.specs.Lifting.{AreCounts, block_point}
 use Rattle.dms_wal.specs.Marks.{IsDescription, IsMarkOf}
 use Rattle.dms_wal.specs.Starting.{IsInBounds, StartsFrom}
+use Rattle.dms_wal.proofs.Imaging.{none_imaged}
 use Rattle.dms_wal.proofs.Reaching.{EndsAlike, reaching, held_alike}
-use Rattle.dms_opening.specs.Openings.{RunsFrom, TellsOpened}
+use Rattle.dms_opening.specs.Openings.{begin_where_none, RunsFrom, TellsOpened}
 
 -- a database runs from what an opening left
 pub starts_from : (files : Files) (point next : ℕ) (schema counts : List ℕ) (v : LogView) (s : Start) → RunsFrom files point next schema counts v → s.schema.items ≡ schema → s.next ≡ next → s.point ≡ point → s.counts.items ≡ counts → s.marks.items ≡ counts → StartsFrom v s
@@ -29,6 +32,9 @@ starts_from files point next schema counts v s r described numbered pointed coun
   counted = λ f. ap (λ (c : List ℕ). count_of c f) counted ∙ r.last.counted f ∙ ap (λ (c : AllBlocks). length (c f)) (sym r.content_is);
   pointed = subst (λ (m : List ℕ). IsMarkOf (points v) s.point m) (sym marked) (subst (λ n. IsMarkOf (points v) n counts) (sym pointed) r.last);
   under = r.under ∙ sym described;
+  none_imaged =
+      let es = trail_entries v.end.total v.first files in
+      none_imaged v es (begin_where_none (history_of es).pending point) schema point next (file_counts 30001 counts) r.entries_are;
   unchanged = λ same. record { content_is = r.content_is; counts_are = counted ∙ sym marked };
 }
 

@@ -11,3 +11,4 @@ pub mod Choices
 pub mod PointCounts
 pub mod Starts
 pub mod Behind
+pub mod Claims

@@ -8,7 +8,7 @@ use Rattle.dms_audfile.specs.declared.fault.AudFault.TheVariants.{Damaged}
 use Rattle.dms_restore.specs.declared.live.ImageAt.{ImageAt}
 use Rattle.dms_restore.specs.declared.live.ControlAt.{ControlAt}
 use Rattle.dms_restore.specs.declared.live.LiveEntry.{LiveEntry}
-use Rattle.dms_restore.specs.declared.live.LiveEntry.TheVariants.{Changed, Quiet, Controlled}
+use Rattle.dms_restore.specs.declared.live.LiveEntry.TheVariants.{Changed, Ranged, Quiet, Controlled}
 
 -- The list of a Control is longer than a block of the audit, or stands behind the last one; or it isn't there whole, or its counts aren't
 -- those of structure files, rising.
@@ -23,6 +23,7 @@ HasNoCount i = (i.file ≤ 30000) ⊎ ((30200 < i.file) ⊎ (2097152 ≤ i.block
 -- the entry has no count, and the fault names its audit file
 abbrev pub IsNoCount : Bool → Files → LiveEntry → AudFault → Type 0
 IsNoCount tells files (Changed i) fault = (fault ≡ Damaged i.audit 0) × HasNoCount i
+IsNoCount tells files (Ranged r) fault = ⊥
 IsNoCount tells files (Quiet n) fault = ⊥
 IsNoCount tells files (Controlled c) fault = (fault ≡ Damaged c.audit 0) × HasNoCounts tells files c
 

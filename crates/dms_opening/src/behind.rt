@@ -5,7 +5,7 @@ ghost use Rattle.dms_audfile.specs.Counting.{CountedAt};
 ghost use Rattle.dms_audfile.specs.Reads.{ReadsAlone};
 ghost use Rattle.dms_opening.specs.declared.dump_looks.DumpFound as found;
 ghost use Rattle.dms_opening.specs.Behind.{PlansBehind, RefusesBehind};
-ghost use Rattle.dms_opening.specs.Choices.{judge_files};
+ghost use Rattle.dms_opening.specs.Claims.{IfAsked};
 ghost use Rattle.dms_opening.specs.DumpLooks.{IsFitFound};
 ghost use Rattle.dms_opening.specs.Plans.{AreFoundFor, FitsOpening};
 
@@ -37,11 +37,9 @@ pub fn prepare_behind<S: Site>(
     look: &DumpFound,
 ) -> Result<OpeningPlan, OpenFault>
     requires look { IsFitFound look.now }
-    ensures plans { IfOk result (λ plan. IsTrue S.tells → (total : ℕ) (begun : found.DumpFound) → AreFoundFor total first (S.files site.old) places.now trace asked begun look.now
-        → judge_files total first (S.files site.old) asked ≡ None → PlansBehind total first (S.files site.old) asked rows.now plan) }
+    ensures plans { IfOk result (λ plan. IfAsked S.tells first (S.files site.old) places.now trace asked look.now (λ total. PlansBehind total first (S.files site.old) asked rows.now plan)) }
     ensures fit { IfOk result FitsOpening }
-    ensures refused { IfErr result (λ e. IsTrue S.tells → (total : ℕ) (begun : found.DumpFound) → AreFoundFor total first (S.files site.old) places.now trace asked begun look.now
-        → judge_files total first (S.files site.old) asked ≡ None → RefusesBehind total first (S.files site.old) asked e) }
+    ensures refused { IfErr result (λ e. IfAsked S.tells first (S.files site.old) places.now trace asked look.now (λ total. RefusesBehind total first (S.files site.old) asked e)) }
     ensures reads { ReadsAlone S.Site site.old site.new }
     ensures same_site { S.same_site site.old site.new }
     ensures disk { CountedAt (IsErrOf result (OpenFault.Audit AudFault.Disk)) (S.disk_faults site.old) (S.disk_faults site.new) }

@@ -15,6 +15,7 @@ ghost use Rattle.dms_restore.specs.Logging.{LogGrows, telling, state, view};
 ghost use Rattle.dms_restore.specs.Views.{view_of, LogStarts};
 ghost use Rattle.dms_wal.specs.Closing.{IsFullTrail};
 ghost use Rattle.dms_opening.specs.Carrying.{IsFitPlan, IsPlanned, WritesFor, MayBegin, RunsTo};
+ghost use Rattle.dms_opening.specs.Claims.{RunsAsPlanned, ReopensAsPlanned, BeginsAsPlanned};
 ghost use Rattle.dms_opening.specs.Plans.{SameDumps};
 ghost use Rattle.dms_opening.specs.Openings.{RunsFrom, Reopens, text_of, IsFullFault, MayHaveWritten};
 
@@ -47,18 +48,14 @@ pub fn carry_out<S: Site>(
     requires kind { IsRestoreKind (how_seen how) }
     requires few { length (rows_of (how_seen how)) ≤ 100 }
     requires limit { planned.log.end.limit ≡ 9999 }
-    ensures runs { IfOk result (λ o. IsTrue S.tells → how_seen how.entry ≡ by_halt_load → let v = view_of S.Site planned.log in IsPlanned v planned.plan → IsWhole (telling v) v.files
-        → RunsFrom v.files planned.plan.choice.point planned.plan.next planned.plan.schema.items planned.plan.counts.items (view_of S.Site o.log)) }
-    ensures moments { IfOk result (λ o. IsTrue S.tells → how_seen how.entry ≡ by_halt_load → let v = view_of S.Site planned.log in IsPlanned v planned.plan → IsWhole (telling v) v.files
-        → Runs v.clock (S.clock o.log.site) (Reopens (telling v) v.files (text_of S.Site planned.log.site))) }
-    ensures stopped { IfErr result (λ e. IsTrue S.tells → how_seen how.entry ≡ by_halt_load → let v = view_of S.Site planned.log in IsPlanned v planned.plan → IsWhole (telling v) v.files
-        → Runs v.clock (S.clock e.1) (Reopens (telling v) v.files (text_of S.Site planned.log.site))) }
+    ensures runs { IfOk result (λ o. RunsAsPlanned S.tells (how_seen how.entry) (view_of S.Site planned.log) planned.plan (view_of S.Site o.log)) }
+    ensures moments { IfOk result (λ o. ReopensAsPlanned S.tells (how_seen how.entry) (view_of S.Site planned.log) planned.plan (text_of S.Site planned.log.site) (S.clock o.log.site)) }
+    ensures stopped { IfErr result (λ e. ReopensAsPlanned S.tells (how_seen how.entry) (view_of S.Site planned.log) planned.plan (text_of S.Site planned.log.site) (S.clock e.1)) }
     ensures runs_to { IfOk result (λ o. (right : Stored) → IsTrue S.tells → let v = view_of S.Site planned.log in MayBegin v right (how_seen how.entry) planned.plan
         → RunsTo v right (how_seen how.entry) planned.plan (view_of S.Site o.log)) }
     ensures leaves { IfOk result (λ o. (right : Stored) → IsTrue S.tells → let v = view_of S.Site planned.log in MayBegin v right (how_seen how.entry) planned.plan
         → AnyLeaves v right planned.plan.choice.point (view_of S.Site o.log)) }
-    ensures leaves_then { IfErr result (λ e. (right : Stored) → IsTrue S.tells → let v = view_of S.Site planned.log in MayBegin v right (how_seen how.entry) planned.plan
-        → Runs v.clock (S.clock e.1) (BeginLeaves (telling v) (state v) right planned.plan.choice.point)) }
+    ensures leaves_then { IfErr result (λ e. BeginsAsPlanned S.tells (how_seen how.entry) (view_of S.Site planned.log) planned.plan (S.clock e.1)) }
     ensures only { IfErr result (λ e. (p : Pending) → IsTrue S.tells → WritesFor (view_of S.Site planned.log) p planned.plan → MayHaveWritten e.0) }
     ensures full { IfErr result (λ e. (p : Pending) → IsTrue S.tells → WritesFor (view_of S.Site planned.log) p planned.plan → IsFullFault e.0 → IsFullTrail (view_of S.Site planned.log) (S.files e.1)) }
     ensures grown { IfOk result (λ o. (p : Pending) → IsTrue S.tells → let v = view_of S.Site planned.log in WritesFor v p planned.plan

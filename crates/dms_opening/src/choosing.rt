@@ -9,7 +9,8 @@ ghost use Rattle.dms_restore.specs.Tracing.{IsTraced};
 ghost use Rattle.dms_opening.specs.Asked.{judge, refused_by};
 ghost use Rattle.dms_opening.specs.declared.asked.DumpLook as seen;
 ghost use Rattle.dms_opening.specs.Doing.{goes_first, point_asked};
-ghost use Rattle.dms_opening.specs.Choices.{fault_of, RefusesAsked, Chooses};
+ghost use Rattle.dms_opening.specs.Choices.{fault_of, RefusesAsked};
+ghost use Rattle.dms_opening.specs.Claims.{ChoosesUnrefused, ChoosesFor};
 
 use crate::asked::{Asked, DumpLook, Refusal, judge};
 use crate::judging::PointFault;
@@ -105,8 +106,7 @@ fn goes_first(asked: Asked, pending: Option<PendingAt>) -> Option<PendingAt>
 
 /// What is done for what is asked, where nothing is refused.
 fn choice_of(history: &TrailHistory, asked: Asked) -> Choice
-    ensures { (files : Files) (entries : List meaning.Entry) (rows : List row.Row) (first : ℕ) (begun look : seen.DumpLook) → IsTraced files entries history.now
-        → let refused = judge first (history_of entries) (next_of entries) asked begun look in refused ≡ None → Chooses refused (history_of entries) asked rows result }
+    ensures { ChoosesUnrefused history.now asked result }
 {
     match goes_first(asked, history.pending) {
         Some(at) => Choice {
@@ -131,8 +131,7 @@ pub(crate) fn choose(
     look: DumpLook,
 ) -> Result<Choice, OpenFault>
     requires { 10001 ≤ first }
-    ensures chosen { IfOk result (λ c. (files : Files) (entries : List meaning.Entry) (rows : List row.Row) → IsTraced files entries history.now
-        → Chooses (judge first (history_of entries) (next_of entries) asked begun look) (history_of entries) asked rows c) }
+    ensures chosen { IfOk result (λ c. ChoosesFor history.now first asked begun look c) }
     ensures refused { IfErr result (λ e. (files : Files) (entries : List meaning.Entry) → IsTraced files entries history.now
         → RefusesAsked first (judge first (history_of entries) (next_of entries) asked begun look) e) }
     ensures no_call { IfErr result (λ e. e ≡ OpenFault.Audit AudFault.Disk → ⊥) }

@@ -13,7 +13,8 @@ ghost use Rattle.dms_audfile.specs.Reads.{ReadsAlone};
 ghost use Rattle.dms_audfile.specs.Scanning.{Placed, place_in, entry_in};
 ghost use Rattle.dms_audfile.specs.AuditTrail.{AreThere, entry_there};
 ghost use Rattle.dms_audfile.specs.EntryReading.{IsCurrent};
-ghost use Rattle.dms_restore.specs.Scanned.{HasNoEntry, IsNoEntryOf};
+ghost use Rattle.dms_restore.specs.Scanned.{IsNoEntryOf};
+ghost use Rattle.dms_opening.specs.Claims.{MissesEntry};
 ghost use Rattle.dms_restore.specs.SchemaSpans.{part_bytes, span_bytes};
 ghost use Rattle.dms_restore.specs.Traces.{IsTraceOf};
 
@@ -52,6 +53,7 @@ fn add_bytes(bytes: &mut Vec<u8>, entry: &Entry<'_>) -> Result<(), AllocError>
     match *entry {
         Entry::Schema(_, _, part) => bytes.extend_from_slice(part),
         Entry::Image(_, _, _, _) => Ok(()),
+        Entry::Range(_, _, _, _) => Ok(()),
         Entry::Quiet(_) => Ok(()),
         Entry::Control(_, _, _) => Ok(()),
         Entry::Begin(_, _) => Ok(()),
@@ -68,8 +70,7 @@ fn read_part<S: Site>(
     ensures current { IsTrue S.tells → IsCurrent reader.old (S.files site.old) → IsCurrent reader.new (S.files site.old) }
     ensures added { OnOk result (IsTrue S.tells → IsCurrent reader.old (S.files site.old) → (e : meaning.Entry) → entry_there (S.files site.old) place.now ≡ Some e
         → bytes.new.items ≡ bytes.old.items ++ part_bytes (e ∷ [])) }
-    ensures only { IfErr result (λ e. (e ≡ AudFault.Disk) ⊎ ((e ≡ AudFault.Memory) ⊎ ((e ≡ AudFault.Damaged place.now.file place.now.block)
-        × (IsTrue S.tells → IsCurrent reader.old (S.files site.old) → HasNoEntry (S.files site.old) place.now)))) }
+    ensures only { IfErr result (λ e. (e ≡ AudFault.Disk) ⊎ ((e ≡ AudFault.Memory) ⊎ MissesEntry S.tells reader.old (S.files site.old) place.now e)) }
     ensures reads { ReadsAlone S.Site site.old site.new }
     ensures same_site { S.same_site site.old site.new }
     ensures disk { CountedAt (IsErrOf result AudFault.Disk) (S.disk_faults site.old) (S.disk_faults site.new) }

@@ -11,6 +11,7 @@ ghost use Rattle.dms_restore.specs.Parts.{SealsPart};
 ghost use Rattle.dms_restore.specs.Views.{view_of, StaysSilent, LogStarts, IsSameTrail};
 ghost use Rattle.dms_restore.specs.Laying.{schema_control};
 ghost use Rattle.dms_restore.specs.Begins.{LeavesEach};
+ghost use Rattle.dms_opening.specs.Claims.{IfGoesOn, IsFullAt};
 ghost use Rattle.dms_opening.specs.Plans.{SameDumps};
 ghost use Rattle.dms_opening.specs.Starts.{MayGoOn, OpenedAt};
 ghost use Rattle.dms_restore.specs.Table.{AreBlocks, AreRuns, IsPlan};
@@ -34,8 +35,7 @@ pub(crate) fn go_on<S: Site>(
     requires few { length description.now ≤ 65535 }
     requires control { IsEntry (control_point point next (counts_at (length counts.now / 8) counts.now)) }
     requires size { length counts.now ≤ 1600 }
-    ensures opened { IfOk result (λ l. (p : Pending) → IsTrue S.tells → MayGoOn p (view_of S.Site begun.log) table.now point next counts.now
-        → OpenedAt p (view_of S.Site begun.log) (view_of S.Site l) (schema_control description.now point next counts.now)) }
+    ensures opened { IfOk result (λ l. let v = view_of S.Site begun.log in IfGoesOn S.tells v table.now point next counts.now (λ p. OpenedAt p v (view_of S.Site l) (schema_control description.now point next counts.now))) }
     ensures moments { IfOk result (λ l. (p : Pending) → IsTrue S.tells → MayGoOn p (view_of S.Site begun.log) table.now point next counts.now
         → LeavesEach (view_of S.Site begun.log) (view_of S.Site l)) }
     ensures stopped { IfErr result (λ e. (p : Pending) → IsTrue S.tells → MayGoOn p (view_of S.Site begun.log) table.now point next counts.now
@@ -63,8 +63,7 @@ pub(crate) fn go_on<S: Site>(
         → (e.1.end.used ≡ 0) × (10000 + begun.log.end.limit < e.1.end.file)) }
     ensures ends { IfErr result (λ e. (p : Pending) → IsTrue S.tells → IsPlan p (S.files begun.log.site) table.now → EndsSealed (view_of S.Site begun.log)
         → e.0 ≡ AudFault.Full begun.log.end.limit → Ends (view_of S.Site e.1)) }
-    ensures part { IfErr result (λ e. (p : Pending) → IsTrue S.tells → MayGoOn p (view_of S.Site begun.log) table.now point next counts.now → e.0 ≡ AudFault.Full begun.log.end.limit
-        → SealsPart (view_of S.Site begun.log) (view_of S.Site e.1) (schema_control description.now point next counts.now)) }
+    ensures part { IfErr result (λ e. let v = view_of S.Site begun.log in IfGoesOn S.tells v table.now point next counts.now (λ p. IsFullAt v e.0 → SealsPart v (view_of S.Site e.1) (schema_control description.now point next counts.now))) }
     ensures disk { IfErr result (λ e. CountedAt (e.0 ≡ AudFault.Disk) (S.disk_faults begun.log.site) (S.disk_faults e.1.site)) }
     ensures say_faults { IfOk result (λ l. S.say_faults l.site ≡ S.say_faults begun.log.site) }
     ensures say_faults_then { IfErr result (λ e. S.say_faults e.1.site ≡ S.say_faults begun.log.site) }

@@ -26,6 +26,7 @@ fn is_described(entry: &LiveEntry) -> bool
 {
     match entry {
         LiveEntry::Changed(_) => false,
+        LiveEntry::Ranged(_) => false,
         LiveEntry::Quiet(_) => false,
         LiveEntry::Controlled(control) => control.described,
     }
@@ -59,6 +60,7 @@ fn is_low(live: &[LiveEntry], point: u64, entry: &LiveEntry) -> bool
 {
     match entry {
         LiveEntry::Changed(_) => false,
+        LiveEntry::Ranged(_) => false,
         LiveEntry::Quiet(number) => *number <= point && is_live(live, *number),
         LiveEntry::Controlled(control) => control.point <= point && is_live(live, control.point),
     }

@@ -27,6 +27,7 @@ fn number_after(last: Option<u64>, entry: &LiveEntry) -> Option<u64>
 {
     match entry {
         LiveEntry::Changed(_) => last,
+        LiveEntry::Ranged(_) => last,
         LiveEntry::Quiet(number) => Some(*number),
         LiveEntry::Controlled(control) => Some(control.point),
     }

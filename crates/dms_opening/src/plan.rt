@@ -12,7 +12,8 @@ ghost use Rattle.dms_audfile.specs.Reads.{ReadsAlone};
 ghost use Rattle.dms_audfile.specs.TrailEntries.{trail_entries};
 ghost use Rattle.dms_restore.specs.Counts.{count_of, AllAtMost};
 ghost use Rattle.dms_restore.specs.Table.{AreBlocks, AreRuns, IsPlan};
-ghost use Rattle.dms_opening.specs.DumpLooks.{IsFitFound, IsFoundFor};
+ghost use Rattle.dms_opening.specs.Claims.{DescribesAt, HasNone, PlansDone};
+ghost use Rattle.dms_opening.specs.DumpLooks.{IsFitFound};
 ghost use Rattle.dms_opening.specs.Starts.{TracesDone};
 ghost use Rattle.dms_opening.specs.Plans.{IsTrailRead, IsTaggedRead, CannotDescribe, HasNoDescriptionAt, IsPlainFault, AreFoundFor, Plans, PlansFor, FitsOpening, RefusesFor, RefusesPlan};
 
@@ -68,13 +69,10 @@ pub(crate) fn read_description<S: Site>(
     trace: &TrailTrace,
     point: u64,
 ) -> Result<Vec<u8>, OpenFault>
-    ensures bytes { IfOk result (λ v. IsTrue S.tells → (total : ℕ) → IsTrailRead total first (S.files site.old) places.now trace.now
-        → IsLive (live_of (trail_entries total first (S.files site.old))) point → schema_at (trail_entries total first (S.files site.old)) point ≡ Some v.items) }
+    ensures bytes { IfOk result (λ v. DescribesAt S.tells first (S.files site.old) places.now trace.now point v.items) }
     ensures some { IfOk result (λ v. 1 ≤ length v.items) }
     ensures few { IfOk result (λ v. length v.items ≤ 65535) }
-    ensures only { IfErr result (λ e. IsTrue S.tells → (total : ℕ) → IsTrailRead total first (S.files site.old) places.now trace.now
-        → let es = trail_entries total first (S.files site.old) in IsLive (live_of es) point
-        → IsPlainFault e ⊎ ((e ≡ OpenFault.Audit (AudFault.Damaged first 0)) × HasNoDescriptionAt es point)) }
+    ensures only { IfErr result (λ e. HasNone S.tells first (S.files site.old) places.now trace.now point e) }
     ensures reads { ReadsAlone S.Site site.old site.new }
     ensures same_site { S.same_site site.old site.new }
     ensures disk { CountedAt (IsErrOf result (OpenFault.Audit AudFault.Disk)) (S.disk_faults site.old) (S.disk_faults site.new) }
@@ -106,8 +104,7 @@ fn prepare_restore<S: Site>(
     requires fit { IsFitFound found.now }
     ensures runs { IfOk result (λ x. AreRuns x.0.runs.items) }
     ensures blocks { IfOk result (λ x. AreBlocks x.0.told.items) }
-    ensures plan { IfOk result (λ x. IsTrue S.tells → (p : Pending) → TracesDone (S.files site.old) history.old asked rows.now choice.now p
-        → (files : Files) → TracesDone files history.old asked rows.now choice.now p → IsFoundFor files p.how found.now → IsPlan p files x.0) }
+    ensures plan { IfOk result (λ x. PlansDone S.tells (S.files site.old) history.old asked rows.now choice.now found.now x.0) }
     ensures counts { IfOk result (λ x. IsTrue S.tells → (p : Pending) → TracesDone (S.files site.old) history.old asked rows.now choice.now p
         → (f : ℕ) → count_of x.1.items f ≡ count_at p.entries p.point f) }
     ensures size { IfOk result (λ x. length x.1.items ≡ 200) }

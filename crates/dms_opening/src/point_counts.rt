@@ -141,6 +141,7 @@ fn count_entry<S: Site>(site: &mut S, entry: &LiveEntry, counts: &mut [u32]) -> 
                 Err(AudFault::Damaged(image.audit, 0))
             }
         }
+        LiveEntry::Ranged(_) => Ok(()),
         LiveEntry::Quiet(_) => Ok(()),
         LiveEntry::Controlled(control) => read_counts(site, control, counts),
     }

@@ -1,126 +1,39 @@
 -- What the grammar says of entries that scanning finds, and of the events that they are.
-use Rattle.std.specs.Prelude.{◌==◌, ◌&&◌, nat_le, option_map}
-use Rattle.std.specs.Int.{w16, w32, w64}
-use Rattle.std.proofs.Common.{ℕ, ◌+◌, ◌*◌, ◌≤◌, ◌≡◌, inl, inr, Bool, true, false, cond, max, List, [], ◌∷◌, ◌++◌, map, Option, Some, None, refl, sym, ◌∙◌, ap, arith}
+use Rattle.std.specs.Prelude.{◌&&◌, nat_le}
+use Rattle.std.proofs.Common.{ℕ, ◌+◌, ◌*◌, ◌≤◌, ◌≡◌, ◌⊎◌, inl, inr, Bool, true, false, cond, max, List, [], ◌∷◌, ◌++◌, length, map, Option, Some, None, refl, sym, ◌∙◌, ap, arith}
 use Rattle.std.specs.Prelude.{nat_eq}
 use Rattle.std.proofs.lemmas.Bool.{cases_eq, true≢false}
 use Rattle.std.proofs.lemmas.Bool.Decides.{nat_tests}
-use Rattle.std.proofs.lemmas.Option.{cond_some, none-some}
+use Rattle.std.proofs.lemmas.Option.{none-some}
 use Rattle.dms_site.specs.Files.{Files}
-use Rattle.dms_fields.specs.Prefix.{byte_first, number_first, bytes_first}
-use Rattle.dms_fields.specs.PrefixLaws.{bind_some}
 use Rattle.dms_history.specs.Events.{BlockBytes, Event, change, quiet, control, begin}
 use Rattle.dms_history.specs.Lists.{has, until_first}
 use Rattle.dms_history.specs.Places.{is_point}
 use Rattle.dms_history.specs.History.{History, history, history_from, after_event}
 use Rattle.dms_history.specs.Pick.{reached_count}
-use Rattle.dms_history.specs.Ranges.{told_events, events_from}
+use Rattle.dms_history.specs.Images.{is_at, or_else, last_after}
+use Rattle.dms_history.specs.Ranges.{patch_bytes, range_change, told_events, events_from}
+use Rattle.dms_history.proofs.Patches.{range_fits}
+use Rattle.dms_history.proofs.Picks.{some_is}
 use Rattle.dms_history.specs.declared.event.FileCount.{FileCount}
 use Rattle.dms_history.specs.Entries.{Entry, schema_part, image, byte_range, quiet_point, control_point, begin_restore, counts_in, how_of}
 use Rattle.dms_history.specs.Schemas.{Parts, no_parts, after_entry, is_whole}
 use Rattle.dms_history.specs.EntryEvents.{logged_from, live_of}
 use Rattle.dms_history.specs.Sizes.{IsSizedChange, ImagesSized}
-use Rattle.dms_audrec.specs.Reading.{schema_at, before_at, image_at, quiet_at, control_at, begin_at, entry_at, counts_at}
 use Rattle.dms_audrec.specs.Spelling.{counts_rise}
 use Rattle.dms_audfile.specs.Scanning.{Placed, entry_in}
-use Rattle.dms_audfile.specs.AuditTrail.{entry_from, entry_there, AreThere}
+use Rattle.dms_audfile.specs.AuditTrail.{entry_there, AreThere}
 use Rattle.dms_audfile.specs.declared.place.EntryPlace.{EntryPlace}
-use Rattle.dms_restore.proofs.EntryPlaces.{ImageThere, image_there, control_there, by_test}
+use Rattle.dms_restore.proofs.EntryPlaces.{ImageThere, image_there, range_there, control_there}
 use Rattle.dms_running.proofs.Rewriting.{other_test}
-
--- ---- no Range is read
-
-abbrev is_range : Entry → Bool
-is_range (schema_part part parts bytes) = false
-is_range (image f b before after) = false
-is_range (byte_range f b place bytes) = true
-is_range (quiet_point n) = false
-is_range (control_point n next counts) = false
-is_range (begin_restore n kind) = false
-
-schema_read : (bytes : List ℕ) (x : Entry × List ℕ) → schema_at bytes ≡ Some x → is_range x.0 ≡ false
-unfolding schema_at
-schema_read bytes x e =
-    let (part, e1, r1) = bind_some (number_first w16 bytes) _ x e in
-    let (parts, e2, r2) = bind_some (number_first w16 part.1) _ x r1 in
-    let (len, e3, r3) = bind_some (number_first w16 parts.1) _ x r2 in
-    let (text, e4, r4) = bind_some (bytes_first len.0 len.1) _ x r3 in
-    ap (λ (y : Entry × List ℕ). is_range y.0) (sym (cond_some _ (schema_part part.0 parts.0 text.0, text.1) x r4).1)
-
-image_read : (bytes : List ℕ) (x : Entry × List ℕ) → image_at bytes ≡ Some x → is_range x.0 ≡ false
-unfolding image_at
-image_read bytes x e =
-    let (file, e1, r1) = bind_some (number_first w32 bytes) _ x e in
-    let (block, e2, r2) = bind_some (number_first w32 file.1) _ x r1 in
-    let (before, e3, r3) = bind_some (before_at block.1) _ x r2 in
-    let (after, e4, r4) = bind_some (bytes_first 1024 before.1) _ x r3 in
-    ap (λ (y : Entry × List ℕ). is_range y.0) (sym (cond_some _ (image file.0 block.0 before.0 after.0, after.1) x r4).1)
-
-quiet_read : (bytes : List ℕ) (x : Entry × List ℕ) → quiet_at bytes ≡ Some x → is_range x.0 ≡ false
-unfolding quiet_at
-quiet_read bytes x e =
-    let n = bind_some (number_first w64 bytes) (λ n. Some (quiet_point n.0, n.1)) x e in
-    let is : (quiet_point n.0.0, n.0.1) ≡ x = cc (n.2) in
-    ap (λ (y : Entry × List ℕ). is_range y.0) (sym is)
-
-control_read : (bytes : List ℕ) (x : Entry × List ℕ) → control_at bytes ≡ Some x → is_range x.0 ≡ false
-unfolding control_at
-control_read bytes x e =
-    let (n, e1, r1) = bind_some (number_first w64 bytes) _ x e in
-    let (next, e2, r2) = bind_some (number_first w64 n.1) _ x r1 in
-    let (files, e3, r3) = bind_some (number_first w16 next.1) _ x r2 in
-    let (list, e4, r4) = bind_some (bytes_first (8 * files.0) files.1) _ x r3 in
-    ap (λ (y : Entry × List ℕ). is_range y.0) (sym (cond_some _ (control_point n.0 next.0 (counts_at files.0 list.0), list.1) x r4).1)
-
-begin_read : (bytes : List ℕ) (x : Entry × List ℕ) → begin_at bytes ≡ Some x → is_range x.0 ≡ false
-unfolding begin_at
-begin_read bytes x e =
-    let (n, e1, r1) = bind_some (number_first w64 bytes) _ x e in
-    let (how, e2, r2) = bind_some (byte_first n.1) _ x r1 in
-    let (dump, e3, r3) = bind_some (number_first w16 how.1) _ x r2 in
-    let (rows, e4, r4) = bind_some (number_first w16 dump.1) _ x r3 in
-    let (list, e5, r5) = bind_some (bytes_first (8 * rows.0) rows.1) _ x r4 in
-    ap (λ (y : Entry × List ℕ). is_range y.0) (sym (cond_some _ _ x r5).1)
-
-entry_read : (bytes : List ℕ) (x : Entry × List ℕ) → entry_at bytes ≡ Some x → is_range x.0 ≡ false
-unfolding entry_at
-entry_read [] x e = absurd (none-some x e)
-entry_read (kind ∷ rest) x e = elim (by_test (kind == 1) (schema_at rest) _ (Some x) e) [
-  | inl one ↦ schema_read rest x one
-  | inr r1 ↦ elim (by_test (kind == 2) (image_at rest) _ (Some x) r1) [
-    | inl two ↦ image_read rest x two
-    | inr r2 ↦ elim (by_test (kind == 3) (quiet_at rest) _ (Some x) r2) [
-      | inl three ↦ quiet_read rest x three
-      | inr r3 ↦ elim (by_test (kind == 4) (control_at rest) _ (Some x) r3) [
-        | inl four ↦ control_read rest x four
-        | inr r4 ↦ elim (by_test (kind == 5) (begin_at rest) None (Some x) r4) [
-          | inl five ↦ begin_read rest x five
-          | inr none ↦ absurd (none-some x none)
-        ]
-      ]
-    ]
-  ]
-]
-
-mapped : (o : Option (Entry × List ℕ)) (e : Entry) → ((x : Entry × List ℕ) → o ≡ Some x → is_range x.0 ≡ false) → option_map (λ (y : Entry × List ℕ). y.0) o ≡ Some e → is_range e ≡ false
-mapped None e each is = absurd (none-some e is)
-mapped (Some x) e each is = let same : x.0 ≡ e = cc is in ap is_range (sym same) ∙ each x refl
-
-tested : (b : Bool) (o : Option (Entry × List ℕ)) (e : Entry) → ((x : Entry × List ℕ) → o ≡ Some x → is_range x.0 ≡ false) → cond b (option_map (λ (y : Entry × List ℕ). y.0) o) None ≡ Some e → is_range e ≡ false
-tested true o e each is = mapped o e each is
-tested false o e each is = absurd (none-some e is)
-
-no_range : (files : Files) (p : EntryPlace) (e : Entry) → entry_there files p ≡ Some e → is_range e ≡ false
-unfolding entry_there entry_from
-no_range files p e is = tested _ _ e (λ x at. entry_read _ x at) is
 
 -- ---- each entry that is found
 
--- an Image has whole blocks of a structure file, and the counts of a Control are those of structure files
+-- an Image has whole blocks of a structure file, a Range bytes within one, and the counts of a Control are those of structure files
 abbrev pub IsFine : Entry → Type 0
 IsFine (schema_part part parts bytes) = Unit {0}
 IsFine (image f b before after) = (30001 ≤ f) × (f ≤ 30200) × IsSizedChange before after
-IsFine (byte_range f b place bytes) = ⊥
+IsFine (byte_range f b place bytes) = (30001 ≤ f) × (f ≤ 30200) × (place + length bytes ≤ 1024)
 IsFine (quiet_point n) = Unit {0}
 IsFine (control_point n next counts) = counts_rise 30001 counts ≡ true
 IsFine (begin_restore n kind) = Unit {0}
@@ -136,7 +49,7 @@ sized_there files p f b (Some old) after t = record { was = (t.old old refl).1; 
 fine_there : (files : Files) (p : EntryPlace) (e : Entry) → entry_there files p ≡ Some e → IsFine e
 fine_there files p (schema_part part parts bytes) is = tt
 fine_there files p (image f b before after) is = let t = image_there files p f b before after is in (t.bounds.0, t.bounds.1, sized_there files p f b before after t)
-fine_there files p (byte_range f b place bytes) is = absurd (true≢false (no_range files p (byte_range f b place bytes) is))
+fine_there files p (byte_range f b place bytes) is = let t = range_there files p f b place bytes is in (t.bounds.0, t.bounds.1, t.within)
 fine_there files p (quiet_point n) is = tt
 fine_there files p (control_point n next counts) is = (control_there files p n next counts is).rise
 fine_there files p (begin_restore n kind) is = tt
@@ -198,11 +111,39 @@ counts_outside low (c ∷ cs) f from rise out =
       | inr other ↦ ap (λ k. cond k c.blocks (counts_in cs f)) (other_test c.file f other) ∙ counts_outside (c.file + 1) cs f (omega (arith, from, low_file)) r.2 out
     ]
 
+some_or : (o : Option BlockBytes) (t : Bool) (x y : BlockBytes) → or_else o (cond t (Some x) None) ≡ Some y → (o ≡ Some y) ⊎ (x ≡ y)
+some_or (Some z) t x y is = inl is
+some_or None true x y is = inr (some_is x y is)
+some_or None false x y is = absurd (none-some y is)
+
+-- the last block after one of them is whole
+fine_last : (f b : ℕ) (es : List Event) (x : BlockBytes) → FineEvents es → last_after f b es ≡ Some x → length x ≡ 1024
+fine_last f b [] x fine is = absurd (none-some x is)
+fine_last f b (change g k before after ∷ es) x fine is = elim (some_or (last_after f b es) (is_at f b g k) after x is) [
+  | inl later ↦ fine_last f b es x fine.1 later
+  | inr here ↦ ap length (sym here) ∙ fine.0.2.becomes
+]
+fine_last f b (quiet n ∷ es) x fine is = fine_last f b es x fine.1 is
+fine_last f b (control n next counts described ∷ es) x fine is = fine_last f b es x fine.1 is
+fine_last f b (begin n how ∷ es) x fine is = fine_last f b es x fine.1 is
+
+module _ (f b place : ℕ) (bytes : List ℕ) (low : 30001 ≤ f) (high : f ≤ 30200) (within : place + length bytes ≤ 1024) (xs : List Entry)
+    (rest : (h : History) → FineEvents h.live → FineEvents (history_from h (events_from h (logged_from no_parts xs))).live) where
+  -- a Range is a change of the block that stood there, where there is one
+  range_fine : (h : History) (o : Option BlockBytes) → FineEvents h.live → last_after f b h.live ≡ o
+      → FineEvents (history_from h (range_change f b place bytes o ++ events_from (history_from h (range_change f b place bytes o)) (logged_from no_parts xs))).live
+  range_fine h None fine is = rest h fine
+  range_fine h (Some old) fine is =
+      let whole : length old ≡ 1024 = fine_last f b h.live old fine is in
+      let fits = range_fits place 0 old old (omega (arith, within, whole)) refl (λ i below. refl) (λ i above low. refl) in
+      let e = change f b (Some old) (patch_bytes place bytes old) in
+      rest (after_event h e) (fine_push h.live e fine (low, high, record { was = whole; becomes = fits.1 bytes (omega (arith, within, whole)) ∙ whole }))
+
 live_fine : (xs : List Entry) (p : Parts) (h : History) → AllFine xs → FineEvents h.live → FineEvents (history_from h (events_from h (logged_from p xs))).live
 live_fine [] p h all fine = fine
 live_fine (schema_part part parts bytes ∷ xs) p h all fine = live_fine xs (after_entry p (schema_part part parts bytes)) h all.1 fine
 live_fine (image f b before after ∷ xs) p h all fine = live_fine xs no_parts (after_event h (change f b before after)) all.1 (fine_push h.live (change f b before after) fine all.0)
-live_fine (byte_range f b place bytes ∷ xs) p h all fine = absurd all.0
+live_fine (byte_range f b place bytes ∷ xs) p h all fine = range_fine f b place bytes all.0.0 all.0.1 all.0.2 xs (λ k. live_fine xs no_parts k all.1) h (last_after f b h.live) fine refl
 live_fine (quiet_point n ∷ xs) p h all fine = live_fine xs no_parts (after_event h (quiet n)) all.1 (fine_push h.live (quiet n) fine tt)
 live_fine (control_point n next counts ∷ xs) p h all fine =
     let e = control n next (counts_in counts) (is_whole p) in

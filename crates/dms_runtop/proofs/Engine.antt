@@ -37,7 +37,7 @@ use Rattle.dms_run.specs.Files.{RunLeavesFiles}
 use Rattle.dms_run.specs.States.{EndsWith, LivesEndWith}
 use Rattle.dms_run.specs.Stops.{RunLeaves, last_quiet_number}
 use Rattle.dms_status.specs.declared.status.Status.{Status}
-use Rattle.dms_status.specs.declared.status.Status.TheVariants.{Ok, Memory}
+use Rattle.dms_status.specs.declared.status.Status.TheVariants.{Ok, Memory, DiskFault, SayFault}
 use Rattle.dms_runtop.specs.Bound.{AnswersPart}
 use Rattle.dms_runtop.specs.Faults.{IsWithin, run_status}
 use Rattle.dms_runtop.proofs.Bounds.{bounds_none}
@@ -82,6 +82,15 @@ memory_not_bytes is = absurd cc
 
 memory_not_held : run.Memory ≡ run.Held → ⊥
 memory_not_held is = absurd cc
+
+pub memory_not_disk : Memory ≡ DiskFault → ⊥
+memory_not_disk is = absurd cc
+
+pub memory_not_say : Memory ≡ SayFault → ⊥
+memory_not_say is = absurd cc
+
+memory_not_ok : Memory ≡ Ok → ⊥
+memory_not_ok is = absurd cc
 
 memory_not_input : run.Memory ≡ run.Input → ⊥
 memory_not_input is = absurd cc
@@ -215,4 +224,9 @@ pub refused_over : {S : Type 0} (g : Ghosts S) (d : Described) (r : Running S) (
 refused_over {S} g d r site left left' same total first ps n db all b is =
     subst (λ (x : S). ScriptRuns 18 (telling_of total first) d ps n db r.next all (seen_site g r.log.site) (seen_site g x) left' Memory) (sym same)
     (ran_nothing 18 (telling_of total first) d ps n db r.next all (seen_site g r.log.site) (seen_site g r.log.site) left' Memory tt
-    (runs_none (g.clock r.log.site) (RunLeavesFiles (telling_of total first) d (said_of g r.log) ps n db r.next (pause ∷ []))) refl (bounds_none Memory (λ is. absurd cc) refl refl))
+    (runs_none (g.clock r.log.site) (RunLeavesFiles (telling_of total first) d (said_of g r.log) ps n db r.next (pause ∷ []))) refl (bounds_none Memory memory_not_ok refl refl))
+
+-- the same of a running database that is this one, under a description that is this one
+pub ran_same : {S : Type 0} (g : Ghosts S) (d d' : Described) (r r' : Running S) (left left' : Option (List ℕ)) (status : Status) (site : S) → d' ≡ d → r' ≡ r → RunsOver g r' d' left left' status site → RunsOver g r d left left' status site
+ran_same {S} g d d' r r' left left' status site same is ran =
+    subst (λ (x : Described). RunsOver g r x left left' status site) same (subst (λ (x : Running S). RunsOver g x d' left left' status site) is ran)

@@ -12,11 +12,14 @@ use Rattle.dms_runtop.specs.Command.{GrowsOpened, KeepsTrail}
 use Rattle.dms_runtop.specs.Over.{ClosesOver, GrowsOver}
 use Rattle.dms_site.specs.declared.site.Site.{Ghosts}
 use Rattle.dms_site.specs.Files.{Files, Left, Same}
-use Rattle.dms_status.specs.declared.status.Status.TheVariants.{Memory}
+use Rattle.dms_status.specs.declared.status.Status.TheVariants.{Ok, Memory}
 use Rattle.dms_wal.specs.declared.running.Running.{Running}
 use Rattle.dms_wal.specs.Controls.{KeepsPace}
 use Rattle.dms_wal.specs.Growing.{GrowsBy, close_limit, over_site}
 use Rattle.dms_wal.specs.Lifting.{lift_clock}
+
+memory_not_ok : Memory ≡ Ok → ⊥
+memory_not_ok is = absurd cc
 
 -- a call that only looks leaves it
 left_looked : (total first : ℕ) (a b : Clock Left) → Steps Same a b → Steps (LeavesTrail total first) a b
@@ -51,10 +54,10 @@ module _ {S : Type 0} (g : Ghosts S) where
       let v = view_of g r.log in
       subst (λ x. ClosesOver g r Memory x) (sym same) (record {
         leaves = λ told room. runs_none (lift_clock (telling v) v.clock) _;
-        points_are = λ ok. absurd cc;
-        whole = λ ok. absurd cc;
-        next_is = λ ok. absurd cc;
-        only = λ ok. absurd cc;
+        points_are = λ ok. absurd (memory_not_ok ok);
+        whole = λ ok. absurd (memory_not_ok ok);
+        next_is = λ ok. absurd (memory_not_ok ok);
+        only = λ ok. absurd (memory_not_ok ok);
         grown = λ tells. log_grows_more 0 18 v (over_site g v r.log.site) (omega arith) (log_grows_none v);
       })
 
@@ -121,3 +124,6 @@ grows_described g o r entry total_is first_is site grown told =
       kept = subst (λ x. TrailKept o.log.end.total o.log.first (g.files x) (g.files site)) entry (kept_at total_is first_is then.kept);
       left = subst (λ x. Steps (LeavesTrail o.log.end.total o.log.first) (g.clock x) (g.clock site)) entry (left_at total_is first_is then.left);
     }
+
+pub grown_same : {S : Type 0} (g : Ghosts S) (r r' : Running S) (site : S) → r' ≡ r → GrowsOver g r' site → GrowsOver g r site
+grown_same {S} g r r' site is grown = subst (λ (x : Running S). GrowsOver g x site) is grown
