@@ -89,7 +89,7 @@ Nothing is written through: with a store in each transaction the file of D isn't
   F10003.DMS
   $ "$DMS" print audit | tail -n 3
   2 7 QUIET 12
-  2 8 IMAGE 30002 0 CHANGED
+  2 8 RANGE 30002 0 AT 264 LENGTH 22
   2 8 QUIET 13
 
 The next run writes it. All thirteen records are there.
@@ -107,35 +107,29 @@ The next run writes it. All thirteen records are there.
   $ od -An -v -tx1 -w22 -N286 F30002.DMS | cut -c1-15 | uniq -c | tr -s ' '
    13 01 00 00 00 00
 
-A STORE that changes nothing needs no room. With one block left a record is stored, and then with another value, which leaves no room in it; as it
-stands it is stored once more, and with a third value it isn't.
+A STORE that changes nothing needs no room. With one block left a record is stored, which takes 1,034 of its 4,094 bytes, then with X = 1, which takes
+22, and then with 217 other values, of which each differs in one byte and takes 14: that fills it. As it stands the record is stored once more, and with
+one more value it isn't.
 
   $ cd ../again
   $ "$DMS" initialize
   INITIALIZED AT POINT 0
   $ { echo 'A: OPEN UPDATE'; for n in $(seq 12); do echo 'A: BEGIN-TRANSACTION NO-AUDIT RDS'; echo 'A: END-TRANSACTION NO-AUDIT RDS SYNC'; done; } > ../script
-  $ cat >> ../script <<'END'
-  > A: BEGIN-TRANSACTION NO-AUDIT RDS
-  > A: CREATE D
-  > A: STORE D
-  > A: PUT D X = 1
-  > A: STORE D
-  > A: STORE D
-  > A: PUT D X = 2
-  > A: STORE D
-  > END
+  $ { echo 'A: BEGIN-TRANSACTION NO-AUDIT RDS'; echo 'A: CREATE D'; echo 'A: STORE D'; } >> ../script
+  $ for n in $(seq 218); do echo "A: PUT D X = $n"; echo 'A: STORE D'; done >> ../script
+  $ { echo 'A: STORE D'; echo 'A: PUT D X = 219'; echo 'A: STORE D'; } >> ../script
   $ "$DMS" run < ../script > ../out
   dms: audit file 2 full
   dms: bring its records over to a new database; docs/GUIDE.md, A full audit
   [8]
   $ tail -n 3 ../out
-  30 A DONE
-  31 A DONE
-  32 A DONE
-  $ "$DMS" print audit | tail -n 3
-  2 7 QUIET 12
-  2 8 IMAGE 30002 0 NEW
-  2 8 IMAGE 30002 0 CHANGED
+  464 A DONE
+  465 A DONE
+  466 A DONE
+  $ "$DMS" print audit | sed -n 's/^2 8 //p' | uniq -c | tr -s ' '
+   1 IMAGE 30002 0 NEW
+   1 RANGE 30002 0 AT 13 LENGTH 9
+   217 RANGE 30002 0 AT 21 LENGTH 1
 
 A control point that is due goes no further here. With one behind each syncpoint, each takes two blocks: the seventh quiet point is in the last block
 of file 2, and the control point behind it would be in file 3. That line isn't answered, and the next run finds its point.

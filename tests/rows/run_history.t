@@ -48,7 +48,7 @@ A first run: a transaction with a syncpoint, and one without.
   1 3 CONTROL 0 NEXT 1
   1 4 IMAGE 30002 0 NEW
   1 4 QUIET 1
-  1 5 IMAGE 30002 0 CHANGED
+  1 5 RANGE 30002 0 AT 22 LENGTH 22
   1 5 QUIET 2
   1 6 SCHEMA 1 OF 1 LENGTH 62
   1 6 CONTROL 2 NEXT 3
