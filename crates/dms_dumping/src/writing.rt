@@ -84,8 +84,8 @@ pub(crate) fn write_ready<S: Site>(ready: ReadyDump<S>, dump: u16) -> Ended<S>
     ensures whole { IsMade result.status → IsTrue S.tells → AllStored (stored_of (S.files ready.opened.log.site)) ready.counts.items }
     ensures durable { IsMade result.status → IsTrue S.tells → Only (S.files result.site) (S.clock result.site) }
     ensures others { IsTrue S.tells → (g : ℕ) → g ≢ 20000 + dump → S.files result.site g ≡ S.files ready.opened.log.site g }
-    ensures moments { IsTrue S.tells
-        → Steps (WritesDump (20000 + dump) (dump_made 1 ready.opened.log.end.tag ready.opened.point ready.opened.audit ready.counts.items (S.files ready.opened.log.site))) (S.clock ready.opened.log.site) (S.clock result.site) }
+    ensures moments { IsTrue S.tells → let o = ready.opened in
+        Steps (WritesDump (20000 + dump) (dump_made 1 o.log.end.tag o.point o.audit ready.counts.items (S.files o.log.site))) (S.clock o.log.site) (S.clock result.site) }
     ensures statuses { IsOfReady result.status }
     ensures says { IsTrue S.tells_said → SaysDone result.status ready.line (S.said ready.opened.log.site) (S.said result.site) }
     ensures same { S.same_site ready.opened.log.site result.site }
