@@ -37,7 +37,7 @@ there; stopped at the next block, that of the end, it has printed the syncpoint,
   CONTROL 1 NEXT 2
 
 A transaction that changes more blocks than BUFFERS, and doesn't end. Wherever it is stopped, nothing of it is left, also where the file of D was written; and it
-was: 80 records take 40 blocks.
+was: 240 records take 120 blocks.
 
   $ mkdir early && cd early
   $ "$DMS" compile <<'END'
@@ -49,7 +49,7 @@ was: 80 records take 40 blocks.
   $ "$DMS" initialize
   INITIALIZED AT POINT 0
   $ cd ..
-  $ { echo 'A: OPEN UPDATE'; echo 'A: BEGIN-TRANSACTION NO-AUDIT RDS'; for n in $(seq 80); do echo 'A: CREATE D'; echo 'A: STORE D'; done; } > script
+  $ { echo 'A: OPEN UPDATE'; echo 'A: BEGIN-TRANSACTION NO-AUDIT RDS'; for n in $(seq 240); do echo 'A: CREATE D'; echo 'A: STORE D'; done; } > script
   $ printf 'A: OPEN INQUIRY\nA: FIND FIRST D\n' > look
   $ for size in 8 12 16 20 48 52 100 120 160; do
   >   rm -rf t; cp -r early t; cd t
@@ -66,20 +66,21 @@ was: 80 records take 40 blocks.
         1 stopped at 48 KiB, D is written
         1 stopped at 52 KiB, D is written
 
-Stopped in line 100, and then three openings are stopped, each at the next write of an audit block: the first one at the block of its Begin, the second and the third, which goes on with
+Stopped in the middle, and then three openings are stopped, each at the next write of an audit block: the first one at the block of its Begin, the second and the third, which goes on with
 the same restore, at that of its control point. What is left stands for point 0 each time: a copy tells.
 
   $ rm -rf t; cp -r early t; cd t
   $ upto 108 < ../script
   status 153
-  $ tail -n 1 ../out
-  99 A DONE
+  $ tail -n 1 ../out | cut -d' ' -f2-
+  A DONE
   $ left() { rm -rf ../u; cp -r . ../u; (cd ../u; "$DMS" run < ../look | tail -n 1; last; "$DMS" print audit | grep -c BEGIN); }
   $ left
   2 A EXCEPTION NOTFOUND D
   CONTROL 0 NEXT 1
   2
-  $ for size in 108 112 112; do upto $size < /dev/null; left; done
+  $ n=$("$DMS" print audit | tail -n 1 | cut -d' ' -f2)
+  $ for size in $((4 * n + 4)) $((4 * n + 8)) $((4 * n + 8)); do upto $size < /dev/null; left; done
   status 153
   2 A EXCEPTION NOTFOUND D
   CONTROL 0 NEXT 1
