@@ -6,6 +6,7 @@ use Rattle.std.proofs.lemmas.Bool.Decides.{Decides-like, same_from_decides}
 use Rattle.std.proofs.lemmas.Slice.Eq.{bytes_eq-Decides}
 use Rattle.indexmap.specs.IndexMap.{insert_entry}
 use Rattle.dasdl_compile.specs.declared.draft.Draft.{Draft}
+use Rattle.dms_desc.specs.Shape.{kind_number}
 use Rattle.dasdl_compile.specs.Finding.{data_set_named, is_structure}
 use Rattle.dasdl_compile.specs.Tables.{title, note_of, first_place, with_title, with_titles, names_of}
 
@@ -17,19 +18,19 @@ turned : (a b : List ℕ) → bytes_eq a b ≡ bytes_eq b a
 turned a b = same_from_decides (bytes_eq a b) (bytes_eq b a) (bytes_eq-Decides a b) (Decides-like (bytes_eq b a) sym sym (bytes_eq-Decides b a))
 
 -- one structure more
-pub titles-push : (at : ℕ) (es : List (List ℕ × Option ℕ)) (ds : List Draft) (d : Draft) → with_titles at es (ds ++ d ∷ []) ≡ with_title d.name d.kind (at + length ds) (with_titles at es ds)
+pub titles-push : (at : ℕ) (es : List (List ℕ × Option ℕ)) (ds : List Draft) (d : Draft) → with_titles at es (ds ++ d ∷ []) ≡ with_title d.name (kind_number d.kind) (at + length ds) (with_titles at es ds)
 unfolding with_titles
-titles-push at es [] d = ap (λ (k : ℕ). with_title d.name d.kind k es) (omega arith)
+titles-push at es [] d = ap (λ (k : ℕ). with_title d.name (kind_number d.kind) k es) (omega arith)
 titles-push at es (x ∷ xs) d =
-    titles-push (at + 1) (with_title x.name x.kind at es) xs d
-    ∙ ap (λ (k : ℕ). with_title d.name d.kind k (with_titles (at + 1) (with_title x.name x.kind at es) xs)) (omega arith)
+    titles-push (at + 1) (with_title x.name (kind_number x.kind) at es) xs d
+    ∙ ap (λ (k : ℕ). with_title d.name (kind_number d.kind) k (with_titles (at + 1) (with_title x.name (kind_number x.kind) at es) xs)) (omega arith)
 
 -- a structure in the place of one with its name and kind
 pub titles-set : (at : ℕ) (es : List (List ℕ × Option ℕ)) (ds : List Draft) (i : ℕ) (old new : Draft) → old ≡ get_or ds i old → title new ≡ title old → with_titles at es (set ds i new) ≡ with_titles at es ds
 unfolding with_titles
 titles-set at es [] i old new is same = refl
 titles-set at es (x ∷ xs) zero old new is same = ap (λ (t : List ℕ × ℕ). with_titles (at + 1) (with_title t.0 t.1 at es) xs) (same ∙ ap title is)
-titles-set at es (x ∷ xs) (suc i) old new is same = titles-set (at + 1) (with_title x.name x.kind at es) xs i old new is same
+titles-set at es (x ∷ xs) (suc i) old new is same = titles-set (at + 1) (with_title x.name (kind_number x.kind) at es) xs i old new is same
 
 -- what stands beside a name, once another name or the same is put into the table
 put_first : (n k : List ℕ) (v was : Option ℕ) (rest : Option (Option ℕ)) → cond (bytes_eq n k) (Some v) rest ≡ cond (bytes_eq n k) (Some v) (cond (bytes_eq n k) (Some was) rest)
@@ -77,15 +78,15 @@ this_name all at d answer true (Some None) here = here
 this_name all at d answer false (Some None) here = refl
 this_name all at d answer k (Some (Some p)) here = refl
 
-one_more : (n : List ℕ) (all : List Draft) (at : ℕ) (d : Draft) (answer : Option Draft) (es : List (List ℕ × Option ℕ)) → slice_get all at ≡ Some d → chosen all (note_of n (with_title d.name d.kind at es)) answer ≡ chosen all (note_of n es) (cond (nat_lt d.kind 3 && bytes_eq d.name n) (Some d) answer)
+one_more : (n : List ℕ) (all : List Draft) (at : ℕ) (d : Draft) (answer : Option Draft) (es : List (List ℕ × Option ℕ)) → slice_get all at ≡ Some d → chosen all (note_of n (with_title d.name (kind_number d.kind) at es)) answer ≡ chosen all (note_of n es) (cond (nat_lt (kind_number d.kind) 3 && bytes_eq d.name n) (Some d) answer)
 one_more n all at d answer es here =
-    ap (λ (o : Option (Option ℕ)). chosen all o answer) (noted-insert n d.name (first_place (note_of d.name es) (nat_lt d.kind 3) at) es)
-    ∙ elim (bytes_eq n d.name) as (λ t. bytes_eq n d.name ≡ t → chosen all (cond t (Some (first_place (note_of d.name es) (nat_lt d.kind 3) at)) (note_of n es)) answer ≡ chosen all (note_of n es) (cond (nat_lt d.kind 3 && bytes_eq d.name n) (Some d) answer)) [
+    ap (λ (o : Option (Option ℕ)). chosen all o answer) (noted-insert n d.name (first_place (note_of d.name es) (nat_lt (kind_number d.kind) 3) at) es)
+    ∙ elim (bytes_eq n d.name) as (λ t. bytes_eq n d.name ≡ t → chosen all (cond t (Some (first_place (note_of d.name es) (nat_lt (kind_number d.kind) 3) at)) (note_of n es)) answer ≡ chosen all (note_of n es) (cond (nat_lt (kind_number d.kind) 3 && bytes_eq d.name n) (Some d) answer)) [
       | true ↦ λ e.
-          this_name all at d answer (nat_lt d.kind 3) (note_of d.name es) here
-          ∙ ap (λ (l : List ℕ). chosen all (note_of l es) (cond (nat_lt d.kind 3 && true) (Some d) answer)) (sym ((bytes_eq-Decides n d.name).0 e))
-          ∙ ap (λ (b : Bool). chosen all (note_of n es) (cond (nat_lt d.kind 3 && b) (Some d) answer)) (sym (turned d.name n ∙ e))
-      | false ↦ λ e. ap (λ (b : Bool). chosen all (note_of n es) (cond b (Some d) answer)) (sym (and_right (nat_lt d.kind 3) (bytes_eq d.name n) (turned d.name n ∙ e)))
+          this_name all at d answer (nat_lt (kind_number d.kind) 3) (note_of d.name es) here
+          ∙ ap (λ (l : List ℕ). chosen all (note_of l es) (cond (nat_lt (kind_number d.kind) 3 && true) (Some d) answer)) (sym ((bytes_eq-Decides n d.name).0 e))
+          ∙ ap (λ (b : Bool). chosen all (note_of n es) (cond (nat_lt (kind_number d.kind) 3 && b) (Some d) answer)) (sym (turned d.name n ∙ e))
+      | false ↦ λ e. ap (λ (b : Bool). chosen all (note_of n es) (cond b (Some d) answer)) (sym (and_right (nat_lt (kind_number d.kind) 3) (bytes_eq d.name n) (turned d.name n ∙ e)))
     ] refl
 
 named_from : (n : List ℕ) (all : List Draft) (at : ℕ) (es : List (List ℕ × Option ℕ)) (ds : List Draft) → drop at all ≡ ds → chosen all (note_of n (with_titles at es ds)) None ≡ chosen all (note_of n es) (data_set_named n ds)
@@ -93,7 +94,7 @@ unfolding with_titles data_set_named
 named_from n all at es [] h = refl
 named_from n all at es (d ∷ ds) h =
     let first = first_at all at d ds h in
-    named_from n all (at + 1) (with_title d.name d.kind at es) ds first.1
+    named_from n all (at + 1) (with_title d.name (kind_number d.kind) at es) ds first.1
     ∙ one_more n all at d (data_set_named n ds) es first.0
 
 -- the structure at the place beside a name is the data set with this name
@@ -108,8 +109,8 @@ seen_from : (n : List ℕ) (at : ℕ) (es : List (List ℕ × Option ℕ)) (ds :
 unfolding with_titles is_structure
 seen_from n at es [] = elim (is_some (note_of n es)) as (λ t. t ≡ cond t true false) [ true ↦ refl | false ↦ refl ]
 seen_from n at es (d ∷ ds) =
-    let place = first_place (note_of d.name es) (nat_lt d.kind 3) at in
-    seen_from n (at + 1) (with_title d.name d.kind at es) ds
+    let place = first_place (note_of d.name es) (nat_lt (kind_number d.kind) 3) at in
+    seen_from n (at + 1) (with_title d.name (kind_number d.kind) at es) ds
     ∙ ap (λ (o : Option (Option ℕ)). cond (is_some o) true (is_structure n ds)) (noted-insert n d.name place es)
     ∙ seen (bytes_eq n d.name) (bytes_eq d.name n) place (note_of n es) (is_structure n ds) (turned n d.name)
 

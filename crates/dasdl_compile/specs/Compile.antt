@@ -2,7 +2,7 @@
 use Rattle.std.specs.Prelude.{◌≡◌, ◌-◌, List, [], ◌∷◌, ◌++◌, map, Bool, not, ◌&&◌, ◌||◌, ◌==◌, nat_lt, slice_get, set, Some, None, if◌then◌else◌}
 use Rattle.std.specs.declared.option.Option.{Option}
 use Rattle.std.specs.declared.result.Result.TheVariants.{Ok, Err}
-use Rattle.dms_desc.specs.Shape.{Shape, Described, as_described}
+use Rattle.dms_desc.specs.Shape.{Shape, Described, as_described, form_number, kind_number}
 use Rattle.dms_desc.specs.declared.description.Description.{Description}
 use Rattle.dasdl_parse.specs.declared.schema.Parameters.{Parameters}
 use Rattle.dasdl_parse.specs.declared.declarations.Declaration.{Declaration}
@@ -53,7 +53,7 @@ nothing_yet = record { made = []; within = 0 }
 
 -- a structure of the description
 abbrev pub shape_in : Draft → Shape
-shape_in d = record { number = d.number; kind = d.kind; name = d.name; owner = d.owner; population = d.population; items = d.items; groups = d.groups; cond = d.cond; set = d.set; form = d.form; duplicates = d.duplicates; parts = d.parts }
+shape_in d = record { number = d.number; kind = kind_number d.kind; name = d.name; owner = d.owner; population = d.population; items = d.items; groups = d.groups; cond = d.cond; set = d.set; form = form_number d.form; duplicates = d.duplicates; parts = d.parts }
 
 abbrev pub description_of : Parameters → List Draft → Described
 description_of p ds = record { syncpoint = p.syncpoint; controlpoint = p.controlpoint; buffers = p.buffers; blocks = p.blocks; files = p.files; structures = map shape_in ds }

@@ -2,14 +2,16 @@
 use Rattle.std.specs.Prelude.{ℕ, ◌+◌, min, List, [], ◌∷◌, length, Bool, true, false, ◌&&◌, ◌||◌, ◌==◌, nat_lt, is_some, Some, None, if◌then◌else◌}
 use Rattle.std.specs.declared.option.Option.{Option}
 use Rattle.std.specs.Str.{bytes_eq}
+use Rattle.dms_base.specs.declared.kind.StructureKind.{StructureKind}
 use Rattle.dms_desc.specs.declared.structure.Item.{Item}
+use Rattle.dms_desc.specs.Shape.{kind_number}
 use Rattle.dms_desc.specs.Shape.Tree.{Empty}
 use Rattle.dasdl_compile.specs.declared.draft.Draft.{Draft}
 use Rattle.dms_desc.specs.Lookups.{item_named, group_named}
 
 -- a structure of which no more is known than its name and where it stands
-abbrev pub new_draft : ℕ → ℕ → List ℕ → ℕ → Draft
-new_draft number kind name owner = record { number = number; kind = kind; name = name; owner = owner; population = 0; items = []; groups = []; cond = Empty; set = 0; form = 0; duplicates = false; parts = [] }
+abbrev pub new_draft : ℕ → StructureKind → List ℕ → ℕ → Draft
+new_draft number kind name owner = record { number = number; kind = kind; name = name; owner = owner; population = 0; items = []; groups = []; cond = Empty; set = 0; form = None; duplicates = false; parts = [] }
 
 -- structures count from 1 in text order; the count stops at 65,535, which no schema of 200 structures reaches
 abbrev pub next_structure : List Draft → ℕ
@@ -25,13 +27,13 @@ is_structure name (d ∷ ds) = if bytes_eq d.name name then true else is_structu
 
 -- a data set, also the restart data set
 abbrev pub is_data_set_draft : Draft → Bool
-is_data_set_draft d = nat_lt d.kind 3
+is_data_set_draft d = nat_lt (kind_number d.kind) 3
 
 abbrev pub is_restart_draft : Draft → Bool
-is_restart_draft d = d.kind == 2
+is_restart_draft d = kind_number d.kind == 2
 
 abbrev pub is_automatic_draft : Draft → Bool
-is_automatic_draft d = d.kind == 4
+is_automatic_draft d = kind_number d.kind == 4
 
 -- some structure is a restart data set
 unfoldable pub has_restart : List Draft → Bool
@@ -41,7 +43,7 @@ has_restart (d ∷ ds) = if is_restart_draft d then true else has_restart ds
 -- the kind of the structure with this number, 0 where there is none
 unfoldable pub kind_of : ℕ → List Draft → ℕ
 kind_of number [] = 0
-kind_of number (d ∷ ds) = if d.number == number then d.kind else kind_of number ds
+kind_of number (d ∷ ds) = if d.number == number then kind_number d.kind else kind_of number ds
 
 -- the data set with this name, a restart data set among them
 unfoldable pub data_set_named : List ℕ → List Draft → Option Draft

@@ -1,9 +1,11 @@
 -- What is declared, before anything is judged: names may be used before they are declared.
-use Rattle.std.specs.Prelude.{ℕ, ◌-◌, [], ◌∷◌, ◌++◌, Bool, false, slice_get, set, Some, None, if◌then◌else◌}
+use Rattle.std.specs.Prelude.{◌-◌, [], ◌∷◌, ◌++◌, Bool, false, slice_get, set, Some, None, if◌then◌else◌}
 use Rattle.std.specs.declared.option.Option.{Option}
 use Rattle.std.specs.declared.result.Result.TheVariants.{Ok}
 use Rattle.dms_base.specs.declared.value.Value.TheVariants.{Null}
 use Rattle.dms_base.specs.declared.kind.ItemKind.TheVariants.{Link as LinkTo}
+use Rattle.dms_base.specs.declared.kind.StructureKind.{StructureKind}
+use Rattle.dms_base.specs.declared.kind.StructureKind.TheVariants.{DataSet as PlainDataSet, RestartDataSet, Set}
 use Rattle.dasdl_parse.specs.declared.declarations.Declaration.{Declaration}
 use Rattle.dasdl_parse.specs.declared.declarations.Declaration.TheVariants.{DataSet, Item, Group, Link, SetOf, End}
 use Rattle.dasdl_parse.specs.declared.declarations.DataSetDecl.{DataSetDecl}
@@ -17,8 +19,8 @@ use Rattle.dasdl_compile.specs.Finding.{new_draft, next_structure}
 use Rattle.dasdl_compile.specs.Members.{with_item, with_group, open_after}
 
 -- the kind of a data set
-abbrev pub data_set_kind : Bool → ℕ
-data_set_kind restart = if restart then 2 else 1
+abbrev pub data_set_kind : Bool → StructureKind
+data_set_kind restart = if restart then RestartDataSet else PlainDataSet
 
 -- an item is noted
 unfoldable pub outlined_item : Plain → Draft → ItemDecl → Judged Draft
@@ -47,7 +49,7 @@ outlined_data_set s w = Ok (record { made = w.made ++ new_draft (next_structure 
 
 -- a set or subset is noted as a structure, for the count
 unfoldable pub outlined_set : SetDecl → Compilation → Judged Compilation
-outlined_set s w = Ok (record { made = w.made ++ new_draft (next_structure w.made) 3 s.name w.within ∷ []; within = w.within })
+outlined_set s w = Ok (record { made = w.made ++ new_draft (next_structure w.made) Set s.name w.within ∷ []; within = w.within })
 
 -- a declaration is noted
 unfoldable pub outlined_one : Plain → Compilation → Declaration → Judged Compilation

@@ -2,8 +2,10 @@
 use Rattle.std.specs.Prelude.{ℕ, List, [], ◌∷◌, ◌++◌, Bool, true, false, not, ◌&&◌, ◌||◌, ◌==◌, nat_lt, is_some, is_none, Some, None, if◌then◌else◌}
 use Rattle.std.specs.declared.option.Option.{Option}
 use Rattle.std.specs.declared.result.Result.TheVariants.{Ok, Err}
+use Rattle.dms_base.specs.declared.kind.StructureKind.{StructureKind}
+use Rattle.dms_base.specs.declared.kind.StructureKind.TheVariants.{Set, AutomaticSubset, ManualSubset}
 use Rattle.dms_desc.specs.declared.structure.KeyPart.{KeyPart}
-use Rattle.dms_desc.specs.Shape.{Tree}
+use Rattle.dms_desc.specs.Shape.{Tree, kind_number}
 use Rattle.dms_desc.specs.Shape.Tree.{Empty}
 use Rattle.dasdl_phrases.specs.Trees.{Condition}
 use Rattle.dasdl_parse.specs.declared.declarations.SetDecl.{SetDecl}
@@ -18,8 +20,8 @@ use Rattle.dasdl_compile.specs.Conditions.{condition}
 use Rattle.dasdl_compile.specs.Keys.{key_at}
 
 -- a set; a subset with WHERE is automatic, one without is manual
-abbrev pub set_kind : SetDecl → ℕ
-set_kind s = if not s.subset then 3 else (if is_some s.cond then 4 else 5)
+abbrev pub set_kind : SetDecl → StructureKind
+set_kind s = if not s.subset then Set else (if is_some s.cond then AutomaticSubset else ManualSubset)
 
 -- the condition is judged first, and then whether it stands on a subset
 abbrev pub where_in : Draft → SetDecl → Option Condition → Judged Tree
@@ -52,11 +54,11 @@ options_at d s =
 -- a set or subset stands where its data set stands; a manual subset of a data set that stands in no other may stand
 -- in any data set but the restart data set
 unfoldable pub is_misplaced : Compilation → SetDecl → Draft → Bool
-is_misplaced w s d = not (d.owner == w.within || (set_kind s == 5 && d.owner == 0 && not (kind_of w.within w.made == 2)))
+is_misplaced w s d = not (d.owner == w.within || (kind_number (set_kind s) == 5 && d.owner == 0 && not (kind_of w.within w.made == 2)))
 
 -- a set and an automatic subset have a key
 abbrev pub lacks_key : SetDecl → Bool
-lacks_key s = is_none s.key && not (set_kind s == 5)
+lacks_key s = is_none s.key && not (kind_number (set_kind s) == 5)
 
 abbrev pub no_parts : List KeyPart → Bool
 no_parts [] = true
@@ -64,7 +66,7 @@ no_parts (p ∷ ps) = false
 
 -- population counts in a manual subset alone
 abbrev pub population_of : SetDecl → ℕ
-population_of s = if set_kind s == 5 then s.population else 0
+population_of s = if kind_number (set_kind s) == 5 then s.population else 0
 
 -- without a key two members may be equal
 abbrev pub has_duplicates : SetDecl → List KeyPart → Bool
@@ -72,7 +74,7 @@ has_duplicates s ps = s.duplicates || no_parts ps
 
 -- a set or subset as it stands in the description
 abbrev pub set_draft : Compilation → SetDecl → Draft → WhereAndKey → Draft
-set_draft w s d o = record { number = next_structure w.made; kind = set_kind s; name = s.name; owner = w.within; population = population_of s; items = []; groups = []; cond = o.cond; set = d.number; form = s.form; duplicates = has_duplicates s o.parts; parts = o.parts }
+set_draft w s d o = record { number = next_structure w.made; kind = set_kind s; name = s.name; owner = w.within; population = population_of s; items = []; groups = []; cond = o.cond; set = d.number; form = Some s.form; duplicates = has_duplicates s o.parts; parts = o.parts }
 
 -- its place, then KEY and WHERE in text order, then whether it has a key
 unfoldable pub set_over : SetDecl → Draft → Compilation → Judged Compilation

@@ -5,11 +5,12 @@ use Rattle.std.specs.declared.option.Option.{Option}
 use Rattle.std.specs.Map.{lookup}
 use Rattle.std.specs.Str.{bytes_eq}
 use Rattle.indexmap.specs.IndexMap.{insert_entry}
+use Rattle.dms_desc.specs.Shape.{kind_number}
 use Rattle.dasdl_compile.specs.declared.draft.Draft.{Draft}
 
 -- a structure's name and kind, which no member changes
 abbrev pub title : Draft → List ℕ × ℕ
-title d = (d.name, d.kind)
+title d = (d.name, kind_number d.kind)
 
 -- what has neither name nor kind
 abbrev pub no_title : {S : Type 0} → S → List ℕ × ℕ
@@ -32,7 +33,7 @@ with_title name kind at es = insert_entry bytes_eq es name (first_place (note_of
 -- the table with these structures, too, the first of them at this place
 unfoldable pub with_titles : ℕ → List (List ℕ × Option ℕ) → List Draft → List (List ℕ × Option ℕ)
 with_titles at es [] = es
-with_titles at es (d ∷ ds) = with_titles (at + 1) (with_title d.name d.kind at es) ds
+with_titles at es (d ∷ ds) = with_titles (at + 1) (with_title d.name (kind_number d.kind) at es) ds
 
 -- the table of these structures
 abbrev pub names_of : List Draft → List (List ℕ × Option ℕ)

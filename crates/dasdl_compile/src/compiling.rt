@@ -7,7 +7,7 @@ ghost use Rattle.dasdl_compile.specs.Tables.{no_title};
 use crate::draft::Draft;
 use crate::drafts::Drafts;
 use crate::fault::CompileFault;
-use crate::find::{has_restart, kind_of, next_structure};
+use crate::find::{has_restart, is_restart, next_structure};
 use crate::members::open_after;
 use crate::outline::data_set_kind;
 use crate::sets::set_at;
@@ -27,7 +27,7 @@ const DESCRIPTION_BYTES: u32 = 65_535;
 fn is_misplaced(work: &Compilation, data_set: &DataSetDecl) -> bool
     ensures { result ≡ is_misplaced data_set.now work.now }
 {
-    (data_set.restart && work.within != 0) || kind_of(work.made.as_slice(), work.within) == 2
+    (data_set.restart && work.within != 0) || is_restart(work.made.as_slice(), work.within)
 }
 
 /// A data set begins.

@@ -2,17 +2,16 @@ ghost use Rattle.std.specs.Prelude.{◌≡◌};
 ghost use Rattle.dasdl_compile.specs.Finding.{new_draft, is_data_set_draft, is_restart_draft, is_automatic_draft};
 
 use crate::condition::ConditionTree;
-use dms_base::Name;
+use dms_base::{Name, SetForm, StructureKind};
 use dms_desc::{Groups, Items, KeyParts};
 use std::alloc::Global;
 
-/// A structure as far as it was declared. Its `kind` is 1 for a data set, 2 for the restart data
-/// set, 3 for a set, 4 for an automatic subset and 5 for a manual subset.
+/// A structure as far as it was declared.
 #[derive(Drop)]
 pub struct Draft {
     /// From 1, in text order.
     pub number: u16,
-    pub kind: u8,
+    pub kind: StructureKind,
     pub name: Name,
     /// The number of the data set that it stands in, 0 for none.
     pub owner: u16,
@@ -24,8 +23,8 @@ pub struct Draft {
     pub cond: ConditionTree,
     /// The number of the data set whose records a set or subset refers to; 0 for a data set.
     pub set: u16,
-    /// 1 for index sequential, 2 for an ordered list; 0 for a data set.
-    pub form: u8,
+    /// None for a data set.
+    pub form: Option<SetForm>,
     /// Whether two members may have equal keys.
     pub duplicates: bool,
     pub parts: KeyParts,
@@ -33,7 +32,7 @@ pub struct Draft {
 
 impl Draft {
     /// A structure of which no more is known than its name and where it stands.
-    pub fn new(alloc: Global, number: u16, kind: u8, name: Name, owner: u16) -> Draft
+    pub fn new(alloc: Global, number: u16, kind: StructureKind, name: Name, owner: u16) -> Draft
         ensures { result ≡ new_draft number kind name owner }
     {
         Draft {
@@ -46,7 +45,7 @@ impl Draft {
             groups: Groups::new(alloc),
             cond: ConditionTree::nothing(),
             set: 0,
-            form: 0,
+            form: None,
             duplicates: false,
             parts: KeyParts::new(alloc),
         }
@@ -56,20 +55,23 @@ impl Draft {
     pub fn is_data_set(&self) -> bool
         ensures { result ≡ is_data_set_draft self.now }
     {
-        self.kind < 3
+        matches!(
+            self.kind,
+            StructureKind::DataSet | StructureKind::RestartDataSet
+        )
     }
 
     /// Whether it is the restart data set.
     pub fn is_restart(&self) -> bool
         ensures { result ≡ is_restart_draft self.now }
     {
-        self.kind == 2
+        matches!(self.kind, StructureKind::RestartDataSet)
     }
 
     /// Whether it is an automatic subset.
     pub fn is_automatic(&self) -> bool
         ensures { result ≡ is_automatic_draft self.now }
     {
-        self.kind == 4
+        matches!(self.kind, StructureKind::AutomaticSubset)
     }
 }

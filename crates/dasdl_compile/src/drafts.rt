@@ -1,5 +1,6 @@
-ghost use Rattle.std.specs.Prelude.{◌≡◌, ◌<◌, ◌++◌, ◌∷◌, [], OnErr, OnOk, length, slice_get, Some};
+ghost use Rattle.std.specs.Prelude.{◌≡◌, ◌<◌, ◌++◌, ◌∷◌, [], OnErr, OnOk, length, nat_lt, slice_get, Some};
 ghost use Rattle.std.specs.Option.{option_copied};
+ghost use Rattle.dms_desc.specs.Shape.{kind_number};
 ghost use Rattle.dasdl_compile.specs.Answers.{Makes, in_place};
 ghost use Rattle.dasdl_compile.specs.Finding.{is_structure, data_set_named};
 ghost use Rattle.dasdl_compile.specs.Members.{member_at};
@@ -13,7 +14,7 @@ use crate::members::member_at;
 use crate::outline::outlined_member;
 use crate::work::Plain;
 use dasdl_parse::Declaration;
-use dms_base::{Memory, Name};
+use dms_base::{Memory, Name, StructureKind};
 use indexmap::IndexMap;
 use std::alloc::Global;
 use std::marker::Model;
@@ -52,17 +53,24 @@ fn first_place(noted: Option<Option<usize>>, is_data_set: bool, at: usize) -> Op
     if is_data_set { Some(at) } else { None }
 }
 
+/// Whether this is the kind of a data set, also of the restart data set.
+fn is_data_set(kind: StructureKind) -> bool
+    ensures { result ≡ nat_lt (kind_number kind) 3 }
+{
+    matches!(kind, StructureKind::DataSet | StructureKind::RestartDataSet)
+}
+
 /// Notes the name of the structure at this place.
 fn note_title(
     names: &mut IndexMap<Name, Option<usize>>,
     name: Name,
-    kind: u8,
+    kind: StructureKind,
     at: usize,
 ) -> Result<(), Memory>
-    ensures ok { OnOk result (names.new.entries ≡ with_title name kind at names.old.entries) }
+    ensures ok { OnOk result (names.new.entries ≡ with_title name (kind_number kind) at names.old.entries) }
     ensures err { OnErr result (names.new.entries ≡ names.old.entries) }
 {
-    let place = first_place(names.get(&name).copied(), kind < 3, at);
+    let place = first_place(names.get(&name).copied(), is_data_set(kind), at);
     names.insert(name, place)?;
     Ok(())
 }

@@ -1,4 +1,4 @@
-ghost use Rattle.std.specs.Prelude.{◌≡◌};
+ghost use Rattle.std.specs.Prelude.{◌≡◌, ◌==◌};
 ghost use Rattle.dasdl_compile.specs.Finding.{next_structure, next_item, has_restart, kind_of, is_taken};
 
 use crate::draft::Draft;
@@ -38,17 +38,17 @@ pub fn has_restart(drafts: &[Draft]) -> bool
     false
 }
 
-/// The kind of the structure with this number, 0 where there is none.
+/// Whether the structure with this number is the restart data set; no where there is none.
 #[tactic(auto, unfolding(crate::specs::Finding::kind_of))]
-pub fn kind_of(drafts: &[Draft], number: u16) -> u8
-    ensures { result ≡ kind_of number drafts.now }
+pub fn is_restart(drafts: &[Draft], number: u16) -> bool
+    ensures { result ≡ (kind_of number drafts.now == 2) }
 {
     for draft in drafts {
         if draft.number == number {
-            return draft.kind;
+            return draft.is_restart();
         }
     }
-    0
+    false
 }
 
 /// Whether an item, link or group of a data set has this name.

@@ -10,15 +10,19 @@ use crate::members::{count_of, open_after};
 use crate::steps::{Stepwise, all_steps};
 use crate::work::{Compilation, Plain};
 use dasdl_parse::{DataSetDecl, Declaration, ItemDecl, SetDecl};
-use dms_base::{ItemKind, Value};
+use dms_base::{ItemKind, StructureKind, Value};
 use dms_desc::{Group, Item};
 use std::alloc::Global;
 
-/// The kind of a data set: 1, or 2 for the restart data set.
-pub fn data_set_kind(restart: bool) -> u8
+/// The kind of a data set.
+pub fn data_set_kind(restart: bool) -> StructureKind
     ensures { result ≡ data_set_kind restart }
 {
-    if restart { 2 } else { 1 }
+    if restart {
+        StructureKind::RestartDataSet
+    } else {
+        StructureKind::DataSet
+    }
 }
 
 impl Stepwise<Plain, ItemDecl> for Draft {
@@ -123,8 +127,7 @@ fn outlined_set(work: &mut Compilation, alloc: Global, set: &SetDecl) -> Result<
     ensures { Makes result work.new (outlined_set set.now work.old) }
 {
     let number = next_structure(work.made.as_slice());
-    work.made
-        .push(Draft::new(alloc, number, 3, set.name, work.within))?;
+    work.made.push(Draft::new(alloc, number, StructureKind::Set, set.name, work.within))?;
     Ok(())
 }
 

@@ -1,4 +1,5 @@
-ghost use Rattle.std.specs.Prelude.{◌≡◌};
+ghost use Rattle.std.specs.Prelude.{◌≡◌, ◌==◌};
+ghost use Rattle.dms_desc.specs.Shape.{kind_number};
 ghost use Rattle.dasdl_compile.specs.Answers.{CompileGives, Makes};
 ghost use Rattle.dasdl_compile.specs.Sets.{set_kind, where_of, key_of, key_is_first, options_at, is_misplaced, lacks_key, no_parts, population_of, has_duplicates, set_draft, set_over, set_at};
 
@@ -7,11 +8,12 @@ use crate::conditions::condition;
 use crate::draft::Draft;
 use crate::drafts::Drafts;
 use crate::fault::CompileFault;
-use crate::find::{kind_of, next_structure};
+use crate::find::{is_restart, next_structure};
 use crate::keys::key_at;
 use crate::work::Compilation;
 use dasdl_parse::SetDecl;
 use dasdl_phrases::{CondDecl, KeyDecl};
+use dms_base::StructureKind;
 use dms_desc::{Groups, Items, KeyPart, KeyParts};
 use std::alloc::Global;
 
@@ -22,17 +24,23 @@ pub struct WhereAndKey {
     pub parts: KeyParts,
 }
 
-/// 3 for a set, 4 for a subset with WHERE, 5 for one without.
-fn set_kind(set: &SetDecl) -> u8
+/// A set; a subset with WHERE is automatic, one without is manual.
+fn set_kind(set: &SetDecl) -> StructureKind
     ensures { result ≡ set_kind set.now }
 {
     if !set.subset {
-        return 3;
+        return StructureKind::Set;
     }
     if set.cond.is_some() {
-        return 4;
+        return StructureKind::AutomaticSubset;
     }
-    5
+    StructureKind::ManualSubset
+}
+
+fn is_manual(set: &SetDecl) -> bool
+    ensures { result ≡ (kind_number (set_kind set.now) == 5) }
+{
+    matches!(set_kind(set), StructureKind::ManualSubset)
 }
 
 /// The condition of WHERE.
@@ -95,8 +103,8 @@ fn options_at(alloc: Global, data_set: &Draft, set: &SetDecl) -> Result<WhereAnd
 fn is_misplaced(work: &Compilation, set: &SetDecl, data_set: &Draft) -> bool
     ensures { result ≡ is_misplaced work.now set.now data_set.now }
 {
-    let in_restart = kind_of(work.made.as_slice(), work.within) == 2;
-    let may_stand_apart = set_kind(set) == 5 && data_set.owner == 0 && !in_restart;
+    let in_restart = is_restart(work.made.as_slice(), work.within);
+    let may_stand_apart = is_manual(set) && data_set.owner == 0 && !in_restart;
     !(data_set.owner == work.within || may_stand_apart)
 }
 
@@ -104,7 +112,7 @@ fn is_misplaced(work: &Compilation, set: &SetDecl, data_set: &Draft) -> bool
 fn lacks_key(set: &SetDecl) -> bool
     ensures { result ≡ lacks_key set.now }
 {
-    set.key.is_none() && set_kind(set) != 5
+    set.key.is_none() && !is_manual(set)
 }
 
 /// Whether there are no parts.
@@ -118,7 +126,7 @@ fn no_parts(parts: &[KeyPart]) -> bool
 fn population_of(set: &SetDecl) -> u32
     ensures { result ≡ population_of set.now }
 {
-    if set_kind(set) == 5 {
+    if is_manual(set) {
         return set.population;
     }
     0
@@ -155,7 +163,7 @@ fn set_draft(
         groups: Groups::new(alloc),
         cond: options.cond,
         set: data_set.number,
-        form: set.form,
+        form: Some(set.form),
         duplicates,
         parts: options.parts,
     }

@@ -5,6 +5,8 @@ use Rattle.std.specs.declared.option.Option.{Option}
 use Rattle.std.specs.declared.result.Result.TheVariants.{Ok}
 use Rattle.dms_tokens.specs.declared.token.Token.{Token}
 use Rattle.dms_tokens.specs.declared.token.Token.TheVariants.{Word, Sign}
+use Rattle.dms_base.specs.declared.kind.SetForm.{SetForm}
+use Rattle.dms_base.specs.declared.kind.SetForm.TheVariants.{IndexSequential, OrderedList}
 use Rattle.dms_tokens.specs.declared.token.Lexeme.{Lexeme}
 use Rattle.dasdl_phrases.specs.declared.key_parts.KeyDecl.{KeyDecl}
 use Rattle.dasdl_parse.specs.declared.sets.SetOptions.{SetOptions}
@@ -85,11 +87,11 @@ duplicates_two : (k l : Lexeme) (rest : List Lexeme) → k.token ≡ Word (codes
 unfolding duplicates_at word_at
 duplicates_two k l rest e f = rw (e, f) refl
 
-form_one : (k l : Lexeme) (rest : List Lexeme) → k.token ≡ Word (codes "INDEX") → l.token ≡ Word (codes "SEQUENTIAL") → form_at (k ∷ l ∷ rest) ≡ Ok (1, rest)
+form_one : (k l : Lexeme) (rest : List Lexeme) → k.token ≡ Word (codes "INDEX") → l.token ≡ Word (codes "SEQUENTIAL") → form_at (k ∷ l ∷ rest) ≡ Ok (IndexSequential, rest)
 unfolding form_at word_at
 form_one k l rest e f = rw (e, f) refl
 
-form_two : (k l : Lexeme) (rest : List Lexeme) → k.token ≡ Word (codes "ORDERED") → l.token ≡ Word (codes "LIST") → form_at (k ∷ l ∷ rest) ≡ Ok (2, rest)
+form_two : (k l : Lexeme) (rest : List Lexeme) → k.token ≡ Word (codes "ORDERED") → l.token ≡ Word (codes "LIST") → form_at (k ∷ l ∷ rest) ≡ Ok (OrderedList, rest)
 unfolding form_at word_at
 form_two k l rest e f = rw (e, f) refl
 
@@ -105,15 +107,15 @@ two_lexemes us x y e =
     (k.l, l.l, k.all ∙ ap (λ (vs : List Lexeme). k.l ∷ vs) (l.all ∙ ap (λ (vs : List Lexeme). l.l ∷ vs) (none_left l.b l.back)), k.token, l.token)
 
 -- a plain option, after what stands before it in the order of tests
-plain_duplicates : (cond : Option Condition) (key : Option KeyDecl) (form population : Option ℕ) (d : Bool) (ts rest : List Lexeme) → starts_duplicates ts ≡ true → duplicates_at ts ≡ Ok (d, rest) → plain_option_at (record { cond = cond; key = key; duplicates = None; form = form; population = population }) ts ≡ Ok (record { cond = cond; key = key; duplicates = Some d; form = form; population = population }, rest)
+plain_duplicates : (cond : Option Condition) (key : Option KeyDecl) (form : Option SetForm) (population : Option ℕ) (d : Bool) (ts rest : List Lexeme) → starts_duplicates ts ≡ true → duplicates_at ts ≡ Ok (d, rest) → plain_option_at (record { cond = cond; key = key; duplicates = None; form = form; population = population }) ts ≡ Ok (record { cond = cond; key = key; duplicates = Some d; form = form; population = population }, rest)
 unfolding plain_option_at
 plain_duplicates cond key form population d ts rest p h = rw (p, h) refl
 
-plain_form : (cond : Option Condition) (key : Option KeyDecl) (duplicates : Option Bool) (population : Option ℕ) (f : ℕ) (ts rest : List Lexeme) → starts_duplicates ts ≡ false → starts_form ts ≡ true → form_at ts ≡ Ok (f, rest) → plain_option_at (record { cond = cond; key = key; duplicates = duplicates; form = None; population = population }) ts ≡ Ok (record { cond = cond; key = key; duplicates = duplicates; form = Some f; population = population }, rest)
+plain_form : (cond : Option Condition) (key : Option KeyDecl) (duplicates : Option Bool) (population : Option ℕ) (f : SetForm) (ts rest : List Lexeme) → starts_duplicates ts ≡ false → starts_form ts ≡ true → form_at ts ≡ Ok (f, rest) → plain_option_at (record { cond = cond; key = key; duplicates = duplicates; form = None; population = population }) ts ≡ Ok (record { cond = cond; key = key; duplicates = duplicates; form = Some f; population = population }, rest)
 unfolding plain_option_at
 plain_form cond key duplicates population f ts rest p q h = rw (p, q, h) refl
 
-plain_population : (cond : Option Condition) (key : Option KeyDecl) (duplicates : Option Bool) (form : Option ℕ) (n : ℕ) (ts rest : List Lexeme) → starts_duplicates ts ≡ false → starts_form ts ≡ false → starts (is_word (codes "POPULATION")) ts ≡ true → population_at ts ≡ Ok (n, rest) → plain_option_at (record { cond = cond; key = key; duplicates = duplicates; form = form; population = None }) ts ≡ Ok (record { cond = cond; key = key; duplicates = duplicates; form = form; population = Some n }, rest)
+plain_population : (cond : Option Condition) (key : Option KeyDecl) (duplicates : Option Bool) (form : Option SetForm) (n : ℕ) (ts rest : List Lexeme) → starts_duplicates ts ≡ false → starts_form ts ≡ false → starts (is_word (codes "POPULATION")) ts ≡ true → population_at ts ≡ Ok (n, rest) → plain_option_at (record { cond = cond; key = key; duplicates = duplicates; form = form; population = None }) ts ≡ Ok (record { cond = cond; key = key; duplicates = duplicates; form = form; population = Some n }, rest)
 unfolding plain_option_at
 plain_population cond key duplicates form n ts rest p q r h = rw (p, q, r, h) refl
 
@@ -121,11 +123,11 @@ by_plain : (s t : SetOptions) (ts rest : List Lexeme) → starts (is_word (codes
 unfolding set_option_at
 by_plain s t ts rest p q h = rw (p, q) h
 
-by_where : (key : Option KeyDecl) (duplicates : Option Bool) (form population : Option ℕ) (c : Condition) (ts rest : List Lexeme) → starts (is_word (codes "WHERE")) ts ≡ true → cond_decl_at (codes "WHERE") ts ≡ Ok (c, rest) → set_option_at (record { cond = None; key = key; duplicates = duplicates; form = form; population = population }) ts ≡ Ok (record { cond = Some c; key = key; duplicates = duplicates; form = form; population = population }, rest)
+by_where : (key : Option KeyDecl) (duplicates : Option Bool) (form : Option SetForm) (population : Option ℕ) (c : Condition) (ts rest : List Lexeme) → starts (is_word (codes "WHERE")) ts ≡ true → cond_decl_at (codes "WHERE") ts ≡ Ok (c, rest) → set_option_at (record { cond = None; key = key; duplicates = duplicates; form = form; population = population }) ts ≡ Ok (record { cond = Some c; key = key; duplicates = duplicates; form = form; population = population }, rest)
 unfolding set_option_at
 by_where key duplicates form population c ts rest p h = rw (p, h) refl
 
-by_key : (cond : Option Condition) (duplicates : Option Bool) (form population : Option ℕ) (k : KeyDecl) (ts rest : List Lexeme) → starts (is_word (codes "WHERE")) ts ≡ false → starts (is_word (codes "KEY")) ts ≡ true → key_at ts ≡ Ok (k, rest) → set_option_at (record { cond = cond; key = None; duplicates = duplicates; form = form; population = population }) ts ≡ Ok (record { cond = cond; key = Some k; duplicates = duplicates; form = form; population = population }, rest)
+by_key : (cond : Option Condition) (duplicates : Option Bool) (form : Option SetForm) (population : Option ℕ) (k : KeyDecl) (ts rest : List Lexeme) → starts (is_word (codes "WHERE")) ts ≡ false → starts (is_word (codes "KEY")) ts ≡ true → key_at ts ≡ Ok (k, rest) → set_option_at (record { cond = cond; key = None; duplicates = duplicates; form = form; population = population }) ts ≡ Ok (record { cond = cond; key = Some k; duplicates = duplicates; form = form; population = population }, rest)
 unfolding set_option_at
 by_key cond duplicates form population k ts rest p q h = rw (p, q, h) refl
 
@@ -151,16 +153,16 @@ duplicates_reads _ _ not_allowed us e rest =
     let r : duplicates_at (us ++ rest) ≡ Ok (false, rest) = rw k.2 (duplicates_two k.0 k.1 rest k.3 k.4) in
     (r, either _ _ false true (not_first (codes "NO") us rest f (codes "DUPLICATES") refl) (is_first (codes "NO") us rest f refl), not_first (codes "NO") us rest f (codes "WHERE") refl, not_first (codes "NO") us rest f (codes "KEY") refl)
 
-form_reads : (d : ℕ) (xs : List Token) → IsForm d xs → (us : List Lexeme) → map token_of us ≡ xs → (rest : List Lexeme) → (form_at (us ++ rest) ≡ Ok (d, rest)) × (starts_form (us ++ rest) ≡ true) × (starts_duplicates (us ++ rest) ≡ false) × (starts (is_word (codes "WHERE")) (us ++ rest) ≡ false) × (starts (is_word (codes "KEY")) (us ++ rest) ≡ false)
+form_reads : (d : SetForm) (xs : List Token) → IsForm d xs → (us : List Lexeme) → map token_of us ≡ xs → (rest : List Lexeme) → (form_at (us ++ rest) ≡ Ok (d, rest)) × (starts_form (us ++ rest) ≡ true) × (starts_duplicates (us ++ rest) ≡ false) × (starts (is_word (codes "WHERE")) (us ++ rest) ≡ false) × (starts (is_word (codes "KEY")) (us ++ rest) ≡ false)
 form_reads _ _ a_tree us e rest =
     let k = two_lexemes us (Word (codes "INDEX")) (Word (codes "SEQUENTIAL")) e in
     let f : FirstWord (codes "INDEX") us = record { l = k.0; others = k.1 ∷ []; all = k.2; token = k.3 } in
-    let r : form_at (us ++ rest) ≡ Ok (1, rest) = rw k.2 (form_one k.0 k.1 rest k.3 k.4) in
+    let r : form_at (us ++ rest) ≡ Ok (IndexSequential, rest) = rw k.2 (form_one k.0 k.1 rest k.3 k.4) in
     (r, either _ _ true false (is_first (codes "INDEX") us rest f refl) (not_first (codes "INDEX") us rest f (codes "ORDERED") refl), either _ _ false false (not_first (codes "INDEX") us rest f (codes "DUPLICATES") refl) (not_first (codes "INDEX") us rest f (codes "NO") refl), not_first (codes "INDEX") us rest f (codes "WHERE") refl, not_first (codes "INDEX") us rest f (codes "KEY") refl)
 form_reads _ _ a_list us e rest =
     let k = two_lexemes us (Word (codes "ORDERED")) (Word (codes "LIST")) e in
     let f : FirstWord (codes "ORDERED") us = record { l = k.0; others = k.1 ∷ []; all = k.2; token = k.3 } in
-    let r : form_at (us ++ rest) ≡ Ok (2, rest) = rw k.2 (form_two k.0 k.1 rest k.3 k.4) in
+    let r : form_at (us ++ rest) ≡ Ok (OrderedList, rest) = rw k.2 (form_two k.0 k.1 rest k.3 k.4) in
     (r, either _ _ false true (not_first (codes "ORDERED") us rest f (codes "INDEX") refl) (is_first (codes "ORDERED") us rest f refl), either _ _ false false (not_first (codes "ORDERED") us rest f (codes "DUPLICATES") refl) (not_first (codes "ORDERED") us rest f (codes "NO") refl), not_first (codes "ORDERED") us rest f (codes "WHERE") refl, not_first (codes "ORDERED") us rest f (codes "KEY") refl)
 
 set_option_complete : (s t : SetOptions) (us rest : List Lexeme) → SetOption s t us → FollowsSaid rest → set_option_at s (us ++ rest) ≡ Ok (t, rest)
@@ -185,7 +187,7 @@ duplicates_open : (d : Bool) (xs : List Token) → IsDuplicates d xs → (us : L
 duplicates_open _ _ allowed us e = let k = one_lexeme us (Word (codes "DUPLICATES")) e in opens_by (codes "DUPLICATES") us [] k.0 k.1 k.2 refl refl refl refl
 duplicates_open _ _ not_allowed us e = let k = two_lexemes us (Word (codes "NO")) (Word (codes "DUPLICATES")) e in opens_by (codes "NO") us (k.1 ∷ []) k.0 k.2 k.3 refl refl refl refl
 
-form_opens : (d : ℕ) (xs : List Token) → IsForm d xs → (us : List Lexeme) → map token_of us ≡ xs → Opens us
+form_opens : (d : SetForm) (xs : List Token) → IsForm d xs → (us : List Lexeme) → map token_of us ≡ xs → Opens us
 form_opens _ _ a_tree us e = let k = two_lexemes us (Word (codes "INDEX")) (Word (codes "SEQUENTIAL")) e in opens_by (codes "INDEX") us (k.1 ∷ []) k.0 k.2 k.3 refl refl refl refl
 form_opens _ _ a_list us e = let k = two_lexemes us (Word (codes "ORDERED")) (Word (codes "LIST")) e in opens_by (codes "ORDERED") us (k.1 ∷ []) k.0 k.2 k.3 refl refl refl refl
 

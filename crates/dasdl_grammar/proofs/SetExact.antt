@@ -1,11 +1,13 @@
 -- The options of sets and data sets are read exactly.
-use Rattle.std.proofs.Common.{◌≡◌, ◌≤◌, ℕ, List, [], ◌∷◌, ◌++◌, map, Bool, true, false, cond, refl, sym, ap, ◌∙◌, subst}
+use Rattle.std.proofs.Common.{◌≡◌, ◌≤◌, ℕ, List, [], ◌∷◌, ◌++◌, map, Bool, true, false, refl, sym, ap, ◌∙◌, subst}
 use Rattle.std.specs.Prelude.{codes, Some, is_none}
 use Rattle.std.specs.declared.option.Option.{Option}
 use Rattle.std.specs.declared.result.Result.TheVariants.{Ok}
 use Rattle.dms_base.specs.declared.op.Op.TheVariants.{Equal}
 use Rattle.dms_tokens.specs.declared.token.Token.{Token}
 use Rattle.dms_tokens.specs.declared.token.Token.TheVariants.{Word, Number, Compare}
+use Rattle.dms_base.specs.declared.kind.SetForm.{SetForm}
+use Rattle.dms_base.specs.declared.kind.SetForm.TheVariants.{IndexSequential, OrderedList}
 use Rattle.dms_tokens.specs.declared.token.Lexeme.{Lexeme}
 use Rattle.dasdl_phrases.specs.declared.key_parts.PartDecl.{PartDecl}
 use Rattle.dasdl_phrases.specs.declared.key_parts.KeyDecl.{KeyDecl}
@@ -13,7 +15,6 @@ use Rattle.dasdl_parse.specs.declared.sets.SetOptions.{SetOptions}
 use Rattle.dasdl_parse.specs.declared.data_sets.DataSetOptions.{DataSetOptions}
 use Rattle.dasdl_phrases.specs.TreeCodes.{WrittenTree}
 use Rattle.dasdl_phrases.specs.Trees.{Condition}
-use Rattle.dasdl_phrases.specs.Reads.{◌>>=◌}
 use Rattle.dms_tokens.specs.Cursors.{place_at, starts, is_word}
 use Rattle.dasdl_phrases.specs.Cursors.{word_at, equal_at}
 use Rattle.dasdl_phrases.specs.Conditions.{cond_at, cond_decl_at}
@@ -119,22 +120,22 @@ duplicates_sound ts d rest h =
     let l = word_spelled (codes "DUPLICATES") a.0 b.0 b.1 in
     subst (λ (x : Bool × List Lexeme). Reads IsDuplicates ts x.0 x.1) (ok_same (false, b.0) (d, rest) b.2) (record { used = k.first ∷ l.first ∷ []; is = rw (k.token, l.token) not_allowed; all = k.all ∙ ap (λ (xs : List Lexeme). k.first ∷ xs) l.all })) h
 
-form_sound : (ts : List Lexeme) (f : ℕ) (rest : List Lexeme) → form_at ts ≡ Ok (f, rest) → Reads IsForm ts f rest
+form_sound : (ts : List Lexeme) (f : SetForm) (rest : List Lexeme) → form_at ts ≡ Ok (f, rest) → Reads IsForm ts f rest
 unfolding form_at
 form_sound ts f rest h =
-    pick {A = ℕ × List Lexeme} (starts (is_word (codes "INDEX")) ts) _ _ (f, rest)
+    pick {A = SetForm × List Lexeme} (starts (is_word (codes "INDEX")) ts) _ _ (f, rest)
     (λ e.
     let a = bind_ok (word_at (codes "INDEX") ts) _ _ e in
     let b = bind_ok (word_at (codes "SEQUENTIAL") a.0) _ _ a.2 in
     let k = word_spelled (codes "INDEX") ts a.0 a.1 in
     let l = word_spelled (codes "SEQUENTIAL") a.0 b.0 b.1 in
-    subst (λ (x : ℕ × List Lexeme). Reads IsForm ts x.0 x.1) (ok_same (1, b.0) (f, rest) b.2) (record { used = k.first ∷ l.first ∷ []; is = rw (k.token, l.token) a_tree; all = k.all ∙ ap (λ (xs : List Lexeme). k.first ∷ xs) l.all }))
+    subst (λ (x : SetForm × List Lexeme). Reads IsForm ts x.0 x.1) (ok_same (IndexSequential, b.0) (f, rest) b.2) (record { used = k.first ∷ l.first ∷ []; is = rw (k.token, l.token) a_tree; all = k.all ∙ ap (λ (xs : List Lexeme). k.first ∷ xs) l.all }))
     (λ e.
     let a = bind_ok (word_at (codes "ORDERED") ts) _ _ e in
     let b = bind_ok (word_at (codes "LIST") a.0) _ _ a.2 in
     let k = word_spelled (codes "ORDERED") ts a.0 a.1 in
     let l = word_spelled (codes "LIST") a.0 b.0 b.1 in
-    subst (λ (x : ℕ × List Lexeme). Reads IsForm ts x.0 x.1) (ok_same (2, b.0) (f, rest) b.2) (record { used = k.first ∷ l.first ∷ []; is = rw (k.token, l.token) a_list; all = k.all ∙ ap (λ (xs : List Lexeme). k.first ∷ xs) l.all })) h
+    subst (λ (x : SetForm × List Lexeme). Reads IsForm ts x.0 x.1) (ok_same (OrderedList, b.0) (f, rest) b.2) (record { used = k.first ∷ l.first ∷ []; is = rw (k.token, l.token) a_list; all = k.all ∙ ap (λ (xs : List Lexeme). k.first ∷ xs) l.all })) h
 
 plain_sound : (s t : SetOptions) (ts rest : List Lexeme) → plain_option_at s ts ≡ Ok (t, rest) → SpellsFirst (SetOption s) ts t rest
 unfolding plain_option_at
@@ -149,7 +150,7 @@ plain_sound s t ts rest h =
     (λ n e.
     let a = bind_ok (form_at ts) _ _ e in
     let d = form_sound ts a.0.0 a.0.1 a.1 in
-    let o : SetOption s (record { cond = s.cond; key = s.key; duplicates = s.duplicates; form = Some a.0.0; population = s.population }) d.used = subst (λ (x : Option ℕ). SetOption (record { cond = s.cond; key = s.key; duplicates = s.duplicates; form = x; population = s.population }) (record { cond = s.cond; key = s.key; duplicates = s.duplicates; form = Some a.0.0; population = s.population }) d.used) (sym (none_is s.form n)) (says_form s.cond s.key s.duplicates s.population a.0.0 d.used d.is) in
+    let o : SetOption s (record { cond = s.cond; key = s.key; duplicates = s.duplicates; form = Some a.0.0; population = s.population }) d.used = subst (λ (x : Option SetForm). SetOption (record { cond = s.cond; key = s.key; duplicates = s.duplicates; form = x; population = s.population }) (record { cond = s.cond; key = s.key; duplicates = s.duplicates; form = Some a.0.0; population = s.population }) d.used) (sym (none_is s.form n)) (says_form s.cond s.key s.duplicates s.population a.0.0 d.used d.is) in
     subst (λ (x : SetOptions × List Lexeme). SpellsFirst (SetOption s) ts x.0 x.1) (ok_same (record { cond = s.cond; key = s.key; duplicates = s.duplicates; form = Some a.0.0; population = s.population }, a.0.1) (t, rest) a.2) (d.used, o, d.all))
     (both_pick {A = SetOptions × List Lexeme} (starts (is_word (codes "POPULATION")) ts) (is_none s.population) _ _ (t, rest)
     (λ n e.

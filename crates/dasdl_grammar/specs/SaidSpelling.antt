@@ -4,6 +4,8 @@ use Rattle.std.specs.declared.option.Option.{Option}
 use Rattle.dms_base.specs.declared.op.Op.TheVariants.{Equal}
 use Rattle.dms_tokens.specs.declared.token.Token.{Token}
 use Rattle.dms_tokens.specs.declared.token.Token.TheVariants.{Word, Number, Sign, Compare}
+use Rattle.dms_base.specs.declared.kind.SetForm.{SetForm}
+use Rattle.dms_base.specs.declared.kind.SetForm.TheVariants.{IndexSequential, OrderedList}
 use Rattle.dms_tokens.specs.declared.token.Lexeme.{Lexeme}
 use Rattle.dasdl_phrases.specs.declared.key_parts.PartDecl.{PartDecl}
 use Rattle.dasdl_phrases.specs.declared.key_parts.KeyDecl.{KeyDecl}
@@ -43,17 +45,17 @@ pub data IsDuplicates : Bool → List Token → Type 0 where
   not_allowed : IsDuplicates false (Word (codes "NO") ∷ (Word (codes "DUPLICATES") ∷ []))
 
 -- INDEX SEQUENTIAL or ORDERED LIST
-pub data IsForm : ℕ → List Token → Type 0 where
-  a_tree : IsForm 1 (Word (codes "INDEX") ∷ (Word (codes "SEQUENTIAL") ∷ []))
-  a_list : IsForm 2 (Word (codes "ORDERED") ∷ (Word (codes "LIST") ∷ []))
+pub data IsForm : SetForm → List Token → Type 0 where
+  a_tree : IsForm IndexSequential (Word (codes "INDEX") ∷ (Word (codes "SEQUENTIAL") ∷ []))
+  a_list : IsForm OrderedList (Word (codes "ORDERED") ∷ (Word (codes "LIST") ∷ []))
 
 -- an option of a set that hasn't been said
 pub data SetOption : SetOptions → SetOptions → List Lexeme → Type 0 where
-  says_where : (key : Option KeyDecl) (duplicates : Option Bool) (form population : Option ℕ) (c : Condition) (us : List Lexeme) → IsCondDecl (codes "WHERE") c us → SetOption (record { cond = None; key = key; duplicates = duplicates; form = form; population = population }) (record { cond = Some c; key = key; duplicates = duplicates; form = form; population = population }) us
-  says_key : (cond : Option Condition) (duplicates : Option Bool) (form population : Option ℕ) (k : KeyDecl) (us : List Lexeme) → IsKeyDecl k us → SetOption (record { cond = cond; key = None; duplicates = duplicates; form = form; population = population }) (record { cond = cond; key = Some k; duplicates = duplicates; form = form; population = population }) us
-  says_duplicates : (cond : Option Condition) (key : Option KeyDecl) (form population : Option ℕ) (d : Bool) (us : List Lexeme) → IsDuplicates d (map token_of us) → SetOption (record { cond = cond; key = key; duplicates = None; form = form; population = population }) (record { cond = cond; key = key; duplicates = Some d; form = form; population = population }) us
-  says_form : (cond : Option Condition) (key : Option KeyDecl) (duplicates : Option Bool) (population : Option ℕ) (f : ℕ) (us : List Lexeme) → IsForm f (map token_of us) → SetOption (record { cond = cond; key = key; duplicates = duplicates; form = None; population = population }) (record { cond = cond; key = key; duplicates = duplicates; form = Some f; population = population }) us
-  says_population : (cond : Option Condition) (key : Option KeyDecl) (duplicates : Option Bool) (form : Option ℕ) (n : ℕ) (us : List Lexeme) → IsPopulation n (map token_of us) → SetOption (record { cond = cond; key = key; duplicates = duplicates; form = form; population = None }) (record { cond = cond; key = key; duplicates = duplicates; form = form; population = Some n }) us
+  says_where : (key : Option KeyDecl) (duplicates : Option Bool) (form : Option SetForm) (population : Option ℕ) (c : Condition) (us : List Lexeme) → IsCondDecl (codes "WHERE") c us → SetOption (record { cond = None; key = key; duplicates = duplicates; form = form; population = population }) (record { cond = Some c; key = key; duplicates = duplicates; form = form; population = population }) us
+  says_key : (cond : Option Condition) (duplicates : Option Bool) (form : Option SetForm) (population : Option ℕ) (k : KeyDecl) (us : List Lexeme) → IsKeyDecl k us → SetOption (record { cond = cond; key = None; duplicates = duplicates; form = form; population = population }) (record { cond = cond; key = Some k; duplicates = duplicates; form = form; population = population }) us
+  says_duplicates : (cond : Option Condition) (key : Option KeyDecl) (form : Option SetForm) (population : Option ℕ) (d : Bool) (us : List Lexeme) → IsDuplicates d (map token_of us) → SetOption (record { cond = cond; key = key; duplicates = None; form = form; population = population }) (record { cond = cond; key = key; duplicates = Some d; form = form; population = population }) us
+  says_form : (cond : Option Condition) (key : Option KeyDecl) (duplicates : Option Bool) (population : Option ℕ) (f : SetForm) (us : List Lexeme) → IsForm f (map token_of us) → SetOption (record { cond = cond; key = key; duplicates = duplicates; form = None; population = population }) (record { cond = cond; key = key; duplicates = duplicates; form = Some f; population = population }) us
+  says_population : (cond : Option Condition) (key : Option KeyDecl) (duplicates : Option Bool) (form : Option SetForm) (n : ℕ) (us : List Lexeme) → IsPopulation n (map token_of us) → SetOption (record { cond = cond; key = key; duplicates = duplicates; form = form; population = None }) (record { cond = cond; key = key; duplicates = duplicates; form = form; population = Some n }) us
 
 -- an option of a data set that hasn't been said
 pub data DataSetOption : DataSetOptions → DataSetOptions → List Lexeme → Type 0 where

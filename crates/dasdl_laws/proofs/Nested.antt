@@ -4,7 +4,7 @@ use Rattle.std.specs.Prelude.{◌||◌, ◌==◌, not}
 use Rattle.std.specs.List.{list_all, list_any, AllByRecursion}
 use Rattle.std.proofs.lemmas.Bool.{or_right, and_from}
 use Rattle.dms_desc.specs.declared.structure.Item.{Item}
-use Rattle.dms_desc.specs.Shape.{Shape}
+use Rattle.dms_desc.specs.Shape.{Shape, kind_number}
 use Rattle.dms_desc_bytes.specs.Lists.{is_empty}
 use Rattle.dms_desc_bytes.specs.Spelling.{is_data_set}
 use Rattle.dms_desc_bytes.specs.WellFormed.{has_member, stands_in}
@@ -15,7 +15,7 @@ abbrev pub owned : ℕ → Draft → Bool
 owned n d = d.owner == n
 
 abbrev pub HasIn : List Draft → Draft → Type 0
-HasIn l d = (is_data_set d.kind ≡ false) ⊎ ((1 ≤ length d.items) ⊎ (list_any (owned d.number) l ≡ true))
+HasIn l d = (is_data_set (kind_number d.kind) ≡ false) ⊎ ((1 ≤ length d.items) ⊎ (list_any (owned d.number) l ≡ true))
 
 left_case : (b : Bool) (p : Draft → Bool) (xs ys : List Draft) → (b || list_any p xs) ≡ true → (list_any p xs ≡ true → list_any p (xs ++ ys) ≡ true) → (b || list_any p (xs ++ ys)) ≡ true
 left_case true p xs ys h f = refl
@@ -55,11 +55,11 @@ some_item : (is : List Item) (b : Bool) → 1 ≤ length is → (not (is_empty i
 some_item [] b h = absurd (omega (arith, h))
 some_item (i ∷ is) b h = refl
 
-member_in : (l : List Draft) (d : Draft) → HasIn l d → (not (is_data_set d.kind) || has_member (map shape_in l) (shape_in d)) ≡ true
+member_in : (l : List Draft) (d : Draft) → HasIn l d → (not (is_data_set (kind_number d.kind)) || has_member (map shape_in l) (shape_in d)) ≡ true
 unfolding has_member
 member_in l d (inl e) = rw e refl
-member_in l d (inr (inl e)) = or_right (not (is_data_set d.kind)) _ (some_item d.items _ e)
-member_in l d (inr (inr e)) = or_right (not (is_data_set d.kind)) _ (or_right (not (is_empty d.items)) _ (rw (any_shape d.number l) at e))
+member_in l d (inr (inl e)) = or_right (not (is_data_set (kind_number d.kind))) _ (some_item d.items _ e)
+member_in l d (inr (inr e)) = or_right (not (is_data_set (kind_number d.kind))) _ (or_right (not (is_empty d.items)) _ (rw (any_shape d.number l) at e))
 
 all_members : (l ds : List Draft) → AllByRecursion (HasIn l) ds → list_all (λ (s : Shape). not (is_data_set s.kind) || has_member (map shape_in l) s) (map shape_in ds) ≡ true
 all_members l [] h = refl

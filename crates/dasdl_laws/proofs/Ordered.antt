@@ -2,11 +2,13 @@
 use Rattle.std.proofs.Common.{◌≡◌, ◌≤◌, ◌+◌, ℕ, min, List, [], ◌∷◌, ◌++◌, map, length, Bool, true, false, cond, refl, sym, ap, subst, ◌∙◌, arith, length-append}
 use Rattle.std.proofs.lemmas.List.{map-append, length-map}
 use Rattle.std.proofs.lemmas.Bool.Decides.{nat_tests}
-use Rattle.std.specs.Prelude.{◌&&◌, ◌||◌, not, ◌==◌, nat_le}
-use Rattle.std.specs.List.{list_all, list_any, AllByRecursion}
+use Rattle.std.specs.Prelude.{◌&&◌, ◌||◌, not, ◌==◌}
+use Rattle.std.specs.List.{list_all, list_any}
 use Rattle.std.specs.Str.{bytes_eq}
-use Rattle.dms_desc.specs.Shape.{Shape}
+use Rattle.dms_base.specs.declared.kind.StructureKind.TheVariants.{Set, AutomaticSubset, ManualSubset}
+use Rattle.dms_desc.specs.Shape.{Shape, kind_number}
 use Rattle.dms_desc_bytes.specs.Lists.{apart, is_within}
+use Rattle.dms_desc_bytes.proofs.Numbered.{kind_within}
 use Rattle.dms_desc.specs.Kinds.{is_restart}
 use Rattle.dms_desc_bytes.specs.WellFormed.{stand_in_order, names_differ, not_both_restart}
 use Rattle.dasdl_parse.specs.declared.declarations.Declaration.{Declaration}
@@ -24,8 +26,7 @@ use Rattle.dasdl_compile.specs.Finding.{new_draft}
 use Rattle.std.specs.declared.result.Result.TheVariants.{Ok}
 use Rattle.std.specs.Prelude.{is_some}
 use Rattle.std.proofs.Common.{inl, inr, ◌⊎◌}
-use Rattle.std.proofs.lemmas.Bool.{and_parts, leb-true, and_from}
-use Rattle.dasdl_laws.proofs.Short.{HaveKinds}
+use Rattle.std.proofs.lemmas.Bool.{and_parts, and_from}
 use Rattle.dasdl_laws.proofs.Judging.{bind_ok, ok_same, steps_keep}
 use Rattle.dasdl_laws.proofs.Turns.{outer, DraftTurn, turn_of, inside_kept}
 use Rattle.dasdl_laws.proofs.Turns.DraftTurn.{inside, data_set, a_set}
@@ -61,7 +62,7 @@ names_outer name (d ∷ ds) = ap (λ (b : Bool). cond (bytes_eq d.name name) tru
 restart_outer : (ds : List Draft) → has_restart (map outer ds) ≡ has_restart ds
 unfolding has_restart
 restart_outer [] = refl
-restart_outer (d ∷ ds) = ap (λ (b : Bool). cond (d.kind == 2) true b) (restart_outer ds)
+restart_outer (d ∷ ds) = ap (λ (b : Bool). cond (kind_number d.kind == 2) true b) (restart_outer ds)
 
 pub or_none : (a b : Bool) → cond a true b ≡ false → (a ≡ false) × (b ≡ false)
 or_none true b h = absurd (cc)
@@ -78,7 +79,7 @@ none_restart : (ds : List Draft) (s : Shape) → has_restart ds ≡ false → li
 unfolding has_restart
 none_restart [] s h = refl
 none_restart (d ∷ ds) s h =
-    let a = or_none (d.kind == 2) (has_restart ds) h in
+    let a = or_none (kind_number d.kind == 2) (has_restart ds) h in
     and_from _ _ (ap (λ (b : Bool). not (b && s.kind == 2)) a.0) (none_restart ds s a.1)
 
 not_second : (a : Bool) → not (a && false) ≡ true
@@ -87,7 +88,7 @@ not_second false = refl
 
 others : (ds : List Draft) (s : Shape) → (s.kind == 2) ≡ false → list_all (λ (x : Shape). not_both_restart x s) (map shape_in ds) ≡ true
 others [] s e = refl
-others (d ∷ ds) s e = and_from _ _ (ap (λ (b : Bool). not (d.kind == 2 && b)) e ∙ not_second (d.kind == 2)) (others ds s e)
+others (d ∷ ds) s e = and_from _ _ (ap (λ (b : Bool). not (kind_number d.kind == 2 && b)) e ∙ not_second (kind_number d.kind == 2)) (others ds s e)
 
 -- ---- numbers
 
@@ -116,11 +117,11 @@ pub record Ordered (os : List Draft) : Type 0 where
   pub restarts : apart not_both_restart (map shape_in os) ≡ true
   pub numbers : Numbers 1 os
 
-one_restart : (os : List Draft) (d : Draft) → ((d.kind == 2) ≡ false) ⊎ (has_restart os ≡ false) → list_all (λ (x : Shape). not_both_restart x (shape_in d)) (map shape_in os) ≡ true
+one_restart : (os : List Draft) (d : Draft) → ((kind_number d.kind == 2) ≡ false) ⊎ (has_restart os ≡ false) → list_all (λ (x : Shape). not_both_restart x (shape_in d)) (map shape_in os) ≡ true
 one_restart os d (inl e) = others os (shape_in d) e
 one_restart os d (inr e) = none_restart os (shape_in d) e
 
-added : (os : List Draft) (d : Draft) → Ordered os → is_structure d.name os ≡ false → ((d.kind == 2) ≡ false) ⊎ (has_restart os ≡ false) → d.number ≡ min (length os + 1) 65535 → Ordered (os ++ d ∷ [])
+added : (os : List Draft) (d : Draft) → Ordered os → is_structure d.name os ≡ false → ((kind_number d.kind == 2) ≡ false) ⊎ (has_restart os ≡ false) → d.number ≡ min (length os + 1) 65535 → Ordered (os ++ d ∷ [])
 added os d h new once n =
     let e : map shape_in (os ++ d ∷ []) ≡ map shape_in os ++ shape_in d ∷ [] = map-append shape_in os (d ∷ []) in
     record {
@@ -129,26 +130,26 @@ added os d h new once n =
       numbers = numbers_push 1 os d h.numbers n;
     }
 
-once_outer : (ds : List Draft) (d : Draft) → ((d.kind == 2) ≡ false) ⊎ (has_restart ds ≡ false) → ((d.kind == 2) ≡ false) ⊎ (has_restart (map outer ds) ≡ false)
+once_outer : (ds : List Draft) (d : Draft) → ((kind_number d.kind == 2) ≡ false) ⊎ (has_restart ds ≡ false) → ((kind_number d.kind == 2) ≡ false) ⊎ (has_restart (map outer ds) ≡ false)
 once_outer ds d (inl e) = inl e
 once_outer ds d (inr e) = inr (restart_outer ds ∙ e)
 
 -- one more structure, in a list with members
-added_to : (ds : List Draft) (d : Draft) → Ordered (map outer ds) → is_structure d.name ds ≡ false → ((d.kind == 2) ≡ false) ⊎ (has_restart ds ≡ false) → d.number ≡ next_structure ds → Ordered (map outer (ds ++ d ∷ []))
+added_to : (ds : List Draft) (d : Draft) → Ordered (map outer ds) → is_structure d.name ds ≡ false → ((kind_number d.kind == 2) ≡ false) ⊎ (has_restart ds ≡ false) → d.number ≡ next_structure ds → Ordered (map outer (ds ++ d ∷ []))
 added_to ds d h new once n =
     subst (λ (os : List Draft). Ordered os) (sym (map-append outer ds (d ∷ [])))
     (added (map outer ds) (outer d) h (names_outer d.name ds ∙ new) (once_outer ds d once) (n ∙ ap (λ (k : ℕ). min (k + 1) 65535) (sym (length-map ds outer))))
 
-data_set_once : (b r : Bool) → b && r ≡ false → ((data_set_kind b == 2) ≡ false) ⊎ (r ≡ false)
+data_set_once : (b r : Bool) → b && r ≡ false → ((kind_number (data_set_kind b) == 2) ≡ false) ⊎ (r ≡ false)
 data_set_once true r h = inr h
 data_set_once false r h = inl refl
 
-by_words : (a b : Bool) → (cond (not a) 3 (cond b 4 5) == 2) ≡ false
+by_words : (a b : Bool) → (kind_number (cond (not a) Set (cond b AutomaticSubset ManualSubset)) == 2) ≡ false
 by_words true true = refl
 by_words true false = refl
 by_words false b = refl
 
-set_is_none : (s : SetDecl) → (set_kind s == 2) ≡ false
+set_is_none : (s : SetDecl) → (kind_number (set_kind s) == 2) ≡ false
 set_is_none s = by_words s.subset (is_some s.cond)
 
 pub turned : (o : List Draft) (w v : Compilation) (decl : Declaration) → DraftTurn o w v decl → Ordered (map outer w.made) → Ordered (map outer v.made)
@@ -207,7 +208,7 @@ same_or false b c e = e
 some_restart : (ds : List Draft) → has_restart ds ≡ list_any is_restart (map shape_in ds)
 unfolding has_restart
 some_restart [] = refl
-some_restart (d ∷ ds) = same_or (d.kind == 2) _ _ (some_restart ds)
+some_restart (d ∷ ds) = same_or (kind_number d.kind == 2) _ _ (some_restart ds)
 
 -- the structures of a description, by what is seen of them from outside
 pub record WellOrdered (ss : List Shape) : Type 0 where
@@ -231,45 +232,9 @@ well_ordered o decls w h few some =
 
 -- ---- kinds
 
-abbrev HasKind : Draft → Type 0
-HasKind d = is_within 1 5 d.kind ≡ true
-
-kinds_push : (ds : List Draft) (d : Draft) → AllByRecursion HasKind ds → HasKind d → AllByRecursion HasKind (ds ++ d ∷ [])
-kinds_push [] d h k = (k, tt)
-kinds_push (x ∷ xs) d h k = (h.0, kinds_push xs d h.1 k)
-
-data_set_has_kind : (b : Bool) → is_within 1 5 (data_set_kind b) ≡ true
-data_set_has_kind true = refl
-data_set_has_kind false = refl
-
-set_has_kind : (a b : Bool) → is_within 1 5 (cond (not a) 3 (cond b 4 5)) ≡ true
-set_has_kind true true = refl
-set_has_kind true false = refl
-set_has_kind false b = refl
-
-kinds_turned : (o : List Draft) (w v : Compilation) (decl : Declaration) → DraftTurn o w v decl → AllByRecursion HasKind (map outer w.made) → AllByRecursion HasKind (map outer v.made)
-kinds_turned o w v _ (inside decl none i) h = subst (AllByRecursion HasKind) (sym (inside_kept o decl w v i)) h
-kinds_turned o w v _ (data_set s new placed once e) h =
-    let d = new_draft (next_structure w.made) (data_set_kind s.restart) s.name w.within in
-    subst (λ (x : Compilation). AllByRecursion HasKind (map outer x.made)) (sym e)
-    (subst (AllByRecursion HasKind) (sym (map-append outer w.made (d ∷ []))) (kinds_push (map outer w.made) (outer d) h (data_set_has_kind s.restart)))
-kinds_turned o w v _ (a_set s d p new of placed read key e) h =
-    let t = set_draft w s d p in
-    subst (λ (x : Compilation). AllByRecursion HasKind (map outer x.made)) (sym e)
-    (subst (AllByRecursion HasKind) (sym (map-append outer w.made (t ∷ []))) (kinds_push (map outer w.made) (outer t) h (set_has_kind s.subset (is_some s.cond))))
-
-kinds_least : (ds : List Draft) → AllByRecursion HasKind (map outer ds) → HaveKinds ds
-kinds_least [] h = tt
-kinds_least (d ∷ ds) h = (leb-true 1 d.kind (and_parts (nat_le 1 d.kind) (nat_le d.kind 5) h.0).0, kinds_least ds h.1)
-
 abbrev pub has_kind : Shape → Bool
 has_kind s = is_within 1 5 s.kind
 
-kinds_all : (ds : List Draft) → AllByRecursion HasKind (map outer ds) → list_all has_kind (map shape_in ds) ≡ true
-kinds_all [] h = refl
-kinds_all (d ∷ ds) h = and_from _ _ h.0 (kinds_all ds h.1)
-
-pub have_kinds : (o : List Draft) (decls : List Declaration) (w : Compilation) → steps declared_at o nothing_yet decls ≡ Ok w → HaveKinds w.made × (list_all has_kind (map shape_in w.made) ≡ true)
-have_kinds o decls w h =
-    let k = steps_keep (λ (x : Compilation). AllByRecursion HasKind (map outer x.made)) declared_at o (λ s t d p e. kinds_turned o s t d (turn_of o s t d e) p) nothing_yet decls w tt h in
-    (kinds_least w.made k, kinds_all w.made k)
+pub have_kinds : (ds : List Draft) → list_all has_kind (map shape_in ds) ≡ true
+have_kinds [] = refl
+have_kinds (d ∷ ds) = and_from _ _ (kind_within d.kind) (have_kinds ds)

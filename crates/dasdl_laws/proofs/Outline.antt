@@ -2,7 +2,7 @@
 use Rattle.std.proofs.Common.{◌≡◌, ◌+◌, ◌-◌, ℕ, min, List, [], ◌∷◌, ◌++◌, map, length, Bool, true, false, cond, refl, sym, ap, subst, ◌∙◌, arith}
 use Rattle.std.proofs.lemmas.List.{map-append, map-set, length-map}
 use Rattle.std.proofs.lemmas.Option.{slice_get-map}
-use Rattle.std.specs.Prelude.{not, nat_lt, is_some, slice_get, set, Some, None}
+use Rattle.std.specs.Prelude.{not, is_some, slice_get, set, Some, None}
 use Rattle.std.specs.Option.{option_map}
 use Rattle.std.specs.declared.option.Option.{Option}
 use Rattle.std.specs.declared.result.Result.TheVariants.{Ok}
@@ -10,6 +10,8 @@ use Rattle.dms_base.specs.declared.value.Value.{Value}
 use Rattle.dms_base.specs.declared.value.Value.TheVariants.{Null}
 use Rattle.dms_base.specs.declared.kind.ItemKind.{ItemKind}
 use Rattle.dms_base.specs.declared.kind.ItemKind.TheVariants.{Alpha, Number as Decimal, Bool as OneBit, Field, Link as LinkTo}
+use Rattle.dms_base.specs.declared.kind.StructureKind.{StructureKind}
+use Rattle.dms_base.specs.declared.kind.StructureKind.TheVariants.{DataSet as PlainDataSet, RestartDataSet, Set, AutomaticSubset, ManualSubset}
 use Rattle.dms_desc.specs.declared.structure.Item.{Item as Member}
 use Rattle.dms_desc.specs.Shape.Tree.{Empty}
 use Rattle.dasdl_parse.specs.declared.declarations.Declaration.{Declaration}
@@ -49,18 +51,23 @@ seen_type (Field n) = Field n
 abbrev pub seen_item : Member → Member
 seen_item i = record { name = i.name; kind = seen_type i.kind; required = false; initial = Null }
 
-abbrev pub seen_kind : ℕ → ℕ
-seen_kind k = cond (nat_lt k 3) k 3
+-- a set or subset, whichever it is
+abbrev pub seen_kind : StructureKind → StructureKind
+seen_kind PlainDataSet = PlainDataSet
+seen_kind RestartDataSet = RestartDataSet
+seen_kind Set = Set
+seen_kind AutomaticSubset = Set
+seen_kind ManualSubset = Set
 
 -- a structure, by what can be said of it before it is judged
 abbrev pub outline_of : Draft → Draft
-outline_of d = record { number = d.number; kind = seen_kind d.kind; name = d.name; owner = d.owner; population = 0; items = map seen_item d.items; groups = d.groups; cond = Empty; set = 0; form = 0; duplicates = false; parts = [] }
+outline_of d = record { number = d.number; kind = seen_kind d.kind; name = d.name; owner = d.owner; population = 0; items = map seen_item d.items; groups = d.groups; cond = Empty; set = 0; form = None; duplicates = false; parts = [] }
 
 seen_with_item : (d : Draft) (m : Member) → outline_of (with_item d m) ≡ with_item (outline_of d) (seen_item m)
-seen_with_item d m = ap (λ (is : List Member). record { number = d.number; kind = seen_kind d.kind; name = d.name; owner = d.owner; population = 0; items = is; groups = d.groups; cond = Empty; set = 0; form = 0; duplicates = false; parts = [] }) (map-append seen_item d.items (m ∷ []))
+seen_with_item d m = ap (λ (is : List Member). record { number = d.number; kind = seen_kind d.kind; name = d.name; owner = d.owner; population = 0; items = is; groups = d.groups; cond = Empty; set = 0; form = None; duplicates = false; parts = [] }) (map-append seen_item d.items (m ∷ []))
 
 seen_with_group : (d : Draft) (g : GroupDecl) → outline_of (with_group d g) ≡ with_group (outline_of d) g
-seen_with_group d g = ap (λ (n : ℕ). record { number = d.number; kind = seen_kind d.kind; name = d.name; owner = d.owner; population = 0; items = map seen_item d.items; groups = d.groups ++ record { name = g.name; first = min (n + 1) 255; count = count_of g.items } ∷ []; cond = Empty; set = 0; form = 0; duplicates = false; parts = [] }) (sym (length-map d.items seen_item))
+seen_with_group d g = ap (λ (n : ℕ). record { number = d.number; kind = seen_kind d.kind; name = d.name; owner = d.owner; population = 0; items = map seen_item d.items; groups = d.groups ++ record { name = g.name; first = min (n + 1) 255; count = count_of g.items } ∷ []; cond = Empty; set = 0; form = None; duplicates = false; parts = [] }) (sym (length-map d.items seen_item))
 
 item_alike_as : (a b : Draft) (m n : Member) → outline_of a ≡ outline_of b → seen_item m ≡ seen_item n → outline_of (with_item a m) ≡ outline_of (with_item b n)
 item_alike_as a b m n e f = seen_with_item a m ∙ ap (λ (d : Draft). with_item d (seen_item m)) e ∙ ap (λ (i : Member). with_item (outline_of b) i) f ∙ sym (seen_with_item b n)
@@ -158,16 +165,16 @@ members_alike plain o decl x w y v a h k = inside_alike plain o decl x w y v (sl
 next_alike : (xs ys : List Draft) → map outline_of xs ≡ map outline_of ys → next_structure xs ≡ next_structure ys
 next_alike xs ys e = ap (λ (n : ℕ). min (n + 1) 65535) (same_length xs ys e)
 
-drafted_alike : (n m kind : ℕ) (name : List ℕ) (i j : ℕ) → n ≡ m → i ≡ j → outline_of (new_draft n kind name i) ≡ outline_of (new_draft m kind name j)
+drafted_alike : (n m : ℕ) (kind : StructureKind) (name : List ℕ) (i j : ℕ) → n ≡ m → i ≡ j → outline_of (new_draft n kind name i) ≡ outline_of (new_draft m kind name j)
 drafted_alike n m kind name i j e f = ap (λ (k : ℕ). outline_of (new_draft k kind name i)) e ∙ ap (λ (k : ℕ). outline_of (new_draft m kind name k)) f
 
-by_words : (a b : Bool) → 3 ≡ seen_kind (cond (not a) 3 (cond b 4 5))
+by_words : (a b : Bool) → Set ≡ seen_kind (cond (not a) Set (cond b AutomaticSubset ManualSubset))
 by_words true true = refl
 by_words true false = refl
 by_words false b = refl
 
-set_seen : (w : Compilation) (s : SetDecl) (d : Draft) (p : WhereAndKey) → outline_of (new_draft (next_structure w.made) 3 s.name w.within) ≡ outline_of (set_draft w s d p)
-set_seen w s d p = ap (λ (k : ℕ). record { number = next_structure w.made; kind = k; name = s.name; owner = w.within; population = 0; items = []; groups = []; cond = Empty; set = 0; form = 0; duplicates = false; parts = [] }) (by_words s.subset (is_some s.cond))
+set_seen : (w : Compilation) (s : SetDecl) (d : Draft) (p : WhereAndKey) → outline_of (new_draft (next_structure w.made) Set s.name w.within) ≡ outline_of (set_draft w s d p)
+set_seen w s d p = ap (λ (k : StructureKind). record { number = next_structure w.made; kind = k; name = s.name; owner = w.within; population = 0; items = []; groups = []; cond = Empty; set = 0; form = None; duplicates = false; parts = [] }) (by_words s.subset (is_some s.cond))
 
 set_alike_by : (o : List Draft) (w v : Compilation) (decl : Declaration) (s : SetDecl) → decl ≡ SetOf s → DraftTurn o w v decl → (x y : Compilation) → AlikeCompilations x w → outlined_set s x ≡ Ok y → AlikeCompilations y v
 unfolding outlined_set
@@ -180,7 +187,7 @@ set_alike_by o w v _ s same (set_added t d p new of placed read key e) x y a h =
     record {
       within = ap (λ (u : Compilation). u.within) (sym g) ∙ a.within ∙ ap (λ (u : Compilation). u.within) (sym e);
       made = ap (λ (u : Compilation). map outline_of u.made) (sym g)
-          ∙ push_alike x.made w.made (new_draft (next_structure x.made) 3 s.name x.within) (set_draft w t d p) a.made (drafted_alike (next_structure x.made) (next_structure w.made) 3 s.name x.within w.within (next_alike x.made w.made a.made) a.within ∙ ap (λ (n : List ℕ). outline_of (new_draft (next_structure w.made) 3 n w.within)) (sym name) ∙ set_seen w t d p)
+          ∙ push_alike x.made w.made (new_draft (next_structure x.made) Set s.name x.within) (set_draft w t d p) a.made (drafted_alike (next_structure x.made) (next_structure w.made) Set s.name x.within w.within (next_alike x.made w.made a.made) a.within ∙ ap (λ (n : List ℕ). outline_of (new_draft (next_structure w.made) Set n w.within)) (sym name) ∙ set_seen w t d p)
           ∙ ap (λ (u : Compilation). map outline_of u.made) (sym e);
     }
 

@@ -9,7 +9,7 @@ use Rattle.std.specs.List.{list_all, AllByRecursion}
 use Rattle.std.specs.Option.{option_map}
 use Rattle.std.specs.declared.option.Option.{Option}
 use Rattle.std.specs.declared.result.Result.TheVariants.{Ok}
-use Rattle.dms_desc.specs.Shape.{Shape}
+use Rattle.dms_desc.specs.Shape.{Shape, kind_number}
 use Rattle.dms_desc.specs.Lookups.{structure_at}
 use Rattle.dms_desc_bytes.specs.Finding.{kind_in, kind_of}
 use Rattle.dms_desc_bytes.specs.Spelling.{is_data_set}
@@ -43,25 +43,25 @@ use Rattle.dasdl_laws.proofs.Trees.{no_data_set}
 kind_outer : (n : ℕ) (ds : List Draft) → kind_made n (map outer ds) ≡ kind_made n ds
 unfolding kind_made
 kind_outer n [] = refl
-kind_outer n (d ∷ ds) = ap (λ (k : ℕ). cond (d.number == n) d.kind k) (kind_outer n ds)
+kind_outer n (d ∷ ds) = ap (λ (k : ℕ). cond (d.number == n) (kind_number d.kind) k) (kind_outer n ds)
 
 later : (a n k : ℕ) → a ≡ n → (a == n + suc k) ≡ false
 later a n k e = grind (arith, nat_tests)
 
 -- the kind that is looked up by a number is that at its place
-kind_at : (n : ℕ) (ds : List Draft) (k : ℕ) (d : Draft) → Numbers n ds → n + length ds ≤ 65536 → slice_get ds k ≡ Some d → kind_made (n + k) ds ≡ d.kind
+kind_at : (n : ℕ) (ds : List Draft) (k : ℕ) (d : Draft) → Numbers n ds → n + length ds ≤ 65536 → slice_get ds k ≡ Some d → kind_made (n + k) ds ≡ kind_number d.kind
 unfolding kind_made
 kind_at n [] k d h low e = absurd (cc)
 kind_at n (x ∷ xs) zero d h low e =
     let one : x ≡ d = cc in
     let number = h.0 in
     let same : (x.number == n + 0) ≡ true = eq-eqb x.number (n + 0) (omega (arith, number, low)) in
-    ap (λ (b : Bool). cond b x.kind (kind_made (n + 0) xs)) same ∙ ap (λ (y : Draft). y.kind) one
+    ap (λ (b : Bool). cond b (kind_number x.kind) (kind_made (n + 0) xs)) same ∙ ap (λ (y : Draft). kind_number y.kind) one
 kind_at n (x ∷ xs) (suc k) d h low e =
     let number = h.0 in
     let other : (x.number == n + suc k) ≡ false = later x.number n k (omega (arith, number, low)) in
     let next : n + suc k ≡ n + 1 + k = omega arith in
-    ap (λ (b : Bool). cond b x.kind (kind_made (n + suc k) xs)) other ∙ ap (λ (m : ℕ). kind_made m xs) next ∙ kind_at (n + 1) xs k d h.1 (omega (arith, low)) e
+    ap (λ (b : Bool). cond b (kind_number x.kind) (kind_made (n + suc k) xs)) other ∙ ap (λ (m : ℕ). kind_made m xs) next ∙ kind_at (n + 1) xs k d h.1 (omega (arith, low)) e
 
 -- ---- what each structure stands in
 
@@ -70,7 +70,7 @@ record OneAt (os : List Draft) (n : ℕ) : Type 0 where
   to : Draft
   at : slice_get os (n - 1) ≡ Some to
   from : 1 ≤ n
-  one : to.kind ≡ 1
+  one : kind_number to.kind ≡ 1
 
 -- a set or subset that stands where its data set stands
 record FollowsDraft (o : List Draft) (d : Draft) : Type 0 where
@@ -78,7 +78,7 @@ record FollowsDraft (o : List Draft) (d : Draft) : Type 0 where
   name : List ℕ
   found : data_set_named name o ≡ Some of
   owner : of.owner ≡ d.owner
-  kind : is_data_set d.kind ≡ false
+  kind : is_data_set (kind_number d.kind) ≡ false
 
 abbrev In : List Draft → ℕ → Type 0
 In os n = (n ≡ 0) ⊎ OneAt os n
@@ -123,8 +123,8 @@ in_open o w h few (inr r) other =
     let size : length (map outer w.made) ≡ length w.made = length-map w.made outer in
     let from = r.from in
     let number : w.within ≡ 1 + (w.within - 1) = omega (arith, from) in
-    let kind : kind_made w.within w.made ≡ r.to.kind = sym (kind_outer w.within w.made) ∙ ap (λ (n : ℕ). kind_made n (map outer w.made)) number ∙ kind_at 1 (map outer w.made) (w.within - 1) r.to h.ordered.numbers (omega (arith, size, few)) r.at in
-    let one = is_one r.to.kind r.kind (ap (λ (n : ℕ). n == 2) (sym kind) ∙ other) in
+    let kind : kind_made w.within w.made ≡ kind_number r.to.kind = sym (kind_outer w.within w.made) ∙ ap (λ (n : ℕ). kind_made n (map outer w.made)) number ∙ kind_at 1 (map outer w.made) (w.within - 1) r.to h.ordered.numbers (omega (arith, size, few)) r.at in
+    let one = is_one (kind_number r.to.kind) r.kind (ap (λ (n : ℕ). n == 2) (sym kind) ∙ other) in
     inr (record { to = r.to; at = r.at; from = r.from; one = one })
 
 neither : (a b : Bool) → (a || b) ≡ false → b ≡ false
@@ -135,9 +135,9 @@ data_set_in : (o : List Draft) (s : DataSetDecl) (w : Compilation) → Owning o 
 unfolding is_data_set_misplaced
 data_set_in o s w h few placed = in_open o w h few h.standing.around (neither _ _ placed)
 
-set_by : (q : Bool) (o : List Draft) (w : Compilation) (s : SetDecl) (d : Draft) (p : WhereAndKey) → Owning o w → length w.made ≤ 200 → data_set_named s.of o ≡ Some d → (d.owner == w.within) ≡ q → (q || (set_kind s == 5 && d.owner == 0 && not (kind_made w.within w.made == 2))) ≡ true → DraftPlace o (map outer w.made) (outer (set_draft w s d p))
+set_by : (q : Bool) (o : List Draft) (w : Compilation) (s : SetDecl) (d : Draft) (p : WhereAndKey) → Owning o w → length w.made ≤ 200 → data_set_named s.of o ≡ Some d → (d.owner == w.within) ≡ q → (q || (kind_number (set_kind s) == 5 && d.owner == 0 && not (kind_made w.within w.made == 2))) ≡ true → DraftPlace o (map outer w.made) (outer (set_draft w s d p))
 set_by true o w s d p h few found e k = inr (record { of = d; name = s.of; found = found; owner = eqb-true d.owner w.within e; kind = no_data_set s.subset (is_some s.cond) })
-set_by false o w s d p h few found e k = inl (in_open o w h few h.standing.around (not-true _ (and_parts (set_kind s == 5 && d.owner == 0) _ k).1))
+set_by false o w s d p h few found e k = inl (in_open o w h few h.standing.around (not-true _ (and_parts (kind_number (set_kind s) == 5 && d.owner == 0) _ k).1))
 
 set_in : (o : List Draft) (w : Compilation) (s : SetDecl) (d : Draft) (p : WhereAndKey) → Owning o w → length w.made ≤ 200 → data_set_named s.of o ≡ Some d → is_misplaced w s d ≡ false → DraftPlace o (map outer w.made) (outer (set_draft w s d p))
 unfolding is_misplaced
@@ -176,18 +176,18 @@ in_one made n (inr r) =
     let shape : slice_get (map shape_in made) (n - 1) ≡ Some (shape_in f.0) = slice_get-map shape_in made (n - 1) ∙ ap (option_map shape_in) f.1 in
     let some : (n == 0) ≡ false = ne_zero n (n - 1) (omega (arith, from)) in
     let at : structure_at (map shape_in made) n ≡ Some (shape_in f.0) = ap (λ (b : Bool). cond b None (slice_get (map shape_in made) (n - 1))) some ∙ shape in
-    let kind : kind_in (structure_at (map shape_in made) n) ≡ 1 = ap (λ (x : Option Shape). kind_in x) at ∙ ap (λ (x : Draft). x.kind) f.2 ∙ r.one in
+    let kind : kind_in (structure_at (map shape_in made) n) ≡ 1 = ap (λ (x : Option Shape). kind_in x) at ∙ ap (λ (x : Draft). kind_number x.kind) f.2 ∙ r.one in
     ap (λ (b : Bool). b || kind_in (structure_at (map shape_in made) n) == 1) some ∙ ap (λ (k : ℕ). k == 1) kind
 
-data_set_place : (o os : List Draft) (d : Draft) → is_data_set d.kind ≡ true → DraftPlace o os d → In os d.owner
+data_set_place : (o os : List Draft) (d : Draft) → is_data_set (kind_number d.kind) ≡ true → DraftPlace o os d → In os d.owner
 data_set_place o os d kind (inl h) = h
-data_set_place o os d kind (inr f) = absurd (both_ways (is_data_set d.kind) f.kind kind)
+data_set_place o os d kind (inr f) = absurd (both_ways (is_data_set (kind_number d.kind)) f.kind kind)
 
 -- where it follows a data set, it stands in what that stands in
 place_in : (noted made : List Draft) (d : Draft) → Whole noted made → AllByRecursion (DraftPlace noted (map outer made)) (map outer made) → DraftPlace noted (map outer made) (outer d) → In (map outer made) d.owner
 place_in noted made d w all (inl h) = h
 place_in noted made d w all (inr f) =
-    let g = found_as f.name noted made f.of w.same w.numbers w.kinds f.found in
+    let g = found_as f.name noted made f.of w.same w.numbers f.found in
     let there : slice_get (map outer made) g.place ≡ Some (outer g.is) = slice_get-map outer made g.place ∙ ap (option_map outer) g.at in
     let owner : g.is.owner ≡ d.owner = ap (λ (x : Draft). x.owner) (sym g.alike) ∙ f.owner in
     subst (In (map outer made)) owner (data_set_place noted (map outer made) (outer g.is) g.kind (final_at (DraftPlace noted (map outer made)) (map outer made) g.place (outer g.is) all there))

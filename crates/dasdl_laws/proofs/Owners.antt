@@ -8,7 +8,7 @@ use Rattle.std.specs.List.{list_all, AllByRecursion}
 use Rattle.std.specs.Option.{option_map}
 use Rattle.std.specs.declared.option.Option.{Option}
 use Rattle.std.specs.declared.result.Result.TheVariants.{Ok}
-use Rattle.dms_desc.specs.Shape.{Shape}
+use Rattle.dms_desc.specs.Shape.{Shape, kind_number}
 use Rattle.dms_desc.specs.Lookups.{structure_at}
 use Rattle.dms_desc_bytes.specs.Finding.{kind_in, kind_of}
 use Rattle.dms_desc_bytes.specs.Spelling.{is_data_set}
@@ -38,7 +38,7 @@ pub record RefAt (os : List Draft) (n : ℕ) : Type 0 where
   pub to : Draft
   pub at : slice_get os (n - 1) ≡ Some to
   pub from : 1 ≤ n
-  pub kind : is_data_set to.kind ≡ true
+  pub kind : is_data_set (kind_number to.kind) ≡ true
 
 abbrev pub Ref : List Draft → ℕ → Type 0
 Ref os n = (n ≡ 0) ⊎ RefAt os n
@@ -138,7 +138,7 @@ earlier made d (inr r) low =
     let shape : slice_get (map shape_in made) (d.owner - 1) ≡ Some (shape_in f.0) = slice_get-map shape_in made (d.owner - 1) ∙ ap (option_map shape_in) f.1 in
     let some : (d.owner == 0) ≡ false = ne_zero d.owner (d.owner - 1) (omega (arith, from)) in
     let at : structure_at (map shape_in made) d.owner ≡ Some (shape_in f.0) = ap (λ (b : Bool). cond b None (slice_get (map shape_in made) (d.owner - 1))) some ∙ shape in
-    let kind : is_data_set f.0.kind ≡ true = ap (λ (x : Draft). is_data_set x.kind) f.2 ∙ r.kind in
+    let kind : is_data_set (kind_number f.0.kind) ≡ true = ap (λ (x : Draft). is_data_set (kind_number x.kind)) f.2 ∙ r.kind in
     or_right (d.owner == 0) _ (and_from _ _ (lt-ltb d.owner d.number low) (ap (λ (x : Option Shape). is_data_set (kind_in x)) at ∙ kind))
 
 all_earlier : (made ds : List Draft) → AllByRecursion (Stand (map outer made)) (map outer ds) → list_all (is_within_earlier (map shape_in made)) (map shape_in ds) ≡ true

@@ -5,6 +5,8 @@ use Rattle.std.specs.Prelude.{◌&&◌, ◌||◌, ◌==◌, not, is_some}
 use Rattle.std.specs.List.{list_all, AllByRecursion}
 use Rattle.std.specs.declared.result.Result.TheVariants.{Ok}
 use Rattle.std.proofs.lemmas.Bool.{and_from}
+use Rattle.dms_base.specs.declared.kind.StructureKind.TheVariants.{Set, AutomaticSubset, ManualSubset}
+use Rattle.dms_desc.specs.Shape.{kind_number}
 use Rattle.dms_desc_bytes.specs.WellFormed.{is_placed}
 use Rattle.dasdl_parse.specs.declared.declarations.Declaration.{Declaration}
 use Rattle.dasdl_parse.specs.declared.declarations.DataSetDecl.{DataSetDecl}
@@ -20,13 +22,13 @@ use Rattle.dasdl_laws.proofs.Turns.{outer, DraftTurn, turn_of, inside_kept}
 use Rattle.dasdl_laws.proofs.Turns.DraftTurn.{inside, data_set, a_set}
 
 abbrev IsPlacedDraft : Draft → Type 0
-IsPlacedDraft d = (not (d.kind == 2) || d.owner == 0) ≡ true
+IsPlacedDraft d = (not (kind_number d.kind == 2) || d.owner == 0) ≡ true
 
 placed_push : (ds : List Draft) (d : Draft) → AllByRecursion IsPlacedDraft ds → IsPlacedDraft d → AllByRecursion IsPlacedDraft (ds ++ d ∷ [])
 placed_push [] d h k = (k, tt)
 placed_push (x ∷ xs) d h k = (h.0, placed_push xs d h.1 k)
 
-head_placed : (b c e : Bool) → ((b && not c) || e) ≡ false → (not (data_set_kind b == 2) || c) ≡ true
+head_placed : (b c e : Bool) → ((b && not c) || e) ≡ false → (not (kind_number (data_set_kind b) == 2) || c) ≡ true
 head_placed true true e h = refl
 head_placed true false e h = absurd (cc)
 head_placed false c e h = refl
@@ -35,7 +37,7 @@ data_set_placed : (s : DataSetDecl) (w : Compilation) → is_misplaced s w ≡ f
 unfolding is_misplaced
 data_set_placed s w h = head_placed s.restart (w.within == 0) (kind_of w.within w.made == 2) h
 
-set_placed : (a b c : Bool) → (not (cond (not a) 3 (cond b 4 5) == 2) || c) ≡ true
+set_placed : (a b c : Bool) → (not (kind_number (cond (not a) Set (cond b AutomaticSubset ManualSubset)) == 2) || c) ≡ true
 set_placed true true c = refl
 set_placed true false c = refl
 set_placed false b c = refl

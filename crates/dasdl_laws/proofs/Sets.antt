@@ -6,9 +6,10 @@ use Rattle.std.specs.Prelude.{◌&&◌, ◌||◌, ◌==◌, not, is_some, slice_
 use Rattle.std.specs.List.{list_all, AllByRecursion}
 use Rattle.std.specs.declared.option.Option.{Option}
 use Rattle.std.specs.declared.result.Result.TheVariants.{Ok, Err}
+use Rattle.dms_base.specs.declared.kind.StructureKind.TheVariants.{Set, AutomaticSubset, ManualSubset}
 use Rattle.dms_desc.specs.declared.structure.Item.{Item as Member}
 use Rattle.dms_desc.specs.declared.structure.KeyPart.{KeyPart}
-use Rattle.dms_desc.specs.Shape.{Tree}
+use Rattle.dms_desc.specs.Shape.{Tree, kind_number}
 use Rattle.dms_desc.specs.Shape.Tree.{Empty}
 use Rattle.dms_desc_bytes.specs.Conditions.{is_condition, is_nothing}
 use Rattle.dms_desc_bytes.specs.Finding.{kind_of, owner_of, items_at}
@@ -37,7 +38,6 @@ use Rattle.dasdl_laws.proofs.Written.{IsSomeKey}
 use Rattle.dasdl_laws.proofs.Judging.{bind_ok, ok_same}
 use Rattle.dasdl_laws.proofs.Judged.{condition_sound}
 use Rattle.dasdl_laws.proofs.Keys.{key_sound}
-use Rattle.dasdl_laws.proofs.Ordered.{has_kind}
 use Rattle.dasdl_laws.proofs.Outline.{outline_of, seen_item}
 use Rattle.dasdl_laws.proofs.Together.{FoundAs, found_as, items_sound, same_keys, same_conditions}
 use Rattle.dasdl_laws.proofs.Trees.{DataSetMade, SetMade, Final, no_data_set}
@@ -85,15 +85,15 @@ filled_by d s true r ps few w some lacks h = refl
 filled_by d s false None ps few w some lacks h = absurd (cc)
 filled_by d s false (Some k) ps few w some lacks h = some_part ps (key_filled s.name d k.parts ps few w some h)
 
-filled : (d : Draft) (s : SetDecl) (ps : List KeyPart) → length d.items ≤ 254 → AllByRecursion (GroupWithin (length d.items)) d.groups → IsSomeKey s.key → lacks_key s ≡ false → key_of d s ≡ Ok ps → (set_kind s == 5 || not (is_empty ps)) ≡ true
+filled : (d : Draft) (s : SetDecl) (ps : List KeyPart) → length d.items ≤ 254 → AllByRecursion (GroupWithin (length d.items)) d.groups → IsSomeKey s.key → lacks_key s ≡ false → key_of d s ≡ Ok ps → (kind_number (set_kind s) == 5 || not (is_empty ps)) ≡ true
 unfolding key_of
-filled d s ps few w some lacks h = filled_by d s (set_kind s == 5) s.key ps few w some lacks h
+filled d s ps few w some lacks h = filled_by d s (kind_number (set_kind s) == 5) s.key ps few w some lacks h
 
 guarded : (b : Bool) (e : CompileFault) (x t : Tree) → ◌≡◌ {A = Judged Tree} (cond b (Ok x) (Err e)) (Ok t) → (b ≡ true) × (x ≡ t)
 guarded true e x t h = (refl, ok_same x t h)
 guarded false e x t h = absurd (cc)
 
-where_by : (d : Draft) (s : SetDecl) (t : Tree) (b : Bool) (r : Option Condition) → length d.items ≤ 254 → s.subset ≡ b → IsPlainCondition r → where_in d s r ≡ Ok t → cond (cond (not b) 3 (cond (is_some r) 4 5) == 4) (is_condition d.items t) (is_nothing t) ≡ true
+where_by : (d : Draft) (s : SetDecl) (t : Tree) (b : Bool) (r : Option Condition) → length d.items ≤ 254 → s.subset ≡ b → IsPlainCondition r → where_in d s r ≡ Ok t → cond (kind_number (cond (not b) Set (cond (is_some r) AutomaticSubset ManualSubset)) == 4) (is_condition d.items t) (is_nothing t) ≡ true
 where_by d s t true None few e w h = subst (λ (x : Tree). is_nothing x ≡ true) (ok_same Empty t h) refl
 where_by d s t false None few e w h = subst (λ (x : Tree). is_nothing x ≡ true) (ok_same Empty t h) refl
 where_by d s t true (Some c) few e w h =
@@ -105,7 +105,7 @@ where_by d s t false (Some c) few e w h =
     let g = guarded s.subset _ a.0 t a.2 in
     absurd (both_ways s.subset e g.0)
 
-where_sound : (d : Draft) (s : SetDecl) (t : Tree) → length d.items ≤ 254 → IsPlainCondition s.cond → where_of d s ≡ Ok t → cond (set_kind s == 4) (is_condition d.items t) (is_nothing t) ≡ true
+where_sound : (d : Draft) (s : SetDecl) (t : Tree) → length d.items ≤ 254 → IsPlainCondition s.cond → where_of d s ≡ Ok t → cond (kind_number (set_kind s) == 4) (is_condition d.items t) (is_nothing t) ≡ true
 unfolding where_of
 where_sound d s t few w h = where_by d s t s.subset s.cond few refl w h
 
@@ -115,9 +115,9 @@ place_by : (q : Bool) (i j : ℕ) (b c : Bool) → (j == i) ≡ q → (q || (b &
 place_by true i j b c e h = or_left (i == j) _ (eq-eqb i j (sym (eqb-true j i e)))
 place_by false i j b c e h = or_right (i == j) _ (and_parts (b && j == 0) c h).0
 
-placed_well : (w : Compilation) (s : SetDecl) (d : Draft) → is_misplaced w s d ≡ false → ((w.within == d.owner) || (set_kind s == 5 && d.owner == 0)) ≡ true
+placed_well : (w : Compilation) (s : SetDecl) (d : Draft) → is_misplaced w s d ≡ false → ((w.within == d.owner) || (kind_number (set_kind s) == 5 && d.owner == 0)) ≡ true
 unfolding is_misplaced
-placed_well w s d h = place_by (d.owner == w.within) w.within d.owner (set_kind s == 5) (not (kind_made w.within w.made == 2)) refl (not-false _ h)
+placed_well w s d h = place_by (d.owner == w.within) w.within d.owner (kind_number (set_kind s) == 5) (not (kind_made w.within w.made == 2)) refl (not-false _ h)
 
 -- ---- sets
 
@@ -145,20 +145,19 @@ set_shape made w s of p f few groups placed read lacks plain some =
     let o = options_read of s p read in
     let owner : f.is.owner ≡ of.owner = ap (λ (x : Draft). x.owner) (sym f.alike) in
     let key : is_key_sound f.is.items p.parts ≡ true = sym (same_keys of.items f.is.items p.parts items) ∙ keys_sound of s p.parts low within o.0 in
-    let test : cond (set_kind s == 4) (is_condition f.is.items p.cond) (is_nothing p.cond) ≡ true = ap (λ (b : Bool). cond (set_kind s == 4) b (is_nothing p.cond)) (sym (same_conditions of.items f.is.items p.cond items)) ∙ where_sound of s p.cond low plain o.1 in
+    let test : cond (kind_number (set_kind s) == 4) (is_condition f.is.items p.cond) (is_nothing p.cond) ≡ true = ap (λ (b : Bool). cond (kind_number (set_kind s) == 4) b (is_nothing p.cond)) (sym (same_conditions of.items f.is.items p.cond items)) ∙ where_sound of s p.cond low plain o.1 in
     rw f.structure (and_from _ _ (and_from _ _ (and_from _ _ (and_from _ _ f.kind (rw owner (placed_well w s of placed))) key) test) (filled of s p.parts low within some lacks o.0))
 
 -- what was declared, and what it was declared under
 pub record Whole (noted made : List Draft) : Type 0 where
   pub same : map outline_of noted ≡ map outline_of made
   pub numbers : stand_in_order 1 (map shape_in made) ≡ true
-  pub kinds : list_all has_kind (map shape_in made) ≡ true
   pub final : AllByRecursion (Final noted) made
 
 set_together : (noted made : List Draft) (d : Draft) → Whole noted made → SetMade noted d → is_sound_together (map shape_in made) (shape_in d) ≡ true
 unfolding is_sound_together
 set_together noted made d w h =
-    let f = found_as h.decl.of noted made h.of w.same w.numbers w.kinds h.found in
+    let f = found_as h.decl.of noted made h.of w.same w.numbers h.found in
     let g = final_at (Final noted) made f.place f.is w.final f.at in
     subst (λ (x : Draft). is_sound_together (map shape_in made) (shape_in x) ≡ true) h.is
     (rw (no_data_set h.decl.subset (is_some h.decl.cond)) (set_shape made h.work h.decl h.of h.options f (items_few noted f.is g) (groups_within noted f.is g) h.placed h.read h.key h.written.cond h.written.key))
@@ -166,8 +165,8 @@ set_together noted made d w h =
 data_set_together : (noted made : List Draft) (d : Draft) → Whole noted made → DataSetMade noted d → is_sound_together (map shape_in made) (shape_in d) ≡ true
 unfolding is_sound_together
 data_set_together noted made d w h =
-    let kind : is_data_set d.kind ≡ true = ap (λ (x : Draft). is_data_set x.kind) h.outside ∙ kind_is h.restart in
-    rw kind (items_sound noted made d.items w.same w.numbers w.kinds h.ended.sofar.base.local h.ended.sofar.base.points)
+    let kind : is_data_set (kind_number d.kind) ≡ true = ap (λ (x : Draft). is_data_set (kind_number x.kind)) h.outside ∙ kind_is h.restart in
+    rw kind (items_sound noted made d.items w.same w.numbers h.ended.sofar.base.local h.ended.sofar.base.points)
 
 together : (noted made : List Draft) (d : Draft) → Whole noted made → Final noted d → is_sound_together (map shape_in made) (shape_in d) ≡ true
 together noted made d w (a_data_set_made h) = data_set_together noted made d w h

@@ -11,7 +11,8 @@ use Rattle.dms_base.specs.declared.kind.ItemKind.TheVariants.{Alpha, Number as D
 use Rattle.dms_desc.specs.declared.structure.Item.{Item}
 use Rattle.dms_desc.specs.declared.structure.Group.{Group}
 use Rattle.dms_desc.specs.declared.structure.KeyPart.{KeyPart}
-use Rattle.dms_desc.specs.Shape.{Tree, Shape, Described}
+use Rattle.dms_desc.specs.Numbered.{one_or_two}
+use Rattle.dms_desc.specs.Shape.{Tree, Shape, Described, kind_number}
 use Rattle.dms_desc.specs.Shape.Tree.{Empty, Test, Both, Either, Contrary}
 use Rattle.dms_desc_bytes.specs.Spelling.{name_bytes, literal_bytes, kind_bytes, item_bytes, group_bytes, part_bytes, tree_bytes, data_set_bytes, where_bytes, set_bytes, is_data_set, structure_bytes, spelling}
 use Rattle.dasdl_parse.specs.declared.schema.Parameters.{Parameters}
@@ -146,20 +147,17 @@ with_where false n t h = omega arith
 set_whole : (w : ℕ) (d : Draft) → set_width w d ≤ 65535 → w + length (set_bytes (shape_in d)) ≤ set_width w d
 unfolding set_width
 set_whole w d h =
-    let c = with_where (d.kind == 4) (parts_width (plus w 9) d.parts) d.cond h in
+    let c = with_where (kind_number d.kind == 4) (parts_width (plus w 9) d.parts) d.cond h in
     let p = parts_bytes (plus w 9) d.parts (omega (arith, c, h)) in
     let a = whole w 9 (omega (arith, c, h, p)) in
     omega (arith, a, p, c, set_length (shape_in d))
 
-head_whole : (w n : ℕ) (name : List ℕ) → plus (plus w 4) (size_of name) ≤ 65535 → w + 4 + length name ≤ plus (plus w 4) (size_of name)
-head_whole w n name h =
+head_whole : (w : ℕ) (name : List ℕ) → plus (plus w 4) (size_of name) ≤ 65535 → w + 4 + length name ≤ plus (plus w 4) (size_of name)
+head_whole w name h =
     let b = whole (plus w 4) (size_of name) h in
     let s = size_whole name (omega (arith, b, h)) in
     let a = whole w 4 (omega (arith, b, h)) in
     omega (arith, a, b, s)
-
-kind_tells : (k : ℕ) → 1 ≤ k → nat_lt k 3 ≡ is_data_set k
-kind_tells k low = grind (arith, nat_tests)
 
 rest_whole : (b : Bool) (w : ℕ) (d : Draft) → cond b (data_set_width w d) (set_width w d) ≤ 65535 → w + length (cond b (data_set_bytes (shape_in d)) (set_bytes (shape_in d))) ≤ cond b (data_set_width w d) (set_width w d)
 rest_whole true w d h = data_set_whole w d h
@@ -174,25 +172,20 @@ structure_length s =
 by_kind : (b c : Bool) (w : ℕ) (d : Draft) → b ≡ c → cond b (data_set_width w d) (set_width w d) ≤ 65535 → w + length (cond c (data_set_bytes (shape_in d)) (set_bytes (shape_in d))) ≤ cond b (data_set_width w d) (set_width w d)
 by_kind b c w d e h = rw (sym e) (rest_whole b w d h)
 
-structure_whole : (w : ℕ) (d : Draft) → 1 ≤ d.kind → with_structure w d ≤ 65535 → w + length (structure_bytes (shape_in d)) ≤ with_structure w d
+structure_whole : (w : ℕ) (d : Draft) → with_structure w d ≤ 65535 → w + length (structure_bytes (shape_in d)) ≤ with_structure w d
 unfolding with_structure
-structure_whole w d low h =
+structure_whole w d h =
     let n = plus (plus w 4) (size_of d.name) in
-    let r = by_kind (nat_lt d.kind 3) (is_data_set d.kind) n d (kind_tells d.kind low) h in
-    let a = head_whole w d.kind d.name (omega (arith, r, h)) in
+    let r = by_kind (nat_lt (kind_number d.kind) 3) (is_data_set (kind_number d.kind)) n d (one_or_two d.kind) h in
+    let a = head_whole w d.name (omega (arith, r, h)) in
     omega (arith, a, r, structure_length (shape_in d))
 
--- each structure has a kind
-abbrev pub HaveKinds : List Draft → Type 0
-HaveKinds [] = Unit {0}
-HaveKinds (d ∷ ds) = (1 ≤ d.kind) × HaveKinds ds
-
-structures_whole : (w : ℕ) (ds : List Draft) → HaveKinds ds → structures_width w ds ≤ 65535 → w + length (flat_map structure_bytes (map shape_in ds)) ≤ structures_width w ds
+structures_whole : (w : ℕ) (ds : List Draft) → structures_width w ds ≤ 65535 → w + length (flat_map structure_bytes (map shape_in ds)) ≤ structures_width w ds
 unfolding structures_width
-structures_whole w [] kinds h = omega arith
-structures_whole w (d ∷ ds) kinds h =
-    let rest : with_structure w d + length (flat_map structure_bytes (map shape_in ds)) ≤ structures_width (with_structure w d) ds = structures_whole (with_structure w d) ds kinds.1 h in
-    let one = structure_whole w d kinds.0 (omega (arith, rest, h)) in
+structures_whole w [] h = omega arith
+structures_whole w (d ∷ ds) h =
+    let rest : with_structure w d + length (flat_map structure_bytes (map shape_in ds)) ≤ structures_width (with_structure w d) ds = structures_whole (with_structure w d) ds h in
+    let one = structure_whole w d (omega (arith, rest, h)) in
     omega (arith, rest, one, length-append (structure_bytes (shape_in d)) (flat_map structure_bytes (map shape_in ds)))
 
 spelling_length : (d : Described) → length (spelling d) ≡ 18 + length (flat_map structure_bytes d.structures)
@@ -201,8 +194,8 @@ spelling_length d =
     let two : (n : ℕ) → length (to_be_bytes w16 n) ≡ 2 = λ n. refl in
     grind (arith, length-append, two d.syncpoint, two d.controlpoint, two d.buffers, two d.blocks, two d.files, two (length d.structures % 65536))
 
-pub is_short : (p : Parameters) (ds : List Draft) → HaveKinds ds → nat_lt 65535 (description_width ds) ≡ false → nat_le (length (spelling (description_of p ds))) 65535 ≡ true
-is_short p ds kinds h =
+pub is_short : (p : Parameters) (ds : List Draft) → nat_lt 65535 (description_width ds) ≡ false → nat_le (length (spelling (description_of p ds))) 65535 ≡ true
+is_short p ds h =
     let low : description_width ds ≤ 65535 = grind (arith, nat_tests) in
-    let all = structures_whole 18 ds kinds low in
+    let all = structures_whole 18 ds low in
     le-leb _ _ (omega (arith, all, low, spelling_length (description_of p ds)))

@@ -53,14 +53,13 @@ pub structured : (text : List ℕ) (s : Schema) (d : Described) → schema_of te
 structured text s d read made =
     let g = (text_sound text s read).0 in
     let c = compiled_by s.parameters s.declarations d made in
-    let k = have_kinds c.outline.made s.declarations c.work c.declared in
     let o = well_ordered c.outline.made s.declarations c.work c.declared g.few c.made.restart in
     let f = all_final s.parameters g.has_parameters g.has_audit s.declarations g.used g.declares c.outline.made c.work g.few c.declared in
     let e = all_alike Noted c.outline.made s.declarations nothing_yet nothing_yet c.outline c.work (record { within = refl; made = refl }) c.outlined c.declared in
-    let w : Whole c.outline.made c.work.made = record { same = e.made; numbers = o.numbers; kinds = k.1; final = f.0 } in
+    let w : Whole c.outline.made c.work.made = record { same = e.made; numbers = o.numbers; final = f.0 } in
     let early = stand_earlier c.outline.made s.declarations c.work g.few c.declared in
     subst Structured c.made.is
-    (record { order = o; kinds = k.1; alone = all_alone c.outline.made c.work.made f.0; together = all_together c.outline.made c.work.made w; counted = few_counted s.parameters g.has_parameters g.has_audit s.declarations g.used g.declares c.outline.made c.work g.fewer c.declared; earlier = early; owned = all_owned_well c.outline.made s.declarations c.work g.few c.declared w (declared_low s.parameters g.has_parameters g.has_audit s.declarations g.used g.declares c.outline.made c.work g.few c.declared).0; shallow = are_shallow s.parameters g.has_parameters g.has_audit s.declarations g.used g.declares c.outline.made c.work g.few c.declared; members = have_members c.work.made f.1; placed = all_placed c.outline.made s.declarations c.work c.declared; short = is_short s.parameters c.work.made k.0 c.made.short })
+    (record { order = o; kinds = have_kinds c.work.made; alone = all_alone c.outline.made c.work.made f.0; together = all_together c.outline.made c.work.made w; counted = few_counted s.parameters g.has_parameters g.has_audit s.declarations g.used g.declares c.outline.made c.work g.fewer c.declared; earlier = early; owned = all_owned_well c.outline.made s.declarations c.work g.few c.declared w (declared_low s.parameters g.has_parameters g.has_audit s.declarations g.used g.declares c.outline.made c.work g.few c.declared).0; shallow = are_shallow s.parameters g.has_parameters g.has_audit s.declarations g.used g.declares c.outline.made c.work g.few c.declared; members = have_members c.work.made f.1; placed = all_placed c.outline.made s.declarations c.work c.declared; short = is_short s.parameters c.work.made c.made.short })
 
 pub few_structures : (d : Described) → Structured d → IsTrue (nat_le (length d.structures) 200)
 few_structures d h = le-leb (length d.structures) 200 h.order.few

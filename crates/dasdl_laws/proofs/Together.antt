@@ -1,6 +1,6 @@
 -- What a structure has of others is sound: links, keys, WHERE, and where sets stand.
-use Rattle.std.proofs.Common.{◌≡◌, ◌<◌, ◌+◌, ◌-◌, ℕ, suc, zero, List, [], ◌∷◌, map, length, Bool, true, false, cond, refl, sym, ap, subst, ◌∙◌, arith}
-use Rattle.std.proofs.lemmas.Bool.{and_parts, eqb-true, ltb-true, and_from}
+use Rattle.std.proofs.Common.{◌≡◌, ◌+◌, ◌-◌, ℕ, suc, zero, List, [], ◌∷◌, map, length, Bool, true, false, cond, refl, sym, ap, subst, ◌∙◌, arith}
+use Rattle.std.proofs.lemmas.Bool.{and_parts, eqb-true, and_from}
 use Rattle.std.proofs.lemmas.Bool.Decides.{nat_tests}
 use Rattle.std.proofs.lemmas.Option.{slice_get-map}
 use Rattle.std.specs.Prelude.{◌&&◌, ◌==◌, not, nat_lt, nat_le, slice_get, Some, None}
@@ -12,42 +12,43 @@ use Rattle.dms_base.specs.Fits.{fits}
 use Rattle.dms_base.specs.declared.value.Value.{Value}
 use Rattle.dms_base.specs.declared.kind.ItemKind.{ItemKind}
 use Rattle.dms_base.specs.declared.kind.ItemKind.TheVariants.{Alpha, Number as Decimal, Bool as OneBit, Field, Link as LinkTo}
+use Rattle.dms_base.specs.declared.kind.StructureKind.{StructureKind}
+use Rattle.dms_base.specs.declared.kind.StructureKind.TheVariants.{DataSet as PlainDataSet, RestartDataSet, Set, AutomaticSubset, ManualSubset}
 use Rattle.dms_desc.specs.declared.structure.Item.{Item as Member}
 use Rattle.dms_desc.specs.declared.structure.KeyPart.{KeyPart}
-use Rattle.dms_desc.specs.Shape.{Shape, Tree}
+use Rattle.dms_desc.specs.Numbered.{one_or_two}
+use Rattle.dms_desc.specs.Shape.{Shape, Tree, kind_number}
 use Rattle.dms_desc.specs.Shape.Tree.{Empty, Test, Both, Either, Contrary}
 use Rattle.dms_desc_bytes.specs.Conditions.{nodes, is_comparable, compares_well, is_condition}
 use Rattle.dms_desc.specs.Kinds.{is_link}
 use Rattle.dms_desc.specs.Lookups.{structure_at}
 use Rattle.dms_desc_bytes.specs.Finding.{kind_in, owner_in, kind_of, owner_of, item_at}
-use Rattle.dms_desc_bytes.specs.Lists.{is_within, apart, total}
+use Rattle.dms_desc_bytes.specs.Lists.{apart, total}
 use Rattle.dms_desc.specs.Widths.{item_width}
 use Rattle.dms_desc_bytes.specs.Members.{is_plain, is_link_sound, points_well, is_item_sound}
 use Rattle.dms_desc_bytes.specs.Spelling.{is_data_set}
 use Rattle.dms_desc_bytes.specs.WellFormed.{stand_in_order, is_key_item, width_in, is_part_sound, part_width, parts_differ, is_key_sound}
-use Rattle.dms_desc_bytes.proofs.Places.{all_at}
 use Rattle.dasdl_compile.specs.declared.draft.Draft.{Draft}
 use Rattle.dasdl_compile.specs.Compile.{shape_in}
 use Rattle.dasdl_compile.specs.Finding.{data_set_named}
 use Rattle.dasdl_laws.specs.Alone.{is_local}
 use Rattle.dasdl_laws.proofs.Members.{PointsTo, Points}
-use Rattle.dasdl_laws.proofs.Ordered.{has_kind}
 use Rattle.dasdl_laws.proofs.Outline.{outline_of, seen_item, seen_type, seen_kind}
 use Rattle.dasdl_laws.proofs.Parts.{PointsWell}
 
 -- ---- a data set by its name
 
-named_case : (b : Bool) (name : List ℕ) (d : Draft) (ds : List Draft) (t : Draft) → nat_lt d.kind 3 && bytes_eq d.name name ≡ b → cond b (Some d) (data_set_named name ds) ≡ Some t → (data_set_named name ds ≡ Some t → (k : ℕ) × (slice_get ds k ≡ Some t) × (nat_lt t.kind 3 ≡ true)) → (k : ℕ) × (slice_get (d ∷ ds) k ≡ Some t) × (nat_lt t.kind 3 ≡ true)
+named_case : (b : Bool) (name : List ℕ) (d : Draft) (ds : List Draft) (t : Draft) → nat_lt (kind_number d.kind) 3 && bytes_eq d.name name ≡ b → cond b (Some d) (data_set_named name ds) ≡ Some t → (data_set_named name ds ≡ Some t → (k : ℕ) × (slice_get ds k ≡ Some t) × (nat_lt (kind_number t.kind) 3 ≡ true)) → (k : ℕ) × (slice_get (d ∷ ds) k ≡ Some t) × (nat_lt (kind_number t.kind) 3 ≡ true)
 named_case true name d ds t e h f =
     let one : d ≡ t = cc in
-    let low = (and_parts (nat_lt d.kind 3) (bytes_eq d.name name) e).0 in
-    (0, h, subst (λ (x : Draft). nat_lt x.kind 3 ≡ true) one low)
+    let low = (and_parts (nat_lt (kind_number d.kind) 3) (bytes_eq d.name name) e).0 in
+    (0, h, subst (λ (x : Draft). nat_lt (kind_number x.kind) 3 ≡ true) one low)
 named_case false name d ds t e h f = let r = f h in (suc r.0, r.1, r.2)
 
-named_at : (name : List ℕ) (ds : List Draft) (t : Draft) → data_set_named name ds ≡ Some t → (k : ℕ) × (slice_get ds k ≡ Some t) × (nat_lt t.kind 3 ≡ true)
+named_at : (name : List ℕ) (ds : List Draft) (t : Draft) → data_set_named name ds ≡ Some t → (k : ℕ) × (slice_get ds k ≡ Some t) × (nat_lt (kind_number t.kind) 3 ≡ true)
 unfolding data_set_named
 named_at name [] t h = absurd (cc)
-named_at name (d ∷ ds) t h = named_case (nat_lt d.kind 3 && bytes_eq d.name name) name d ds t refl h (named_at name ds t)
+named_at name (d ∷ ds) t h = named_case (nat_lt (kind_number d.kind) 3 && bytes_eq d.name name) name d ds t refl h (named_at name ds t)
 
 pub mapped : {A B : Type 0} (f : A → B) (r : Option A) (y : B) → option_map f r ≡ Some y → (x : A) × (r ≡ Some x) × (f x ≡ y)
 mapped f None y h = absurd (cc)
@@ -72,22 +73,23 @@ pub record FoundAs (made : List Draft) (t : Draft) : Type 0 where
   pub at : slice_get made place ≡ Some is
   pub structure : structure_at (map shape_in made) t.number ≡ Some (shape_in is)
   pub alike : outline_of t ≡ outline_of is
-  pub kind : is_data_set is.kind ≡ true
+  pub kind : is_data_set (kind_number is.kind) ≡ true
 
-low_case : (c : Bool) (a b : ℕ) → nat_lt a 3 ≡ true → nat_lt b 3 ≡ c → a ≡ cond c b 3 → nat_le 1 b ≡ true → is_data_set b ≡ true
-low_case true a b low h e some = grind (arith, nat_tests)
-low_case false a b low h e some = let z : a < 3 = ltb-true a 3 low in absurd (omega (arith, z, e))
+seen_low : (k : StructureKind) → nat_lt (kind_number (seen_kind k)) 3 ≡ nat_lt (kind_number k) 3
+seen_low PlainDataSet = refl
+seen_low RestartDataSet = refl
+seen_low Set = refl
+seen_low AutomaticSubset = refl
+seen_low ManualSubset = refl
 
-kept_low : (a b : ℕ) → nat_lt a 3 ≡ true → seen_kind a ≡ seen_kind b → is_within 1 5 b ≡ true → is_data_set b ≡ true
-kept_low a b low e h =
-    let r = and_parts (nat_le 1 b) (nat_le b 5) h in
-    low_case (nat_lt b 3) a b low refl (sym (ap (λ (c : Bool). cond c a 3) low) ∙ e) r.0
+kept_low : (a b : StructureKind) → nat_lt (kind_number a) 3 ≡ true → seen_kind a ≡ seen_kind b → is_data_set (kind_number b) ≡ true
+kept_low a b low e = sym (one_or_two b) ∙ sym (seen_low b) ∙ ap (λ (k : StructureKind). nat_lt (kind_number k) 3) (sym e) ∙ seen_low a ∙ low
 
 pub ne_zero : (n k : ℕ) → n ≡ 1 + k → (n == 0) ≡ false
 ne_zero n k e = grind (arith, nat_tests)
 
-pub found_as : (name : List ℕ) (noted made : List Draft) (t : Draft) → map outline_of noted ≡ map outline_of made → stand_in_order 1 (map shape_in made) ≡ true → list_all has_kind (map shape_in made) ≡ true → data_set_named name noted ≡ Some t → FoundAs made t
-found_as name noted made t same numbers kinds h =
+pub found_as : (name : List ℕ) (noted made : List Draft) (t : Draft) → map outline_of noted ≡ map outline_of made → stand_in_order 1 (map shape_in made) ≡ true → data_set_named name noted ≡ Some t → FoundAs made t
+found_as name noted made t same numbers h =
     let a = named_at name noted t h in
     let there : slice_get (map outline_of made) a.0 ≡ Some (outline_of t) = sym (ap (λ (l : List Draft). slice_get l a.0) same) ∙ slice_get-map outline_of noted a.0 ∙ ap (option_map outline_of) a.1 in
     let f = mapped outline_of (slice_get made a.0) (outline_of t) (sym (slice_get-map outline_of made a.0) ∙ there) in
@@ -102,7 +104,7 @@ found_as name noted made t same numbers kinds h =
       at = f.1;
       structure = ap (λ (b : Bool). cond b None (slice_get (map shape_in made) (t.number - 1))) some ∙ ap (λ (k : ℕ). slice_get (map shape_in made) k) at ∙ shape;
       alike = sym f.2;
-      kind = kept_low t.kind f.0.kind a.2 (ap (λ (x : Draft). x.kind) (sym f.2)) (all_at has_kind (map shape_in made) a.0 (shape_in f.0) kinds shape);
+      kind = kept_low t.kind f.0.kind a.2 (ap (λ (x : Draft). x.kind) (sym f.2));
     }
 
 -- ---- links
@@ -114,20 +116,20 @@ link_sound made t target i o p f n alone =
     let owner : (f.is.owner == 0) ≡ true = ap (λ (x : Draft). x.owner == 0) (sym f.alike) ∙ alone in
     and_from _ _ (and_from _ _ (and_from _ _ (ap (λ (x : Option Shape). is_data_set (kind_in x)) at ∙ f.kind) (ap (λ (x : Option Shape). owner_in x == 0) at ∙ owner)) (ap not p.required)) p.initial
 
-points_case : (noted made : List Draft) (k : ItemKind) (i : Member) → map outline_of noted ≡ map outline_of made → stand_in_order 1 (map shape_in made) ≡ true → list_all has_kind (map shape_in made) ≡ true → Points noted k i → points_well (map shape_in made) k i ≡ true
-points_case noted made (LinkTo target counted) i same numbers kinds p =
-    link_sound made p.to target i noted p (found_as p.name noted made p.to same numbers kinds p.found) p.number p.alone
-points_case noted made (Alpha n) i same numbers kinds p = refl
-points_case noted made (Decimal n m s) i same numbers kinds p = refl
-points_case noted made OneBit i same numbers kinds p = refl
-points_case noted made (Field n) i same numbers kinds p = refl
+points_case : (noted made : List Draft) (k : ItemKind) (i : Member) → map outline_of noted ≡ map outline_of made → stand_in_order 1 (map shape_in made) ≡ true → Points noted k i → points_well (map shape_in made) k i ≡ true
+points_case noted made (LinkTo target counted) i same numbers p =
+    link_sound made p.to target i noted p (found_as p.name noted made p.to same numbers p.found) p.number p.alone
+points_case noted made (Alpha n) i same numbers p = refl
+points_case noted made (Decimal n m s) i same numbers p = refl
+points_case noted made OneBit i same numbers p = refl
+points_case noted made (Field n) i same numbers p = refl
 
-pub items_sound : (noted made : List Draft) (is : List Member) → map outline_of noted ≡ map outline_of made → stand_in_order 1 (map shape_in made) ≡ true → list_all has_kind (map shape_in made) ≡ true → list_all is_local is ≡ true → AllByRecursion (PointsWell noted) is → list_all (is_item_sound (map shape_in made)) is ≡ true
+pub items_sound : (noted made : List Draft) (is : List Member) → map outline_of noted ≡ map outline_of made → stand_in_order 1 (map shape_in made) ≡ true → list_all is_local is ≡ true → AllByRecursion (PointsWell noted) is → list_all (is_item_sound (map shape_in made)) is ≡ true
 unfolding is_item_sound
-items_sound noted made [] same numbers kinds local points = refl
-items_sound noted made (i ∷ is) same numbers kinds local points =
+items_sound noted made [] same numbers local points = refl
+items_sound noted made (i ∷ is) same numbers local points =
     let a = and_parts (is_local i) (list_all is_local is) local in
-    and_from _ _ (and_from _ _ a.0 (points_case noted made i.kind i same numbers kinds points.0)) (items_sound noted made is same numbers kinds a.1 points.1)
+    and_from _ _ (and_from _ _ a.0 (points_case noted made i.kind i same numbers points.0)) (items_sound noted made is same numbers a.1 points.1)
 
 -- ---- keys and conditions see items by their types
 

@@ -5,6 +5,9 @@ use Rattle.std.specs.Prelude.{slice_get, set, Some}
 use Rattle.std.specs.List.{AllByRecursion}
 use Rattle.std.specs.declared.result.Result.TheVariants.{Ok}
 use Rattle.dms_base.specs.Name.{is_name}
+use Rattle.dms_base.specs.declared.kind.StructureKind.{StructureKind}
+use Rattle.dms_base.specs.declared.kind.StructureKind.TheVariants.{Set, AutomaticSubset, ManualSubset}
+use Rattle.dms_desc.specs.Shape.{kind_number}
 use Rattle.dms_desc_bytes.specs.Lists.{is_within}
 use Rattle.dms_desc_bytes.specs.Members.{members_differ}
 use Rattle.dms_tokens.specs.declared.token.Lexeme.{Lexeme}
@@ -98,7 +101,7 @@ pub record GrowsDrafts (o : List Draft) (pre : List Draft) (d : Draft) (post : L
 some_items : (a n b : ℕ) → b ≡ a + n → 1 ≤ n → 1 ≤ b
 some_items a n b e h = omega (arith, e, h)
 
-pub no_data_set : (a b : Bool) → is_data_set (cond (not a) 3 (cond b 4 5)) ≡ false
+pub no_data_set : (a b : Bool) → is_data_set (kind_number (cond (not a) Set (cond b AutomaticSubset ManualSubset))) ≡ false
 no_data_set true true = refl
 no_data_set true false = refl
 no_data_set false b = refl
@@ -192,7 +195,7 @@ opened_by o w v _ s same (set_added t d p new of placed read key e) = absurd (cc
 abbrev Grow : List Draft → List Declaration → ℕ → Type 0
 Grow o ds n = (pre : List Draft) (d : Draft) (post : List Draft) (w v : Compilation) → w.made ≡ pre ++ d ∷ post → w.within ≡ length pre + 1 → Sofar o d → length d.items + n ≤ 60 → length w.made + structures_in ds ≤ 200 → steps declared_at o w ds ≡ Ok v → GrowsDrafts o pre d post w v n
 
-no_members : (o : List Draft) (number kind : ℕ) (name : List ℕ) (owner : ℕ) → Sofar o (new_draft number kind name owner)
+no_members : (o : List Draft) (number : ℕ) (kind : StructureKind) (name : List ℕ) (owner : ℕ) → Sofar o (new_draft number kind name owner)
 unfolding members_differ
 no_members o number kind name owner = record { base = record { local = refl; points = tt; differ = refl }; grouped = record { within = tt; follow = refl; few = omega arith }; plain = tt }
 

@@ -49,11 +49,10 @@ use Rattle.dasdl_grammar.specs.GroupSpelling.{IsNamedItem, AreItems, IsGroup}
 use Rattle.dasdl_grammar.specs.GroupSpelling.IsNamedItem.{a_named_item}
 use Rattle.dasdl_grammar.specs.GroupSpelling.AreItems.{first_item, next_item}
 use Rattle.dasdl_grammar.specs.GroupSpelling.IsGroup.{a_group}
-use Rattle.dasdl_grammar.specs.SaidSpelling.{Said, IsCondDecl, IsPopulation, IsForm, SetOption, DataSetOption}
+use Rattle.dasdl_grammar.specs.SaidSpelling.{Said, IsCondDecl, IsPopulation, SetOption, DataSetOption}
 use Rattle.dasdl_grammar.specs.SaidSpelling.Said.{nothing_said, said_more, said_behind_comma}
 use Rattle.dasdl_grammar.specs.SaidSpelling.IsCondDecl.{a_cond}
 use Rattle.dasdl_grammar.specs.SaidSpelling.IsPopulation.{a_population}
-use Rattle.dasdl_grammar.specs.SaidSpelling.IsForm.{a_tree, a_list}
 use Rattle.dasdl_grammar.specs.SaidSpelling.SetOption.{says_where, says_key, says_duplicates, says_form, says_population}
 use Rattle.dasdl_grammar.specs.SaidSpelling.DataSetOption.{says_verify, says_its_population}
 use Rattle.dasdl_grammar.specs.SetSpelling.{IsSet, IsEnd, IsHead}
@@ -230,10 +229,6 @@ or_million (Some n) h = h
 pub end_written : (e : DataSetEnd) (us : List Lexeme) → IsEnd e us → IsPlainCondition e.verify × (is_within 1 1000000 e.population ≡ true)
 end_written _ _ (an_end c z said us e s f) = let h = data_set_said said us s in (h.0, or_million said.population h.1)
 
-form_range : (n : ℕ) (xs : List Token) → IsForm n xs → is_within 1 2 n ≡ true
-form_range _ _ (a_tree) = refl
-form_range _ _ (a_list) = refl
-
 parts_some : (ps : List PartDecl) (xs : List Token) → AreParts ps xs → 1 ≤ length ps
 parts_some _ _ (first_part p xs i) = omega arith
 parts_some _ _ (next_part ps p xs ys a i) = omega (arith, length-append ps (p ∷ []))
@@ -253,18 +248,17 @@ key_some _ _ (a_key l m parts vs e f i few) = whole_key parts _ i
 record SetSaid (s : SetOptions) : Type 0 where
   cond : IsPlainCondition s.cond
   key : IsSomeKey s.key
-  form : IsRange 1 2 s.form
   population : IsRange 1 1000000 s.population
 
 set_option : (s t : SetOptions) (us : List Lexeme) → SetOption s t us → SetSaid s → SetSaid t
-set_option _ _ _ (says_where key duplicates form population c us d) h = record { cond = cond_plain _ c us d; key = h.key; form = h.form; population = h.population }
-set_option _ _ _ (says_key cond duplicates form population k us d) h = record { cond = h.cond; key = key_some k us d; form = h.form; population = h.population }
-set_option _ _ _ (says_duplicates cond key form population d us i) h = record { cond = h.cond; key = h.key; form = h.form; population = h.population }
-set_option _ _ _ (says_form cond key duplicates population f us i) h = record { cond = h.cond; key = h.key; form = form_range f _ i; population = h.population }
-set_option _ _ _ (says_population cond key duplicates form n us p) h = record { cond = h.cond; key = h.key; form = h.form; population = population_range n _ p }
+set_option _ _ _ (says_where key duplicates form population c us d) h = record { cond = cond_plain _ c us d; key = h.key; population = h.population }
+set_option _ _ _ (says_key cond duplicates form population k us d) h = record { cond = h.cond; key = key_some k us d; population = h.population }
+set_option _ _ _ (says_duplicates cond key form population d us i) h = record { cond = h.cond; key = h.key; population = h.population }
+set_option _ _ _ (says_form cond key duplicates population f us i) h = record { cond = h.cond; key = h.key; population = h.population }
+set_option _ _ _ (says_population cond key duplicates form n us p) h = record { cond = h.cond; key = h.key; population = population_range n _ p }
 
 set_said : (t : SetOptions) (us : List Lexeme) → Said no_set_options SetOption t us → SetSaid t
-set_said _ _ nothing_said = record { cond = tt; key = tt; form = tt; population = tt }
+set_said _ _ nothing_said = record { cond = tt; key = tt; population = tt }
 set_said _ _ (said_more s t us vs a o) = set_option s t vs o (set_said s us a)
 set_said _ _ (said_behind_comma s t us l vs a e o) = set_option s t vs o (set_said s us a)
 
@@ -273,14 +267,9 @@ pub record IsWrittenSet (s : SetDecl) : Type 0 where
   pub name : is_name s.name ≡ true
   pub cond : IsPlainCondition s.cond
   pub key : IsSomeKey s.key
-  pub form : is_within 1 2 s.form ≡ true
   pub population : is_within 1 1000000 s.population ≡ true
-
-or_first : (o : Option ℕ) → IsRange 1 2 o → is_within 1 2 (or_else 1 o) ≡ true
-or_first None h = refl
-or_first (Some n) h = h
 
 pub set_written : (place : ℕ) (name : List ℕ) (s : SetDecl) (us : List Lexeme) → is_name name ≡ true → IsSet place name s us → IsWrittenSet s
 set_written _ _ _ _ n (a_set k o t z subset of said us a b c d e f) =
     let h = set_said said us e in
-    record { name = n; cond = h.cond; key = h.key; form = or_first said.form h.form; population = or_million said.population h.population }
+    record { name = n; cond = h.cond; key = h.key; population = or_million said.population h.population }

@@ -2,6 +2,8 @@
 use Rattle.std.specs.Prelude.{ℕ, List, Bool, true, false, ◌&&◌, ◌||◌, codes, is_none, Some, None, if◌then◌else◌}
 use Rattle.std.specs.declared.option.Option.{Option}
 use Rattle.std.specs.declared.result.Result.TheVariants.{Ok, Err}
+use Rattle.dms_base.specs.declared.kind.SetForm.{SetForm}
+use Rattle.dms_base.specs.declared.kind.SetForm.TheVariants.{IndexSequential, OrderedList}
 use Rattle.dms_tokens.specs.declared.token.Lexeme.{Lexeme}
 use Rattle.dasdl_phrases.specs.Reads.{Read, ◌>>=◌}
 use Rattle.dasdl_parse.specs.declared.declarations.SetDecl.{SetDecl}
@@ -29,17 +31,17 @@ duplicates_at ts =
       t2 ← word_at (codes "DUPLICATES") t1
       Ok (false, t2))
 
--- INDEX SEQUENTIAL, which is 1, or ORDERED LIST, which is 2
-unfoldable pub form_at : List Lexeme → Read ℕ
+-- INDEX SEQUENTIAL or ORDERED LIST
+unfoldable pub form_at : List Lexeme → Read SetForm
 form_at ts =
     if starts (is_word (codes "INDEX")) ts then (do
       t1 ← word_at (codes "INDEX") ts
       t2 ← word_at (codes "SEQUENTIAL") t1
-      Ok (1, t2))
+      Ok (IndexSequential, t2))
     else (do
       t1 ← word_at (codes "ORDERED") ts
       t2 ← word_at (codes "LIST") t1
-      Ok (2, t2))
+      Ok (OrderedList, t2))
 
 abbrev pub no_set_options : SetOptions
 no_set_options = record { cond = None; key = None; duplicates = None; form = None; population = None }
@@ -106,7 +108,7 @@ set_of place name subset of s = record {
   cond = s.cond;
   key = s.key;
   duplicates = or_else false s.duplicates;
-  form = or_else 1 s.form;
+  form = or_else IndexSequential s.form;
   population = or_else 1000000 s.population;
 }
 

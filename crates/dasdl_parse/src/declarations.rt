@@ -1,6 +1,6 @@
 use crate::lists::ItemDecls;
 use dasdl_phrases::{CondDecl, KeyDecl};
-use dms_base::{ItemKind, Literal, Name};
+use dms_base::{ItemKind, Literal, Name, SetForm};
 
 /// What a schema declares, one after another in text order. What stands between a data set and its
 /// end are its members, and data sets and sets among them are embedded in it.
@@ -89,8 +89,7 @@ pub struct SetDecl {
     pub key: Option<KeyDecl>,
     /// Whether two members may have equal keys.
     pub duplicates: bool,
-    /// 1 for INDEX SEQUENTIAL, 2 for ORDERED LIST.
-    pub form: u8,
+    pub form: SetForm,
     /// The most entries that it may have, 1 to 1,000,000.
     pub population: u32,
 }

@@ -8,7 +8,7 @@ use dasdl_phrases::expect::{
     expect_equal, expect_sign, expect_word, fault, read_name, read_number,
 };
 use dasdl_phrases::{CondDecl, KeyDecl, ParseFault, Turns, cond_decl, key, read_turns};
-use dms_base::Name;
+use dms_base::{Name, SetForm};
 use dms_tokens::Cursor;
 
 /// The most entries or records that a structure may have.
@@ -20,7 +20,7 @@ pub struct SetOptions {
     pub cond: Option<CondDecl>,
     pub key: Option<KeyDecl>,
     pub duplicates: Option<bool>,
-    pub form: Option<u8>,
+    pub form: Option<SetForm>,
     pub population: Option<u32>,
 }
 
@@ -50,19 +50,19 @@ fn duplicates(cursor: &mut Cursor<'_>) -> Result<bool, ParseFault>
     Ok(false)
 }
 
-/// `INDEX SEQUENTIAL`, which is 1, or `ORDERED LIST`, which is 2.
+/// `INDEX SEQUENTIAL` or `ORDERED LIST`.
 #[tactic(auto, unfolding(crate::specs::Sets::form_at))]
-fn form(cursor: &mut Cursor<'_>) -> Result<u8, ParseFault>
+fn form(cursor: &mut Cursor<'_>) -> Result<SetForm, ParseFault>
     ensures { Takes result cursor.new (form_at cursor.old) }
 {
     if cursor.starts_word(b"INDEX") {
         expect_word(cursor, b"INDEX")?;
         expect_word(cursor, b"SEQUENTIAL")?;
-        return Ok(1);
+        return Ok(SetForm::IndexSequential);
     }
     expect_word(cursor, b"ORDERED")?;
     expect_word(cursor, b"LIST")?;
-    Ok(2)
+    Ok(SetForm::OrderedList)
 }
 
 fn starts_duplicates(cursor: &Cursor<'_>) -> bool
@@ -159,7 +159,7 @@ fn set_of(place: u32, name: Name, subset: bool, of: Name, options: SetOptions) -
         cond: options.cond,
         key: options.key,
         duplicates: options.duplicates.unwrap_or(false),
-        form: options.form.unwrap_or(1),
+        form: options.form.unwrap_or(SetForm::IndexSequential),
         population: options.population.unwrap_or(POPULATION),
     }
 }

@@ -4,6 +4,7 @@ pub mod Fitting
 pub mod Keys
 pub mod Kinds
 pub mod Lookups
+pub mod Numbered
 pub mod Plain
 pub mod Shape
 pub mod Sorted

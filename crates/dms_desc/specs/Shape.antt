@@ -1,5 +1,10 @@
 -- A description as definitions speak of it: without the places of a condition's parts in memory.
-use Rattle.std.specs.Prelude.{ℕ, Bool, List, map}
+use Rattle.std.specs.Prelude.{ℕ, Bool, List, None, Some, map}
+use Rattle.std.specs.declared.option.Option.{Option}
+use Rattle.dms_base.specs.declared.kind.SetForm.{SetForm}
+use Rattle.dms_base.specs.declared.kind.SetForm.TheVariants.{IndexSequential, OrderedList}
+use Rattle.dms_base.specs.declared.kind.StructureKind.{StructureKind}
+use Rattle.dms_base.specs.declared.kind.StructureKind.TheVariants.{DataSet, RestartDataSet, Set, AutomaticSubset, ManualSubset}
 use Rattle.dms_base.specs.declared.value.Value.{Value}
 use Rattle.dms_base.specs.declared.op.Op.{Op}
 use Rattle.dms_desc.specs.declared.cond.Cond.{Cond, Nothing, Compare, And', Or', Not'}
@@ -24,7 +29,21 @@ tree_of (And' p a q b) = Both (tree_of a) (tree_of b)
 tree_of (Or' p a q b) = Either (tree_of a) (tree_of b)
 tree_of (Not' p a) = Contrary (tree_of a)
 
--- a structure
+-- the number of a kind of structure in a description
+abbrev pub kind_number : StructureKind → ℕ
+kind_number DataSet = 1
+kind_number RestartDataSet = 2
+kind_number Set = 3
+kind_number AutomaticSubset = 4
+kind_number ManualSubset = 5
+
+-- the number of a form, 0 for a data set, which has none
+abbrev pub form_number : Option SetForm → ℕ
+form_number None = 0
+form_number (Some IndexSequential) = 1
+form_number (Some OrderedList) = 2
+
+-- a structure, its kind and form by their numbers
 pub record Shape : Type 0 where
   pub number : ℕ
   pub kind : ℕ
@@ -40,7 +59,7 @@ pub record Shape : Type 0 where
   pub parts : List KeyPart
 
 abbrev pub shape_of : Structure → Shape
-shape_of s = record { number = s.number; kind = s.kind; name = s.name; owner = s.owner; population = s.population; items = s.items; groups = s.groups; cond = tree_of s.cond; set = s.set; form = s.form; duplicates = s.duplicates; parts = s.parts }
+shape_of s = record { number = s.number; kind = kind_number s.kind; name = s.name; owner = s.owner; population = s.population; items = s.items; groups = s.groups; cond = tree_of s.cond; set = s.set; form = form_number s.form; duplicates = s.duplicates; parts = s.parts }
 
 -- a description
 pub record Described : Type 0 where

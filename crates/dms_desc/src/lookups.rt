@@ -5,7 +5,7 @@ ghost use Rattle.dms_desc.specs.Kinds.{is_data_set, is_restart, is_automatic, is
 ghost use Rattle.dms_desc.specs.Lookups.{structure_at, structure_of, structure_named, name_of, items_of, parts_of, set_of, part_item, part_kind, after_item, item_named, group_named};
 
 use crate::{Description, Group, Item, KeyPart, Structure, meets};
-use dms_base::{ItemKind, Name, Value};
+use dms_base::{ItemKind, Name, StructureKind, Value};
 
 /// An item or a link that was looked up by its name: its number, counted from 1, and its kind.
 #[derive(Clone, Copy, Debug, PartialEq, Eq)]
@@ -112,35 +112,41 @@ impl Structure {
     pub fn is_data_set(&self) -> bool
         ensures { result ≡ is_data_set (shape_of self.now) }
     {
-        self.kind < 3
+        matches!(
+            self.kind,
+            StructureKind::DataSet | StructureKind::RestartDataSet
+        )
     }
 
     /// Whether it is the restart data set.
     pub fn is_restart(&self) -> bool
         ensures { result ≡ is_restart (shape_of self.now) }
     {
-        self.kind == 2
+        matches!(self.kind, StructureKind::RestartDataSet)
     }
 
     /// Whether it is an automatic subset.
     pub fn is_automatic(&self) -> bool
         ensures { result ≡ is_automatic (shape_of self.now) }
     {
-        self.kind == 4
+        matches!(self.kind, StructureKind::AutomaticSubset)
     }
 
     /// Whether it is a manual subset.
     pub fn is_manual(&self) -> bool
         ensures { result ≡ is_manual (shape_of self.now) }
     {
-        self.kind == 5
+        matches!(self.kind, StructureKind::ManualSubset)
     }
 
     /// Whether it is a set or an automatic subset, whose members follow from the records.
     pub fn is_set_or_automatic(&self) -> bool
         ensures { result ≡ is_set_or_automatic (shape_of self.now) }
     {
-        2 < self.kind && self.kind < 5
+        matches!(
+            self.kind,
+            StructureKind::Set | StructureKind::AutomaticSubset
+        )
     }
 
     /// The number of the data set whose records it holds: its own where it is a data set.

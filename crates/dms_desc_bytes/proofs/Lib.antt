@@ -2,6 +2,7 @@ pub mod CondLaws
 pub mod DescriptionLaws
 pub mod Fields
 pub mod MemberLaws
+pub mod Numbered
 pub mod Places
 mod Several
 pub mod Soundness

@@ -23,6 +23,7 @@ use Rattle.dms_desc_bytes.specs.Reading as reading
 use Rattle.dms_desc_bytes.specs.Spelling.{is_data_set, item_bytes, group_bytes, tree_bytes}
 use Rattle.dms_desc_bytes.specs.WellFormed.{is_open_behind, is_owned_well, is_shallow, has_member, has_sound_items, has_sound_groups, has_sound_verify, lacks_set_fields, is_data_set_sound, is_key_sound, is_set_placed, is_populated, is_where_sound, is_set_sound, is_placed, has_sound_fields, is_sound, parts_differ, is_part_sound, part_width}
 use Rattle.dms_desc_bytes.proofs.Fields.{Again}
+use Rattle.dms_desc_bytes.proofs.Numbered.{kind_known, form_known, within_most}
 use Rattle.dms_desc_bytes.proofs.Places.{at_place, all_at}
 use Rattle.dms_desc_bytes.proofs.Values.{Typed, SpelledValue, value_spelled, null_spelled}
 use Rattle.dms_desc_bytes.proofs.CondLaws.{Kinds, tree_again, nothing_again}
@@ -123,9 +124,6 @@ empty_is : {A : Type 0} (xs : List A) → is_empty xs ≡ true → xs ≡ []
 empty_is [] none = refl
 empty_is (x ∷ xs) none = absurd cc
 
-within_most : (least most n : ℕ) → is_within least most n ≡ true → n ≤ most
-within_most least most n good = leb-true n most (and_parts (nat_le least n) (nat_le n most) good).1
-
 record DataSetParts (ss : List Shape) (s : Shape) : Type 0 where
   pub population : is_within 1 1000000 s.population ≡ true
   pub items : has_sound_items ss s ≡ true
@@ -166,14 +164,15 @@ lacks_parts s good =
     let a = and_parts (s.set == 0) (s.form == 0) b.0 in
     (eqb-true s.set 0 a.0, eqb-true s.form 0 a.1, not-true s.duplicates b.1, empty_is s.parts c.1)
 
-data_set_spelled : (ss : List Shape) (s : Shape) → length ss ≤ 200 → is_data_set_sound ss s ≡ true → SpelledDataSet s
-data_set_spelled ss s few good =
+data_set_spelled : (ss : List Shape) (s : Shape) → length ss ≤ 200 → is_within 1 5 s.kind ≡ true → is_data_set_sound ss s ≡ true → SpelledDataSet s
+data_set_spelled ss s few kind good =
     let parts = data_set_parts ss s good in
     let items = items_parts ss s parts.items in
     let groups = groups_parts s parts.groups in
     let lacks = lacks_parts s parts.lacks in
     let most = within_most 1 1000000 s.population parts.population in
     record {
+      known = kind_known s.kind kind;
       population = omega (arith, most);
       few_items = omega (arith, items.0);
       items = each_again reading.item_at item_bytes (is_item_sound ss) (item_spelled ss few) 1 s.items items.1;
@@ -189,6 +188,7 @@ data_set_spelled ss s few good =
 -- ---- sets and subsets
 
 record SetParts (ss : List Shape) (s : Shape) : Type 0 where
+  pub form : is_within 1 2 s.form ≡ true
   pub of : is_data_set (kind_of ss s.set) ≡ true
   pub population : is_populated s ≡ true
   pub key : is_key_sound (items_at ss s.set) s.parts ≡ true
@@ -218,7 +218,7 @@ set_parts ss s good =
     let three = and_parts (a && b && c) d four.0 in
     let two = and_parts (a && b) c three.0 in
     let one = and_parts a b two.0 in
-    record { of = one.0; population = two.1; key = four.1; cond = seven.1; items = eight.1; groups = nine.1 }
+    record { of = one.0; form = three.1; population = two.1; key = four.1; cond = seven.1; items = eight.1; groups = nine.1 }
 
 key_parts : (items : List Item) (s : Shape) → is_key_sound items s.parts ≡ true → length s.parts ≤ 16
 unfolding is_key_sound
@@ -242,7 +242,7 @@ where_lacks : (b : Bool) (items : List Item) (t : Tree) → cond b (is_condition
 where_lacks true items t good e = absurd cc
 where_lacks false items t good e = nothing_is t good
 
-pub fields_parts : (ss : List Shape) (s : Shape) → is_sound ss s ≡ true → (is_name s.name ≡ true) × (is_owned_well ss s ≡ true) × (has_sound_fields ss s ≡ true)
+pub fields_parts : (ss : List Shape) (s : Shape) → is_sound ss s ≡ true → (is_name s.name ≡ true) × (is_owned_well ss s ≡ true) × (has_sound_fields ss s ≡ true) × (is_within 1 5 s.kind ≡ true)
 unfolding is_sound
 fields_parts ss s good =
     let a = is_within 1 5 s.kind in
@@ -255,7 +255,7 @@ fields_parts ss s good =
     let three = and_parts (a && b && c) d four.0 in
     let two = and_parts (a && b) c three.0 in
     let one = and_parts a b two.0 in
-    (one.1, two.1, five.1)
+    (one.1, two.1, five.1, one.0)
 
 data_set_case : (b : Bool) (ss : List Shape) (s : Shape) → cond b (is_data_set_sound ss s) (is_set_sound ss s) ≡ true → b ≡ true → is_data_set_sound ss s ≡ true
 data_set_case true ss s good e = good
@@ -278,14 +278,16 @@ of_kinds ss n all holds =
     let kinds = kinds_of ss t.items (items_parts ss t (data_set_parts ss t good).items).1 in
     subst (λ (o : Option Shape). Kinds (items_of o)) (sym same) kinds
 
-set_spelled : (ss : List Shape) (s : Shape) → length ss ≤ 200 → list_all (is_sound ss) ss ≡ true → is_set_sound ss s ≡ true → SpelledSet s
-set_spelled ss s few all good =
+set_spelled : (ss : List Shape) (s : Shape) → length ss ≤ 200 → list_all (is_sound ss) ss ≡ true → is_within 1 5 s.kind ≡ true → is_set_sound ss s ≡ true → SpelledSet s
+set_spelled ss s few all kind good =
     let parts = set_parts ss s good in
     let low = (named ss s.set (not_zero (kind_of ss s.set) parts.of)).2 in
     let most = populated_case (eqb s.kind 5) s.population parts.population in
     let keys = key_parts (items_at ss s.set) s parts.key in
     let kinds = of_kinds ss s.set all parts.of in
     record {
+      known = kind_known s.kind kind;
+      known_form = form_known s.form parts.form;
       set = omega (arith, few, low);
       population = omega (arith, most);
       few_parts = omega (arith, keys);
@@ -314,6 +316,6 @@ shape_spelled ss s few all good =
     record {
       name = parts.0;
       owner = owner_low ss s few parts.1;
-      data_set = λ e. data_set_spelled ss s few (data_set_case (is_data_set s.kind) ss s parts.2 e);
-      set = λ e. set_spelled ss s few all (set_case (is_data_set s.kind) ss s parts.2 e);
+      data_set = λ e. data_set_spelled ss s few parts.3 (data_set_case (is_data_set s.kind) ss s parts.2 e);
+      set = λ e. set_spelled ss s few all parts.3 (set_case (is_data_set s.kind) ss s parts.2 e);
     }

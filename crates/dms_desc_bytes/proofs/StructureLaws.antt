@@ -9,7 +9,7 @@ use Rattle.dms_desc.specs.declared.structure.KeyPart.{KeyPart}
 use Rattle.dms_desc.specs.Shape.{Tree, Shape}
 use Rattle.dms_desc.specs.Shape.Tree.{Empty}
 use Rattle.dms_desc_bytes.specs.declared.reading.Head.{Head}
-use Rattle.dms_desc_bytes.specs.Reading.{ReadBytes, byte_at, name_at, number_at, flag_at, list_at, item_at, group_at, part_at, tree_at, data_set_at, where_at, set_at, fields_at, structure_at}
+use Rattle.dms_desc_bytes.specs.Reading.{ReadBytes, known_kind, known_form, byte_at, name_at, number_at, flag_at, list_at, item_at, group_at, part_at, tree_at, data_set_at, where_at, set_at, fields_at, structure_at}
 use Rattle.dms_desc_bytes.specs.Spelling.{count_byte, flag, name_bytes, item_bytes, group_bytes, part_bytes, tree_bytes, data_set_bytes, where_bytes, set_bytes, is_data_set, structure_bytes}
 use Rattle.dms_desc_bytes.proofs.Fields.{Again, u16_again, u32_again, flag_again}
 use Rattle.dms_desc_bytes.proofs.Values.{name_again}
@@ -20,6 +20,7 @@ head_of s = record { number = s.number; kind = s.kind; name = s.name; owner = s.
 
 -- a data set that a description can spell
 pub record SpelledDataSet (s : Shape) : Type 0 where
+  pub known : known_kind s.kind ≡ s.kind
   pub population : s.population < 2 ^ 32
   pub few_items : length s.items ≤ 255
   pub items : EachAgain (λ k. item_at) item_bytes 1 s.items
@@ -33,6 +34,8 @@ pub record SpelledDataSet (s : Shape) : Type 0 where
 
 -- a set or subset that a description can spell
 pub record SpelledSet (s : Shape) : Type 0 where
+  pub known : known_kind s.kind ≡ s.kind
+  pub known_form : known_form s.form ≡ s.form
   pub set : s.set < 2 ^ 16
   pub population : s.population < 2 ^ 32
   pub few_parts : length s.parts ≤ 255
@@ -51,7 +54,7 @@ seven a b c d e f rest =
 -- ---- data sets
 
 abbrev data_set_of : Head → ℕ → List Item → List Group → Tree → Shape
-data_set_of h population items groups t = record { number = h.number; kind = h.kind; name = h.name; owner = h.owner; population = population; items = items; groups = groups; cond = t; set = 0; form = 0; duplicates = false; parts = [] }
+data_set_of h population items groups t = record { number = h.number; kind = known_kind h.kind; name = h.name; owner = h.owner; population = population; items = items; groups = groups; cond = t; set = 0; form = 0; duplicates = false; parts = [] }
 
 abbrev groups_on : Head → ℕ → List Item → ReadBytes (List Group) → ReadBytes Shape
 groups_on h population items groups = (data_set_of h population items groups.0 (tree_at 100 groups.1).0, (tree_at 100 groups.1).1)
@@ -63,7 +66,7 @@ abbrev population_on : Head → ReadBytes ℕ → ReadBytes Shape
 population_on h population = items_on h population.0 (list_at item_at population.1)
 
 same_data_set : (s : Shape) → SpelledDataSet s → data_set_of (head_of s) s.population s.items s.groups s.cond ≡ s
-same_data_set s good = λ i. record { number = s.number; kind = s.kind; name = s.name; owner = s.owner; population = s.population; items = s.items; groups = s.groups; cond = s.cond; set = sym good.no_set i; form = sym good.no_form i; duplicates = sym good.no_duplicates i; parts = sym good.no_parts i }
+same_data_set s good = λ i. record { number = s.number; kind = good.known i; name = s.name; owner = s.owner; population = s.population; items = s.items; groups = s.groups; cond = s.cond; set = sym good.no_set i; form = sym good.no_form i; duplicates = sym good.no_duplicates i; parts = sym good.no_parts i }
 
 data_set_again : (s : Shape) → SpelledDataSet s → Again (data_set_at (head_of s)) (data_set_bytes s) s
 unfolding data_set_at data_set_bytes
@@ -92,7 +95,7 @@ unfolding where_at
 where_again s good rest = where_case (eqb s.kind 4) s.cond rest good.has_where good.no_where
 
 abbrev set_of : Head → ℕ → ℕ → Bool → ℕ → List KeyPart → Tree → Shape
-set_of h set form duplicates population parts t = record { number = h.number; kind = h.kind; name = h.name; owner = h.owner; population = population; items = []; groups = []; cond = t; set = set; form = form; duplicates = duplicates; parts = parts }
+set_of h set form duplicates population parts t = record { number = h.number; kind = known_kind h.kind; name = h.name; owner = h.owner; population = population; items = []; groups = []; cond = t; set = set; form = known_form form; duplicates = duplicates; parts = parts }
 
 abbrev parts_on : Head → ℕ → ℕ → Bool → ℕ → ReadBytes (List KeyPart) → ReadBytes Shape
 parts_on h set form duplicates population parts = (set_of h set form duplicates population parts.0 (where_at h.kind parts.1).0, (where_at h.kind parts.1).1)
@@ -107,7 +110,7 @@ abbrev set_on : Head → ReadBytes ℕ → ReadBytes Shape
 set_on h set = duplicates_on h set.0 (byte_at set.1).0 (flag_at (byte_at set.1).1)
 
 same_set : (s : Shape) → SpelledSet s → set_of (head_of s) s.set s.form s.duplicates s.population s.parts s.cond ≡ s
-same_set s good = λ i. record { number = s.number; kind = s.kind; name = s.name; owner = s.owner; population = s.population; items = sym good.no_items i; groups = sym good.no_groups i; cond = s.cond; set = s.set; form = s.form; duplicates = s.duplicates; parts = s.parts }
+same_set s good = λ i. record { number = s.number; kind = good.known i; name = s.name; owner = s.owner; population = s.population; items = sym good.no_items i; groups = sym good.no_groups i; cond = s.cond; set = s.set; form = good.known_form i; duplicates = s.duplicates; parts = s.parts }
 
 all_parts : (k : ℕ) (ps : List KeyPart) → EachAgain (λ n. part_at) part_bytes k ps
 all_parts k [] = tt

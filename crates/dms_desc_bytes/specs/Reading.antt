@@ -170,13 +170,26 @@ unfoldable pub tree_at : ℕ → List ℕ → ReadBytes Tree
 tree_at zero bytes = (Empty, bytes)
 tree_at (suc levels) bytes = tree_in (tree_at levels) (byte_at bytes).0 (byte_at bytes).1
 
+-- the kind that a byte says: 5, a manual subset, where no kind has that number
+abbrev pub known_kind : ℕ → ℕ
+known_kind byte =
+    if byte == 1 then 1
+    else (if byte == 2 then 2
+    else (if byte == 3 then 3
+    else (if byte == 4 then 4
+    else 5)))
+
+-- the form that a byte says: 2, an ordered list, where no form has that number
+abbrev pub known_form : ℕ → ℕ
+known_form byte = if byte == 1 then 1 else 2
+
 unfoldable pub data_set_at : Head → List ℕ → ReadBytes Shape
 data_set_at h bytes = do
   population ← number_at w32 bytes
   items ← list_at item_at population.1
   groups ← list_at group_at items.1
   verify ← tree_at 100 groups.1
-  (record { number = h.number; kind = h.kind; name = h.name; owner = h.owner; population = population.0; items = items.0; groups = groups.0; cond = verify.0; set = 0; form = 0; duplicates = false; parts = [] }, verify.1)
+  (record { number = h.number; kind = known_kind h.kind; name = h.name; owner = h.owner; population = population.0; items = items.0; groups = groups.0; cond = verify.0; set = 0; form = 0; duplicates = false; parts = [] }, verify.1)
 
 -- only an automatic subset has a WHERE
 unfoldable pub where_at : ℕ → List ℕ → ReadBytes Tree
@@ -190,7 +203,7 @@ set_at h bytes = do
   population ← number_at w32 duplicates.1
   parts ← list_at part_at population.1
   cond ← where_at h.kind parts.1
-  (record { number = h.number; kind = h.kind; name = h.name; owner = h.owner; population = population.0; items = []; groups = []; cond = cond.0; set = set.0; form = form.0; duplicates = duplicates.0; parts = parts.0 }, cond.1)
+  (record { number = h.number; kind = known_kind h.kind; name = h.name; owner = h.owner; population = population.0; items = []; groups = []; cond = cond.0; set = set.0; form = known_form form.0; duplicates = duplicates.0; parts = parts.0 }, cond.1)
 
 unfoldable pub fields_at : Head → List ℕ → ReadBytes Shape
 fields_at h bytes = if is_data_set h.kind then data_set_at h bytes else set_at h bytes

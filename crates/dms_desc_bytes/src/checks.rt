@@ -6,11 +6,12 @@ ghost use Rattle.dms_desc.specs.Kinds.{is_restart};
 ghost use Rattle.dms_desc_bytes.specs.WellFormed.{is_open_behind, is_owned_well, is_shallow, stands_in, has_member, has_sound_items, has_sound_groups, has_sound_verify, lacks_set_fields, is_data_set_sound, is_placed, has_sound_fields, is_sound, stand_in_order, names_differ, not_both_restart, counted_in, has_parameters, are_sound};
 
 use crate::conds::{is_condition, is_nothing};
-use crate::finding::{is_data_set, kind_of, owner_of};
+use crate::finding::{is_plain_data_set, owner_of};
 use crate::members::{
     are_groups_sound, are_items_sound, counted_links, groups_follow, is_name, members_differ,
 };
 use crate::sets::{MOST_RECORDS, is_set_sound};
+use dms_base::StructureKind;
 use dms_desc::{Description, Structure, record_width};
 
 /// Whether structure `number` can be open behind structure `before`.
@@ -27,7 +28,7 @@ fn is_owned_well(structures: &[Structure], s: &Structure) -> bool
 {
     s.owner == 0
         || (is_open_behind(structures, s.number.saturating_sub(1), s.owner)
-            && kind_of(structures, s.owner) == 1)
+            && is_plain_data_set(structures, s.owner))
 }
 
 #[tactic(auto, unfolding(crate::specs::WellFormed::is_shallow))]
@@ -78,11 +79,11 @@ fn has_sound_verify(s: &Structure) -> bool
     is_nothing(&s.cond) || is_condition(s.items.as_slice(), &s.cond)
 }
 
-#[tactic(auto, unfolding(crate::specs::WellFormed::lacks_set_fields))]
+#[tactic(auto, using(crate::proofs::Numbered::no_form), unfolding(crate::specs::WellFormed::lacks_set_fields))]
 fn lacks_set_fields(s: &Structure) -> bool
     ensures { result ≡ lacks_set_fields (shape_of s.now) }
 {
-    s.set == 0 && s.form == 0 && !s.duplicates && s.parts.as_slice().is_empty()
+    s.set == 0 && s.form.is_none() && !s.duplicates && s.parts.as_slice().is_empty()
 }
 
 #[tactic(auto, unfolding(crate::specs::WellFormed::is_data_set_sound))]
@@ -109,19 +110,19 @@ fn is_placed(s: &Structure) -> bool
 fn has_sound_fields(structures: &[Structure], s: &Structure) -> bool
     ensures { result ≡ has_sound_fields (map shape_of structures.now) (shape_of s.now) }
 {
-    if is_data_set(s.kind) {
-        return is_data_set_sound(structures, s);
+    match s.kind {
+        StructureKind::DataSet | StructureKind::RestartDataSet => is_data_set_sound(structures, s),
+        StructureKind::Set | StructureKind::AutomaticSubset | StructureKind::ManualSubset => {
+            is_set_sound(structures, s)
+        }
     }
-    is_set_sound(structures, s)
 }
 
-#[tactic(auto, unfolding(crate::specs::WellFormed::is_sound))]
+#[tactic(auto, using(crate::proofs::Numbered::kind_within), unfolding(crate::specs::WellFormed::is_sound))]
 fn is_sound(structures: &[Structure], s: &Structure) -> bool
     ensures { result ≡ is_sound (map shape_of structures.now) (shape_of s.now) }
 {
-    1 <= s.kind
-        && s.kind <= 5
-        && is_name(&s.name)
+    is_name(&s.name)
         && is_owned_well(structures, s)
         && is_shallow(structures, s)
         && is_placed(s)

@@ -1,20 +1,37 @@
-ghost use Rattle.std.specs.Prelude.{◌≡◌, map};
+ghost use Rattle.std.specs.Prelude.{◌≡◌, ◌==◌, map};
 ghost use Rattle.std.specs.Option.{option_copied};
 ghost use Rattle.dms_desc.specs.Shape.{shape_of};
 ghost use Rattle.dms_desc.specs.Lookups.{structure_at};
 ghost use Rattle.dms_desc_bytes.specs.Finding.{kind_of, owner_of, item_at, items_at};
 ghost use Rattle.dms_desc_bytes.specs.Spelling.{is_data_set};
 
+use dms_base::StructureKind;
 use dms_desc::{Item, Structure, structure_at};
 
-/// The kind of the structure with this number, 0 where there is none.
+/// Whether the structure with this number is a data set, also the restart data set; no where there is none.
 #[tactic(auto, unfolding(crate::specs::Finding::kind_of))]
-pub fn kind_of(structures: &[Structure], number: u16) -> u8
-    ensures { result ≡ kind_of (map shape_of structures.now) number }
+pub fn is_data_set(structures: &[Structure], number: u16) -> bool
+    ensures { result ≡ is_data_set (kind_of (map shape_of structures.now) number) }
 {
     match structure_at(structures, number) {
-        None => 0,
-        Some(structure) => structure.kind,
+        None => false,
+        Some(structure) => match structure.kind {
+            StructureKind::DataSet | StructureKind::RestartDataSet => true,
+            StructureKind::Set | StructureKind::AutomaticSubset | StructureKind::ManualSubset => {
+                false
+            }
+        },
+    }
+}
+
+/// Whether the structure with this number is a data set other than the restart data set.
+#[tactic(auto, unfolding(crate::specs::Finding::kind_of))]
+pub fn is_plain_data_set(structures: &[Structure], number: u16) -> bool
+    ensures { result ≡ (kind_of (map shape_of structures.now) number == 1) }
+{
+    match structure_at(structures, number) {
+        None => false,
+        Some(structure) => matches!(structure.kind, StructureKind::DataSet),
     }
 }
 
@@ -38,13 +55,6 @@ pub fn items_at(structures: &[Structure], number: u16) -> &[Item]
         None => &[],
         Some(structure) => structure.items.as_slice(),
     }
-}
-
-/// Whether this is the kind of a data set.
-pub fn is_data_set(kind: u8) -> bool
-    ensures { result ≡ is_data_set kind }
-{
-    kind == 1 || kind == 2
 }
 
 /// The item with this number.

@@ -7,7 +7,7 @@ ghost use Rattle.dms_desc_bytes.specs.Lists.{apart, total};
 ghost use Rattle.dms_desc.specs.Conds.{is_null};
 ghost use Rattle.dms_desc_bytes.specs.Members.{is_plain, is_link_sound, points_well, is_item_sound, items_differ, groups_differ, is_free_of, members_differ, items_in_group, is_no_link, is_group_sound, groups_follow, counted_one};
 
-use crate::finding::{is_data_set, kind_of, owner_of};
+use crate::finding::{is_data_set, owner_of};
 use dms_base::{ItemKind, Name, Value, fits, has_printable, is_kind, trim_spaces};
 use dms_desc::{Group, Item, Structure, is_null};
 
@@ -33,7 +33,7 @@ pub fn is_plain(value: &Value) -> bool
 fn is_link_sound(structures: &[Structure], target: u16, item: &Item) -> bool
     ensures { result ≡ is_link_sound (map shape_of structures.now) target item.now }
 {
-    is_data_set(kind_of(structures, target))
+    is_data_set(structures, target)
         && owner_of(structures, target) == 0
         && !item.required
         && is_null(&item.initial)

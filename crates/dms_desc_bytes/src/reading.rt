@@ -1,13 +1,13 @@
-ghost use Rattle.std.specs.Prelude.{◌≡◌, IfOk, map};
-ghost use Rattle.dms_desc.specs.Shape.{tree_of, shape_of, as_described};
+ghost use Rattle.std.specs.Prelude.{◌≡◌, IfOk, Some, map};
+ghost use Rattle.dms_desc.specs.Shape.{tree_of, shape_of, as_described, form_number, kind_number};
 ghost use Rattle.dms_desc_bytes.specs.Decoding.{Decodes, number_of};
-ghost use Rattle.dms_desc_bytes.specs.Reading.{data_set_at, where_at, set_at, fields_at, structure_at, all_structures_at, description_at};
+ghost use Rattle.dms_desc_bytes.specs.Reading.{known_kind, known_form, data_set_at, where_at, set_at, fields_at, structure_at, all_structures_at, description_at};
 
 use crate::checks::{are_sound, has_parameters};
 use crate::input::Input;
 use crate::parts::{read_cond, read_groups, read_items, read_parts};
 use crate::writing::encode;
-use dms_base::{Memory, Name};
+use dms_base::{Memory, Name, SetForm, StructureKind};
 use dms_desc::{Cond, Description, Groups, Items, KeyParts, Structure, Structures};
 use std::alloc::Global;
 
@@ -17,13 +17,36 @@ const LEVELS: u8 = 100;
 /// The bytes that a description may have.
 const MOST_BYTES: usize = 65_535;
 
-/// What stands before the fields of a kind of structure.
+/// What stands before the fields of a kind of structure; its kind as the byte that was read.
 #[derive(Clone, Copy, Debug, PartialEq, Eq)]
 struct Head {
     number: u16,
     kind: u8,
     name: Name,
     owner: u16,
+}
+
+/// The kind of structure that a byte says; a manual subset where it says none.
+fn kind_of_byte(byte: u8) -> StructureKind
+    ensures { kind_number result ≡ known_kind byte }
+{
+    match byte {
+        1 => StructureKind::DataSet,
+        2 => StructureKind::RestartDataSet,
+        3 => StructureKind::Set,
+        4 => StructureKind::AutomaticSubset,
+        _ => StructureKind::ManualSubset,
+    }
+}
+
+/// The form that a byte says; an ordered list where it says none.
+fn form_of_byte(byte: u8) -> SetForm
+    ensures { form_number (Some result) ≡ known_form byte }
+{
+    match byte {
+        1 => SetForm::IndexSequential,
+        _ => SetForm::OrderedList,
+    }
 }
 
 #[tactic(auto, unfolding(crate::specs::Reading::data_set_at))]
@@ -36,7 +59,7 @@ fn read_data_set(alloc: Global, head: Head, input: &mut Input<'_>) -> Result<Str
     let cond = read_cond(alloc, LEVELS, input)?;
     Ok(Structure {
         number: head.number,
-        kind: head.kind,
+        kind: kind_of_byte(head.kind),
         name: head.name,
         owner: head.owner,
         population,
@@ -44,7 +67,7 @@ fn read_data_set(alloc: Global, head: Head, input: &mut Input<'_>) -> Result<Str
         groups,
         cond,
         set: 0,
-        form: 0,
+        form: None,
         duplicates: false,
         parts: KeyParts::new(alloc),
     })
@@ -72,7 +95,7 @@ fn read_set(alloc: Global, head: Head, input: &mut Input<'_>) -> Result<Structur
     let cond = read_where(alloc, head.kind, input)?;
     Ok(Structure {
         number: head.number,
-        kind: head.kind,
+        kind: kind_of_byte(head.kind),
         name: head.name,
         owner: head.owner,
         population,
@@ -80,7 +103,7 @@ fn read_set(alloc: Global, head: Head, input: &mut Input<'_>) -> Result<Structur
         groups: Groups::new(alloc),
         cond,
         set,
-        form,
+        form: Some(form_of_byte(form)),
         duplicates,
         parts,
     })

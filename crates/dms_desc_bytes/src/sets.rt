@@ -6,7 +6,7 @@ ghost use Rattle.dms_desc_bytes.specs.Lists.{apart, total};
 ghost use Rattle.dms_desc_bytes.specs.WellFormed.{is_part_sound, parts_differ, part_width, is_key_sound, is_set_placed, is_populated, is_where_sound, is_set_sound};
 
 use crate::conds::{is_condition, is_nothing};
-use crate::finding::{is_data_set, item_at, items_at, kind_of, owner_of};
+use crate::finding::{is_data_set, item_at, items_at, owner_of};
 use dms_desc::{Item, KeyPart, Structure, item_width};
 
 /// The entries that a manual subset may have.
@@ -101,17 +101,16 @@ fn is_where_sound(items: &[Item], s: &Structure) -> bool
 }
 
 /// Whether a set or subset is sound.
-#[tactic(auto, unfolding(crate::specs::WellFormed::is_set_sound))]
+#[tactic(auto, using(crate::proofs::Numbered::form_within), unfolding(crate::specs::WellFormed::is_set_sound))]
 pub fn is_set_sound(structures: &[Structure], s: &Structure) -> bool
     ensures { result ≡ is_set_sound (map shape_of structures.now) (shape_of s.now) }
 {
     let items = items_at(structures, s.set);
     let parts = s.parts.as_slice();
-    is_data_set(kind_of(structures, s.set))
+    is_data_set(structures, s.set)
         && is_set_placed(structures, s)
         && is_populated(s)
-        && 1 <= s.form
-        && s.form <= 2
+        && s.form.is_some()
         && is_key_sound(items, parts)
         && (s.is_manual() || !parts.is_empty())
         && (s.duplicates || !parts.is_empty())

@@ -1,9 +1,9 @@
 ghost use Rattle.std.specs.Prelude.{◌≡◌, ◌++◌, ◌∷◌, [], ◌%◌, IfOk, OnOk, map, flat_map};
 ghost use Rattle.std.specs.Int.{to_be_bytes};
-ghost use Rattle.dms_desc.specs.Shape.{tree_of, shape_of, as_described};
+ghost use Rattle.dms_desc.specs.Shape.{tree_of, shape_of, as_described, form_number, kind_number};
 ghost use Rattle.dms_desc_bytes.specs.Spelling.{shift_up, name_bytes, literal_bytes, kind_bytes, item_bytes, group_bytes, part_bytes, op_number, tree_bytes, data_set_bytes, set_bytes, where_bytes, structure_bytes, spelling};
 
-use dms_base::{Bytes, ItemKind, Memory, Name, Op, Value};
+use dms_base::{Bytes, ItemKind, Memory, Name, Op, SetForm, StructureKind, Value};
 use dms_desc::{Cond, Description, Group, Item, KeyPart, Structure};
 use std::alloc::Global;
 
@@ -175,10 +175,32 @@ fn put_data_set(out: &mut Bytes, s: &Structure) -> Result<(), Memory>
     put_cond(out, &s.cond)
 }
 
+fn kind_byte(kind: StructureKind) -> u8
+    ensures { result ≡ kind_number kind }
+{
+    match kind {
+        StructureKind::DataSet => 1,
+        StructureKind::RestartDataSet => 2,
+        StructureKind::Set => 3,
+        StructureKind::AutomaticSubset => 4,
+        StructureKind::ManualSubset => 5,
+    }
+}
+
+fn form_byte(form: Option<SetForm>) -> u8
+    ensures { result ≡ form_number form }
+{
+    match form {
+        None => 0,
+        Some(SetForm::IndexSequential) => 1,
+        Some(SetForm::OrderedList) => 2,
+    }
+}
+
 fn put_where(out: &mut Bytes, s: &Structure) -> Result<(), Memory>
     ensures { OnOk result (out.new ≡ out.old ++ where_bytes (shape_of s.now)) }
 {
-    if s.kind == 4 {
+    if s.is_automatic() {
         return put_cond(out, &s.cond);
     }
     Ok(())
@@ -189,7 +211,7 @@ fn put_set(out: &mut Bytes, s: &Structure) -> Result<(), Memory>
     ensures { OnOk result (out.new ≡ out.old ++ set_bytes (shape_of s.now)) }
 {
     out.extend(&s.set.to_be_bytes())?;
-    out.extend(&[s.form, u8::from(s.duplicates)])?;
+    out.extend(&[form_byte(s.form), u8::from(s.duplicates)])?;
     out.extend(&s.population.to_be_bytes())?;
     put_count(out, s.parts.as_slice().len())?;
     put_parts(out, s.parts.as_slice())?;
@@ -200,13 +222,15 @@ fn put_set(out: &mut Bytes, s: &Structure) -> Result<(), Memory>
 fn put_structure(out: &mut Bytes, s: &Structure) -> Result<(), Memory>
     ensures { OnOk result (out.new ≡ out.old ++ structure_bytes (shape_of s.now)) }
 {
-    out.push(s.kind)?;
+    out.push(kind_byte(s.kind))?;
     put_name(out, &s.name)?;
     out.extend(&s.owner.to_be_bytes())?;
-    if s.kind == 1 || s.kind == 2 {
-        return put_data_set(out, s);
+    match s.kind {
+        StructureKind::DataSet | StructureKind::RestartDataSet => put_data_set(out, s),
+        StructureKind::Set | StructureKind::AutomaticSubset | StructureKind::ManualSubset => {
+            put_set(out, s)
+        }
     }
-    put_set(out, s)
 }
 
 fn put_structures(out: &mut Bytes, structures: &[Structure]) -> Result<(), Memory>

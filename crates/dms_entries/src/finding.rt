@@ -57,7 +57,7 @@ fn member_at<B: Blocks>(
 ) -> Result<Option<Spot>, BlockFault>
     requires ready { IsReady (as_described desc.now) over.old }
     requires there { structure_of (as_described desc.now) s.now.number ≡ Some (shape_of s.now) }
-    requires kind { s.now.kind ≡ 5 }
+    requires kind { (shape_of s.now).kind ≡ 5 }
     requires some { 1 ≤ seen_counts over.old (file_of s.now.number) }
     requires listed { HasListed (as_described desc.now) (shape_of s.now) found.now over.old }
     ensures { FindsSpot (as_described desc.now) s.now.number ⊤ (λ db. spot_by (shape_of s.now) db owner (Some found.now)) 1 result over.old over.new }
@@ -87,7 +87,7 @@ fn first_in<B: Blocks>(
 ) -> Result<Option<Spot>, BlockFault>
     requires ready { IsReady (as_described desc.now) over.old }
     requires there { structure_of (as_described desc.now) s.now.number ≡ Some (shape_of s.now) }
-    requires kind { s.now.kind ≡ 5 }
+    requires kind { (shape_of s.now).kind ≡ 5 }
     ensures { FindsFirst (as_described desc.now) s.now.number owner from.now result over.old over.new }
 {
     match kinds_of(alloc, desc.items_of(s.set)) {
@@ -111,7 +111,7 @@ fn last_in<B: Blocks>(
 ) -> Result<Option<Spot>, BlockFault>
     requires ready { IsReady (as_described desc.now) over.old }
     requires there { structure_of (as_described desc.now) s.now.number ≡ Some (shape_of s.now) }
-    requires kind { s.now.kind ≡ 5 }
+    requires kind { (shape_of s.now).kind ≡ 5 }
     requires owner { owner < 2 ^ 32 }
     ensures { FindsLast (as_described desc.now) s.now.number owner to.now result over.old over.new }
 {

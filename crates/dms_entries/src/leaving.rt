@@ -26,7 +26,7 @@ fn leave_member<B: Blocks>(
 ) -> Result<bool, BlockFault>
     requires ready { IsReady (as_described desc.now) over.old }
     requires there { structure_of (as_described desc.now) s.now.number ≡ Some (shape_of s.now) }
-    requires kind { s.now.kind ≡ 5 }
+    requires kind { (shape_of s.now).kind ≡ 5 }
     requires fits { RecordFits (as_described desc.now) s.now.set rec.now }
     ensures { ChangesEntries (as_described desc.now) 23 (LeavesMember (as_described desc.now) (shape_of s.now) number rec.now) result over.old over.new }
 {

@@ -1,19 +1,21 @@
 -- What a reconstruction of rows leaves, in the words of its statement.
-use Rattle.std.proofs.Common.{ℕ, ◌≡◌, ◌∙◌, inl, inr, IsTrue, List, Some, refl, sym, ap, subst}
+use Rattle.std.proofs.Common.{ℕ, ◌≡◌, ◌∙◌, inl, inr, Bool, IsTrue, List, Some, refl, sym, ap, subst}
 use Rattle.dms_moments.specs.Moments.{Runs, Steps}
 use Rattle.dms_moments.specs.MomentLaws.{runs_weaken}
 use Rattle.dms_site.specs.declared.site.Site.{Ghosts}
-use Rattle.dms_site.specs.Files.{Files, Only, Same}
+use Rattle.dms_site.specs.Files.{Files, Left, Only, Same}
 use Rattle.dms_desc.specs.Shape.{Described}
 use Rattle.dms_audfile.specs.Counting.{CountedAt, not_counted}
 use Rattle.dms_audfile.specs.declared.fault.AudFault.TheVariants as aud
 use Rattle.dms_opening.specs.declared.choosing.OpenFault.{OpenFault}
 use Rattle.dms_opening.specs.declared.choosing.OpenFault.TheVariants.{Audit}
 use Rattle.dms_opening.specs.Openings.{HasFullTrail, IsFullFault, IsNoRefusal, IsTrailFound, MayHaveWritten}
+use Rattle.dms_running.specs.Telling.{Telling}
 use Rattle.dms_restore.specs.Logging.{telling_of}
 use Rattle.dms_statements.specs.declared.statement.NamedRow.{NamedRow}
 use Rattle.dms_recovery.specs.Leaving as left
 use Rattle.dms_recovery.specs.Reconstructing.{CanReconstruct, IsOpenFault, MayReconstruct, RefusesReconstruct}
+use Rattle.dms_recovery.specs.Rows.{named_blocks}
 use Rattle.dms_recovery.specs.Wanting.{last_of}
 use Rattle.dms_recovery.specs.declared.naming.ReconstructFault.{ReconstructFault}
 use Rattle.dms_recovery.specs.declared.naming.ReconstructFault.TheVariants.{Open, NoSuchRow}
@@ -44,18 +46,22 @@ use Rattle.dms_goback.proofs.RestoreStatuses.{counted_stopped, not_made, of_rest
 may_reconstruct : (files u : Files) (d : ℕ) (rows : List NamedRow) (total first n : ℕ) (desc : Described) → MendsFrom files u d rows total first n desc → MayReconstruct total first files u d rows n desc
 may_reconstruct files u d rows total first n desc m = record {
   trail = m.trail;
-  none = m.none;
   last = m.last;
   described = m.described;
   mended = record { rebuilt = rebuilt_from total first files u d m.mended.rebuilt; beside = m.mended.beside };
 }
 
+mends_to : (t : Telling) (files u : Files) (named : ℕ → ℕ → Bool) (m : ℕ) (x : Left) → left.MendsTo t files u named m x → law.MendsTo t files u named m x
+mends_to t files u named m x (inl r) = inl (restores_to t files u m x r)
+mends_to t files u named m x (inr h) = inr h
+
 module _ {S : Type 0} (g : Ghosts S) (old new : S) (d : ℕ) (rows : List NamedRow) where
   pub mends_since : ((u : Files) (total first n : ℕ) (desc : Described) → IsTrue g.tells → MayReconstruct total first (g.files old) u d rows n desc
-      → Runs (g.clock old) (g.clock new) (left.RestoresTo (telling_of total first) (g.files old) u n))
+      → Runs (g.clock old) (g.clock new) (left.MendsTo (telling_of total first) (g.files old) u (named_blocks desc.structures rows) n))
       → IsTrue g.tells → MendsSince g old new d rows
   mends_since run tells u total first n desc from =
-      runs_weaken (run u total first n desc tells (may_reconstruct (g.files old) u d rows total first n desc from)) (λ x p. restores_to (telling_of total first) (g.files old) u n x p)
+      runs_weaken (run u total first n desc tells (may_reconstruct (g.files old) u d rows total first n desc from))
+      (λ x p. mends_to (telling_of total first) (g.files old) u (named_blocks desc.structures rows) n x p)
 
   pub mends_end : ((u : Files) (total first n : ℕ) (desc : Described) → IsTrue g.tells → MayReconstruct total first (g.files old) u d rows n desc
       → left.HoldsUpTo (telling_of total first) u n (g.files new) × Only (g.files new) (g.clock new))

@@ -83,8 +83,9 @@ module _ {S : Type 0} (g : Ghosts S) where
     -- no file but audit files and structure files changes, at any moment
     pub beside : StaysBeside g old new
     pub says : SaysReconstructed old new status
-    -- Of each database that differs from the files in the named rows alone, and of which that dump is true, where no restore is pending: at every moment
-    -- nothing was done, or the files stand for its state at its last point, whatever the named rows held
+    -- Of each database that differs from the files in the named rows alone, and of which that dump is true: at every moment nothing was done, or the files stand
+    -- for its state at its last point, whatever the named rows held. Where a restore is pending over it that one goes first: then it may be that this alone was
+    -- being ended, or was ended, and the files stand for that state with the named rows as they count
     pub every_moment : IsTrue g.tells → ReconstructStands g old new d rows
     -- at 0 and 10 they stand for that, and a stop leaves no other files
     pub at_ok : IsMade status → IsTrue g.tells → ReconstructEnds g old new d rows

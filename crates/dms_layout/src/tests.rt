@@ -1,5 +1,5 @@
 use crate::{Slot, SlotRead, from_slot, to_slot};
-use dms_base::{ItemKind, Name, Text, Value};
+use dms_base::{ItemKind, Name, StructureKind, Text, Value};
 use dms_desc::{Cond, Groups, Item, Items, KeyParts, Record, Structure, Values};
 use std::process::Abort;
 
@@ -20,7 +20,7 @@ fn add(rt: &impl Abort, items: &mut Items, kind: ItemKind) {
 fn data_set(rt: &(impl AllocGlobal + Abort), owner: u16, items: Items) -> Structure {
     Structure {
         number: 2,
-        kind: 1,
+        kind: StructureKind::DataSet,
         name: Name::read(b"D").expect(rt, "name"),
         owner,
         population: 100,
@@ -28,7 +28,7 @@ fn data_set(rt: &(impl AllocGlobal + Abort), owner: u16, items: Items) -> Struct
         groups: Groups::new(rt.alloc()),
         cond: Cond::Nothing,
         set: 0,
-        form: 0,
+        form: None,
         duplicates: false,
         parts: KeyParts::new(rt.alloc()),
     }

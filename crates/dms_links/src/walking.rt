@@ -163,10 +163,11 @@ fn linking_slots<B: Blocks>(
 }
 
 // Whether a data set has items for self-correcting links into this one.
+#[tactic(auto, using(dms_desc::specs::Numbered::above_none))]
 fn is_walked(s: &Structure, to: u16) -> bool
     ensures { result ≡ is_walked to (shape_of s.now) }
 {
-    0 < s.kind && s.kind < 3 && has_link_into(s.items.as_slice(), to)
+    s.is_data_set() && has_link_into(s.items.as_slice(), to)
 }
 
 // Adds the places of the slots of one structure, where it is a data set with items for such links.

@@ -2,6 +2,7 @@ ghost use Rattle.std.specs.Prelude.{◌≡◌};
 ghost use Rattle.dms_desc.specs.Shape.{shape_of};
 ghost use Rattle.dms_lists.specs.Forms.{form_of};
 
+use dms_base::SetForm;
 use dms_desc::Structure;
 
 /// In which form the blocks of a structure's file keep its list of entries.
@@ -20,8 +21,8 @@ pub fn form_of(s: &Structure) -> ListForm
     if s.is_manual() {
         return ListForm::List;
     }
-    if s.form == 1 {
-        return ListForm::Tree;
+    match s.form {
+        Some(SetForm::IndexSequential) => ListForm::Tree,
+        Some(SetForm::OrderedList) | None => ListForm::List,
     }
-    ListForm::List
 }

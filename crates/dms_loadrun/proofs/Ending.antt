@@ -6,7 +6,7 @@ use Rattle.dms_loadcount.specs.Answers.{HoldsTooMany, load_text}
 use Rattle.dms_loadrun.specs.Filling.{Fills, IsNew, Makes}
 use Rattle.dms_loadrun.specs.LoadDoes.{LoadsOver}
 use Rattle.dms_loadrun.specs.Loading.{EndsLoaded, Loads}
-use Rattle.dms_loadrun.specs.Statuses.{IsOfAudit, IsOfFilling, IsOfLoading, IsOfLoadLimit, IsOfMaking, IsUnfound}
+use Rattle.dms_loadrun.specs.Statuses.{IsOfAudit, IsOfFilling, IsOfLoad, IsOfLoadLimit, IsOfMaking, IsUnfound}
 use Rattle.dms_loadrun.proofs.Loaded.{fills_audit, fills_loads, fills_others, makes_loads, says_loads}
 use Rattle.dms_moments.specs.Moments.{Now, Steps}
 use Rattle.dms_newdb.specs.Saying.{IsSpoken, SaysLine}
@@ -32,7 +32,7 @@ says_none DiskFault text old new un is = is
 says_none Exists text old new un is = is
 says_none (BadStatement p) text old new un is = is
 
-pub making_loading : (s : Status) → IsOfMaking s → IsOfLoading s
+pub making_loading : (s : Status) → IsOfMaking s → IsOfLoad s
 making_loading Ok of = absurd of
 making_loading BadWords of = absurd of
 making_loading (SchemaRefused f) of = absurd of
@@ -68,7 +68,7 @@ limit_loading Lines of = absurd of
 limit_loading Bytes of = absurd of
 limit_loading Held of = absurd of
 
-pub filling_loading : (s : Status) → IsOfFilling s → IsOfLoading s
+pub filling_loading : (s : Status) → IsOfFilling s → IsOfLoad s
 filling_loading Ok of = tt
 filling_loading BadWords of = absurd of
 filling_loading (SchemaRefused f) of = absurd of

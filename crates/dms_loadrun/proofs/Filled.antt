@@ -1,17 +1,16 @@
 -- What the run of a load's script does, from what a run does over a site that tells no text.
-use Rattle.std.proofs.Common.{◌≡◌, ◌+◌, ◌<◌, ◌^◌, ℕ, List, Option, Some, None, Ok, Err, Result, false, refl, subst, ap, arith, IsTrue}
-use Rattle.std.proofs.lemmas.Option.{none-some, same_Some}
+use Rattle.std.proofs.Common.{◌≡◌, ◌+◌, ◌<◌, ◌^◌, ℕ, List, Option, Some, None, false, refl, subst, sym, ap, arith, IsTrue}
+use Rattle.std.proofs.lemmas.Option.{same_Some}
 use Rattle.std.specs.Prelude.{if◌then◌else◌}
 use Rattle.dms_desc.specs.Shape.{Described}
 use Rattle.dms_load.specs.Script.{load_script}
-use Rattle.dms_load.specs.Summary.{load_schema}
 use Rattle.dms_loadcount.specs.Answers.{load_quiets}
-use Rattle.dms_loadrun.specs.Filling.{Fills, load_state, state_if}
+use Rattle.dms_loadrun.specs.Description.{load_description}
+use Rattle.dms_loadrun.specs.Filling.{Fills, load_state}
 use Rattle.dms_loadrun.specs.Statuses.{filled_status}
 use Rattle.dms_loadrun.proofs.Cases.{audit_filled, found_filled, ok_filled}
 use Rattle.dms_model.specs.Db.{empty_db}
 use Rattle.dms_moments.specs.Moments.{Runs}
-use Rattle.dms_newdb.specs.Judging.{judge_schema}
 use Rattle.dms_newdb.specs.State.{StandsNew}
 use Rattle.dms_run.specs.RunStands.{RunStands}
 use Rattle.dms_run.specs.State.{StateOf}
@@ -20,44 +19,40 @@ use Rattle.dms_runtop.specs.RunDoes.{RunDoes}
 use Rattle.dms_site.specs.Files.{Files}
 use Rattle.dms_site.specs.declared.site.Site.{Ghosts}
 use Rattle.dms_site.specs.declared.source.Source as source
-use Rattle.dms_status.specs.declared.status.SchemaFault.{SchemaFault}
 use Rattle.dms_status.specs.declared.status.Status.{Status}
 
 -- files that stand for a new database hold the state that is told
-told_of : (files : Files) (j : Result Described SchemaFault) → ((d : Described) → j ≡ Ok d → StandsNew 0 d files) → HoldsTold (state_if j) files
-told_of files (Ok d) new s is = subst (λ (x : DatabaseState). StateOf files x.point x.desc x.db) (same_Some _ _ is) (new d refl).state
-told_of files (Err e) new s is = absurd (none-some s is)
+pub told_new : (files : Files) → StandsNew 0 load_description files → HoldsTold (Some load_state) files
+told_new files new s is = subst (λ (x : DatabaseState). StateOf files x.point x.desc x.db) (same_Some _ _ is) new.state
 
-pub told_new : (files : Files) → ((d : Described) → judge_schema load_schema ≡ Ok d → StandsNew 0 d files) → HoldsTold load_state files
-told_new files new = told_of files (judge_schema load_schema) new
-
-module _ {S I : Type 0} (m : Ghosts S) (i : source.Ghosts I) (untold : m.tells_said ≡ false) (d : Described) (accepted : judge_schema load_schema ≡ Ok d) (seed n : ℕ) (old new : S) (from to : I) (status : Status) (stands : IsTrue m.tells → StandsNew 0 d (m.files old)) (left : i.left from ≡ Some (load_script seed n))
-    (does : RunDoes m i load_state old new from to status) where
-  told_is : load_state ≡ Some (record { point = 0; desc = d; db = empty_db })
-  told_is = ap state_if accepted
-
+module _ {S I : Type 0} (m : Ghosts S) (i : source.Ghosts I) (untold : m.tells_said ≡ false) (seed n : ℕ) (old new : S) (from to : I) (status : Status) (stands : IsTrue m.tells → StandsNew 0 load_description (m.files old)) (left : i.left from ≡ Some (load_script seed n))
+    (does : RunDoes m i (Some load_state) old new from to status) where
   none_told : (if m.tells_said then Some (m.said old) else None) ≡ None
   none_told = ap (λ b. if b then Some (m.said old) else None) untold
 
   roomy : 1 + 1000003 < 2 ^ 64
   roomy = omega arith
 
-  pub fills_of : Fills m d seed n old new (filled_status status)
+  pub fills_of : Fills m load_description seed n old new (filled_status status)
   fills_of = record {
     stands = λ tells.
         let s = stands tells in
-        subst (λ (said : Option (List ℕ)). Runs (m.clock old) (m.clock new) (RunStands (m.files old) d said 0 empty_db 1 (load_quiets d seed n))) none_told
-        (does.stands tells (record { point = 0; desc = d; db = empty_db }) told_is s.valid 1 s.next roomy (load_script seed n) left);
-    ends = λ ok tells. let s = stands tells in does.ends tells (record { point = 0; desc = d; db = empty_db }) told_is s.valid 1 s.next roomy (load_script seed n) left (ok_filled status ok);
+        subst (λ (said : Option (List ℕ)). Runs (m.clock old) (m.clock new) (RunStands (m.files old) load_description said 0 empty_db 1 (load_quiets load_description seed n))) none_told
+        (does.stands tells load_state refl s.valid 1 s.next roomy (load_script seed n) left);
+    ends = λ ok tells. let s = stands tells in does.ends tells load_state refl s.valid 1 s.next roomy (load_script seed n) left (ok_filled status ok);
     beside = does.beside;
     found = λ tells.
         let s = stands tells in
-        found_filled status (does.opens.complete_state tells (record { point = 0; desc = d; db = empty_db }) s.state)
-        (does.script tells (record { point = 0; desc = d; db = empty_db }) told_is s.valid 1 s.next roomy (load_script seed n) left).does.undamaged;
+        found_filled status (does.opens.complete_state tells load_state s.state)
+        (does.script tells load_state refl s.valid 1 s.next roomy (load_script seed n) left).does.undamaged;
     full = λ k is tells. does.full k (audit_filled status k is) tells;
   }
 
 -- the same, with what is known by the run
-pub fills_by : {S I : Type 0} {m : Ghosts S} {i : source.Ghosts I} {old new : S} {from to : I} {status : Status} → RunDoes m i load_state old new from to status → m.tells_said ≡ false → (d : Described) → judge_schema load_schema ≡ Ok d → (seed n : ℕ) → (IsTrue m.tells → StandsNew 0 d (m.files old)) → i.left from ≡ Some (load_script seed n)
-    → Fills m d seed n old new (filled_status status)
-fills_by {m = m} {i = i} {old = old} {new = new} {from = from} {to = to} {status = status} does untold d accepted seed n stands left = fills_of m i untold d accepted seed n old new from to status stands left does
+pub fills_by : {S I : Type 0} {m : Ghosts S} {i : source.Ghosts I} {old new : S} {from to : I} {status : Status} → RunDoes m i (Some load_state) old new from to status → m.tells_said ≡ false → (seed n : ℕ) → (IsTrue m.tells → StandsNew 0 load_description (m.files old)) → i.left from ≡ Some (load_script seed n)
+    → Fills m load_description seed n old new (filled_status status)
+fills_by {m = m} {i = i} {old = old} {new = new} {from = from} {to = to} {status = status} does untold seed n stands left = fills_of m i untold seed n old new from to status stands left does
+
+-- and said of this description by another name
+pub fills_as : {S : Type 0} (g : Ghosts S) (d : Described) (seed n : ℕ) (old new : S) (status : Status) → d ≡ load_description → Fills g load_description seed n old new status → Fills g d seed n old new status
+fills_as g d seed n old new status is fills = subst (λ (x : Described). Fills g x seed n old new status) (sym is) fills

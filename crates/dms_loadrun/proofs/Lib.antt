@@ -1,4 +1,6 @@
+pub mod Accepted
 pub mod Cases
+pub mod Computing
 pub mod Does
 pub mod Ending
 pub mod Filled

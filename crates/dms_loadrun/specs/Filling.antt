@@ -1,17 +1,13 @@
 -- The making of the database of a load, and the run of its script over it.
-use Rattle.std.specs.Prelude.{ℕ, ◌≡◌, ◌⊎◌, Some, None, IsTrue}
-use Rattle.std.specs.declared.option.Option.{Option}
-use Rattle.std.specs.declared.result.Result.{Result}
-use Rattle.std.specs.declared.result.Result.TheVariants.{Ok, Err}
+use Rattle.std.specs.Prelude.{ℕ, ◌≡◌, ◌⊎◌, None, IsTrue}
 use Rattle.dms_creation.specs.Clearing.{AllButDescriptionStay}
 use Rattle.dms_desc.specs.Shape.{Described}
-use Rattle.dms_load.specs.Summary.{load_schema}
 use Rattle.dms_loadcount.specs.Answers.{load_quiets}
+use Rattle.dms_loadrun.specs.Description.{load_description}
 use Rattle.dms_loadrun.specs.Loading.{EndsLoaded, HoldsNone}
 use Rattle.dms_loadrun.specs.Statuses.{IsUnfound}
 use Rattle.dms_model.specs.Db.{empty_db}
 use Rattle.dms_moments.specs.Moments.{Clock, Now, Runs}
-use Rattle.dms_newdb.specs.Judging.{judge_schema}
 use Rattle.dms_newdb.specs.State.{StandsNew}
 use Rattle.dms_run.specs.RunStands.{RunStands}
 use Rattle.dms_runtop.specs.Command.{DatabaseState}
@@ -21,7 +17,6 @@ use Rattle.dms_site.specs.declared.site.Site.{Ghosts}
 use Rattle.dms_site.specs.Files.{Files, Left, Only}
 use Rattle.dms_status.specs.declared.status.Status.{Status}
 use Rattle.dms_status.specs.declared.status.Status.TheVariants.{Ok as Done}
-use Rattle.dms_status.specs.declared.status.SchemaFault.{SchemaFault}
 
 -- A stop while the database is made leaves no database, or the new one, and no other file changed.
 pub record LeavesMaking (d : Described) (was files : Files) : Type 0 where
@@ -37,14 +32,9 @@ pub record IsNew (d : Described) (was files : Files) (clock : Clock Left) : Type
   pub stands : StandsNew 0 d files
   pub only : Only files clock
 
--- the state of a new database of this description, if it is one
-abbrev pub state_if : Result Described SchemaFault → Option DatabaseState
-state_if (Ok d) = Some (record { point = 0; desc = d; db = empty_db })
-state_if (Err e) = None
-
 -- the state of a new database of the schema of a load
-abbrev pub load_state : Option DatabaseState
-load_state = state_if (judge_schema load_schema)
+abbrev pub load_state : DatabaseState
+load_state = record { point = 0; desc = load_description; db = empty_db }
 
 -- What the run of the script does to a site whose files stand for the new database.
 pub record Fills {S : Type 0} (g : Ghosts S) (d : Described) (seed n : ℕ) (old new : S) (status : Status) : Type 0 where

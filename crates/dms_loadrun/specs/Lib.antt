@@ -1,3 +1,4 @@
+pub mod Description
 pub mod Filling
 pub mod LoadDoes
 pub mod Loading

@@ -1,21 +1,14 @@
 -- What a load leaves.
-use Rattle.std.specs.Prelude.{ℕ, ◌≡◌, ◌≢◌, ◌⊎◌, [], None, slice_index}
-use Rattle.std.specs.declared.result.Result.TheVariants.{Ok}
+use Rattle.std.specs.Prelude.{ℕ, ◌≢◌, ◌⊎◌, [], None, slice_index}
 use Rattle.dms_creation.specs.Clearing.{AllButDescriptionStay}
 use Rattle.dms_desc.specs.Shape.{Described}
 use Rattle.dms_descfile.specs.DescriptionFile.{IsUnsealed}
-use Rattle.dms_load.specs.Summary.{load_schema}
 use Rattle.dms_loadcount.specs.Answers.{load_quiets}
 use Rattle.dms_model.specs.Db.{empty_db}
 use Rattle.dms_moments.specs.Moments.{Clock, Now, Runs}
-use Rattle.dms_newdb.specs.Judging.{judge_schema}
 use Rattle.dms_newdb.specs.State.{StandsNew}
 use Rattle.dms_run.specs.RunStands.{LastStands, RunStands}
 use Rattle.dms_site.specs.Files.{Files, Left}
-
--- it holds of the description of the schema of a load
-abbrev pub OfLoad : (Described → Type 0) → Type 0
-OfLoad P = (d : Described) → judge_schema load_schema ≡ Ok d → P d
 
 -- no database: file 1 is no sealed description, or the gate of the database isn't open in it
 abbrev pub HoldsNone : Files → Type 0

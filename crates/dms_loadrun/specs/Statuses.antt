@@ -16,7 +16,7 @@ IsOfLoadLimit Held = ⊤
 abbrev pub IsOfLoad : Status → Type 0
 IsOfLoad Ok = ⊤
 IsOfLoad BadWords = ⊥
-IsOfLoad (SchemaRefused f) = ⊤
+IsOfLoad (SchemaRefused f) = ⊥
 IsOfLoad NoDatabase = ⊤
 IsOfLoad (Needed n) = ⊤
 IsOfLoad InputFault = ⊥
@@ -75,22 +75,6 @@ IsOfMaking SayFault = ⊥
 IsOfMaking DiskFault = ⊤
 IsOfMaking Exists = ⊤
 IsOfMaking (BadStatement p) = ⊥
-
--- the statuses behind the judging of the schema and of what is there
-abbrev pub IsOfLoading : Status → Type 0
-IsOfLoading Ok = ⊤
-IsOfLoading BadWords = ⊥
-IsOfLoading (SchemaRefused f) = ⊥
-IsOfLoading NoDatabase = ⊤
-IsOfLoading (Needed n) = ⊤
-IsOfLoading InputFault = ⊥
-IsOfLoading Memory = ⊤
-IsOfLoading (Limit k) = IsOfLoadLimit k
-IsOfLoading (Damaged f b) = f ≤ 30200
-IsOfLoading SayFault = ⊤
-IsOfLoading DiskFault = ⊤
-IsOfLoading Exists = ⊤
-IsOfLoading (BadStatement p) = ⊥
 
 -- the limit of an audit file alone
 abbrev pub IsOfAudit : LimitKind → Type 0

@@ -3,8 +3,8 @@
 ghost use Rattle.std.specs.Prelude.{◌≡◌, ◌≤◌, IsTrue};
 ghost use Rattle.dms_audfile.specs.Counting.{CountedAt};
 ghost use Rattle.dms_load.specs.Muting.{SameMuted};
+ghost use Rattle.dms_loadrun.specs.Description.{load_description};
 ghost use Rattle.dms_loadrun.specs.Filling.{Fills};
-ghost use Rattle.dms_loadrun.specs.Loading.{OfLoad};
 ghost use Rattle.dms_loadrun.specs.Statuses.{IsOfFilling, filled_status};
 ghost use Rattle.dms_newdb.specs.State.{StandsNew};
 
@@ -32,8 +32,8 @@ fn status_of_filling(status: Status) -> Status
 /// Runs the script of a seed over the database of a site by value, and closes it. What the lines answer is dropped.
 fn fill_by<S: Site>(alloc: Global, site: S, seed: u64, n: u32) -> Ended<S>
     requires few { n ≤ 20000 }
-    requires new { IsTrue S.tells → OfLoad (λ d. StandsNew 0 d (S.files site)) }
-    ensures fills { OfLoad (λ d. Fills S.Site d seed n site result.site result.status) }
+    requires new { IsTrue S.tells → StandsNew 0 load_description (S.files site) }
+    ensures fills { Fills S.Site load_description seed n site result.site result.status }
     ensures statuses { IsOfFilling result.status }
     ensures disk { CountedAt (result.status ≡ Status.DiskFault) (S.disk_faults site) (S.disk_faults result.site) }
     ensures same { SameMuted S.Site site result.site }
@@ -54,8 +54,8 @@ fn fill_by<S: Site>(alloc: Global, site: S, seed: u64, n: u32) -> Ended<S>
 /// Runs the script of a seed over the new database of its schema, and closes it. Nothing is printed.
 pub fn fill_database<S: Site>(alloc: Global, site: &mut S, seed: u64, n: u32) -> Status
     requires few { n ≤ 20000 }
-    requires new { IsTrue S.tells → OfLoad (λ d. StandsNew 0 d (S.files site.old)) }
-    ensures fills { OfLoad (λ d. Fills S.Site d seed n site.old site.new result) }
+    requires new { IsTrue S.tells → StandsNew 0 load_description (S.files site.old) }
+    ensures fills { Fills S.Site load_description seed n site.old site.new result }
     ensures statuses { IsOfFilling result }
     ensures disk { CountedAt (result ≡ Status.DiskFault) (S.disk_faults site.old) (S.disk_faults site.new) }
     ensures said { S.said site.new ≡ S.said site.old }

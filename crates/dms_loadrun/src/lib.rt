@@ -2,7 +2,9 @@
 #![tactic(auto)]
 
 mod filling;
+mod laws;
 mod loading;
 mod making;
 
+pub use laws::load_schema_is_accepted;
 pub use loading::load_command;

@@ -1,15 +1,13 @@
 //! The command `load`.
 
-ghost use Rattle.std.specs.Prelude.{◌≡◌, ◌≤◌, Ok, length};
+ghost use Rattle.std.specs.Prelude.{◌≡◌, ◌≤◌, length};
 ghost use Rattle.dms_audfile.specs.Counting.{CountedAt};
 ghost use Rattle.dms_desc.specs.Shape.{as_described};
 ghost use Rattle.dms_desc_bytes.specs.Spelling.{spelling};
 ghost use Rattle.dms_desc_bytes.specs.WellFormed.{IsWellFormed};
-ghost use Rattle.dms_load.specs.Summary.{load_schema};
 ghost use Rattle.dms_loadcount.specs.Answers.{load_text};
+ghost use Rattle.dms_loadrun.specs.Description.{load_description};
 ghost use Rattle.dms_loadrun.specs.LoadDoes.{LoadDoes, LoadsOver};
-ghost use Rattle.dms_newdb.specs.Judging.{judge_schema};
-ghost use Rattle.dms_status.specs.declared.status.SchemaFault.{SchemaFault};
 
 use crate::filling::fill_database;
 use crate::making::make_database;
@@ -34,7 +32,7 @@ fn load_and_say<S: Site>(
     requires few { n ≤ 20000 }
     requires short { length (spelling (as_described desc.now)) ≤ 65535 }
     requires formed { IsWellFormed (as_described desc.now) }
-    requires accepted { judge_schema load_schema ≡ Ok (as_described desc.now) }
+    requires is { as_described desc.now ≡ load_description }
     ensures does { LoadsOver S.Site (as_described desc.now) seed n text.now site.old site.new result }
     ensures disk { CountedAt (result ≡ Status.DiskFault) (S.disk_faults site.old) (S.disk_faults site.new) }
     ensures say { CountedAt (result ≡ Status.SayFault) (S.say_faults site.old) (S.say_faults site.new) }
@@ -65,7 +63,7 @@ fn load_described<S: Site>(
     requires few { n ≤ 20000 }
     requires short { length (spelling (as_described desc.now)) ≤ 65535 }
     requires formed { IsWellFormed (as_described desc.now) }
-    requires accepted { judge_schema load_schema ≡ Ok (as_described desc.now) }
+    requires is { as_described desc.now ≡ load_description }
     ensures does { LoadsOver S.Site (as_described desc.now) seed n (load_text (as_described desc.now) seed n) site.old site.new result }
     ensures disk { CountedAt (result ≡ Status.DiskFault) (S.disk_faults site.old) (S.disk_faults site.new) }
     ensures say { CountedAt (result ≡ Status.SayFault) (S.say_faults site.old) (S.say_faults site.new) }
@@ -90,11 +88,10 @@ pub fn load_command<S: Site>(alloc: Global, site: &mut S, seed: u64, n: u32) -> 
     ensures disk { CountedAt (result ≡ Status.DiskFault) (S.disk_faults site.old) (S.disk_faults site.new) }
     ensures say { CountedAt (result ≡ Status.SayFault) (S.say_faults site.old) (S.say_faults site.new) }
     ensures same_site { S.same_site site.old site.new }
-    ensures refused { (f : SchemaFault) → result ≡ Status.SchemaRefused f → site.new ≡ site.old }
 {
     let desc = match judge(alloc, schema_text()) {
         JudgedSchema::Description(desc) => desc,
-        JudgedSchema::Refused(fault) => return Status::SchemaRefused(fault),
+        JudgedSchema::Refused(_) => unreachable!(),
         JudgedSchema::Memory => return Status::Memory,
     };
     match read_description(alloc, site) {

@@ -21,7 +21,7 @@ fn put_entry<L: Lists>(
     number: u64,
     rec: &Record,
 ) -> Result<bool, BlockFault>
-    requires kind { s.now.kind ≡ 5 }
+    requires kind { (shape_of s.now).kind ≡ 5 }
     requires usable { L.usable lists.old s.now.number }
     requires fits { HasEntry kinds.now (shape_of s.now) rec.now.values }
     ensures put { IfOk result (λ new. Puts kinds.now (shape_of s.now) number rec.now (L.listed lists.old) (L.listed lists.new) new) }
@@ -49,7 +49,7 @@ pub fn enter<L: Lists>(
     number: u64,
     rec: &Record,
 ) -> Result<bool, BlockFault>
-    requires kind { s.now.kind ≡ 5 }
+    requires kind { (shape_of s.now).kind ≡ 5 }
     requires usable { L.usable lists.old s.now.number }
     requires fits { HasEntry kinds.now (shape_of s.now) rec.now.values }
     ensures made { IfOk result (λ refused. Makes kinds.now (shape_of s.now) number rec.now (L.listed lists.old) (L.listed lists.new) refused) }
@@ -75,7 +75,7 @@ pub fn leave<L: Lists>(
     number: u64,
     rec: &Record,
 ) -> Result<bool, BlockFault>
-    requires kind { s.now.kind ≡ 5 }
+    requires kind { (shape_of s.now).kind ≡ 5 }
     requires usable { L.usable lists.old s.now.number }
     requires fits { HasEntry kinds.now (shape_of s.now) rec.now.values }
     ensures taken { IfOk result (λ was. Takes kinds.now (shape_of s.now) number rec.now (L.listed lists.old) (L.listed lists.new) was) }
@@ -103,7 +103,7 @@ pub fn enter_in<L: Lists>(
     number: u64,
     rec: &Record,
 ) -> Result<Put, BlockFault>
-    requires kind { s.now.kind ≡ 5 }
+    requires kind { (shape_of s.now).kind ≡ 5 }
     requires usable { L.usable lists.old s.now.number }
     requires fits { HasEntry kinds.now (shape_of s.now) rec.now.values }
     ensures entered { IfOk result (λ p. Enters kinds.now (shape_of s.now) number rec.now (L.listed lists.old) (L.listed lists.new) p) }

@@ -114,7 +114,7 @@ fn move_each<L: Lists>(
     old: &Record,
     new: &Record,
 ) -> Result<bool, BlockFault>
-    requires kind { s.now.kind ≡ 5 }
+    requires kind { (shape_of s.now).kind ≡ 5 }
     requires usable { L.usable lists.old s.now.number }
     requires small { number < 2 ^ 32 }
     requires old { HasEntry kinds.now (shape_of s.now) old.now.values }
@@ -144,7 +144,7 @@ fn move_all<L: Lists>(
     old: &Record,
     new: &Record,
 ) -> Result<bool, BlockFault>
-    requires kind { s.now.kind ≡ 5 }
+    requires kind { (shape_of s.now).kind ≡ 5 }
     requires usable { L.usable lists.old s.now.number }
     requires small { number < 2 ^ 32 }
     requires old { HasEntry kinds.now (shape_of s.now) old.now.values }
@@ -170,7 +170,7 @@ fn move_in<L: Lists>(
     old: &Record,
     new: &Record,
 ) -> Result<bool, BlockFault>
-    requires kind { s.now.kind ≡ 5 }
+    requires kind { (shape_of s.now).kind ≡ 5 }
     requires usable { L.usable lists.old s.now.number }
     requires small { number < 2 ^ 32 }
     requires old { HasEntry kinds.now (shape_of s.now) old.now.values }

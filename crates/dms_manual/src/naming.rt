@@ -65,7 +65,7 @@ pub fn names_record<L: Lists>(
 pub(crate) fn is_manual_over(s: &Structure, set: u16) -> bool
     ensures { result ≡ is_manual_over (shape_of s.now) set }
 {
-    s.kind == 5 && s.set == set
+    s.is_manual() && s.set == set
 }
 
 /// Whether an entry of any manual subset names a record of a data set. It may read the whole list of each manual subset

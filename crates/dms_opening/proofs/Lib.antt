@@ -28,3 +28,4 @@ pub mod Growths
 pub mod AskedFor
 pub mod DumpLooks
 pub mod Behinds
+pub mod Overs

@@ -1,6 +1,7 @@
 -- What is promised of the steps of an opening.
-use Rattle.std.specs.Prelude.{ℕ, ◌⊎◌, ◌≡◌, Bool, IsTrue, List, Option, Some, None}
+use Rattle.std.specs.Prelude.{ℕ, ◌⊎◌, ◌≡◌, Bool, false, IsTrue, List, Option, Some, None}
 use Rattle.dms_moments.specs.Moments.{Clock, Runs}
+use Rattle.dms_site.specs.declared.site.Site.{Ghosts}
 use Rattle.dms_site.specs.Files.{Files, Left}
 use Rattle.dms_history.specs.declared.event.Row.{Row}
 use Rattle.dms_history.specs.Entries.{Entry, Kind, by_halt_load}
@@ -24,19 +25,22 @@ use Rattle.dms_restore.specs.Logging.{LogView, telling, state}
 use Rattle.dms_restore.specs.Scanned.{HasNoEntry}
 use Rattle.dms_restore.specs.Table.{IsPlan}
 use Rattle.dms_restore.specs.Tracing.{IsTraced}
+use Rattle.dms_restore.specs.Views.{LogStarts, view_of}
+use Rattle.dms_wal.specs.declared.running.Running.{Running}
 use Rattle.dms_opening.specs.declared.asked.Asked.{Asked}
 use Rattle.dms_opening.specs.declared.asked.DumpLook.{DumpLook}
 use Rattle.dms_opening.specs.declared.choosing.Choice.{Choice}
 use Rattle.dms_opening.specs.declared.choosing.OpenFault.{OpenFault}
 use Rattle.dms_opening.specs.declared.choosing.OpenFault.TheVariants.{Audit}
 use Rattle.dms_opening.specs.declared.dump_looks.DumpFound.{DumpFound}
+use Rattle.dms_opening.specs.declared.opened.Opened.{Opened}
 use Rattle.dms_opening.specs.declared.plan.OpeningPlan.{OpeningPlan}
 use Rattle.dms_opening.specs.Asked.{judge}
 use Rattle.dms_opening.specs.Behind.{PlansBehind, RefusesBehind}
-use Rattle.dms_opening.specs.Carrying.{IsPlanned, MayBegin}
+use Rattle.dms_opening.specs.Carrying.{IsPlanned, MayBegin, WritesFor}
 use Rattle.dms_opening.specs.Choices.{judge_files, Chooses}
 use Rattle.dms_opening.specs.DumpLooks.{IsFoundFor}
-use Rattle.dms_opening.specs.Openings.{RunsFrom, Reopens}
+use Rattle.dms_opening.specs.Openings.{RunsFrom, Reopens, ending_entries}
 use Rattle.dms_opening.specs.Plans.{IsTrailRead, HasNoDescriptionAt, IsPlainFault, AreFoundFor}
 use Rattle.dms_opening.specs.Starts.{TracesDone, MayGoOn}
 
@@ -93,6 +97,31 @@ BeginsAsPlanned tells kind v plan clock = (right : Stored) → IsTrue tells → 
 abbrev pub IfGoesOn : Bool → LogView → RestoreTable → ℕ → ℕ → List ℕ → (Pending → Type 0) → Type 0
 IfGoesOn tells v table point next counts is = (p : Pending) → IsTrue tells → MayGoOn p v table point next counts → is p
 
+-- Where the table is what a restore writes over these files, whatever they hold, this holds of that restore.
+abbrev pub OverWhere : Bool → LogView → RestoreTable → (Pending → Type 0) → Type 0
+OverWhere tells v table is = (p : Pending) → IsTrue tells → LogStarts v → IsPlan p v.files table → is p
+
+-- so it is where a plan goes on with a restore that is pending
+abbrev pub GoesOnWhere : Bool → LogView → OpeningPlan → (Pending → Type 0) → Type 0
+GoesOnWhere tells v plan is = (p : Pending) → IsTrue tells → plan.choice.begins ≡ false → WritesFor v p plan → is p
+
+-- the Schema and the Control that end the restore of a plan
+abbrev pub ends_of : OpeningPlan → List Entry
+ends_of plan = ending_entries plan.choice.point plan.next plan.schema.items plan.counts.items
+
 -- the audit of a log has no room
 abbrev pub IsFullAt : LogView → AudFault → Type 0
 IsFullAt v e = e ≡ aud.Full v.end.limit
+
+-- ---- what was opened
+
+module _ {S : Type 0} (g : Ghosts S) where
+  -- What was opened runs from these files.
+  abbrev pub IsOpenedFrom : Files → Opened S → Type 0
+  IsOpenedFrom files o = RunsFrom files o.point o.next o.schema.items o.counts.items (view_of g o.log)
+
+-- What runs has the description, the counts, the next number and the point of what was opened, and control points so often. Nothing was done by it yet:
+-- it changed no block, it neither synced nor backed out, and nothing has changed since the last point.
+abbrev pub StartsAsOpened : {S : Type 0} → Opened S → ℕ → Running S → Type 0
+StartsAsOpened o every r = (r.schema ≡ o.schema) × (r.counts ≡ o.counts) × (r.next ≡ o.next) × (r.point ≡ o.point)
+    × (r.every ≡ every) × (r.changed ≡ false) × (r.syncs ≡ 0) × (r.spent ≡ 0) × (r.outs ≡ 0)

@@ -15,7 +15,8 @@ ghost use Rattle.dms_restore.specs.Logging.{LogGrows, telling, state, view};
 ghost use Rattle.dms_restore.specs.Views.{view_of, LogStarts};
 ghost use Rattle.dms_wal.specs.Closing.{IsFullTrail};
 ghost use Rattle.dms_opening.specs.Carrying.{IsFitPlan, IsPlanned, WritesFor, MayBegin, RunsTo};
-ghost use Rattle.dms_opening.specs.Claims.{RunsAsPlanned, ReopensAsPlanned, BeginsAsPlanned};
+ghost use Rattle.dms_restore.specs.Over.{EndsOver, LeavesOver};
+ghost use Rattle.dms_opening.specs.Claims.{RunsAsPlanned, ReopensAsPlanned, BeginsAsPlanned, GoesOnWhere, ends_of};
 ghost use Rattle.dms_opening.specs.Plans.{SameDumps};
 ghost use Rattle.dms_opening.specs.Openings.{RunsFrom, Reopens, text_of, IsFullFault, MayHaveWritten};
 
@@ -56,6 +57,11 @@ pub fn carry_out<S: Site>(
     ensures leaves { IfOk result (λ o. (right : Stored) → IsTrue S.tells → let v = view_of S.Site planned.log in MayBegin v right (how_seen how.entry) planned.plan
         → AnyLeaves v right planned.plan.choice.point (view_of S.Site o.log)) }
     ensures leaves_then { IfErr result (λ e. BeginsAsPlanned S.tells (how_seen how.entry) (view_of S.Site planned.log) planned.plan (S.clock e.1)) }
+    ensures over { IfOk result (λ o. let v = view_of S.Site planned.log in GoesOnWhere S.tells v planned.plan (λ p. EndsOver p v (view_of S.Site o.log) (ends_of planned.plan))) }
+    ensures over_moments { IfOk result (λ o. let v = view_of S.Site planned.log in GoesOnWhere S.tells v planned.plan (λ p.
+        Runs v.clock (S.clock o.log.site) (LeavesOver p v (ends_of planned.plan)))) }
+    ensures over_stopped { IfErr result (λ e. let v = view_of S.Site planned.log in GoesOnWhere S.tells v planned.plan (λ p.
+        Runs v.clock (S.clock e.1) (LeavesOver p v (ends_of planned.plan)))) }
     ensures only { IfErr result (λ e. (p : Pending) → IsTrue S.tells → WritesFor (view_of S.Site planned.log) p planned.plan → MayHaveWritten e.0) }
     ensures full { IfErr result (λ e. (p : Pending) → IsTrue S.tells → WritesFor (view_of S.Site planned.log) p planned.plan → IsFullFault e.0 → IsFullTrail (view_of S.Site planned.log) (S.files e.1)) }
     ensures grown { IfOk result (λ o. (p : Pending) → IsTrue S.tells → let v = view_of S.Site planned.log in WritesFor v p planned.plan

@@ -1,6 +1,7 @@
 //! A restore that is begun goes on to its Control.
 
 ghost use Rattle.std.specs.Prelude.{◌≡◌, ◌⊎◌, ◌+◌, ◌/◌, ◌<◌, ◌≤◌, length, IfOk, IfErr, IsTrue};
+ghost use Rattle.dms_moments.specs.Moments.{Runs};
 ghost use Rattle.dms_history.specs.History.{Pending};
 ghost use Rattle.dms_history.specs.Entries.{control_point};
 ghost use Rattle.dms_audrec.specs.Spelling.{IsEntry};
@@ -11,7 +12,8 @@ ghost use Rattle.dms_restore.specs.Parts.{SealsPart};
 ghost use Rattle.dms_restore.specs.Views.{view_of, StaysSilent, LogStarts, IsSameTrail};
 ghost use Rattle.dms_restore.specs.Laying.{schema_control};
 ghost use Rattle.dms_restore.specs.Begins.{LeavesEach};
-ghost use Rattle.dms_opening.specs.Claims.{IfGoesOn, IsFullAt};
+ghost use Rattle.dms_restore.specs.Over.{EndsOver, LeavesOver};
+ghost use Rattle.dms_opening.specs.Claims.{IfGoesOn, IsFullAt, OverWhere};
 ghost use Rattle.dms_opening.specs.Plans.{SameDumps};
 ghost use Rattle.dms_opening.specs.Starts.{MayGoOn, OpenedAt};
 ghost use Rattle.dms_restore.specs.Table.{AreBlocks, AreRuns, IsPlan};
@@ -40,6 +42,11 @@ pub(crate) fn go_on<S: Site>(
         → LeavesEach (view_of S.Site begun.log) (view_of S.Site l)) }
     ensures stopped { IfErr result (λ e. (p : Pending) → IsTrue S.tells → MayGoOn p (view_of S.Site begun.log) table.now point next counts.now
         → LeavesEach (view_of S.Site begun.log) (view_of S.Site e.1)) }
+    ensures over { IfOk result (λ l. let v = view_of S.Site begun.log in OverWhere S.tells v table.now (λ p. EndsOver p v (view_of S.Site l) (schema_control description.now point next counts.now))) }
+    ensures over_moments { IfOk result (λ l. let v = view_of S.Site begun.log in OverWhere S.tells v table.now (λ p.
+        Runs v.clock (S.clock l.site) (LeavesOver p v (schema_control description.now point next counts.now)))) }
+    ensures over_stopped { IfErr result (λ e. let v = view_of S.Site begun.log in OverWhere S.tells v table.now (λ p.
+        Runs v.clock (S.clock e.1.site) (LeavesOver p v (schema_control description.now point next counts.now)))) }
     ensures silent { IfOk result (λ l. (p : Pending) → IsTrue S.tells → MayGoOn p (view_of S.Site begun.log) table.now point next counts.now
         → StaysSilent S.Site begun.log.site l.site) }
     ensures silent_then { IfErr result (λ e. (p : Pending) → IsTrue S.tells → MayGoOn p (view_of S.Site begun.log) table.now point next counts.now

@@ -1,15 +1,15 @@
 //! A database is opened: from the files that were found to a database that runs.
 
-ghost use Rattle.std.specs.Prelude.{◌≡◌, ◌⊎◌, [], ℕ, false, ◌<◌, ◌≤◌, IfOk, IfErr, IsTrue};
+ghost use Rattle.std.specs.Prelude.{◌≡◌, ◌⊎◌, [], ℕ, ◌<◌, ◌≤◌, IfOk, IfErr, IsTrue};
 ghost use Rattle.dms_moments.specs.Moments.{Steps};
 ghost use Rattle.dms_site.specs.Files.{Files, Same};
 ghost use Rattle.dms_audfile.specs.Counting.{CountedAt};
 ghost use Rattle.dms_restore.specs.Logging.{telling_of, waits};
-ghost use Rattle.dms_restore.specs.Views.{view_of};
 ghost use Rattle.dms_wal.specs.Database.{IsRunningUsable, running_held};
 ghost use Rattle.dms_wal.specs.Lifting.{AreCounts};
 ghost use Rattle.dms_wal.specs.Marks.{IsDescription};
-ghost use Rattle.dms_opening.specs.Openings.{NamesStructures, OpensAt, RunsFrom, RunsWhere, OpenedRuns, ReopensSince, TellsOpened, RefusesFiles, IsFullFault, HasFullTrail, OpeningGrows, CanOpen, StaysUnopened, MayHaveWritten, IsOpenable, IsNoRefusal};
+ghost use Rattle.dms_opening.specs.Claims.{IsOpenedFrom, StartsAsOpened};
+ghost use Rattle.dms_opening.specs.Openings.{NamesStructures, OpensAt, RunsWhere, OpenedRuns, ReopensSince, TellsOpened, RefusesFiles, IsFullFault, HasFullTrail, OpeningGrows, CanOpen, StaysUnopened, MayHaveWritten, IsOpenable, IsNoRefusal};
 
 use crate::carrying::{carry_out, site_of};
 use crate::{Found, OpenFault, look};
@@ -86,11 +86,10 @@ impl<S: Site> Opened<S> {
         requires described { IsDescription self.schema.items }
         requires table { AreCounts self.counts.items }
         ensures usable { IfOk result (λ r. (IsTrue S.tells → OpenedRuns S.Site self) → IsRunningUsable S.Site r) }
-        ensures tells { IfOk result (λ r. (files : Files) → RunsFrom files self.point self.next self.schema.items self.counts.items (view_of S.Site self.log)
+        ensures tells { IfOk result (λ r. (files : Files) → IsOpenedFrom S.Site files self
             → TellsOpened (telling_of self.log.end.total self.log.first) files self.next (running_held S.Site r)) }
         ensures log { IfOk result (λ r. (r.log.site ≡ self.log.site) × (r.log.first ≡ self.log.first) × (r.log.end.total ≡ self.log.end.total) × (r.log.end.limit ≡ limit)) }
-        ensures kept { IfOk result (λ r. (r.schema ≡ self.schema) × (r.counts ≡ self.counts) × (r.next ≡ self.next) × (r.point ≡ self.point)
-            × (r.every ≡ every) × (r.changed ≡ false) × (r.syncs ≡ 0) × (r.spent ≡ 0) × (r.outs ≡ 0)) }
+        ensures kept { IfOk result (λ r. StartsAsOpened self every r) }
         ensures nothing { IfOk result (λ r. waits self.log.end ≡ [] → waits r.log.end ≡ []) }
         ensures site { IfErr result (λ e. e.1 ≡ self.log.site) }
     {

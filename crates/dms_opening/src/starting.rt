@@ -1,6 +1,6 @@
 //! The start of what is asked: its restore is begun, or the pending one goes on.
 
-ghost use Rattle.std.specs.Prelude.{◌≡◌, ◌⊎◌, ◌+◌, ◌<◌, ◌≤◌, [], ◌∷◌, true, if◌then◌else◌, length, IfOk, IfErr, IsTrue};
+ghost use Rattle.std.specs.Prelude.{◌≡◌, ◌⊎◌, ◌+◌, ◌<◌, ◌≤◌, [], ◌∷◌, true, false, if◌then◌else◌, length, IfOk, IfErr, IsTrue};
 ghost use Rattle.dms_history.specs.History.{Pending};
 ghost use Rattle.dms_audfile.specs.Counting.{CountedAt};
 ghost use Rattle.dms_history.specs.Entries.{begin_restore, by_halt_load};
@@ -38,6 +38,7 @@ pub(crate) fn start<S: Site>(
         → BegunFrom p (view_of S.Site log) (view_of S.Site b.log)) }
     ensures sealed { IfOk result (λ b. IsTrue S.tells → LogStarts (view_of S.Site log)
         → SealsBehind (view_of S.Site log) (view_of S.Site b.log) (if begins then begin_restore point (how_seen how.entry) ∷ [] else [])) }
+    ensures stays { IfOk result (λ b. begins ≡ false → b.log ≡ log) }
     ensures starts { IfOk result (λ b. IsTrue S.tells → LogStarts (view_of S.Site log) → EndsSealed (view_of S.Site b.log)) }
     ensures grown { IfOk result (λ b. IsTrue S.tells → LogStarts (view_of S.Site log) → LogGrows 1 (view_of S.Site log) (view_of S.Site b.log)) }
     ensures grown_then { IfErr result (λ e. IsTrue S.tells → LogStarts (view_of S.Site log) → LogGrows 1 (view_of S.Site log) (view_of S.Site e.1)) }

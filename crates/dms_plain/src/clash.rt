@@ -72,10 +72,11 @@ fn has_equal_listed(
 }
 
 /// Whether a structure may refuse a record of the data set.
+#[tactic(auto, using(dms_desc::specs::Numbered::above_two, dms_desc::specs::Numbered::up_to_five))]
 fn is_strict(s: &Structure, set: u16, values: &[Value]) -> bool
     ensures { result ≡ is_strict (shape_of s.now) set values.now }
 {
-    2 < s.kind && s.kind < 6 && s.set == set && !s.duplicates && s.takes(values)
+    !s.is_data_set() && s.set == set && !s.duplicates && s.takes(values)
 }
 
 /// Whether an entry is one of a record in a subset, and another record of its owner has a key equal to that of these values.

@@ -5,15 +5,15 @@ use Rattle.std.proofs.lemmas.Bool.{true≢false}
 use Rattle.dms_moments.specs.Moments.{Clock, Runs}
 use Rattle.dms_moments.specs.MomentLaws.{runs_on, runs_weaken}
 use Rattle.dms_site.specs.Files.{Files, Left, Only, stored_of}
-use Rattle.dms_history.specs.Events.{Counts, Stored, Event, change, quiet, control, begin, roll_back}
+use Rattle.dms_history.specs.Events.{Counts, Stored, How, halt_load, back_out, roll_back, rebuild, reconstruct, Event, change, quiet, control, begin, block_in}
 use Rattle.dms_history.specs.Here.{here, here_by}
 use Rattle.dms_history.specs.History.{Pending, History}
-use Rattle.dms_history.specs.Images.{is_at, or_else, last_after, first_before}
+use Rattle.dms_history.specs.Images.{is_at, or_else, last_after, first_before, value}
 use Rattle.dms_history.specs.Lists.{has, until_first, after_first, after_last}
 use Rattle.dms_history.specs.LawsOfRestores.{PendingCut}
-use Rattle.dms_history.specs.Pick.{Dumps, reached_count, count_at}
+use Rattle.dms_history.specs.Pick.{Dumps, reached_count, count_at, dump_pick}
 use Rattle.dms_history.specs.Places.{is_control, is_point, IsLive}
-use Rattle.dms_history.specs.Restores.{is_none, has_no_before, is_unlogged}
+use Rattle.dms_history.specs.Restores.{is_none, has_no_before, is_unlogged, takes_stored}
 use Rattle.dms_history.specs.Told.{undone_to, told_block}
 use Rattle.dms_history.specs.Entries.{Entry, Kind, by_roll_back, control_point, how_of, counts_in}
 use Rattle.dms_history.specs.EntryEvents.{events, history_of, live_of, next_of}
@@ -94,22 +94,42 @@ module _ (live : List Event) (m k next : ℕ) (counts : Counts) (described : Boo
   unlogged_same : (f b : ℕ) → is_unlogged more m f b ≡ is_unlogged live m f b
   unlogged_same f b = λ i. is_none (last_after f b (after_last is_control (until_same i))) && has_no_before (first_same f b i)
 
-  told_same : (dumps : Dumps) (f b : ℕ) → told_by roll_back dumps more m f b ≡ told_by roll_back dumps live m f b
-  unfolding told_by told_block
-  told_same dumps f b = λ i. or_else (last_after f b (after_last is_control (until_same i))) (undone_to (first_same f b i))
+  block_same : (f b : ℕ) → told_block more m f b ≡ told_block live m f b
+  unfolding told_block
+  block_same f b = λ i. or_else (last_after f b (after_last is_control (until_same i))) (undone_to (first_same f b i))
 
-  keeps_same : keeps_by roll_back more m ≡ keeps_by roll_back live m
-  keeps_same = λ i f b. nat_lt b (count_same f i) && unlogged_same f b i
+  -- so does a dump
+  pick_same : (dumps : Dumps) (d f b : ℕ) → dump_pick more (dumps d) m f b ≡ dump_pick live (dumps d) m f b
+  unfolding dump_pick
+  pick_same dumps d f b = λ i. value (last_after f b (after_first (is_point (dumps d).point) (until_same i))) None (block_in (dumps d).blocks f b)
 
-  -- so a rollback writes the same
-  pub plan_more : (files : Files) (t : RestoreTable) → IsPlan (record { entries = live; point = m; how = roll_back }) files t
-      → IsPlan (record { entries = live ++ control k next counts described ∷ []; point = m; how = roll_back }) files t
-  plan_more files t p = record {
-    runs_free = subst (λ (keeps : ℕ → ℕ → Bool). AreFree (Kept keeps) (all_in t.runs.items)) (sym keeps_same) p.runs_free;
+  told_same : (how : How) (dumps : Dumps) (f b : ℕ) → told_by how dumps more m f b ≡ told_by how dumps live m f b
+  unfolding told_by
+  told_same halt_load dumps f b = block_same f b
+  told_same back_out dumps f b = block_same f b
+  told_same roll_back dumps f b = block_same f b
+  told_same (rebuild d) dumps f b = ap Some (pick_same dumps d f b)
+  told_same (reconstruct d named) dumps f b = λ i. cond (named f b) (Some (pick_same dumps d f b i)) (block_same f b i)
+
+  takes_same : (how : How) (f b : ℕ) → takes_stored how more m f b ≡ takes_stored how live m f b
+  takes_same halt_load f b = unlogged_same f b
+  takes_same back_out f b = unlogged_same f b
+  takes_same roll_back f b = unlogged_same f b
+  takes_same (rebuild d) f b = refl
+  takes_same (reconstruct d named) f b = ap (λ t. cond (named f b) false t) (unlogged_same f b)
+
+  keeps_same : (how : How) → keeps_by how more m ≡ keeps_by how live m
+  keeps_same how = λ i f b. nat_lt b (count_same f i) && takes_same how f b i
+
+  -- so a restore writes the same
+  pub plan_more : (how : How) (files : Files) (t : RestoreTable) → IsPlan (record { entries = live; point = m; how = how }) files t
+      → IsPlan (record { entries = live ++ control k next counts described ∷ []; point = m; how = how }) files t
+  plan_more how files t p = record {
+    runs_free = subst (λ (keeps : ℕ → ℕ → Bool). AreFree (Kept keeps) (all_in t.runs.items)) (sym (keeps_same how)) p.runs_free;
     runs_whole = p.runs_whole;
-    free = subst (λ (keeps : ℕ → ℕ → Bool). AreFree (Kept keeps) t.told.items) (sym keeps_same) p.free;
+    free = subst (λ (keeps : ℕ → ℕ → Bool). AreFree (Kept keeps) t.told.items) (sym (keeps_same how)) p.free;
     whole = p.whole;
-    all = λ f b x low told size. p.all f b x (subst (λ n. b < n) (count_same f) low) (sym (told_same _ f b) ∙ told) size;
+    all = λ f b x low told size. p.all f b x (subst (λ n. b < n) (count_same f) low) (sym (told_same how _ f b) ∙ told) size;
   }
 
 -- ---- the restore that is pending
@@ -225,7 +245,7 @@ module _ (v : LogView) (asked : Asked) (before own : OpeningPlan) (r : RollsBehi
     plan_behind : (new : Files) → Grown v.end.total v.first v.files new → SameDumps v.files new → IsPlan (any_to w m by_roll_back) new own.table
     plan_behind new grown dumps =
         subst (λ (l : List Event). IsPlan (record { entries = l; point = m; how = roll_back }) new own.table) (sym live_behind)
-        (plan_more (live_of es) m before.choice.point before.next (counts_in counts) true r.plans.own_plan.lives.found new own.table
+        (plan_more (live_of es) m before.choice.point before.next (counts_in counts) true r.plans.own_plan.lives.found roll_back new own.table
         (subst (λ (k : Kind). IsPlan (record { entries = live_of es; point = m; how = how_of k }) new own.table) r.kind_is (r.plans.own_plan.plan_is new grown dumps)))
 
     counted : (f : ℕ) → count_at (live_of es) m f ≡ count_at (live_of bs) m f

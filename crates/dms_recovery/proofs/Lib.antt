@@ -10,5 +10,6 @@ pub mod Answered
 pub mod Rolled
 pub mod Twice
 pub mod Behind
+pub mod First
 pub mod Placed
 pub mod Named

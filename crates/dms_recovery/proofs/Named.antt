@@ -1,5 +1,5 @@
 -- Rows that are named, of a database that was looked at.
-use Rattle.std.proofs.Common.{ℕ, ◌*◌, ◌/◌, ◌≤◌, ◌≡◌, inl, List, [], length, map, Option, Some, None, refl, sym, ◌∙◌, ap, subst, arith}
+use Rattle.std.proofs.Common.{ℕ, ◌*◌, ◌/◌, ◌≤◌, ◌≡◌, inl, Bool, List, [], length, map, Option, Some, None, refl, sym, ◌∙◌, ap, subst, arith}
 use Rattle.std.proofs.lemmas.Option.{same_Some}
 use Rattle.dms_desc.specs.Shape.{Described, Shape, as_described, shape_of}
 use Rattle.dms_desc.specs.declared.structure.Structure.{Structure}
@@ -35,7 +35,7 @@ use Rattle.dms_opening.specs.declared.choosing.OpenFault.{OpenFault}
 use Rattle.dms_opening.specs.declared.choosing.OpenFault.TheVariants.{Audit}
 use Rattle.dms_opening.specs.declared.plan.OpeningPlan.{OpeningPlan}
 use Rattle.dms_opening.proofs.OneTrail.{one_first, one_total}
-use Rattle.dms_recovery.specs.Leaving.{IsMendedFrom, RestoresTo}
+use Rattle.dms_recovery.specs.Leaving.{IsMendedFrom, MendsTo}
 use Rattle.dms_recovery.specs.Planned.{AreFit, PlansAll}
 use Rattle.dms_recovery.specs.Reconstructing.{AreStructuresOf, CanReconstruct, FindsRows, IsAtLast, IsDescribedBy, IsOpenFault, LacksRow, MayReconstruct, MissesRow, NamesRows, RefusesReconstruct, fault_of_row}
 use Rattle.dms_recovery.specs.Refusing.{RecoveryGrows, RefusesWanted, SealsFewTwice}
@@ -199,7 +199,6 @@ list_is rows list are is =
 
 pub record MendsIn (total first d n : ℕ) (u : Files) (rows : List Row) (x : Files) : Type 0 where
   pub trail : IsTrailFound total first x
-  pub none : (history_of (trail_entries total first x)).pending ≡ None
   pub last : last_of total first x ≡ Some n
   pub mended : IsMendedFrom total first x u d (named_by rows)
 
@@ -209,7 +208,6 @@ module _ {S : Type 0} (g : Ghosts S) (a b : S) (same : g.files b ≡ g.files a) 
   mends_in total first u d named rows list is n desc names may =
       subst (λ (l : List Row). MendsIn total first d n u l (g.files b)) (sym is) (subst (MendsIn total first d n u rows) (sym same) (record {
         trail = may.trail;
-        none = may.none;
         last = may.last;
         mended = record {
           rebuilt = may.mended.rebuilt;
@@ -217,10 +215,14 @@ module _ {S : Type 0} (g : Ghosts S) (a b : S) (same : g.files b ≡ g.files a) 
         };
       }))
 
-  pub restores_back : ((t : ℕ) (x : Left) → t ≤ (g.clock a).now → Now (g.clock a) x → (g.clock a).left t x) → Steps Same (g.clock a) (g.clock b) → (c : S) (total first n : ℕ) (u : Files)
-      → Runs (g.clock b) (g.clock c) (RestoresTo (telling_of total first) (g.files b) u n) → Runs (g.clock a) (g.clock c) (RestoresTo (telling_of total first) (g.files a) u n)
-  restores_back counts steps c total first n u run =
-      runs_on (runs_looking counts steps) (subst (λ (x : Files). Runs (g.clock b) (g.clock c) (RestoresTo (telling_of total first) x u n)) same run) (λ x p. p)
+  pub mends_back : ((t : ℕ) (x : Left) → t ≤ (g.clock a).now → Now (g.clock a) x → (g.clock a).left t x) → Steps Same (g.clock a) (g.clock b) → (c : S) (total first : ℕ) (u : Files) (d : ℕ) (named : List NamedRow) (rows list : List Row) → list ≡ rows → (n : ℕ) (desc : Described)
+      → NamesRows (g.files a) named rows → MayReconstruct total first (g.files a) u d named n desc → Runs (g.clock b) (g.clock c) (MendsTo (telling_of total first) (g.files b) u (named_by list) n)
+      → Runs (g.clock a) (g.clock c) (MendsTo (telling_of total first) (g.files a) u (named_blocks desc.structures named) n)
+  mends_back counts steps c total first u d named rows list is n desc names may run =
+      let blocks : named_by list ≡ named_blocks desc.structures named = λ i f k. (ap (λ (l : List Row). named_by l f k) is ∙ names total first n desc may.trail may.last may.described f k) i in
+      runs_on (runs_looking counts steps)
+      (subst (λ (x : Files). Runs (g.clock b) (g.clock c) (MendsTo (telling_of total first) x u (named_blocks desc.structures named) n)) same
+      (subst (λ (l : ℕ → ℕ → Bool). Runs (g.clock b) (g.clock c) (MendsTo (telling_of total first) (g.files b) u l n)) blocks run)) (λ x p. p)
 
   pub grows_back : Steps Same (g.clock a) (g.clock b) → (c : S) → RecoveryGrows g b c → RecoveryGrows g a c
   grows_back steps c r = record {

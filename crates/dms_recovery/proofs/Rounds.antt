@@ -5,9 +5,8 @@ use Rattle.dms_site.specs.Files.{Files, stored_of}
 use Rattle.dms_history.specs.Events.{Stored, How, halt_load, back_out, roll_back, rebuild, reconstruct}
 use Rattle.dms_history.specs.Here.{here}
 use Rattle.dms_history.specs.History.{Pending, last_point}
-use Rattle.dms_history.specs.Pick.{Dumps, count_at}
+use Rattle.dms_history.specs.Pick.{count_at}
 use Rattle.dms_history.specs.Places.{IsLive}
-use Rattle.dms_history.specs.Restores.{IsTrueDump}
 use Rattle.dms_history.specs.Entries.{Entry, Kind, how_of}
 use Rattle.dms_history.specs.EntryEvents.{history_of, live_of, next_of}
 use Rattle.dms_history.specs.declared.event.Row.{Row}
@@ -36,7 +35,7 @@ use Rattle.dms_recovery.specs.Planned.{PlansAlone, PlansAll}
 use Rattle.dms_recovery.specs.Ready.{AreReady}
 use Rattle.dms_recovery.specs.Restoring.{HasDumpFor, MayRestore}
 use Rattle.dms_recovery.specs.Wanting.{asked_for}
-use Rattle.dms_recovery.proofs.Beginning.{entries_is, dumps_is, counted_is, stands_here, begins_any}
+use Rattle.dms_recovery.proofs.Beginning.{true_dump, stands_here, begins_any}
 use Rattle.dms_recovery.proofs.Orders.{TrueFor, order_asked, dump_serves}
 
 -- where none goes first, what is asked begins alone
@@ -106,18 +105,12 @@ module _ (v : LogView) (u : Files) (start : LogStarts v) (wanted : Wanted) (rows
   abbrev counted : Stored
   counted = here (dumps_of v.files) (history_of es) (stored_of u)
 
-  dump_here : (d : ℕ) → IsTrueDump (dumps_of u d) (live_of (trail_entries v.end.total v.first u)) (here (dumps_of u) (history_of (trail_entries v.end.total v.first u)) (stored_of u)) → IsTrueDump (dumps_of v.files d) (live_of es) counted
-  dump_here d is =
-      subst (λ (x : Dumps). IsTrueDump (x d) (live_of es) counted) (sym (dumps_is v u start may.same may.whole))
-      (subst (λ (l : List Entry). IsTrueDump (dumps_of u d) (live_of l) counted) (sym (entries_is v u start may.same may.whole))
-      (subst (λ (c : Stored). IsTrueDump (dumps_of u d) (live_of (trail_entries v.end.total v.first u)) c) (sym (counted_is v u start may.same may.whole)) is))
-
   true_here : (how : How) → HasDumpFor v.end.total v.first u how → TrueFor (dumps_of v.files) (live_of es) counted how
   true_here halt_load is = tt
   true_here back_out is = tt
   true_here roll_back is = tt
-  true_here (rebuild d) is = dump_here d is
-  true_here (reconstruct d named) is = dump_here d is
+  true_here (rebuild d) is = true_dump v u start may.same may.whole d is
+  true_here (reconstruct d named) is = true_dump v u start may.same may.whole d is
 
   pub may_begin : MayBegin v (stored_of u) (kind_asked (asked_for v.end.total v.first v.files wanted) rows) own
   may_begin = record {

@@ -6,7 +6,7 @@ use Rattle.dms_moments.specs.MomentLaws.{runs_on, steps_on, steps_weaken}
 use Rattle.dms_site.specs.declared.site.Site.{Ghosts}
 use Rattle.dms_site.specs.Files.{Files, Left, Only, Same, stored_of}
 use Rattle.dms_history.specs.History.{Pending}
-use Rattle.dms_history.specs.Entries.{Entry, Kind}
+use Rattle.dms_history.specs.Entries.{Entry, Kind, named_by}
 use Rattle.dms_history.specs.EntryEvents.{history_of}
 use Rattle.dms_history.specs.declared.event.Row.{Row}
 use Rattle.dms_audfile.specs.TrailEntries.{trail_entries}
@@ -20,7 +20,7 @@ use Rattle.dms_restore.specs.Views.{view_of, LogStarts}
 use Rattle.dms_restore.proofs.Trails.{waits_is}
 use Rattle.dms_opening.specs.Carrying.{MayBegin, RunsTo}
 use Rattle.dms_opening.specs.declared.asked.Asked.{Asked}
-use Rattle.dms_opening.specs.declared.asked.Asked.TheVariants.{Rollback}
+use Rattle.dms_opening.specs.declared.asked.Asked.TheVariants.{Reconstruct, Rollback}
 use Rattle.dms_opening.specs.declared.plan.OpeningPlan.{OpeningPlan}
 use Rattle.dms_opening.specs.Doing.{kind_asked, point_asked}
 use Rattle.dms_opening.specs.Openings.{IsTrailFound}
@@ -28,7 +28,8 @@ use Rattle.dms_opening.proofs.OneTrail.{one_first, one_total, unchanged}
 use Rattle.dms_recovery.specs.declared.looking.PlannedRestore.{PlannedRestore}
 use Rattle.dms_recovery.specs.declared.wanted.Wanted.{Wanted}
 use Rattle.dms_recovery.specs.declared.wanted.Wanted.TheVariants as wants
-use Rattle.dms_recovery.specs.Leaving.{HoldsUpTo, RestoresTo, RollsTo}
+use Rattle.dms_recovery.specs.Leaving.{HoldsUpTo, IsMendedFrom, MendsTo, RestoresTo, RollsTo}
+use Rattle.dms_recovery.specs.Mending.{MendsAll}
 use Rattle.dms_recovery.specs.Planned.{PlansAlone, PlansAll}
 use Rattle.dms_recovery.specs.Ready.{AreReady}
 use Rattle.dms_recovery.specs.Refusing.{RecoveryGrows, SealsFewTwice}
@@ -158,6 +159,45 @@ module _ {S : Type 0} (g : Ghosts S) (site : S) (p : PlannedRestore S) (same : g
         subst (λ k. RollsTo (telling_of t f) (g.files site) k x) point_rolled
         (subst (λ (y : Files). RollsTo (telling_of t f) y p.own.choice.point x) same
         (subst (λ (k : Telling). RollsTo k (g.files p.log.site) p.own.choice.point x) tells_rolled leaves)))
+
+  -- ---- a reconstruction behind a restore that is pending
+
+  mends_all : (u : Files) (d : ℕ) (q : Pending) (before : Option OpeningPlan) → IsMendedFrom p.log.end.total p.log.first (g.files p.log.site) u d (named_by rows)
+      → (history_of (trail_entries p.log.end.total p.log.first (g.files p.log.site))).pending ≡ Some q → PlansAll p.log.end.total p.log.first (g.files p.log.site) (Reconstruct d) rows before p.own → MendsAll v u d rows before p.own
+  mends_all u d q None mended pending all = absurd (none-some q (sym (all.plan.chooses.is.new all.begins).0 ∙ pending))
+  mends_all u d q (Some before) mended pending all = record { start = starts; mended = mended; plans = all }
+
+  module _ (t f n d : ℕ) (q : Pending) (u : Files) (found : IsTrailFound t f (g.files site)) (pending : (history_of (trail_entries t f (g.files site))).pending ≡ Some q) (last : last_of t f (g.files site) ≡ Some n)
+      (mended : IsMendedFrom t f (g.files site) u d (named_by rows)) (is : wanted ≡ wants.Reconstruct d) where
+    total_is : t ≡ p.log.end.total
+    total_is = one_total t f p.log.end.total p.log.first (g.files site) found trail
+
+    first_is : f ≡ p.log.first
+    first_is = one_first t f p.log.end.total p.log.first (g.files site) found trail
+
+    pub mends_here : MendsAll (view_of g p.log) u d rows p.before p.own
+    mends_here = mends_all u d q p.before
+        (subst (λ (x : Files). IsMendedFrom p.log.end.total p.log.first x u d (named_by rows)) (sym same)
+        (subst (λ k. IsMendedFrom p.log.end.total k (g.files site) u d (named_by rows)) first_is (subst (λ k. IsMendedFrom k f (g.files site) u d (named_by rows)) total_is mended)))
+        ((λ i. (history_of (trail_entries (sym total_is i) (sym first_is i) (same i))).pending) ∙ pending)
+        (subst (λ (w : Wanted). PlansAll p.log.end.total p.log.first (g.files p.log.site) (asked_for p.log.end.total p.log.first (g.files p.log.site) w) rows p.before p.own) is plans_here)
+
+    point_mended : p.own.choice.point ≡ n
+    point_mended = point_of_trail t f found n (ap (λ (w : Wanted). point_asked (asked_for t f (g.files site) w) (last_of t f (g.files site))) is ∙ last)
+
+    tells_mended : telling v ≡ telling_of t f
+    tells_mended = λ i. telling_of (sym total_is i) (sym first_is i)
+
+    pub mended_here : (later : S) → HoldsUpTo (telling (view_of g p.log)) u p.own.choice.point (g.files later) × Only (g.files later) (g.clock later) → HoldsUpTo (telling_of t f) u n (g.files later) × Only (g.files later) (g.clock later)
+    mended_here later done = (subst (λ k. HoldsUpTo (telling_of t f) u k (g.files later)) point_mended (subst (λ (k : Telling). HoldsUpTo k u p.own.choice.point (g.files later)) tells_mended done.0), done.1)
+
+    pub mends_since : (later : S) → ((s : S) (k : ℕ) (x : Left) → k ≤ (g.clock s).now → Now (g.clock s) x → (g.clock s).left k x) → Steps Same (g.clock site) (g.clock p.log.site)
+        → Runs (g.clock p.log.site) (g.clock later) (MendsTo (telling (view_of g p.log)) (g.files p.log.site) u (named_by rows) p.own.choice.point) → Runs (g.clock site) (g.clock later) (MendsTo (telling_of t f) (g.files site) u (named_by rows) n)
+    mends_since later counts_now steps run =
+        runs_on (unchanged (g.clock site) (g.clock p.log.site) (MendsTo (telling_of t f) (g.files site) u (named_by rows) n) (counts_now site) steps) run (λ x leaves.
+        subst (λ k. MendsTo (telling_of t f) (g.files site) u (named_by rows) k x) point_mended
+        (subst (λ (y : Files). MendsTo (telling_of t f) y u (named_by rows) p.own.choice.point x) same
+        (subst (λ (k : Telling). MendsTo k (g.files p.log.site) u (named_by rows) p.own.choice.point x) tells_mended leaves)))
 
   -- ---- the trail grows
 

@@ -5,5 +5,7 @@ pub mod Refusing
 pub mod Ready
 pub mod Restoring
 pub mod Rolling
+pub mod Mending
 pub mod Rows
 pub mod Reconstructing
+pub mod Claims

@@ -1,11 +1,11 @@
 -- Reconstruction of rows that are named: which rows these are, and why it is refused.
-use Rattle.std.specs.Prelude.{ℕ, ◌≡◌, Bool, List, [], Some, None}
+use Rattle.std.specs.Prelude.{ℕ, ◌≡◌, List, [], Some, None}
 use Rattle.dms_desc.specs.Shape.{Described, Shape}
 use Rattle.dms_desc_bytes.specs.Spelling.{spelling}
 use Rattle.dms_desc_bytes.specs.WellFormed.{IsWellFormed}
 use Rattle.dms_site.specs.Files.{Files}
 use Rattle.dms_history.specs.Entries.{Entry, named_by}
-use Rattle.dms_history.specs.EntryEvents.{history_of, live_of}
+use Rattle.dms_history.specs.EntryEvents.{live_of}
 use Rattle.dms_history.specs.Pick.{count_at}
 use Rattle.dms_history.specs.SchemaAt.{schema_at}
 use Rattle.dms_history.specs.declared.event.Row.{Row}
@@ -97,11 +97,10 @@ IsOpenFault (NoSuchRow r) P = ⊥
 
 -- ---- what it is of
 
--- Scanning refuses nothing in these files, no restore is pending, and n is the last point, with this description. The files are those of a database but for
--- the blocks of the rows that are named, and dump d is a true one of it.
+-- Scanning refuses nothing in these files, and n is the last point, with this description. The files are those of a database but for the blocks of the rows
+-- that are named, and dump d is a true one of it.
 pub record MayReconstruct (total first : ℕ) (files u : Files) (d : ℕ) (named : List NamedRow) (n : ℕ) (desc : Described) : Type 0 where
   pub trail : IsTrailFound total first files
-  pub none : (history_of (trail_entries total first files)).pending ≡ None
   pub last : last_of total first files ≡ Some n
   pub described : IsDescribedBy (trail_entries total first files) n desc
   pub mended : IsMendedFrom total first files u d (named_blocks desc.structures named)

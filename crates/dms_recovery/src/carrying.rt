@@ -1,25 +1,17 @@
 //! What was planned is carried out: the restore that is pending first, and then the one that is asked for.
 
-ghost use Rattle.std.specs.Prelude.{◌≡◌, ◌≤◌, None, length, IfOk, IfErr, IsTrue};
-ghost use Rattle.dms_moments.specs.Moments.{Runs};
-ghost use Rattle.dms_site.specs.Files.{Only};
-ghost use Rattle.dms_history.specs.Entries.{by_roll_back};
-ghost use Rattle.dms_history.specs.Events.{Stored};
+ghost use Rattle.std.specs.Prelude.{◌≡◌, ◌≤◌, Some, length, IfOk, IfErr, IsTrue};
 ghost use Rattle.dms_audrec.specs.Seen.{how_seen};
 ghost use Rattle.dms_audrec.specs.Spelling.{IsRestoreKind, rows_of};
 ghost use Rattle.dms_audfile.specs.Counting.{CountedAt};
-ghost use Rattle.dms_running.specs.AnyBegun.{BeginLeaves};
-ghost use Rattle.dms_restore.specs.Begins.{AnyLeaves};
-ghost use Rattle.dms_restore.specs.Logging.{LogGrows, telling, state, view};
+ghost use Rattle.dms_restore.specs.Logging.{LogGrows, view};
 ghost use Rattle.dms_restore.specs.Views.{view_of};
 ghost use Rattle.dms_wal.specs.Closing.{IsFullTrail};
-ghost use Rattle.dms_opening.specs.Carrying.{IsFitPlan, MayBegin, RunsTo};
+ghost use Rattle.dms_opening.specs.Carrying.{IsFitPlan};
 ghost use Rattle.dms_opening.specs.Openings.{IsFullFault, MayHaveWritten};
-ghost use Rattle.dms_opening.specs.declared.asked.Asked as meant;
-ghost use Rattle.dms_recovery.specs.Leaving.{HoldsUpTo, RollsTo};
+ghost use Rattle.dms_recovery.specs.Claims.{RunsAlone, LeavesAlone, ReachesAsPlanned, LeavesAsPlanned, MendsAsPlanned, LeavesMending};
 ghost use Rattle.dms_recovery.specs.Planned.{AreFit};
 ghost use Rattle.dms_recovery.specs.Ready.{AreReady, AreReadyBoth};
-ghost use Rattle.dms_recovery.specs.Rolling.{RollsBehind, RollsAll};
 
 use crate::looking::PlannedRestore;
 use dms_audfile::AudFault;
@@ -40,12 +32,12 @@ fn carry_both<S: Site>(
     requires kind { IsRestoreKind (how_seen how) }
     requires few { length (rows_of (how_seen how)) ≤ 100 }
     requires limit { log.end.limit ≡ 9999 }
-    ensures rolled { IfOk result (λ o. (asked : meant.Asked) → IsTrue S.tells → how_seen how.entry ≡ by_roll_back → let v = view_of S.Site log in RollsBehind v asked before own
-        → HoldsUpTo (telling v) v.files own.choice.point (S.files o.log.site) × Only (S.files o.log.site) (S.clock o.log.site)) }
-    ensures rolls { IfOk result (λ o. (asked : meant.Asked) → IsTrue S.tells → how_seen how.entry ≡ by_roll_back → let v = view_of S.Site log in RollsBehind v asked before own
-        → Runs v.clock (S.clock o.log.site) (RollsTo (telling v) v.files own.choice.point)) }
-    ensures rolls_then { IfErr result (λ e. (asked : meant.Asked) → IsTrue S.tells → how_seen how.entry ≡ by_roll_back → let v = view_of S.Site log in RollsBehind v asked before own
-        → Runs v.clock (S.clock e.1) (RollsTo (telling v) v.files own.choice.point)) }
+    ensures rolled { IfOk result (λ o. ReachesAsPlanned S.tells (how_seen how.entry) (view_of S.Site log) (Some before) own (view_of S.Site o.log)) }
+    ensures rolls { IfOk result (λ o. LeavesAsPlanned S.tells (how_seen how.entry) (view_of S.Site log) (Some before) own (S.clock o.log.site)) }
+    ensures rolls_then { IfErr result (λ e. LeavesAsPlanned S.tells (how_seen how.entry) (view_of S.Site log) (Some before) own (S.clock e.1)) }
+    ensures mended { IfOk result (λ o. MendsAsPlanned S.tells (how_seen how.entry) (view_of S.Site log) (Some before) own (view_of S.Site o.log)) }
+    ensures mends { IfOk result (λ o. LeavesMending S.tells (how_seen how.entry) (view_of S.Site log) (Some before) own (S.clock o.log.site)) }
+    ensures mends_then { IfErr result (λ e. LeavesMending S.tells (how_seen how.entry) (view_of S.Site log) (Some before) own (S.clock e.1)) }
     ensures only { IfErr result (λ e. IsTrue S.tells → AreReadyBoth (view_of S.Site log) before own → MayHaveWritten e.0) }
     ensures full { IfErr result (λ e. IsTrue S.tells → AreReadyBoth (view_of S.Site log) before own → IsFullFault e.0 → IsFullTrail (view_of S.Site log) (S.files e.1)) }
     ensures grown { IfOk result (λ o. IsTrue S.tells → AreReadyBoth (view_of S.Site log) before own → LogGrows 38 (view_of S.Site log) (view_of S.Site o.log)) }
@@ -85,18 +77,15 @@ pub(crate) fn carry<S: Site>(
     requires kind { IsRestoreKind (how_seen how) }
     requires few { length (rows_of (how_seen how)) ≤ 100 }
     requires limit { planned.log.end.limit ≡ 9999 }
-    ensures runs_to { IfOk result (λ o. (right : Stored) → IsTrue S.tells → planned.before ≡ None → let v = view_of S.Site planned.log in MayBegin v right (how_seen how.entry) planned.own
-        → RunsTo v right (how_seen how.entry) planned.own (view_of S.Site o.log)) }
-    ensures leaves { IfOk result (λ o. (right : Stored) → IsTrue S.tells → planned.before ≡ None → let v = view_of S.Site planned.log in MayBegin v right (how_seen how.entry) planned.own
-        → AnyLeaves v right planned.own.choice.point (view_of S.Site o.log)) }
-    ensures leaves_then { IfErr result (λ e. (right : Stored) → IsTrue S.tells → planned.before ≡ None → let v = view_of S.Site planned.log in MayBegin v right (how_seen how.entry) planned.own
-        → Runs v.clock (S.clock e.1) (BeginLeaves (telling v) (state v) right planned.own.choice.point)) }
-    ensures rolled { IfOk result (λ o. (asked : meant.Asked) → IsTrue S.tells → how_seen how.entry ≡ by_roll_back → let v = view_of S.Site planned.log in RollsAll v asked planned.before planned.own
-        → HoldsUpTo (telling v) v.files planned.own.choice.point (S.files o.log.site) × Only (S.files o.log.site) (S.clock o.log.site)) }
-    ensures rolls { IfOk result (λ o. (asked : meant.Asked) → IsTrue S.tells → how_seen how.entry ≡ by_roll_back → let v = view_of S.Site planned.log in RollsAll v asked planned.before planned.own
-        → Runs v.clock (S.clock o.log.site) (RollsTo (telling v) v.files planned.own.choice.point)) }
-    ensures rolls_then { IfErr result (λ e. (asked : meant.Asked) → IsTrue S.tells → how_seen how.entry ≡ by_roll_back → let v = view_of S.Site planned.log in RollsAll v asked planned.before planned.own
-        → Runs v.clock (S.clock e.1) (RollsTo (telling v) v.files planned.own.choice.point)) }
+    ensures runs_to { IfOk result (λ o. RunsAlone S.tells (how_seen how.entry) (view_of S.Site planned.log) planned.before planned.own (view_of S.Site o.log)) }
+    ensures leaves { IfOk result (λ o. LeavesAlone S.tells (how_seen how.entry) (view_of S.Site planned.log) planned.before planned.own (S.clock o.log.site)) }
+    ensures leaves_then { IfErr result (λ e. LeavesAlone S.tells (how_seen how.entry) (view_of S.Site planned.log) planned.before planned.own (S.clock e.1)) }
+    ensures rolled { IfOk result (λ o. ReachesAsPlanned S.tells (how_seen how.entry) (view_of S.Site planned.log) planned.before planned.own (view_of S.Site o.log)) }
+    ensures rolls { IfOk result (λ o. LeavesAsPlanned S.tells (how_seen how.entry) (view_of S.Site planned.log) planned.before planned.own (S.clock o.log.site)) }
+    ensures rolls_then { IfErr result (λ e. LeavesAsPlanned S.tells (how_seen how.entry) (view_of S.Site planned.log) planned.before planned.own (S.clock e.1)) }
+    ensures mended { IfOk result (λ o. MendsAsPlanned S.tells (how_seen how.entry) (view_of S.Site planned.log) planned.before planned.own (view_of S.Site o.log)) }
+    ensures mends { IfOk result (λ o. LeavesMending S.tells (how_seen how.entry) (view_of S.Site planned.log) planned.before planned.own (S.clock o.log.site)) }
+    ensures mends_then { IfErr result (λ e. LeavesMending S.tells (how_seen how.entry) (view_of S.Site planned.log) planned.before planned.own (S.clock e.1)) }
     ensures only { IfErr result (λ e. IsTrue S.tells → AreReady (view_of S.Site planned.log) planned.before planned.own → MayHaveWritten e.0) }
     ensures full { IfErr result (λ e. IsTrue S.tells → AreReady (view_of S.Site planned.log) planned.before planned.own → IsFullFault e.0 → IsFullTrail (view_of S.Site planned.log) (S.files e.1)) }
     ensures grown { IfOk result (λ o. IsTrue S.tells → AreReady (view_of S.Site planned.log) planned.before planned.own → LogGrows 38 (view_of S.Site planned.log) (view_of S.Site o.log)) }

@@ -7,9 +7,9 @@ ghost use Rattle.dms_audfile.specs.Counting.{CountedAt};
 ghost use Rattle.dms_restore.specs.Views.{view_of, LogStarts};
 ghost use Rattle.dms_opening.specs.Openings.{IsTrailFound, IsFullFault};
 ghost use Rattle.dms_opening.specs.Plans.{IsScanRead};
-ghost use Rattle.dms_recovery.specs.Planned.{PlansAll, AreFit, RefusesAll};
+ghost use Rattle.dms_recovery.specs.Claims.{PlansWanted, RefusesWantedOf};
+ghost use Rattle.dms_recovery.specs.Planned.{AreFit};
 ghost use Rattle.dms_recovery.specs.Refusing.{RefusesWanted};
-ghost use Rattle.dms_recovery.specs.Wanting.{asked_for};
 
 use crate::Wanted;
 use crate::planning::{Plans, plan_asked};
@@ -39,11 +39,11 @@ pub(crate) fn plan_scanned<S: Site>(
     rows: &[Row],
 ) -> Result<PlannedRestore<S>, (OpenFault, S)>
     requires low { 10001 ≤ scanned.log.first }
-    ensures plans { IfOk result (λ p. IsTrue S.tells → IsScanRead S.Site scanned → let files = S.files scanned.log.site in
-        PlansAll scanned.log.end.total scanned.log.first files (asked_for scanned.log.end.total scanned.log.first files wanted) rows.now p.before p.own) }
+    ensures plans { IfOk result (λ p. IsTrue S.tells → IsScanRead S.Site scanned
+        → PlansWanted scanned.log.end.total scanned.log.first (S.files scanned.log.site) wanted rows.now p.before p.own) }
     ensures fit { IfOk result (λ p. AreFit p.before p.own) }
-    ensures refused { IfErr result (λ e. IsTrue S.tells → IsScanRead S.Site scanned → let files = S.files scanned.log.site in
-        RefusesAll scanned.log.end.total scanned.log.first files (asked_for scanned.log.end.total scanned.log.first files wanted) e.0) }
+    ensures refused { IfErr result (λ e. IsTrue S.tells → IsScanRead S.Site scanned
+        → RefusesWantedOf scanned.log.end.total scanned.log.first (S.files scanned.log.site) wanted e.0) }
     ensures kind { IfOk result (λ p. (p.log.end ≡ scanned.log.end) × (p.log.first ≡ scanned.log.first)) }
     ensures files { IfOk result (λ p. IsTrue S.tells → S.files p.log.site ≡ S.files scanned.log.site) }
     ensures files_then { IfErr result (λ e. IsTrue S.tells → S.files e.1 ≡ S.files scanned.log.site) }
@@ -88,8 +88,7 @@ pub(crate) fn look_for<S: Site>(
 ) -> Result<PlannedRestore<S>, (OpenFault, S)>
     ensures starts { IfOk result (λ p. IsTrue S.tells → LogStarts (view_of S.Site p.log)) }
     ensures trail { IfOk result (λ p. IsTrue S.tells → IsTrailFound p.log.end.total p.log.first (S.files found.site)) }
-    ensures plans { IfOk result (λ p. IsTrue S.tells → let files = S.files found.site in
-        PlansAll p.log.end.total p.log.first files (asked_for p.log.end.total p.log.first files wanted) rows.now p.before p.own) }
+    ensures plans { IfOk result (λ p. IsTrue S.tells → PlansWanted p.log.end.total p.log.first (S.files found.site) wanted rows.now p.before p.own) }
     ensures fit { IfOk result (λ p. AreFit p.before p.own) }
     ensures limit { IfOk result (λ p. p.log.end.limit ≡ 9999) }
     ensures refused { IfErr result (λ e. IsTrue S.tells → RefusesWanted (S.files found.site) wanted e.0) }

@@ -1,19 +1,14 @@
 //! Reconstruction of rows.
 
-ghost use Rattle.std.specs.Prelude.{◌≡◌, ◌≤◌, ◌/◌, ℕ, Some, None, length, IfOk, IfErr, IsTrue};
-ghost use Rattle.dms_moments.specs.Moments.{Runs, Steps};
-ghost use Rattle.dms_site.specs.Files.{Files, Only, Same};
-ghost use Rattle.dms_history.specs.Entries.{named_by};
-ghost use Rattle.dms_history.specs.EntryEvents.{history_of};
+ghost use Rattle.std.specs.Prelude.{◌≡◌, ◌≤◌, ◌/◌, ℕ, Some, length, IfOk, IfErr, IsTrue};
+ghost use Rattle.dms_moments.specs.Moments.{Steps};
+ghost use Rattle.dms_site.specs.Files.{Same};
 ghost use Rattle.dms_audrec.specs.Reading.{rows_at};
 ghost use Rattle.dms_audrec.specs.Spelling.{AreRows};
 ghost use Rattle.dms_audfile.specs.Counting.{CountedAt};
-ghost use Rattle.dms_audfile.specs.TrailEntries.{trail_entries};
-ghost use Rattle.dms_restore.specs.Logging.{telling_of};
 ghost use Rattle.dms_opening.specs.Openings.{IsTrailFound, IsFullFault, HasFullTrail, MayHaveWritten, IsNoRefusal};
-ghost use Rattle.dms_desc.specs.Shape.{Described};
-ghost use Rattle.dms_recovery.specs.Leaving.{HoldsUpTo, RestoresTo, IsMendedFrom};
-ghost use Rattle.dms_recovery.specs.Reconstructing.{CanReconstruct, IsOpenFault, MayReconstruct, RefusesReconstruct};
+ghost use Rattle.dms_recovery.specs.Claims.{MendingReaches, MendingLeaves, ReconstructReaches, ReconstructLeaves};
+ghost use Rattle.dms_recovery.specs.Reconstructing.{CanReconstruct, IsOpenFault, RefusesReconstruct};
 ghost use Rattle.dms_recovery.specs.Refusing.{RefusesWanted, CanBeDone, RecoveryGrows};
 ghost use Rattle.dms_recovery.specs.Wanting.{last_of};
 
@@ -45,12 +40,9 @@ fn reconstruct_rows<S: Site>(
     requires rows { AreRows rows.now }
     requires hundred { length rows.now ≤ 100 }
     requires list { rows_at (length list.now / 8) list.now ≡ rows.now }
-    ensures ends { IfOk result (λ r. (u : Files) (total first n : ℕ) → IsTrue S.tells → let files = S.files found.site in IsTrailFound total first files → (history_of (trail_entries total first files)).pending ≡ None
-        → last_of total first files ≡ Some n → IsMendedFrom total first files u dump (named_by rows.now) → HoldsUpTo (telling_of total first) u n (S.files r.site) × Only (S.files r.site) (S.clock r.site)) }
-    ensures moments { IfOk result (λ r. (u : Files) (total first n : ℕ) → IsTrue S.tells → let files = S.files found.site in IsTrailFound total first files → (history_of (trail_entries total first files)).pending ≡ None
-        → last_of total first files ≡ Some n → IsMendedFrom total first files u dump (named_by rows.now) → Runs (S.clock found.site) (S.clock r.site) (RestoresTo (telling_of total first) files u n)) }
-    ensures stopped { IfErr result (λ e. (u : Files) (total first n : ℕ) → IsTrue S.tells → let files = S.files found.site in IsTrailFound total first files → (history_of (trail_entries total first files)).pending ≡ None
-        → last_of total first files ≡ Some n → IsMendedFrom total first files u dump (named_by rows.now) → Runs (S.clock found.site) (S.clock e.1) (RestoresTo (telling_of total first) files u n)) }
+    ensures ends { IfOk result (λ r. MendingReaches S.Site found.site r.site dump rows.now) }
+    ensures moments { IfOk result (λ r. MendingLeaves S.Site found.site r.site dump rows.now) }
+    ensures stopped { IfErr result (λ e. MendingLeaves S.Site found.site e.1 dump rows.now) }
     ensures point { IfOk result (λ r. IsTrue S.tells → (total first n : ℕ) → IsTrailFound total first (S.files found.site) → last_of total first (S.files found.site) ≡ Some n → r.point ≡ n) }
     ensures refused { IfErr result (λ e. IsTrue S.tells → RefusesWanted (S.files found.site) (Wanted.Reconstruct dump) e.0) }
     ensures complete { IfErr result (λ e. IsTrue S.tells → (total first : ℕ) → CanBeDone total first (S.files found.site) (Wanted.Reconstruct dump) → IsNoRefusal e.0) }
@@ -90,12 +82,9 @@ pub fn reconstruct<S: Site>(
     requires some { 1 ≤ dump }
     requires few { dump ≤ 9999 }
     requires hundred { length named.now ≤ 100 }
-    ensures ends { IfOk result (λ r. (u : Files) (total first n : ℕ) (desc : Described) → IsTrue S.tells → MayReconstruct total first (S.files found.site) u dump named.now n desc
-        → HoldsUpTo (telling_of total first) u n (S.files r.site) × Only (S.files r.site) (S.clock r.site)) }
-    ensures moments { IfOk result (λ r. (u : Files) (total first n : ℕ) (desc : Described) → IsTrue S.tells → let files = S.files found.site in MayReconstruct total first files u dump named.now n desc
-        → Runs (S.clock found.site) (S.clock r.site) (RestoresTo (telling_of total first) files u n)) }
-    ensures stopped { IfErr result (λ e. (u : Files) (total first n : ℕ) (desc : Described) → IsTrue S.tells → let files = S.files found.site in MayReconstruct total first files u dump named.now n desc
-        → Runs (S.clock found.site) (S.clock e.1) (RestoresTo (telling_of total first) files u n)) }
+    ensures ends { IfOk result (λ r. ReconstructReaches S.Site found.site r.site dump named.now) }
+    ensures moments { IfOk result (λ r. ReconstructLeaves S.Site found.site r.site dump named.now) }
+    ensures stopped { IfErr result (λ e. ReconstructLeaves S.Site found.site e.1 dump named.now) }
     ensures point { IfOk result (λ r. IsTrue S.tells → (total first n : ℕ) → IsTrailFound total first (S.files found.site) → last_of total first (S.files found.site) ≡ Some n → r.point ≡ n) }
     ensures refused { IfErr result (λ e. IsTrue S.tells → RefusesReconstruct (S.files found.site) dump named.now e.0) }
     ensures complete { IfErr result (λ e. IsTrue S.tells → (total first : ℕ) → CanReconstruct total first (S.files found.site) dump named.now → IsOpenFault e.0 IsNoRefusal) }

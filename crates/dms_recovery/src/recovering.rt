@@ -1,22 +1,16 @@
 //! What is wanted of a database is judged, planned and carried out.
 
-ghost use Rattle.std.specs.Prelude.{◌≡◌, ◌≤◌, ◌⊎◌, ℕ, Option, Some, [], length, IfOk, IfErr, IsTrue};
-ghost use Rattle.dms_moments.specs.Moments.{Runs, Steps};
-ghost use Rattle.dms_site.specs.Files.{Files, Only, Same};
+ghost use Rattle.std.specs.Prelude.{◌≡◌, ◌≤◌, ℕ, Option, [], length, IfOk, IfErr, IsTrue};
+ghost use Rattle.dms_moments.specs.Moments.{Steps};
+ghost use Rattle.dms_site.specs.Files.{Same};
 ghost use Rattle.dms_audrec.specs.Seen.{how_seen};
 ghost use Rattle.dms_audrec.specs.Spelling.{IsRestoreKind, rows_of};
-ghost use Rattle.dms_history.specs.EntryEvents.{history_of};
-ghost use Rattle.dms_history.specs.History.{Pending};
 ghost use Rattle.dms_audfile.specs.Counting.{CountedAt};
-ghost use Rattle.dms_audfile.specs.TrailEntries.{trail_entries};
-ghost use Rattle.dms_running.specs.Standing.{IsWhole};
-ghost use Rattle.dms_restore.specs.Logging.{telling_of};
-ghost use Rattle.dms_opening.specs.Doing.{kind_asked, point_asked};
+ghost use Rattle.dms_opening.specs.Doing.{kind_asked};
 ghost use Rattle.dms_opening.specs.Openings.{IsTrailFound, IsFullFault, HasFullTrail, MayHaveWritten, IsNoRefusal};
-ghost use Rattle.dms_recovery.specs.Leaving.{HoldsUpTo, RollsTo, RestoresTo};
+ghost use Rattle.dms_recovery.specs.Claims.{IsPointWanted, RestoreReaches, RestoreLeaves, RollbackBehindReaches, RollbackBehindLeaves, MendingBehindReaches, MendingBehindLeaves};
 ghost use Rattle.dms_recovery.specs.Refusing.{RefusesWanted, CanBeDone, RecoveryGrows};
-ghost use Rattle.dms_recovery.specs.Restoring.{MayRestore};
-ghost use Rattle.dms_recovery.specs.Wanting.{asked_with, asked_for, last_of};
+ghost use Rattle.dms_recovery.specs.Wanting.{asked_with};
 
 use crate::carrying::carry;
 use crate::looking::look_for;
@@ -59,20 +53,17 @@ pub(crate) fn recover<S: Site>(
     requires few { length (rows_of (how_seen how)) ≤ 100 }
     requires plain { (n : ℕ) → wanted ≡ Wanted.Rollback n → rows.now ≡ [] }
     requires is { (last : Option ℕ) → how_seen how ≡ kind_asked (asked_with last wanted) rows.now }
-    ensures ends { IfOk result (λ r. (u : Files) (total first : ℕ) → IsTrue S.tells → MayRestore total first (S.files found.site) u wanted rows.now
-        → HoldsUpTo (telling_of total first) u r.point (S.files r.site) × Only (S.files r.site) (S.clock r.site)) }
+    ensures ends { IfOk result (λ r. RestoreReaches S.Site found.site r.site wanted rows.now r.point) }
     ensures point { IfOk result (λ r. (total first : ℕ) → IsTrue S.tells → IsTrailFound total first (S.files found.site)
-        → let files = S.files found.site in (n : ℕ) → point_asked (asked_for total first files wanted) (last_of total first files) ≡ Some n → r.point ≡ n) }
-    ensures moments { IfOk result (λ r. (u : Files) (total first n : ℕ) → IsTrue S.tells → let files = S.files found.site in MayRestore total first files u wanted rows.now
-        → point_asked (asked_for total first files wanted) (last_of total first files) ≡ Some n → Runs (S.clock found.site) (S.clock r.site) (RestoresTo (telling_of total first) files u n)) }
-    ensures stopped { IfErr result (λ e. (u : Files) (total first n : ℕ) → IsTrue S.tells → let files = S.files found.site in MayRestore total first files u wanted rows.now
-        → point_asked (asked_for total first files wanted) (last_of total first files) ≡ Some n → Runs (S.clock found.site) (S.clock e.1) (RestoresTo (telling_of total first) files u n)) }
-    ensures rolled { IfOk result (λ r. (n total first : ℕ) (q : Pending) → IsTrue S.tells → let files = S.files found.site in wanted ≡ Wanted.Rollback n → IsTrailFound total first files
-        → (history_of (trail_entries total first files)).pending ≡ Some q → IsWhole (telling_of total first) files → HoldsUpTo (telling_of total first) files n (S.files r.site) × Only (S.files r.site) (S.clock r.site)) }
-    ensures rolls { IfOk result (λ r. (n total first : ℕ) (q : Pending) → IsTrue S.tells → let files = S.files found.site in wanted ≡ Wanted.Rollback n → IsTrailFound total first files
-        → (history_of (trail_entries total first files)).pending ≡ Some q → IsWhole (telling_of total first) files → Runs (S.clock found.site) (S.clock r.site) (RollsTo (telling_of total first) files n)) }
-    ensures rolls_then { IfErr result (λ e. (n total first : ℕ) (q : Pending) → IsTrue S.tells → let files = S.files found.site in wanted ≡ Wanted.Rollback n → IsTrailFound total first files
-        → (history_of (trail_entries total first files)).pending ≡ Some q → IsWhole (telling_of total first) files → Runs (S.clock found.site) (S.clock e.1) (RollsTo (telling_of total first) files n)) }
+        → (n : ℕ) → IsPointWanted total first (S.files found.site) wanted n → r.point ≡ n) }
+    ensures moments { IfOk result (λ r. RestoreLeaves S.Site found.site r.site wanted rows.now) }
+    ensures stopped { IfErr result (λ e. RestoreLeaves S.Site found.site e.1 wanted rows.now) }
+    ensures rolled { IfOk result (λ r. RollbackBehindReaches S.Site found.site r.site wanted) }
+    ensures rolls { IfOk result (λ r. RollbackBehindLeaves S.Site found.site r.site wanted) }
+    ensures rolls_then { IfErr result (λ e. RollbackBehindLeaves S.Site found.site e.1 wanted) }
+    ensures mended { IfOk result (λ r. MendingBehindReaches S.Site found.site r.site wanted rows.now) }
+    ensures mends { IfOk result (λ r. MendingBehindLeaves S.Site found.site r.site wanted rows.now) }
+    ensures mends_then { IfErr result (λ e. MendingBehindLeaves S.Site found.site e.1 wanted rows.now) }
     ensures refused { IfErr result (λ e. IsTrue S.tells → RefusesWanted (S.files found.site) wanted e.0) }
     ensures complete { IfErr result (λ e. IsTrue S.tells → (total first : ℕ) → CanBeDone total first (S.files found.site) wanted → IsNoRefusal e.0) }
     ensures full { IfErr result (λ e. IsTrue S.tells → IsFullFault e.0 → HasFullTrail (S.files found.site) (S.files e.1)) }

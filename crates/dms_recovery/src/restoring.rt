@@ -1,13 +1,11 @@
 //! Rollback and rebuild.
 
 ghost use Rattle.std.specs.Prelude.{◌≡◌, ◌≤◌, ℕ, IfOk, IfErr, IsTrue};
-ghost use Rattle.dms_moments.specs.Moments.{Runs, Steps};
-ghost use Rattle.dms_site.specs.Files.{Files, Only, Same};
+ghost use Rattle.dms_moments.specs.Moments.{Steps};
+ghost use Rattle.dms_site.specs.Files.{Same};
 ghost use Rattle.dms_audfile.specs.Counting.{CountedAt};
-ghost use Rattle.dms_running.specs.Standing.{IsWhole};
-ghost use Rattle.dms_restore.specs.Logging.{telling_of};
 ghost use Rattle.dms_opening.specs.Openings.{IsTrailFound, IsFullFault, HasFullTrail, MayHaveWritten, IsNoRefusal};
-ghost use Rattle.dms_recovery.specs.Leaving.{HoldsUpTo, RollsTo, RestoresTo, IsRebuiltFrom};
+ghost use Rattle.dms_recovery.specs.Claims.{RollbackReaches, RollbackLeaves, RebuildReaches, RebuildLeaves};
 ghost use Rattle.dms_recovery.specs.Refusing.{RefusesWanted, CanBeDone, RecoveryGrows};
 ghost use Rattle.dms_recovery.specs.Wanting.{chosen_point};
 
@@ -34,12 +32,9 @@ pub fn roll_back<S: Site>(
     found: Found<S>,
     point: u64,
 ) -> Result<Recovered<S>, (OpenFault, S)>
-    ensures ends { IfOk result (λ r. (total first : ℕ) → IsTrue S.tells → let files = S.files found.site in IsTrailFound total first files
-        → IsWhole (telling_of total first) files → HoldsUpTo (telling_of total first) files point (S.files r.site) × Only (S.files r.site) (S.clock r.site)) }
-    ensures moments { IfOk result (λ r. (total first : ℕ) → IsTrue S.tells → let files = S.files found.site in IsTrailFound total first files
-        → IsWhole (telling_of total first) files → Runs (S.clock found.site) (S.clock r.site) (RollsTo (telling_of total first) files point)) }
-    ensures stopped { IfErr result (λ e. (total first : ℕ) → IsTrue S.tells → let files = S.files found.site in IsTrailFound total first files
-        → IsWhole (telling_of total first) files → Runs (S.clock found.site) (S.clock e.1) (RollsTo (telling_of total first) files point)) }
+    ensures ends { IfOk result (λ r. RollbackReaches S.Site found.site r.site point) }
+    ensures moments { IfOk result (λ r. RollbackLeaves S.Site found.site r.site point) }
+    ensures stopped { IfErr result (λ e. RollbackLeaves S.Site found.site e.1 point) }
     ensures point { IfOk result (λ r. IsTrue S.tells → (total first : ℕ) → IsTrailFound total first (S.files found.site) → r.point ≡ point) }
     ensures refused { IfErr result (λ e. IsTrue S.tells → RefusesWanted (S.files found.site) (Wanted.Rollback point) e.0) }
     ensures complete { IfErr result (λ e. IsTrue S.tells → (total first : ℕ) → CanBeDone total first (S.files found.site) (Wanted.Rollback point) → IsNoRefusal e.0) }
@@ -78,12 +73,9 @@ pub fn rebuild<S: Site>(
 ) -> Result<Recovered<S>, (OpenFault, S)>
     requires some { 1 ≤ dump }
     requires few { dump ≤ 9999 }
-    ensures ends { IfOk result (λ r. (u : Files) (total first : ℕ) → IsTrue S.tells → let files = S.files found.site in IsTrailFound total first files
-        → IsRebuiltFrom total first files u dump → HoldsUpTo (telling_of total first) u (chosen_point total first files point) (S.files r.site) × Only (S.files r.site) (S.clock r.site)) }
-    ensures moments { IfOk result (λ r. (u : Files) (total first : ℕ) → IsTrue S.tells → let files = S.files found.site in IsTrailFound total first files
-        → IsRebuiltFrom total first files u dump → Runs (S.clock found.site) (S.clock r.site) (RestoresTo (telling_of total first) files u (chosen_point total first files point))) }
-    ensures stopped { IfErr result (λ e. (u : Files) (total first : ℕ) → IsTrue S.tells → let files = S.files found.site in IsTrailFound total first files
-        → IsRebuiltFrom total first files u dump → Runs (S.clock found.site) (S.clock e.1) (RestoresTo (telling_of total first) files u (chosen_point total first files point))) }
+    ensures ends { IfOk result (λ r. RebuildReaches S.Site found.site r.site dump point) }
+    ensures moments { IfOk result (λ r. RebuildLeaves S.Site found.site r.site dump point) }
+    ensures stopped { IfErr result (λ e. RebuildLeaves S.Site found.site e.1 dump point) }
     ensures point { IfOk result (λ r. IsTrue S.tells → (total first : ℕ) → IsTrailFound total first (S.files found.site) → r.point ≡ chosen_point total first (S.files found.site) point) }
     ensures refused { IfErr result (λ e. IsTrue S.tells → RefusesWanted (S.files found.site) (Wanted.Rebuild dump point) e.0) }
     ensures complete { IfErr result (λ e. IsTrue S.tells → (total first : ℕ) → CanBeDone total first (S.files found.site) (Wanted.Rebuild dump point) → IsNoRefusal e.0) }

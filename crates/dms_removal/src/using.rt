@@ -13,10 +13,11 @@ use dms_slots::read_slot;
 use std::alloc::Global;
 
 /// Whether a structure is a data set, and a record of it may have this number.
+#[tactic(auto, using(dms_desc::specs::Numbered::above_none))]
 pub(crate) fn is_slot(s: &Structure, number: u64) -> bool
     ensures { result ≡ is_slot (shape_of s.now) number }
 {
-    0 < s.kind && s.kind < 3 && 1 <= number && number <= u64::from(s.population)
+    s.is_data_set() && 1 <= number && number <= u64::from(s.population)
 }
 
 // Whether a slot counts a link, or something that its record owns.

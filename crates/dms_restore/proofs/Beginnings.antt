@@ -28,6 +28,7 @@ use Rattle.dms_restore.specs.Parts.{SealsPart}
 use Rattle.dms_restore.specs.Begins.{LastIs, begun_to, BegunAt, BeginsRestore, RestoredAt, Restores}
 use Rattle.dms_restore.specs.declared.told.Told.{Told}
 use Rattle.dms_restore.specs.declared.run.Run.{Run}
+use Rattle.dms_restore.specs.Over.{WritesOver}
 use Rattle.dms_restore.specs.Table.{Kept, keeps_by, Writes, Holds, all_in}
 use Rattle.dms_restore.proofs.Trails.{is_telling, first_low, waits_is}
 use Rattle.dms_restore.proofs.Logs.{ReadsNow, tells, plain, entry_steps, same_telling, appended, ends_then, settles, sealing}
@@ -130,6 +131,10 @@ plan_steps p x y z w one two look =
 pub plan_written : (p : Pending) (x y z w : Files) → Rewritten (Kept (keeps_by p.how p.entries p.point)) x y → Rewritten (Kept (keeps_by p.how p.entries p.point)) y z → w ≡ z → Rewritten (IsKeptBy p.how p.entries p.point) x w
 plan_written p x y z w one two same =
     subst (λ (l : Files). Rewritten (IsKeptBy p.how p.entries p.point) x l) (sym same) (rewritten_kept p.how p.entries p.point x z (rewritten_on (Kept (keeps_by p.how p.entries p.point)) x y z one two))
+
+-- what is written then, whatever the files held
+pub writes_over : (p : Pending) (old new : Files) (runs : List Run) (table : List Told) → Writes p old runs table → Rewritten (IsKeptBy p.how p.entries p.point) old new → Holds old (all_in runs ++ table) new → WritesOver p old new
+writes_over p old new runs table is written holds = record { written = written; told = λ f b low x told size. (holds f b x (is.all f b x low told size)).1 }
 
 module _ (p : Pending) (a : LogView) (r : BegunAt p a) (read : ReadsNow a) where
   abbrev pub tells_it : IsTelling (telling a)

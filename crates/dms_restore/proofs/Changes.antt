@@ -141,15 +141,22 @@ after_point n xs = after_from n xs [] refl
 pub live_changes : (entries : List Entry) → live_of entries ≡ all_changes (live_logged [] (events_in entries))
 live_changes entries = live_of_ranges (events_in entries)
 
-live_append : (xs ys live : List Logged) → live_logged live (xs ++ ys) ≡ live_logged (live_logged live xs) ys
+pub live_append : (xs ys live : List Logged) → live_logged live (xs ++ ys) ≡ live_logged (live_logged live xs) ys
 live_append [] ys live = refl
 live_append (x ∷ xs) ys live = live_append xs ys (live_step live x)
 
--- one entry more
+-- one entry more, behind any others
+pub live_more_on : (front : List Logged) (entries : List Entry) (e : Entry) (x : Logged) → said_by (parts_from no_parts entries) e ≡ x ∷ [] → live_logged front (events_in (entries ++ e ∷ [])) ≡ live_step (live_logged front (events_in entries)) x
+live_more_on front entries e x is =
+    ap (live_logged front) (logged_append entries (e ∷ []) no_parts ∙ ap (λ (l : List Logged). events_in entries ++ (l ++ [])) is) ∙ live_append (events_in entries) (x ∷ []) front
+
 pub live_more : (entries : List Entry) (e : Entry) (x : Logged) → said_by (parts_from no_parts entries) e ≡ x ∷ [] → live_logged [] (events_in (entries ++ e ∷ [])) ≡ live_step (live_logged [] (events_in entries)) x
-live_more entries e x is =
-    ap (live_logged []) (logged_append entries (e ∷ []) no_parts ∙ ap (λ (l : List Logged). events_in entries ++ (l ++ [])) is) ∙ live_append (events_in entries) (x ∷ []) []
+live_more entries e x is = live_more_on [] entries e x is
 
 -- one that says nothing
+pub live_same_on : (front : List Logged) (entries : List Entry) (e : Entry) → said_by (parts_from no_parts entries) e ≡ [] → live_logged front (events_in (entries ++ e ∷ [])) ≡ live_logged front (events_in entries)
+live_same_on front entries e is =
+    ap (live_logged front) (logged_append entries (e ∷ []) no_parts ∙ ap (λ (l : List Logged). events_in entries ++ (l ++ [])) is ∙ append_none (events_in entries))
+
 pub live_same : (entries : List Entry) (e : Entry) → said_by (parts_from no_parts entries) e ≡ [] → live_logged [] (events_in (entries ++ e ∷ [])) ≡ live_logged [] (events_in entries)
-live_same entries e is = ap (live_logged []) (logged_append entries (e ∷ []) no_parts ∙ ap (λ (l : List Logged). events_in entries ++ (l ++ [])) is ∙ append_none (events_in entries))
+live_same entries e is = live_same_on [] entries e is

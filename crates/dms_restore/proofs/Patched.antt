@@ -1,24 +1,20 @@
--- What entries with Ranges tell of one block: by its last Image and the Ranges behind it, and by the first Image behind a point.
+-- What entries with Ranges tell of one block, by its last Image and the Ranges behind it, and entries behind the last Control.
 use Rattle.std.specs.Prelude.{◌||◌, option_map, if◌then◌else◌}
-use Rattle.std.proofs.Common.{ℕ, ◌≡◌, inl, inr, Bool, true, false, cond, List, [], ◌∷◌, ◌++◌, Option, Some, None, refl, sym, ◌∙◌, ap, subst, append_assoc}
+use Rattle.std.proofs.Common.{ℕ, ◌≡◌, inl, inr, Bool, true, false, cond, List, [], ◌∷◌, ◌++◌, Option, Some, None, refl, sym, ◌∙◌, ap, subst}
 use Rattle.std.proofs.lemmas.Bool.{cases_Bool, true≢false}
 use Rattle.dms_history.specs.Events.{BlockBytes, Counts, Event, change, quiet, control, begin}
-use Rattle.dms_history.specs.Images.{is_at, or_else, last_after, first_before}
+use Rattle.dms_history.specs.Images.{is_at, or_else, last_after}
 use Rattle.dms_history.specs.Lists.{has, until_first, after_first, after_last}
-use Rattle.dms_history.specs.Places.{is_control, is_point}
+use Rattle.dms_history.specs.Places.{is_control}
 use Rattle.dms_history.specs.Pick.{reached_count}
-use Rattle.dms_history.specs.Told.{undone_to, told_block}
-use Rattle.dms_history.specs.Ranges.{Logged, event, range, patch_bytes, range_change, changes_of, changes_from, all_changes, is_point_logged, is_control_logged, is_image}
+use Rattle.dms_history.specs.Ranges.{Logged, event, range, patch_bytes, range_change, changes_of, changes_from, all_changes, is_control_logged, is_image}
 use Rattle.dms_history.specs.LawsOfRanges.{HasImages}
-use Rattle.dms_history.proofs.Picks.{place_cases, option_cases, last_append}
+use Rattle.dms_history.proofs.Picks.{place_cases, last_append}
 use Rattle.dms_history.proofs.AtPoints.{or_no}
 use Rattle.dms_history.proofs.Base.{has_append}
 use Rattle.dms_history.proofs.Counts.{reached_append}
-use Rattle.dms_history.proofs.Cuts.{after_none}
-use Rattle.dms_history.proofs.Splits.{ranges_split, images_go_on}
-use Rattle.dms_history.proofs.Turns.{left_out, changes_push, changes_until}
+use Rattle.dms_history.proofs.Splits.{ranges_split}
 use Rattle.dms_restore.specs.LiveEntries.{own_events}
-use Rattle.dms_restore.proofs.Changes.{changes_on, after_point}
 
 -- block b of file f after some entries, where it was this before them: an Image has it whole, a Range lays its bytes over it
 abbrev pub patched_by : ℕ → ℕ → Option BlockBytes → Logged → Option BlockBytes
@@ -72,7 +68,7 @@ pub last_is_patched : (xs : List Logged) (f b : ℕ) → last_after f b (all_cha
 unfolding all_changes
 last_is_patched xs f b = last_from f b xs []
 
--- ---- the first block
+-- ---- one entry more
 
 pub has_more : (p : Logged → Bool) (xs : List Logged) (x : Logged) → has p (xs ++ x ∷ []) ≡ (has p xs || p x)
 has_more p [] x = ap (λ k. k) (or_false (p x))
@@ -105,9 +101,6 @@ behind_more (y ∷ xs) x off =
 abbrev pub NoImage : ℕ → ℕ → List Logged → Type 0
 NoImage f b xs = has (is_image f b) (after_last is_control_logged xs) ≡ false
 
-no_more : (f b : ℕ) (xs : List Logged) (x : Logged) → is_control_logged x ≡ false → is_image f b x ≡ false → NoImage f b xs → NoImage f b (xs ++ x ∷ [])
-no_more f b xs x plain other none = ap (λ (l : List Logged). has (is_image f b) l) (behind_more xs x plain) ∙ has_more (is_image f b) (after_last is_control_logged xs) x ∙ (λ i. none i || other i)
-
 pub no_behind : (f b : ℕ) (xs : List Logged) (x : Logged) → is_control_logged x ≡ true → NoImage f b (xs ++ x ∷ [])
 no_behind f b xs x on = ap (λ (l : List Logged). has (is_image f b) l) (nothing xs)
   where
@@ -120,61 +113,6 @@ no_behind f b xs x on = ap (λ (l : List Logged). has (is_image f b) l) (nothing
         or_true : (b : Bool) → b || true ≡ true
         or_true true = refl
         or_true false = refl
-
-module _ (f b : ℕ) where
-  abbrev SameFirst : List Logged → List Logged → Type 0
-  SameFirst ys xs = first_before f b (changes_on (all_changes ys) xs) ≡ first_before f b (own_events xs)
-
-  -- one entry more is behind
-  step_on : (ys xs : List Logged) (x : Logged) → SameFirst (ys ++ x ∷ []) xs → first_before f b (changes_on (all_changes ys ++ changes_of (all_changes ys) x) xs) ≡ first_before f b (own_events xs)
-  step_on ys xs x is = ap (λ (l : List Event). first_before f b (changes_on l xs)) (sym (changes_push ys x)) ∙ is
-
-  whole_on : (ys xs : List Logged) (x : Logged) → HasImages (ys ++ x ∷ xs) → HasImages ((ys ++ x ∷ []) ++ xs)
-  whole_on ys xs x images = subst HasImages (sym (append_assoc ys (x ∷ []) xs)) images
-
-  -- Of a block without an Image behind the last Control, the first change behind is an Image.
-  pub undo_is_images : (xs ys : List Logged) → HasImages (ys ++ xs) → NoImage f b ys → SameFirst ys xs
-  undo_is_images [] ys images none = refl
-  undo_is_images (event (change g k before after) ∷ xs) ys images none = elim (cases_Bool (is_at f b g k)) [
-    | inl on ↦ (λ i. cond (on i) (Some before) (first_before f b (changes_on (all_changes ys ++ change g k before after ∷ []) xs))) ∙ sym (ap (λ t. cond t (Some before) (first_before f b (own_events xs))) on)
-    | inr off ↦
-        let x = event (change g k before after) in
-        (λ i. cond (off i) (Some before) (first_before f b (changes_on (all_changes ys ++ change g k before after ∷ []) xs)))
-        ∙ step_on ys xs x (undo_is_images xs (ys ++ x ∷ []) (whole_on ys xs x images) (no_more f b ys x refl off none))
-        ∙ sym (ap (λ t. cond t (Some before) (first_before f b (own_events xs))) off)
-  ]
-  undo_is_images (event (quiet n) ∷ xs) ys images none = let x = event (quiet n) in step_on ys xs x (undo_is_images xs (ys ++ x ∷ []) (whole_on ys xs x images) (no_more f b ys x refl refl none))
-  undo_is_images (event (control n next counts described) ∷ xs) ys images none =
-      let x = event (control n next counts described) in step_on ys xs x (undo_is_images xs (ys ++ x ∷ []) (whole_on ys xs x images) (no_behind f b ys x refl))
-  undo_is_images (event (begin n how) ∷ xs) ys images none = let x = event (begin n how) in step_on ys xs x (undo_is_images xs (ys ++ x ∷ []) (whole_on ys xs x images) (no_more f b ys x refl refl none))
-  undo_is_images (range g k place bytes ∷ xs) ys images none =
-      let x = range g k place bytes in
-      skipped (last_after g k (all_changes ys)) refl
-      ∙ step_on ys xs x (undo_is_images xs (ys ++ x ∷ []) (whole_on ys xs x images) (no_more f b ys x refl refl none))
-    where
-      rest : List Event
-      rest = changes_on (all_changes ys ++ range_change g k place bytes (last_after g k (all_changes ys))) xs
-
-      -- it is of another block, or says nothing
-      skipped : (o : Option BlockBytes) → last_after g k (all_changes ys) ≡ o → first_before f b (range_change g k place bytes o ++ rest) ≡ first_before f b rest
-      skipped None is = refl
-      skipped (Some old) is = elim (place_cases f b g k) [
-        | inr apart ↦ ap (λ t. cond t (Some (Some old)) (first_before f b rest)) apart.1
-        | inl at ↦
-            let some : last_after f b (all_changes ys) ≡ Some old = (λ i. last_after (sym at.0 i) (sym at.1 i) (all_changes ys)) ∙ is in
-            let found : has (is_image f b) ys ≡ true = image_found some in
-            let split = images.images ys xs g k place bytes refl (inl ((λ i. has (is_image (at.0 i) (at.1 i)) ys) ∙ found)) in
-            absurd (true≢false (sym ((λ i. has (is_image (sym at.0 i) (sym at.1 i)) (after_last is_control_logged ys)) ∙ split) ∙ none))
-      ]
-        where
-          some_none : (x : BlockBytes) → None ≡ Some x → ⊥
-          some_none x e = absurd cc
-
-          image_found : last_after f b (all_changes ys) ≡ Some old → has (is_image f b) ys ≡ true
-          image_found some = elim (cases_Bool (has (is_image f b) ys)) [
-            | inl on ↦ on
-            | inr off ↦ absurd (some_none old (sym ((left_out ys f b).0 off) ∙ some))
-          ]
 
 -- ---- behind the last Control
 
@@ -233,7 +171,7 @@ no_control (x ∷ xs) live none off =
     one (range f b place bytes) is = changed f b place bytes (last_after f b live)
 
 -- a Control is no change
-control_from : (n next : ℕ) (counts : Counts) (described : Bool) (xs : List Logged) (live : List Event) → changes_from (control n next counts described ∷ live) xs ≡ control n next counts described ∷ changes_from live xs
+pub control_from : (n next : ℕ) (counts : Counts) (described : Bool) (xs : List Logged) (live : List Event) → changes_from (control n next counts described ∷ live) xs ≡ control n next counts described ∷ changes_from live xs
 control_from n next counts described [] live = refl
 control_from n next counts described (event e ∷ xs) live = control_from n next counts described xs (live ++ e ∷ [])
 control_from n next counts described (range f b place bytes ∷ xs) live = control_from n next counts described xs (live ++ range_change f b place bytes (last_after f b live))
@@ -268,7 +206,7 @@ late_changes ls images = elim (cases_Bool (has is_control_logged ls)) [
   | inr off ↦ last_none is_control (changes_from [] ls) (no_control ls [] refl off) ∙ ap (changes_from []) (sym (last_none is_control_logged ls off))
 ]
 
--- ---- what is told of a block
+-- ---- a list that is cut
 
 pub cut_in_two : (p : Logged → Bool) (xs : List Logged) → has p xs ≡ true → until_first p xs ++ after_first p xs ≡ xs
 cut_in_two p [] found = absurd (true≢false (sym found))
@@ -278,44 +216,6 @@ cut_in_two p (x ∷ xs) found = elim (cases_Bool (p x)) [
       let more : has p xs ≡ true = ap (λ k. k || has p xs) (sym off) ∙ found in
       (λ i. cond (off i) (x ∷ []) (cond (more i) (x ∷ until_first p xs) []) ++ cond (off i) xs (after_first p xs)) ∙ ap (λ (l : List Logged). x ∷ l) (cut_in_two p xs more)
 ]
-
-module _ (live : List Logged) (images : HasImages live) (m f b : ℕ) where
-  abbrev pub upto : List Logged
-  upto = until_first (is_point_logged m) live
-
-  abbrev pub beyond : List Logged
-  beyond = after_first (is_point_logged m) live
-
-  abbrev pub late : List Logged
-  late = after_last is_control_logged upto
-
-  late_is : last_after f b (after_last is_control (until_first (is_point m) (all_changes live))) ≡ patched f b None late
-  late_is =
-      ap (λ (l : List Event). last_after f b (after_last is_control l)) (sym (changes_until m live))
-      ∙ ap (λ (l : List Event). last_after f b l) (late_changes upto ((images_go_on live images).cuts m)) ∙ last_is_patched late f b
-
-  first_is : patched f b None late ≡ None → first_before f b (after_first (is_point m) (all_changes live)) ≡ first_before f b (own_events beyond)
-  first_is none = ap (λ (l : List Event). first_before f b l) (after_point m live) ∙ elim (cases_Bool (has (is_point_logged m) live)) [
-    | inl found ↦ undo_is_images f b beyond upto (subst HasImages (sym (cut_in_two (is_point_logged m) live found)) images) ((left_out late f b).1 (last_is_patched late f b ∙ none))
-    | inr off ↦
-        let empty = after_none (is_point_logged m) live off in
-        ap (λ (l : List Logged). first_before f b (changes_on (all_changes upto) l)) empty ∙ sym (ap (λ (l : List Logged). first_before f b (own_events l)) empty)
-  ]
-
-  -- A block at a point: its last Image behind the last Control with the Ranges behind it, else what the first Image behind the point has before it.
-  pub told_by_images : told_block (all_changes live) m f b ≡ or_else (patched f b None late) (undone_to (first_before f b (own_events beyond)))
-  unfolding told_block
-  told_by_images = ap (λ o. or_else o (undone_to (first_before f b (after_first (is_point m) (all_changes live))))) late_is ∙ elim (option_cases (patched f b None late)) [
-    | inl none ↦ ap (λ w. or_else (patched f b None late) (undone_to w)) (first_is none)
-    | inr some ↦
-        ap (λ o. or_else o (undone_to (first_before f b (after_first (is_point m) (all_changes live))))) some.1
-        ∙ sym (ap (λ o. or_else o (undone_to (first_before f b (own_events beyond)))) some.1)
-  ]
-
--- All before an Image of the block is left out.
-pub patched_from : (f b : ℕ) (o : Option BlockBytes) (xs ys : List Logged) (before : Option BlockBytes) (after : BlockBytes) → is_at f b f b ≡ true → patched f b o (xs ++ event (change f b before after) ∷ ys) ≡ patched f b (Some after) ys
-patched_from f b o [] ys before after on = ap (λ t. patched f b (cond t (Some after) o) ys) on
-patched_from f b o (x ∷ xs) ys before after on = patched_from f b (patched_by f b o x) xs ys before after on
 
 -- ---- counts
 

@@ -16,6 +16,7 @@ use Rattle.dms_dump.specs.declared.reading.DumpHead.{DumpHead}
 use Rattle.dms_history.specs.declared.event.Row.{Row}
 use Rattle.dms_restore.specs.declared.live.HowAt.{HowAt}
 use Rattle.dms_restore.specs.declared.live.LiveEntry.{LiveEntry}
+use Rattle.dms_restore.specs.declared.live.PendingAt.{PendingAt}
 use Rattle.dms_restore.specs.declared.restore_table.RestoreTable.{RestoreTable}
 use Rattle.dms_restore.specs.declared.run.Run.{Run}
 use Rattle.dms_restore.specs.declared.told.Told.{Told}
@@ -23,8 +24,8 @@ use Rattle.dms_restore.specs.Counts.{count_of}
 use Rattle.dms_restore.specs.Dumped.{dumps_of}
 use Rattle.dms_restore.specs.LiveEntries.{logged_live, AllStandWhole}
 use Rattle.dms_restore.specs.ByDump.{PlansByDump}
-use Rattle.dms_restore.specs.Table.{IsPlanOf}
-use Rattle.dms_restore.specs.Tracing.{MatchesHow}
+use Rattle.dms_restore.specs.Table.{IsPlan, IsPlanOf}
+use Rattle.dms_restore.specs.Tracing.{IsPendingAt, MatchesHow}
 
 -- The head of dump d, from 1 to 9,999, is this one.
 abbrev pub HasHead : Files → ℕ → Option DumpHead → Type 0
@@ -88,3 +89,8 @@ PlansDump how d head counts front behind runs told = (files : Files) (logged : L
 abbrev pub PlansCut : HowAt → List Row → Option DumpHead → List ℕ → List LiveEntry → List LiveEntry → RestoreTable → Type 0
 PlansCut at rows head counts front behind t = (files : Files) (logged : List Logged) (m : ℕ) (how : How) → MatchesHow at rows how → CutsAt files logged m front behind → IsHeadFor files how head
     → ((f : ℕ) → count_of counts f ≡ count_at (all_changes logged) m f) → IsPlanOf how (dumps_of files) (all_changes logged) m files t.runs.items t.told.items
+
+-- In all files in which these entries stand whole and a restore is pending at that place, with these counts and the head of its dump, the
+-- table is what that restore writes.
+abbrev pub PlansPending : List LiveEntry → List LiveEntry → List Row → PendingAt → List ℕ → Option DumpHead → RestoreTable → Type 0
+PlansPending live removed rows at counts head t = (files : Files) (p : Pending) → IsPendingAt files live removed at p → AllStandWhole files live → AllStandWhole files removed → MatchesHow at.how rows p.how → AreCountsAt counts p → IsHeadFor files p.how head → IsPlan p files t

@@ -8,11 +8,10 @@ ghost use Rattle.dms_history.specs.History.{Pending};
 ghost use Rattle.dms_history.specs.Entries as meaning;
 ghost use Rattle.dms_history.specs.Entries.{named_by};
 ghost use Rattle.dms_restore.specs.Counts.{AllAtMost};
-ghost use Rattle.dms_restore.specs.LiveEntries.{AllStandWhole};
 ghost use Rattle.dms_restore.specs.Named.{HasNoBlock, IsTableOf};
-ghost use Rattle.dms_restore.specs.Planned.{HasHead, IsHeadFor, IsFitHead, AreCountsAt, PlansDump, PlansCut};
+ghost use Rattle.dms_restore.specs.Planned.{HasHead, IsHeadFor, IsFitHead, AreCountsAt, PlansDump, PlansCut, PlansPending};
 ghost use Rattle.dms_restore.specs.Table.{AreBlocks, AreRuns, IsPlan};
-ghost use Rattle.dms_restore.specs.Tracing.{MatchesHow, IsPendingAt, IsTraced, TracesPending};
+ghost use Rattle.dms_restore.specs.Tracing.{IsTraced, TracesPending};
 
 use crate::dump_runs::{all_runs, row_runs};
 use crate::placing::behind_place;
@@ -165,8 +164,7 @@ fn plan_at(
     requires fit { IfSome (option_copied head) IsFitHead }
     ensures runs { IfOk result (λ t. AreRuns t.runs.items) }
     ensures blocks { IfOk result (λ t. AreBlocks t.told.items) }
-    ensures plan { IfOk result (λ t. (files : Files) (p : Pending) → IsPendingAt files live.now removed.now at p → AllStandWhole files live.now → AllStandWhole files removed.now
-        → MatchesHow at.how rows.now p.how → AreCountsAt counts.now p → IsHeadFor files p.how (option_copied head.entry) → IsPlan p files t) }
+    ensures plan { IfOk result (PlansPending live.now removed.now rows.now at counts.now (option_copied head.entry)) }
     ensures only { IfErr result (λ e. (e ≡ AudFault.Memory) ⊎ HasNoBlock live.now removed.now e) }
 {
     let front = &live[..at.kept.min(live.len())];

@@ -5,6 +5,7 @@ use Rattle.dms_desc_bytes.specs.Spelling.{spelling}
 use Rattle.dms_desc_bytes.specs.WellFormed.{IsWellFormed}
 use Rattle.dms_history.specs.Events.{Event, Stored}
 use Rattle.dms_history.specs.Entries.{Entry}
+use Rattle.dms_history.specs.Agrees.{Numbered}
 use Rattle.dms_history.specs.EntryEvents.{history_of, live_of, next_of, Agrees}
 use Rattle.dms_history.specs.History.{last_point}
 use Rattle.dms_history.specs.Pick.{blocks_at}
@@ -16,6 +17,7 @@ use Rattle.dms_history.specs.Points.{LivePoint, live_points, HasPoint, AllLive, 
 use Rattle.dms_history.proofs.Listed.{points_listed}
 use Rattle.dms_history.proofs.Order.{last_lives}
 use Rattle.dms_model.specs.Db.{Db}
+use Rattle.dms_model.specs.Points.{Quiet}
 use Rattle.dms_running.specs.Standing.{IsWhole}
 use Rattle.dms_running.specs.Points.{DescribedPoint, described_in, points_of}
 use Rattle.dms_running.specs.FromDumps.{DumpsInOrder}
@@ -26,7 +28,8 @@ use Rattle.dms_store.specs.Spelled.{database_in}
 use Rattle.dms_audfile.specs.TrailEntries.{trail_entries}
 use Rattle.dms_restore.specs.Dumped.{IsDumpFound, dumps_of}
 use Rattle.dms_restore.specs.Logging.{telling_of}
-use Rattle.dms_run.specs.State.{StateAt}
+use Rattle.dms_run.specs.State.{StateAt, StateOf}
+use Rattle.dms_run.specs.States.{LivesEndWith, HasLive}
 use Rattle.dms_run.specs.Files.{StandsLaw}
 use Rattle.dms_run.proofs.Lives.{live_one, or_cases, same_number}
 
@@ -69,39 +72,24 @@ none_behind : (es : List Entry) (ps : List LivePoint) → map (described_in es) 
 none_behind es [] e = refl
 none_behind es (p ∷ ps) e = absurd (cc)
 
--- ----
+-- ---- what entries tell with some blocks
 
-module _ (total first : ℕ) (files : Files) (desc : Described) (well : IsWellFormed desc) (w : IsWhole (telling_of total first) files) where
-  abbrev entries : List Entry
-  entries = trail_entries total first files
-
+module _ (entries : List Entry) (counted : Stored) (desc : Described) (numbered : Numbered (live_of entries) (next_of entries)) where
   abbrev live : List Event
   live = live_of entries
-
-  abbrev counted : Stored
-  counted = here (dumps_of files) (history_of entries) (stored_of files)
 
   -- the points without their Schemas
   abbrev bare_points : List LivePoint
   bare_points = live_points live counted
 
   listed : ListsPoints live counted bare_points
-  listed = points_listed live (next_of entries) counted w.stands.kept.numbered
-
-  agrees : Agrees (w.found.finds.trail.first == 10001) entries (dumps_of files) (stored_of files)
-  agrees = subst (λ (k : ℕ). Agrees (k == 10001) entries (dumps_of files) (stored_of files)) (sym w.found.first_is) (whole_agrees (telling_of total first) files w)
-
-  order : DumpsInOrder (IsDumpFound w.found.finds.trail.first files) (dumps_of files) (history_of entries).pending
-  order = subst (λ (k : ℕ). DumpsInOrder (IsDumpFound k files) (dumps_of files) (history_of entries).pending) (sym w.found.first_is) w.order
+  listed = points_listed live (next_of entries) counted numbered
 
   -- what the entries tell at a point
   abbrev pub TellsAt : ℕ → Db → Type 0
   TellsAt n db = IsLive live n × (schema_at entries n ≡ Some (spelling desc)) × (database_in desc (blocks_at live counted n) ≡ Some db)
 
-  abbrev state_by : (n : ℕ) (db : Db) → TellsAt n db → StateAt files n desc db
-  state_by n db t = record { entries = entries; finds = w.found.finds; agrees = agrees; order = order; lives = t.0; described = t.1; well_formed = well; spells = t.2 }
-
-  module _ (front after : List DescribedPoint) (p : DescribedPoint) (n : ℕ) (db : Db) (are : points_of (telling_of total first) files ≡ front ++ p ∷ after) (number : p.number ≡ n) (schema : p.schema ≡ spelling desc)
+  module _ (front after : List DescribedPoint) (p : DescribedPoint) (n : ℕ) (db : Db) (are : map (described_in entries) bare_points ≡ front ++ p ∷ after) (number : p.number ≡ n) (schema : p.schema ≡ spelling desc)
       (spells : database_in desc p.blocks ≡ Some db) where
     abbrev bare_one : Bare entries bare_points front p after
     bare_one = bare_of entries bare_points front p after are
@@ -120,9 +108,9 @@ module _ (total first : ℕ) (files : Files) (desc : Described) (well : IsWellFo
     )
 
     -- the last of them is the last point
-    last_at : after ≡ [] → last_point (history_of entries) ≡ Some n
+    pub last_at : after ≡ [] → last_point (history_of entries) ≡ Some n
     last_at none =
-        let l = (last_lives (history_of entries) (next_of entries) w.stands.kept.numbered).points bare_one.point.number has_point.lives in
+        let l = (last_lives (history_of entries) (next_of entries) numbered).points bare_one.point.number has_point.lives in
         let ends : bare_points ≡ bare_one.front ++ bare_one.point ∷ [] = bare_one.are ∙ ap (λ (r : List LivePoint). bare_one.front ++ bare_one.point ∷ r) (none_behind entries bare_one.after (bare_one.rest ∙ none)) in
         let numbers : numbers_of bare_points ≡ numbers_of bare_one.front ++ bare_one.point.number ∷ [] = ap numbers_of ends ∙ numbers_end bare_one.front bare_one.point in
         let top : l.last ≤ bare_one.point.number =
@@ -131,12 +119,36 @@ module _ (total first : ℕ) (files : Files) (desc : Described) (well : IsWellFo
         let same : l.last ≡ n = omega (arith, top, l.not_above, same_number_there) in
         l.is ∙ ap (λ (k : ℕ). Some k) same
 
+-- ---- of files that hold a database
+
+module _ (total first : ℕ) (files : Files) (desc : Described) (well : IsWellFormed desc) (w : IsWhole (telling_of total first) files) where
+  abbrev all : List Entry
+  all = trail_entries total first files
+
+  abbrev counts : Stored
+  counts = here (dumps_of files) (history_of all) (stored_of files)
+
+  agrees : Agrees (w.found.finds.trail.first == 10001) all (dumps_of files) (stored_of files)
+  agrees = subst (λ (k : ℕ). Agrees (k == 10001) all (dumps_of files) (stored_of files)) (sym w.found.first_is) (whole_agrees (telling_of total first) files w)
+
+  order : DumpsInOrder (IsDumpFound w.found.finds.trail.first files) (dumps_of files) (history_of all).pending
+  order = subst (λ (k : ℕ). DumpsInOrder (IsDumpFound k files) (dumps_of files) (history_of all).pending) (sym w.found.first_is) w.order
+
+  abbrev state_by : (n : ℕ) (db : Db) → TellsAt all counts desc w.stands.kept.numbered n db → StateAt files n desc db
+  state_by n db t = record { entries = all; finds = w.found.finds; agrees = agrees; order = order; lives = t.0; described = t.1; well_formed = well; spells = t.2 }
+
+  live_state : (q : Quiet) → HasLive desc (points_of (telling_of total first) files) q → StateAt files q.0 desc q.1
+  live_state q h = state_by q.0 q.1 (tells_at all counts desc w.stands.kept.numbered h.before h.after h.point q.0 q.1 h.are h.number h.schema h.spells)
+
+  last_state : (n : ℕ) (db : Db) → LivesEndWith desc (points_of (telling_of total first) files) n db → StateOf files n desc db
+  last_state n db s = record {
+    at_point = state_by n db (tells_at all counts desc w.stands.kept.numbered s.before [] s.point n db s.are s.number s.schema s.spells);
+    last = last_at all counts desc w.stands.kept.numbered s.before [] s.point n db s.are s.number s.schema s.spells refl;
+  }
+
 pub stands : StandsLaw
 stands = record {
-  at = λ total first files desc q well w h. state_by total first files desc well w q.0 q.1 (tells_at total first files desc well w h.before h.after h.point q.0 q.1 h.are h.number h.schema h.spells);
-  last = λ total first files desc n db well w s. record {
-    at_point = state_by total first files desc well w n db (tells_at total first files desc well w s.before [] s.point n db s.are s.number s.schema s.spells);
-    last = last_at total first files desc well w s.before [] s.point n db s.are s.number s.schema s.spells refl;
-  };
+  at = λ total first files desc q well w h. live_state total first files desc well w q h;
+  last = λ total first files desc n db well w s. last_state total first files desc well w n db s;
   next = λ total first files w. record { entries = trail_entries total first files; finds = w.found.finds; is = refl };
 }

@@ -1,5 +1,5 @@
--- The audit has no room for one more entry: what waits was sealed. And a block whose newest Image is sealed.
-use Rattle.std.proofs.Common.{ℕ, ◌≡◌, inl, inr, List, [], ◌++◌, map, length, take, Some, refl, sym, ◌∙◌, ap, subst, arith}
+-- The audit has no room for one more entry: what waits was sealed. And the newest Image of a block.
+use Rattle.std.proofs.Common.{ℕ, ◌≡◌, List, [], ◌++◌, map, length, take, Some, refl, sym, ◌∙◌, ap, subst, arith}
 use Rattle.dms_moments.specs.Moments.{Now, Steps}
 use Rattle.dms_site.specs.Files.{Left, stored_of}
 use Rattle.dms_history.specs.Events.{BlockBytes, AllBlocks, Stored, Event, block_in}
@@ -11,7 +11,7 @@ use Rattle.dms_history.specs.Pick.{Dumps}
 use Rattle.dms_history.specs.Points.{LivePoint}
 use Rattle.dms_history.specs.Entries.{Entry}
 use Rattle.dms_history.specs.EntryEvents.{live_of, next_of}
-use Rattle.dms_history.proofs.Picks.{option_cases, last_stands, last_append}
+use Rattle.dms_history.proofs.Picks.{last_stands, last_append}
 use Rattle.dms_history.proofs.AtPoints.{split_last}
 use Rattle.dms_history.proofs.Order.{append_none}
 use Rattle.dms_history.proofs.Listed.{points_stay}
@@ -19,7 +19,7 @@ use Rattle.dms_running.specs.Telling.{Telling, IsTelling}
 use Rattle.dms_running.specs.Standing.{MayRun}
 use Rattle.dms_running.specs.Points.{described_in, points_told}
 use Rattle.dms_running.specs.Sealing.{SealsSome, Settled}
-use Rattle.dms_running.specs.Running.{State, entries_now, next_now, points_now, durable_now, content_now, count_live, AllPlain, IsRunning, IsAnOutcome, IsChanged}
+use Rattle.dms_running.specs.Running.{State, entries_now, next_now, points_now, durable_now, content_now, count_live, AllPlain, IsRunning, IsAnOutcome}
 use Rattle.dms_running.proofs.MayRun.{sound, has_one, points_are}
 use Rattle.dms_running.proofs.Plain.{take_whole}
 use Rattle.dms_running.proofs.Stopped.{blocks_same}
@@ -102,15 +102,3 @@ newest_is t telling a r read f b x is =
     let whole : last_after f b from ≡ Some x = ap (λ (l : List Event). last_after f b l) (sym (split_last is_control from)) ∙ last_append (until_last is_control from) (after_last is_control from) f b
     ∙ ap (λ o. or_else o (last_after f b (until_last is_control from))) late in
     ap (λ (c : AllBlocks). block_in c f b) (content_is t telling a r read) ∙ last_stands from r.base f b x s.chain whole
-
--- where nothing waits, a block that was changed since the last Control has its newest Image sealed, and that has the bytes of the content
-pub newest_sealed : (t : Telling) (telling : IsTelling t) (a : State) (r : IsRunning t a) (read : IsAnOutcome a) (f b : ℕ) (x : BlockBytes) → a.waiting ≡ [] → IsChanged t a f b → block_in (content_now t a) f b ≡ x
-    → last_after f b (after_last is_control (live_of (t.entries a.files))) ≡ Some x
-newest_sealed t telling a r read f b x nothing changed is =
-    let all : entries_now t a ≡ t.entries a.files = ap (λ (l : List Entry). t.entries a.files ++ l) nothing ∙ append_none (t.entries a.files) in
-    elim (option_cases (last_after f b (after_last is_control (live_of (entries_now t a))))) [
-      | inl none ↦ absurd (changed none)
-      | inr some ↦
-          let same : some.0 ≡ x = sym (newest_is t telling a r read f b some.0 some.1) ∙ is in
-          ap (λ (l : List Entry). last_after f b (after_last is_control (live_of l))) (sym all) ∙ some.1 ∙ ap (λ (y : BlockBytes). Some y) same
-    ]

@@ -16,7 +16,7 @@ use std::alloc::Global;
 fn is_over(s: &Structure, set: u16) -> bool
     ensures { result ≡ is_over (shape_of s.now) set }
 {
-    2 < s.kind && s.kind < 5 && s.set == set
+    s.is_set_or_automatic() && s.set == set
 }
 
 /// One change of a record of a data set in all its sets and automatic subsets, in number order: the old record's entry

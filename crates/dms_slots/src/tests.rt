@@ -1,5 +1,5 @@
 use crate::{free_slot, per_block, read_slot, take_least, write_slot};
-use dms_base::{ItemKind, Name, Value};
+use dms_base::{ItemKind, Name, StructureKind, Value};
 use dms_block::{BlockId, Blocks, Overlay};
 use dms_desc::{
     Cond, Groups, Item, Items, KeyParts, Record, Structure, Values, file_of, values_fit,
@@ -22,7 +22,7 @@ fn data_set(rt: &(impl AllocGlobal + Abort)) -> Structure {
         .expect(rt, "memory");
     Structure {
         number: 1,
-        kind: 1,
+        kind: StructureKind::DataSet,
         name: Name::read(b"D").expect(rt, "name"),
         owner: 0,
         population: 2,
@@ -30,7 +30,7 @@ fn data_set(rt: &(impl AllocGlobal + Abort)) -> Structure {
         groups: Groups::new(rt.alloc()),
         cond: Cond::Nothing,
         set: 0,
-        form: 0,
+        form: None,
         duplicates: false,
         parts: KeyParts::new(rt.alloc()),
     }

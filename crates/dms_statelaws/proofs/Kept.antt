@@ -5,6 +5,7 @@ use Rattle.dms_desc_bytes.specs.Spelling.{spelling}
 use Rattle.dms_model.specs.Db.{Db}
 use Rattle.dms_site.specs.Files.{Files, stored_of}
 use Rattle.dms_store.specs.Spelled.{database_in}
+use Rattle.dms_history.specs.Agrees.{Numbered}
 use Rattle.dms_history.specs.Events.{Stored}
 use Rattle.dms_history.specs.Here.{here}
 use Rattle.dms_history.specs.History.{last_point}
@@ -60,14 +61,17 @@ module _ (total first : ℕ) (files : Files) (n : ℕ) (desc : Described) (db : 
 
 -- ---- no live point is above the last one
 
+pub none_over : (es : List Entry) → Numbered (live_of es) (next_of es) → (n m : ℕ) → last_point (history_of es) ≡ Some n → IsLive (live_of es) m → m ≤ n
+none_over es numbered n m last lives =
+    let l = (last_lives (history_of es) (next_of es) numbered).points m lives in
+    omega (arith, l.not_above, some_is l.last n (sym l.is ∙ last))
+
 module _ (total first : ℕ) (files : Files) (w : IsWhole (telling_of total first) files) where
   abbrev all : List Entry
   all = trail_entries total first files
 
   none_above : (n m : ℕ) → last_point (history_of all) ≡ Some n → IsLive (live_of all) m → m ≤ n
-  none_above n m last lives =
-      let l = (last_lives (history_of all) (next_of all) w.stands.kept.numbered).points m lives in
-      omega (arith, l.not_above, some_is l.last n (sym l.is ∙ last))
+  none_above = none_over all w.stands.kept.numbered
 
   module _ (n : ℕ) (desc : Described) (db : Db) (s : StateOf files n desc db) where
     same : s.at_point.entries ≡ all

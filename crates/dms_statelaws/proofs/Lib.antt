@@ -4,5 +4,6 @@ pub mod Stays
 pub mod Kept
 pub mod Ends
 pub mod Stands
+pub mod Counted
 pub mod Dumping
 pub mod Statements

@@ -1,6 +1,6 @@
 -- What each statement leaves, as states that files stand for.
 use Rattle.std.specs.Prelude.{◌≢◌}
-use Rattle.std.proofs.Common.{ℕ, ◌+◌, ◌≤◌, ◌≡◌, inr, List, map, Option, Some, None, refl, sym, ◌∙◌, ap, subst, arith}
+use Rattle.std.proofs.Common.{ℕ, ◌+◌, ◌≤◌, ◌≡◌, inl, inr, List, map, Option, Some, None, refl, sym, ◌∙◌, ap, subst, arith}
 use Rattle.std.proofs.lemmas.Option.{same_Some}
 use Rattle.dms_desc.specs.Shape.{Described}
 use Rattle.dms_model.specs.Db.{Db}
@@ -36,19 +36,21 @@ use Rattle.dms_restore.proofs.Logs as logs
 use Rattle.dms_opening.specs.Openings.{IsTrailFound, RunsFrom, Reopens, ReopensSince}
 use Rattle.dms_opening.specs.declared.opened.Opened.{Opened}
 use Rattle.dms_statements.specs.declared.statement.NamedRow.{NamedRow}
+use Rattle.dms_recovery.specs.Rows.{named_blocks}
 use Rattle.dms_run.specs.State.{StateAt, StateOf}
 use Rattle.dms_run.proofs.Held as held
 use Rattle.dms_run.proofs.Lives.{one_found}
 use Rattle.dms_statelaws.specs.Dumps.{SameBesideBlocks, HasDumpAt}
 use Rattle.dms_statelaws.specs.Standing.{StandsFrom}
-use Rattle.dms_statelaws.specs.Stopping.{RollsTo, HoldsUpTo, RestoresTo, IsRebuiltFrom, chosen_point, chosen as number_chosen, last_of}
-use Rattle.dms_statelaws.specs.Statements.{HasLast, IsChosen, RebuiltState, MendedState, LeavesRestored, EndsAs, DumpStands}
+use Rattle.dms_statelaws.specs.Stopping.{RollsTo, HoldsUpTo, RestoresTo, MendsTo, IsRebuiltFrom, chosen_point, chosen as number_chosen, last_of}
+use Rattle.dms_statelaws.specs.Statements.{HasLast, IsChosen, RebuiltState, MendedState, LeavesRestored, LeavesMended, EndsAs, DumpStands}
 use Rattle.dms_statelaws.specs.SiteLaws.{SameFiles, SaysBehind, RollbackLaw, RebuildLaw, RebuildsSince, RebuildsEnd, ReconstructLaw, MendsFrom, MendsSince, MendsEnd, OpensOver, WritesDump, HasDumped, DumpLaw}
 use Rattle.dms_statelaws.proofs.Trails.{writes_within, trail_same_files}
 use Rattle.dms_statelaws.proofs.Stays.{found_same, dump_holds}
 use Rattle.dms_statelaws.proofs.Kept.{is_whole, up_to_stands, all_stands}
 use Rattle.dms_statelaws.proofs.Ends.{sealed_all, runs_same}
 use Rattle.dms_statelaws.proofs.Dumping as dumping
+use Rattle.dms_statelaws.proofs.Counted.{mends_state}
 use Rattle.dms_statelaws.proofs.Stands.{rolls_either, restores_state, rebuilt}
 
 -- ---- the trail of files that stand for a state
@@ -205,7 +207,6 @@ module _ {S : Type 0} (g : Ghosts S) (old new : S) (d : ℕ) (rows : List NamedR
   mends_from : MendsFrom (g.files old) u d rows blocks file n desc
   mends_from = record {
     trail = trail g old new d None u n desc db so;
-    none = subst (λ (l : List Entry). (history_of l).pending ≡ None) (one_found (g.files old) r.none.entries (trail_entries blocks file (g.files old)) r.none.finds (old_found g old new d None u n desc db so).finds) r.none.none;
     last = last_beside (g.files old) u n desc db r.same.files_same r.state.at_point n so.is_chosen;
     described = record {
       schema_is = ap (λ (l : List Entry). schema_at l n) (state_entries (g.files old) u n desc db r.same.files_same r.state.at_point) ∙ r.state.at_point.described;
@@ -214,9 +215,10 @@ module _ {S : Type 0} (g : Ghosts S) (old new : S) (d : ℕ) (rows : List NamedR
     mended = record { rebuilt = is g old new d None u n desc db so; beside = r.same.blocks_same };
   }
 
-  pub mend_stands : MendsSince g old new d rows → Runs (g.clock old) (g.clock new) (LeavesRestored (g.files old) u n desc db)
+  pub mend_stands : MendsSince g old new d rows → Runs (g.clock old) (g.clock new) (LeavesMended (named_blocks desc.structures rows) (g.files old) u n desc db)
   mend_stands since =
-      restores_state blocks file (g.files old) u n desc db (g.clock old) (g.clock new) (old_found g old new d None u n desc db so) (is g old new d None u n desc db so).whole r.state.at_point (since u blocks file n desc mends_from)
+      mends_state blocks file (g.files old) u (named_blocks desc.structures rows) n desc db (g.clock old) (g.clock new) (old_found g old new d None u n desc db so) (is g old new d None u n desc db so).whole r.state
+      r.same.files_same (entries_beside (g.files old) u n desc db r.same.files_same r.state.at_point) (since u blocks file n desc mends_from)
 
   pub mend_ends : MendsEnd g old new d rows → EndsAs g u n desc db new
   mend_ends ended = let e = ended u blocks file n desc mends_from in (up_to_stands blocks file u (is g old new d None u n desc db so).whole n desc db r.state.at_point (g.files new) e.0, e.1)
@@ -227,8 +229,8 @@ reconstruct_law g old new = record {
   ends = λ d rows ended u n desc db r. mend_ends g old new d rows u n desc db r ended;
   says = λ mid d rows since ended behind. (
     λ u j k n desc from. let e = ended u j k n desc from in
-        printed (g.clock old) (g.clock mid) (g.clock new) (RestoresTo (telling_of j k) (g.files old) u n) (g.files mid) (since u j k n desc from) e.1
-        (λ x same. inr (subst (HoldsUpTo (telling_of j k) u n) (sym same) e.0)) behind.moments,
+        printed (g.clock old) (g.clock mid) (g.clock new) (MendsTo (telling_of j k) (g.files old) u (named_blocks desc.structures rows) n) (g.files mid) (since u j k n desc from) e.1
+        (λ x same. inl (inr (subst (HoldsUpTo (telling_of j k) u n) (sym same) e.0))) behind.moments,
     λ u j k n desc from. ends_behind g mid new behind (HoldsUpTo (telling_of j k) u n) (ended u j k n desc from),
   );
 }

@@ -1,5 +1,6 @@
 pub mod Standing
 pub mod Dumps
+pub mod Pending
 pub mod Stopping
 pub mod Statements
 pub mod Laws

@@ -1,11 +1,10 @@
 -- Laws: what calls on a site leave, as states that its files stand for.
-use Rattle.std.specs.Prelude.{ℕ, ◌+◌, ◌≤◌, ◌≡◌, ◌≢◌, List, Option, None, Some}
+use Rattle.std.specs.Prelude.{ℕ, ◌+◌, ◌≤◌, ◌≡◌, ◌≢◌, List, Option, Some}
 use Rattle.dms_desc.specs.Shape.{Described}
 use Rattle.dms_moments.specs.Moments.{Runs, Steps}
 use Rattle.dms_site.specs.Files.{Files, Left, Only, stored_of}
 use Rattle.dms_site.specs.declared.site.Site.{Ghosts}
 use Rattle.dms_history.specs.Entries.{counts_in}
-use Rattle.dms_history.specs.EntryEvents.{history_of}
 use Rattle.dms_history.specs.declared.event.FileCount.{FileCount}
 use Rattle.dms_audfile.specs.TrailEntries.{trail_entries}
 use Rattle.dms_dump.specs.Body.{AllStored, dump_made}
@@ -19,7 +18,7 @@ use Rattle.dms_statements.specs.declared.statement.NamedRow.{NamedRow}
 use Rattle.dms_recovery.specs.Reconstructing.{IsDescribedBy}
 use Rattle.dms_recovery.specs.Rows.{named_blocks}
 use Rattle.dms_statelaws.specs.Statements.{DumpStands, DumpEnds, RollbackStands, RollbackEnds, RebuildStands, RebuildEnds, ReconstructStands, ReconstructEnds}
-use Rattle.dms_statelaws.specs.Stopping.{HoldsUpTo, RollsTo, RestoresTo, IsRebuiltFrom, IsMendedFrom, last_of, chosen_point}
+use Rattle.dms_statelaws.specs.Stopping.{HoldsUpTo, RollsTo, RestoresTo, MendsTo, IsRebuiltFrom, IsMendedFrom, last_of, chosen_point}
 
 -- a stop leaves all files but this one as they were
 abbrev pub KeepsOthers : ℕ → Left → Left → Type 0
@@ -28,11 +27,10 @@ KeepsOthers f old new = (i : ℕ) → i ≢ f → new.files i ≡ old.files i
 abbrev pub SameFiles : Left → Left → Type 0
 SameFiles old new = new.files ≡ old.files
 
--- The trail of these files is found, no restore is pending over them, and n is their last point, with this description. That database differs from them
--- in the blocks of the named rows alone, and dump d of it is a true one.
+-- The trail of these files is found, and n is their last point, with this description. That database differs from them in the blocks of the named rows
+-- alone, and dump d of it is a true one.
 pub record MendsFrom (files u : Files) (d : ℕ) (rows : List NamedRow) (total first n : ℕ) (desc : Described) : Type 0 where
   pub trail : IsTrailFound total first files
-  pub none : (history_of (trail_entries total first files)).pending ≡ None
   pub last : last_of total first files ≡ Some n
   pub described : IsDescribedBy (trail_entries total first files) n desc
   pub mended : IsMendedFrom total first files u d (named_blocks desc.structures rows)
@@ -72,9 +70,11 @@ module _ {S : Type 0} (g : Ghosts S) where
     pub ends : (d : ℕ) (chosen : Option ℕ) → RebuildsEnd old new d chosen → RebuildEnds g old new d chosen
     pub says : (mid : S) (d : ℕ) (chosen : Option ℕ) → RebuildsSince old mid d chosen → RebuildsEnd old mid d chosen → SaysBehind mid new → RebuildsSince old new d chosen × RebuildsEnd old new d chosen
 
-  -- of each database that may be mended from dump d each stop left the files of then, or its points up to the last one
+  -- of each database that may be mended from dump d each stop left the files of then, or its points up to the last one, or all of them but for the named
+  -- blocks, while a restore that was pending is ended
   abbrev pub MendsSince : S → S → ℕ → List NamedRow → Type 0
-  MendsSince old new d rows = (u : Files) (total first n : ℕ) (desc : Described) → MendsFrom (g.files old) u d rows total first n desc → Runs (g.clock old) (g.clock new) (RestoresTo (telling_of total first) (g.files old) u n)
+  MendsSince old new d rows = (u : Files) (total first n : ℕ) (desc : Described) → MendsFrom (g.files old) u d rows total first n desc
+      → Runs (g.clock old) (g.clock new) (MendsTo (telling_of total first) (g.files old) u (named_blocks desc.structures rows) n)
 
   -- those are left
   abbrev pub MendsEnd : S → S → ℕ → List NamedRow → Type 0

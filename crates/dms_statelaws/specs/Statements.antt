@@ -1,5 +1,5 @@
 -- What a stop within a statement leaves, as states that files stand for, and what stands at its end.
-use Rattle.std.specs.Prelude.{ℕ, ◌≡◌, ◌⊎◌, List, Option, Some, None}
+use Rattle.std.specs.Prelude.{ℕ, ◌≡◌, ◌⊎◌, Bool, List, Option, Some, None}
 use Rattle.dms_desc.specs.Shape.{Described}
 use Rattle.dms_model.specs.Db.{Db}
 use Rattle.dms_moments.specs.Moments.{Runs}
@@ -14,18 +14,13 @@ use Rattle.dms_recovery.specs.Rows.{named_blocks}
 use Rattle.dms_run.specs.State.{StateAt, StateOf}
 use Rattle.dms_statelaws.specs.Dumps.{SameBesideBlocks, SameBesideNamed, HasTrueDump, HasDumpAt}
 use Rattle.dms_statelaws.specs.Standing.{StandsFrom, HoldsStill}
+use Rattle.dms_statelaws.specs.Pending.{GoesFirst}
 
 -- this is the last point of files
 pub record HasLast (files : Files) (n : ℕ) : Type 0 where
   pub entries : List Entry
   pub finds : IsFoundWith entries files
   pub last : last_point (history_of entries) ≡ Some n
-
--- no restore is pending over them
-pub record NonePending (files : Files) : Type 0 where
-  pub entries : List Entry
-  pub finds : IsFoundWith entries files
-  pub none : (history_of entries).pending ≡ None
 
 -- the point that a statement names, or the last one where it names none
 abbrev pub IsChosen : Files → Option ℕ → ℕ → Type 0
@@ -40,6 +35,11 @@ LeavesEither files n desc db m desc' db' x = StandsFrom files n desc db x.files 
 abbrev pub LeavesRestored : Files → Files → ℕ → Described → Db → Left → Type 0
 LeavesRestored files u m desc db x = HoldsStill files x.files ⊎ StandsFrom u m desc db x.files
 
+-- So it does; or, where a restore is pending over that database, it leaves files in which that one alone was being ended, or was ended, and which stand for
+-- the state of the database with the named blocks as they count in it.
+abbrev pub LeavesMended : (ℕ → ℕ → Bool) → Files → Files → ℕ → Described → Db → Left → Type 0
+LeavesMended named files u n desc db x = LeavesRestored files u n desc db x ⊎ GoesFirst named u n desc db x.files
+
 -- A database with a state at the chosen point, of which dump d is true, and that differs from the files in structure files alone.
 pub record RebuiltState (files u : Files) (d : ℕ) (chosen : Option ℕ) (m : ℕ) (desc : Described) (db : Db) : Type 0 where
   pub same : SameBesideBlocks files u
@@ -47,11 +47,10 @@ pub record RebuiltState (files u : Files) (d : ℕ) (chosen : Option ℕ) (m : �
   pub is_chosen : IsChosen u chosen m
   pub state : StateAt u m desc db
 
--- A database with a state, of which dump d is true, and that differs from the files in the blocks of the named rows alone; no restore is pending.
+-- A database with a state, of which dump d is true, and that differs from the files in the blocks of the named rows alone; a restore may be pending over it.
 pub record MendedState (files u : Files) (d : ℕ) (rows : List NamedRow) (n : ℕ) (desc : Described) (db : Db) : Type 0 where
   pub same : SameBesideNamed (named_blocks desc.structures rows) files u
   pub has : HasTrueDump u d
-  pub none : NonePending files
   pub state : StateOf u n desc db
 
 module _ {S : Type 0} (g : Ghosts S) where
@@ -84,9 +83,10 @@ module _ {S : Type 0} (g : Ghosts S) where
   abbrev pub RebuildEnds : S → S → ℕ → Option ℕ → Type 0
   RebuildEnds old new d chosen = (u : Files) (m : ℕ) (desc : Described) (db : Db) → RebuiltState (g.files old) u d chosen m desc db → EndsAs u m desc db new
 
-  -- RECONSTRUCT rows FROM d: of each such database, at every moment nothing was done, or the files stand for its state.
+  -- RECONSTRUCT rows FROM d: of each such database, at every moment nothing was done, or the files stand for its state; or, where a restore is pending over
+  -- it, that one alone was being ended, or was ended, and with the named rows as they count the files stand for its state.
   abbrev pub ReconstructStands : S → S → ℕ → List NamedRow → Type 0
-  ReconstructStands old new d rows = (u : Files) (n : ℕ) (desc : Described) (db : Db) → MendedState (g.files old) u d rows n desc db → Runs (g.clock old) (g.clock new) (LeavesRestored (g.files old) u n desc db)
+  ReconstructStands old new d rows = (u : Files) (n : ℕ) (desc : Described) (db : Db) → MendedState (g.files old) u d rows n desc db → Runs (g.clock old) (g.clock new) (LeavesMended (named_blocks desc.structures rows) (g.files old) u n desc db)
 
   -- RECONSTRUCT rows FROM d: once it is done they stand for that.
   abbrev pub ReconstructEnds : S → S → ℕ → List NamedRow → Type 0

@@ -14,6 +14,7 @@ use Rattle.dms_running.specs.Telling.{Telling}
 use Rattle.dms_restore.specs.Dumped.{dumps_of}
 use Rattle.dms_restore.specs.Logging.{telling_of}
 use Rattle.dms_opening.specs.Asked.{number_or}
+use Rattle.dms_recovery.specs.Leaving.{HoldsCounted}
 
 -- the first points, up to a number
 abbrev pub described_to : ℕ → List DescribedPoint → List DescribedPoint
@@ -34,6 +35,11 @@ RollsTo t files m x = HoldsSame t files x.files ⊎ HoldsUpTo t files m x.files
 -- one up to point m.
 abbrev pub RestoresTo : Telling → Files → Files → ℕ → Left → Type 0
 RestoresTo t files u m x = (IsUntouched t files x × t.found x.files) ⊎ HoldsUpTo t u m x.files
+
+-- So it does; or, where a restore was pending in these files, that one is being ended or was ended, and with the named blocks as they count in u it leaves a
+-- database with all points of u.
+abbrev pub MendsTo : Telling → Files → Files → (ℕ → ℕ → Bool) → ℕ → Left → Type 0
+MendsTo t files u named m x = RestoresTo t files u m x ⊎ HoldsCounted t files u named x.files
 
 -- These files are those of a database but for structure files, which may hold anything, and dump d of it is a true one.
 pub record IsRebuiltFrom (total first : ℕ) (files u : Files) (d : ℕ) : Type 0 where

@@ -30,7 +30,8 @@ pub fn rebuild_law<S: Site>(before: &S, after: &S)
     ensures { RebuildLaw S.Site before.now after.now }
 {}
 
-/// Within a RECONSTRUCT nothing was done at any moment, or the files stand for the last point's state, whatever the named rows held; and at its end for that.
+/// Within a RECONSTRUCT nothing was done at any moment, or the files stand for the last point's state, whatever the named rows held; and at its end for that. Where
+/// a restore is pending, that one may have been ended first: then they stand for that state with the named rows as they count.
 pub fn reconstruct_law<S: Site>(before: &S, after: &S)
     ensures { ReconstructLaw S.Site before.now after.now }
 {}

@@ -127,6 +127,10 @@ module _ (kinds : List ItemKind) (s : Shape) (db : Db) (owner n : ℕ) (rec : Re
   pub own_spot : (owner == rec.owner) ≡ true → spot_by s db owner (Some q) ≡ Some (spot_of s.parts ((0, n), rec))
   own_spot h = ap (λ b. and_then (cond b (Some q) None) (spot_at s db)) (owner_is ∙ h) ∙ spot_is
 
+  -- and where it isn't
+  pub other_spot : (owner == rec.owner) ≡ false → spot_by s db owner (Some q) ≡ None
+  other_spot h = ap (λ b. and_then (cond b (Some q) None) (spot_at s db)) (owner_is ∙ h)
+
 -- a member of a set fits
 pub member_fits : (desc : Described) (path : ℕ) (s : Shape) (n : ℕ) (rec : Record) → structure_of desc path ≡ Some s → is_set_or_automatic s ≡ true → IsNumber desc s.set n → RecordFits desc s.set rec
     → SpotFits desc path (spot_of s.parts ((0, n), rec))
@@ -168,6 +172,9 @@ module _ (desc : Described) (s : Shape) (kept : is_set_or_automatic s ≡ true) 
 pub same_true : (a b : ℕ) → a ≡ b → (a == b) ≡ true
 same_true a b h = grind (arith, nat_tests, h)
 
+pub same_false : (a b : ℕ) → (a ≡ b → ⊥) → (a == b) ≡ false
+same_false a b h = grind (arith, nat_tests, h)
+
 -- a number of a record is one of four bytes
 pub small_number : (desc : Described) (set n : ℕ) → IsServed desc → IsNumber desc set n → n < 2 ^ 32
 small_number desc set n served h = by (structure_of desc set) refl h
@@ -195,3 +202,11 @@ module _ (ks : List ItemKind) (s : Shape) (kept : is_set_or_automatic s ≡ true
       by : (p : Option Db) → o ≡ p → TellsOf {T = Option Spot} p (λ d. spot_by s d owner (Some q)) (Some (spot_of s.parts ((0, n), rec)))
       by None e = tt
       by (Some d) e = sym (own_spot ks s d owner n rec q (there d e) (entry_yes ks s n rec q is) small own rec_own h)
+
+  -- of another owner's entry none is told
+  pub other_told : (owner == rec.owner) ≡ false → TellsOf {T = Option Spot} o (λ d. spot_by s d owner (Some q)) None
+  other_told h = by o refl
+    where
+      by : (p : Option Db) → o ≡ p → TellsOf {T = Option Spot} p (λ d. spot_by s d owner (Some q)) None
+      by None e = tt
+      by (Some d) e = sym (other_spot ks s d owner n rec q (there d e) (entry_yes ks s n rec q is) small own rec_own h)

@@ -1,7 +1,7 @@
 ghost use Rattle.std.specs.Prelude.{[], ⊤, false, true};
 ghost use Rattle.std.proofs.lemmas.Bool.{false≢true};
 
-use dms_base::{ItemKind, Name, Op, Text, Value};
+use dms_base::{ItemKind, Name, Op, SetForm, StructureKind, Text, Value};
 use dms_desc::{
     Bound, Cond, Description, Groups, Item, Items, KeyPart, KeyParts, Record, Structure,
     Structures, Values,
@@ -102,7 +102,7 @@ fn items(rt: &(impl AllocGlobal + Abort)) -> Items {
 fn structure(
     rt: &(impl AllocGlobal + Abort),
     number: u16,
-    kind: u8,
+    kind: StructureKind,
     cond: Cond,
     duplicates: bool,
     keys: &[(u8, bool)],
@@ -125,7 +125,7 @@ fn structure(
         groups: Groups::new(rt.alloc()),
         cond,
         set: 1,
-        form: 1,
+        form: Some(SetForm::IndexSequential),
         duplicates,
         parts,
     }
@@ -137,9 +137,23 @@ fn description(rt: &(impl AllocGlobal + Abort)) -> Description {
     let mut structures = Structures::new(rt.alloc());
     let over = Cond::Compare(1, Op::Greater, Value::Number(100));
     for made in [
-        structure(rt, 1, 1, Cond::Nothing, true, &[]),
-        structure(rt, 2, 3, Cond::Nothing, false, &[(1, false)]),
-        structure(rt, 3, 4, over, true, &[(2, true), (1, false)]),
+        structure(rt, 1, StructureKind::DataSet, Cond::Nothing, true, &[]),
+        structure(
+            rt,
+            2,
+            StructureKind::Set,
+            Cond::Nothing,
+            false,
+            &[(1, false)],
+        ),
+        structure(
+            rt,
+            3,
+            StructureKind::AutomaticSubset,
+            over,
+            true,
+            &[(2, true), (1, false)],
+        ),
     ] {
         assert!(rt; structures.push(made).is_ok());
     }

@@ -3,6 +3,7 @@ use Rattle.std.specs.Map.{lookup}
 use Rattle.std.specs.Str.{bytes_eq}
 use Rattle.indexmap.specs.IndexMap.{insert_entry}
 use Rattle.dms_base.proofs.NameTests.{Name-eq-Decides}
+use Rattle.dms_desc.specs.Shape.{kind_number}
 use Rattle.dasdl_compile.specs.Tables.{first_place, with_title}
 use Rattle.dasdl_compile.proofs.Titles.{same_test}
 use Rattle.dasdl_compile.proofs.drafts.note_title.Goals as goal
@@ -15,5 +16,5 @@ put test same es new name kind at place o made is found =
 
 pub returns-clause-ok : goal.returns-clause-ok
 returns-clause-ok c =
-    put _ (same_test _ Name-eq-Decides) c.args.names.now.entries c.insert.new.self.entries c.args.name c.args.kind c.args.at c.first_place-place.result c.copied.result
-    c.in_ok-insert.ensures.entries c.first_place-place.ensures (c.copied.ensures ∙ c.get.ensures.value)
+    put _ (same_test _ Name-eq-Decides) c.args.names.now.entries c.insert.new.self.entries c.args.name (kind_number c.args.kind) c.args.at c.first_place-place.result c.copied.result
+    c.in_ok-insert.ensures.entries (c.first_place-place.ensures ∙ ap (λ (b : Bool). first_place c.copied.result b c.args.at) c.is_data_set.ensures) (c.copied.ensures ∙ c.get.ensures.value)

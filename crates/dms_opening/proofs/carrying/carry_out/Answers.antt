@@ -1,14 +1,18 @@
 use Rattle.std.proofs.Common.{◌∙◌, [], refl, sym, subst, arith}
+use Rattle.std.proofs.lemmas.Bool.{true≢false}
 use Rattle.dms_moments.specs.Moments.{Runs}
 use Rattle.dms_audrec.specs.Seen.{how_seen}
 use Rattle.dms_running.specs.AnyBegun.{BeginLeaves}
 use Rattle.dms_restore.specs.GrowLaws.{log_grows_more}
 use Rattle.dms_restore.specs.Logging.{LogView, telling, state, telling_of}
+use Rattle.dms_restore.specs.Over.{LeavesOver}
 use Rattle.dms_restore.specs.Views.{view_of}
 use Rattle.dms_restore.proofs.Backed.{silent_on}
 use Rattle.dms_restore.proofs.CountBytes.{counts_entry}
 use Rattle.dms_wal.specs.Closing.{IsFullTrail}
+use Rattle.dms_opening.specs.Claims.{ends_of}
 use Rattle.dms_opening.specs.Openings.{Reopens, text_of}
+use Rattle.dms_opening.proofs.Overs.{starts_same, over_as, left_as}
 use Rattle.dms_opening.proofs.Rooms.{as_limit, full_by}
 use Rattle.dms_opening.proofs.Sealings.{grows_sealed, grows_site}
 use Rattle.dms_opening.proofs.Carries.{BeginsWhole, count_table, may_open, begins_whole, leaves_on, reopens_all, written_at, may_end, runs_from, bytes_are}
@@ -161,3 +165,43 @@ pub returns-in-Ok-go_on-clause-starts : goal.returns-in-Ok-go_on-clause-starts
 returns-in-Ok-go_on-clause-starts g c p tells s =
     let r = c.in-Ok.ensures in
     c.in-Ok-go_on.ensures.starts p tells (s.plan_is (g.S.Site.files c.in-Ok.begun.log.site) (r.grown tells s.start).stays.kept.grown (r.dumps tells)) (r.starts tells s.start)
+
+pub returns-in-Ok-go_on-clause-over : goal.returns-in-Ok-go_on-clause-over
+returns-in-Ok-go_on-clause-over g c p tells off s =
+    let old = c.args.planned.log in
+    let log = c.in-Ok.begun.log in
+    let plan = c.args.planned.plan in
+    let r = c.in-Ok.ensures in
+    let same = r.stays off in
+    let start = starts_same g.S.Site old log same s.start in
+    let table = s.plan_is (g.S.Site.files log.site) (r.grown tells s.start).stays.kept.grown (r.dumps tells) in
+    let is = bytes_are _ _ _ c.deref.ensures.value c.count_bytes-used.ensures.bytes in
+    over_as g.S.Site p old log same plan c.requires.ready _ is _ c.deref-2.ensures.value (view_of g.S.Site c.in-Ok-go_on.log) (c.in-Ok-go_on.ensures.over p tells start table)
+
+pub returns-in-Ok-go_on-clause-over_moments : goal.returns-in-Ok-go_on-clause-over_moments
+returns-in-Ok-go_on-clause-over_moments g c p tells off s =
+    let old = c.args.planned.log in
+    let log = c.in-Ok.begun.log in
+    let plan = c.args.planned.plan in
+    let r = c.in-Ok.ensures in
+    let same = r.stays off in
+    let start = starts_same g.S.Site old log same s.start in
+    let table = s.plan_is (g.S.Site.files log.site) (r.grown tells s.start).stays.kept.grown (r.dumps tells) in
+    let is = bytes_are _ _ _ c.deref.ensures.value c.count_bytes-used.ensures.bytes in
+    left_as g.S.Site p old log same plan c.requires.ready _ is _ c.deref-2.ensures.value _ (c.in-Ok-go_on.ensures.over_moments p tells start table)
+
+pub returns-clause-over_stopped : goal.returns-clause-over_stopped
+returns-clause-over_stopped g c p tells off s =
+    let old = c.args.planned.log in
+    let log = c.in-Ok.begun.log in
+    let plan = c.args.planned.plan in
+    let r = c.in-Ok.ensures in
+    let same = r.stays off in
+    let start = starts_same g.S.Site old log same s.start in
+    let table = s.plan_is (g.S.Site.files log.site) (r.grown tells s.start).stays.kept.grown (r.dumps tells) in
+    let is = bytes_are _ _ _ c.deref.ensures.value c.count_bytes-used.ensures.bytes in
+    subst (λ site. Runs (g.S.Site.clock old.site) (g.S.Site.clock site) (LeavesOver p (view_of g.S.Site old) (ends_of plan))) (sym c.site_of-in-Err-go_on.ensures)
+    (left_as g.S.Site p old log same plan c.requires.ready _ is _ c.deref-2.ensures.value _ (c.in-Err-go_on.ensures.over_stopped p tells start table))
+
+pub returns-in-Err-clause-over_stopped : goal.returns-in-Err-clause-over_stopped
+returns-in-Err-clause-over_stopped g c p tells off s = absurd (true≢false (sym c.in-Err.ensures.begins ∙ off))

@@ -8,6 +8,7 @@ use Rattle.dms_restore.proofs.Trails.{first_low}
 use Rattle.dms_restore.proofs.Results.{one_if_ok, one_if_err}
 use Rattle.dms_restore.proofs.Backed.{silent_on}
 use Rattle.dms_opening.proofs.GoneOn.{each_on, ends_by, opened}
+use Rattle.dms_opening.proofs.Overs.{writes_runs, within_over, ends_over}
 use Rattle.dms_opening.proofs.Sealings.{ends_sealed, grows_ended, grows_sealed, sealed_as}
 use Rattle.dms_opening.proofs.Faults.{disk_no_full}
 use Rattle.dms_opening.proofs.going_on.go_on.Goals as goal
@@ -133,3 +134,27 @@ returns-in-Ok-clause-dumps g c = one_if_ok c.finish.result c.finish.ensures.abov
 
 pub returns-in-Ok-clause-starts : goal.returns-in-Ok-clause-starts
 returns-in-Ok-clause-starts g c = one_if_ok c.finish.result c.finish.ensures.starts (λ l starts p tells table sealed. starts tells (c.in-Ok.ensures.stays p tells table sealed))
+
+pub returns-in-Ok-clause-over : goal.returns-in-Ok-clause-over
+returns-in-Ok-clause-over g c = one_if_ok c.finish.result c.finish.ensures.laid (λ l laid p tells start plan.
+    let a : LogView = view_of g.S.Site c.args.begun.log in
+    let b : LogView = view_of g.S.Site c.in-Ok.restored.log in
+    let r = c.in-Ok.ensures in
+    ends_over p a b (λ i. (r.kind.0 i).total) r.kind.1 _ (r.over p tells plan) (view_of g.S.Site l) (laid tells (r.stays p tells plan start.ends)))
+
+pub returns-in-Ok-clause-over_moments : goal.returns-in-Ok-clause-over_moments
+returns-in-Ok-clause-over_moments g c = one_if_ok c.finish.result c.finish.ensures.within (λ l within p tells start plan.
+    let a : LogView = view_of g.S.Site c.args.begun.log in
+    let b : LogView = view_of g.S.Site c.in-Ok.restored.log in
+    let r = c.in-Ok.ensures in
+    within_over p a b (λ i. (r.kind.0 i).total) r.kind.1 _ (r.over p tells plan) _ (writes_runs p a _ b.clock start.only (r.rewrites p tells plan)) (within tells (r.stays p tells plan start.ends)))
+
+pub returns-in-Ok-clause-over_stopped : goal.returns-in-Ok-clause-over_stopped
+returns-in-Ok-clause-over_stopped g c = one_if_err c.finish.result c.finish.ensures.within_then (λ e within p tells start plan.
+    let a : LogView = view_of g.S.Site c.args.begun.log in
+    let b : LogView = view_of g.S.Site c.in-Ok.restored.log in
+    let r = c.in-Ok.ensures in
+    within_over p a b (λ i. (r.kind.0 i).total) r.kind.1 _ (r.over p tells plan) _ (writes_runs p a _ b.clock start.only (r.rewrites p tells plan)) (within tells (r.stays p tells plan start.ends)))
+
+pub returns-in-Err-clause-over_stopped : goal.returns-in-Err-clause-over_stopped
+returns-in-Err-clause-over_stopped g c p tells start plan = writes_runs p (view_of g.S.Site c.args.begun.log) _ _ start.only (c.in-Err.ensures.rewrites_then p tells plan)

@@ -97,3 +97,9 @@ returns-else-begins-clause-leaves g c right tells on = absurd (true≢false (sym
 
 pub returns-else-begins-clause-dumps : goal.returns-else-begins-clause-dumps
 returns-else-begins-clause-dumps g c tells f up low = refl
+
+pub returns-then-begins-clause-stays : goal.returns-then-begins-clause-stays
+returns-then-begins-clause-stays g c = one_if_ok c.begin.result c.begin.ensures.kind (λ b kind off. absurd (true≢false (sym c.if-begins.true ∙ off)))
+
+pub returns-else-begins-clause-stays : goal.returns-else-begins-clause-stays
+returns-else-begins-clause-stays g c off = refl

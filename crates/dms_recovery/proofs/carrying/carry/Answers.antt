@@ -5,6 +5,7 @@ use Rattle.dms_restore.specs.GrowLaws.{log_grows_more}
 use Rattle.dms_restore.specs.Logging.{view}
 use Rattle.dms_restore.specs.Views.{view_of}
 use Rattle.dms_restore.proofs.Results.{one_if_ok, one_if_err}
+use Rattle.dms_recovery.specs.Mending.{MendsAll}
 use Rattle.dms_recovery.specs.Planned.{AreFit}
 use Rattle.dms_recovery.specs.Ready.{AreReady}
 use Rattle.dms_recovery.specs.Rolling.{RollsAll}
@@ -98,3 +99,24 @@ returns-in-None-clause-rolls_then g c = one_if_err c.carry_out.result c.carry_ou
 pub returns-in-Some-clause-rolls_then : goal.returns-in-Some-clause-rolls_then
 returns-in-Some-clause-rolls_then g c = one_if_err c.carry_both.result c.carry_both.ensures.rolls_then (λ e done asked tells kind r.
     done asked tells kind (subst (λ (b : Option OpeningPlan). RollsAll (view_of g.S.Site c.args.planned.log) asked b c.args.planned.own) c.in-Some.is r))
+
+pub returns-in-None-clause-mended : goal.returns-in-None-clause-mended
+returns-in-None-clause-mended g c = one_if_ok c.carry_out.result c.carry_out.ensures.plan (λ o is u d rows tells kind r. absurd (subst (λ (b : Option OpeningPlan). MendsAll (view_of g.S.Site c.args.planned.log) u d rows b c.args.planned.own) c.in-None.is r))
+
+pub returns-in-Some-clause-mended : goal.returns-in-Some-clause-mended
+returns-in-Some-clause-mended g c = one_if_ok c.carry_both.result c.carry_both.ensures.mended (λ o done u d rows tells kind r.
+    done u d rows tells kind (subst (λ (b : Option OpeningPlan). MendsAll (view_of g.S.Site c.args.planned.log) u d rows b c.args.planned.own) c.in-Some.is r))
+
+pub returns-in-None-clause-mends : goal.returns-in-None-clause-mends
+returns-in-None-clause-mends g c = one_if_ok c.carry_out.result c.carry_out.ensures.plan (λ o is u d rows tells kind r. absurd (subst (λ (b : Option OpeningPlan). MendsAll (view_of g.S.Site c.args.planned.log) u d rows b c.args.planned.own) c.in-None.is r))
+
+pub returns-in-Some-clause-mends : goal.returns-in-Some-clause-mends
+returns-in-Some-clause-mends g c = one_if_ok c.carry_both.result c.carry_both.ensures.mends (λ o done u d rows tells kind r.
+    done u d rows tells kind (subst (λ (b : Option OpeningPlan). MendsAll (view_of g.S.Site c.args.planned.log) u d rows b c.args.planned.own) c.in-Some.is r))
+
+pub returns-in-None-clause-mends_then : goal.returns-in-None-clause-mends_then
+returns-in-None-clause-mends_then g c = one_if_err c.carry_out.result c.carry_out.ensures.said_then (λ e is u d rows tells kind r. absurd (subst (λ (b : Option OpeningPlan). MendsAll (view_of g.S.Site c.args.planned.log) u d rows b c.args.planned.own) c.in-None.is r))
+
+pub returns-in-Some-clause-mends_then : goal.returns-in-Some-clause-mends_then
+returns-in-Some-clause-mends_then g c = one_if_err c.carry_both.result c.carry_both.ensures.mends_then (λ e done u d rows tells kind r.
+    done u d rows tells kind (subst (λ (b : Option OpeningPlan). MendsAll (view_of g.S.Site c.args.planned.log) u d rows b c.args.planned.own) c.in-Some.is r))

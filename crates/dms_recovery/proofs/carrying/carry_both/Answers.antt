@@ -3,6 +3,7 @@ use Rattle.dms_site.specs.Files.{stored_of}
 use Rattle.dms_history.specs.Entries.{Kind}
 use Rattle.dms_opening.specs.Carrying.{MayBegin, RunsTo}
 use Rattle.dms_recovery.proofs.Behind.{planned_before, first_writes, begins_behind, ends_behind, leaves_behind, leaves_first}
+use Rattle.dms_recovery.proofs.First.{begins_mending, ends_mending, leaves_mending, pending_leaves, pending_writes, right_counted}
 use Rattle.dms_restore.specs.GrowLaws.{log_grows_more}
 use Rattle.dms_restore.specs.Logging.{view}
 use Rattle.dms_restore.specs.Views.{view_of}
@@ -141,3 +142,64 @@ returns-clause-rolls_then g c = one_if_err c.carry_out-2.result c.carry_out-2.en
     let begin = begins_behind v asked before own r fits w one.kind.0 one.kind.2 runs read (one.grown _ tells writes).stays.kept.grown (one.dumps _ tells writes) in
     leaves_behind v asked before own r fits w one.kind.0 one.kind.2 runs read _ _ (one.moments tells refl planned r.whole)
     (leaves (stored_of (g.S.Site.files c.in-Ok.opened.log.site)) tells (subst (λ (k : Kind). MayBegin w (stored_of w.files) k own) (sym is) begin)))
+
+pub returns-in-Err-clause-mends_then : goal.returns-in-Err-clause-mends_then
+returns-in-Err-clause-mends_then g c u d rows tells kind r =
+    let v = view_of g.S.Site c.args.log in
+    let writes = pending_writes v u d rows c.args.before c.args.own r c.requires.first_fits in
+    pending_leaves v u d rows c.args.before c.args.own r c.requires.first_fits _ (c.in-Err.ensures.over_stopped _ tells r.plans.goes_on writes)
+
+pub returns-clause-mended : goal.returns-clause-mended
+returns-clause-mended g c = two_if_ok c.carry_out-2.result c.carry_out-2.ensures.runs_to c.carry_out-2.ensures.kind (λ o runs_to kind u d rows tells is r.
+    let one = c.in-Ok.ensures in
+    let v = view_of g.S.Site c.args.log in
+    let w = view_of g.S.Site c.in-Ok.opened.log in
+    let before = c.args.before in
+    let own = c.args.own in
+    let fits = c.requires.first_fits in
+    let writes = pending_writes v u d rows before own r fits in
+    let over = one.over _ tells r.plans.goes_on writes in
+    let starts = one.starts _ tells writes in
+    let kept = (one.grown _ tells writes).stays.kept in
+    let dumps = one.dumps _ tells writes in
+    let right = right_counted v u d rows before own r fits w over one.kind.0 one.kind.2 starts kept dumps in
+    let begin = begins_mending v u d rows before own r fits w over one.kind.0 one.kind.2 starts kept dumps in
+    let x = view_of g.S.Site o.log in
+    let to = runs_to right tells (subst (λ (k : Kind). MayBegin w right k own) (sym is) begin) in
+    ends_mending v u d rows before own r fits w over one.kind.0 one.kind.2 starts kept dumps x kind.0 kind.2 (subst (λ (k : Kind). RunsTo w right k own x) is to) (g.met.S.Site.may_stay o.log.site tells))
+
+pub returns-clause-mends : goal.returns-clause-mends
+returns-clause-mends g c = one_if_ok c.carry_out-2.result c.carry_out-2.ensures.leaves (λ o leaves u d rows tells is r.
+    let one = c.in-Ok.ensures in
+    let v = view_of g.S.Site c.args.log in
+    let w = view_of g.S.Site c.in-Ok.opened.log in
+    let before = c.args.before in
+    let own = c.args.own in
+    let fits = c.requires.first_fits in
+    let writes = pending_writes v u d rows before own r fits in
+    let over = one.over _ tells r.plans.goes_on writes in
+    let starts = one.starts _ tells writes in
+    let kept = (one.grown _ tells writes).stays.kept in
+    let dumps = one.dumps _ tells writes in
+    let right = right_counted v u d rows before own r fits w over one.kind.0 one.kind.2 starts kept dumps in
+    let begin = begins_mending v u d rows before own r fits w over one.kind.0 one.kind.2 starts kept dumps in
+    leaves_mending v u d rows before own r fits w over one.kind.0 one.kind.2 starts kept dumps _ (one.over_moments _ tells r.plans.goes_on writes)
+    (leaves right tells (subst (λ (k : Kind). MayBegin w right k own) (sym is) begin)))
+
+pub returns-clause-mends_then : goal.returns-clause-mends_then
+returns-clause-mends_then g c = one_if_err c.carry_out-2.result c.carry_out-2.ensures.leaves_then (λ e leaves u d rows tells is r.
+    let one = c.in-Ok.ensures in
+    let v = view_of g.S.Site c.args.log in
+    let w = view_of g.S.Site c.in-Ok.opened.log in
+    let before = c.args.before in
+    let own = c.args.own in
+    let fits = c.requires.first_fits in
+    let writes = pending_writes v u d rows before own r fits in
+    let over = one.over _ tells r.plans.goes_on writes in
+    let starts = one.starts _ tells writes in
+    let kept = (one.grown _ tells writes).stays.kept in
+    let dumps = one.dumps _ tells writes in
+    let right = right_counted v u d rows before own r fits w over one.kind.0 one.kind.2 starts kept dumps in
+    let begin = begins_mending v u d rows before own r fits w over one.kind.0 one.kind.2 starts kept dumps in
+    leaves_mending v u d rows before own r fits w over one.kind.0 one.kind.2 starts kept dumps _ (one.over_moments _ tells r.plans.goes_on writes)
+    (leaves right tells (subst (λ (k : Kind). MayBegin w right k own) (sym is) begin)))

@@ -1,19 +1,15 @@
-use Rattle.std.proofs.Common.{◌≡◌, ◌+◌, ◌*◌, ◌/◌, ◌∙◌, List, length, sym, ap, subst, arith}
+use Rattle.std.proofs.Common.{◌∙◌, sym, subst}
 use Rattle.dms_moments.specs.MomentLaws.{steps_on}
-use Rattle.dms_site.specs.Files.{Files, Only}
-use Rattle.dms_history.specs.declared.event.Row.{Row}
-use Rattle.dms_audrec.specs.PairLaws.{rows_again, rows_length}
-use Rattle.dms_audrec.specs.Reading.{rows_at}
-use Rattle.dms_opening.specs.Openings.{HasFullTrail, IsTrailFound}
+use Rattle.dms_site.specs.Files.{Files}
+use Rattle.dms_opening.specs.Openings.{HasFullTrail}
 use Rattle.dms_opening.proofs.OneTrail.{unchanged}
-use Rattle.dms_opening.proofs.Opens.{counted_on}
 use Rattle.dms_restore.specs.Logging.{telling_of}
-use Rattle.dms_recovery.specs.Leaving.{RestoresTo}
+use Rattle.dms_recovery.specs.Leaving.{MendsTo}
 use Rattle.dms_recovery.specs.Refusing.{RefusesWanted}
-use Rattle.dms_recovery.specs.Wanting.{last_of}
+use Rattle.dms_recovery.specs.Rows.{named_blocks}
 use Rattle.dms_recovery.specs.declared.wanted.Wanted.TheVariants.{Reconstruct}
 use Rattle.dms_recovery.proofs.Answered.{nothing_refuses}
-use Rattle.dms_recovery.proofs.Named.{counted_open, grows_back, list_is, mends_in, nothing_missed, point_back, restores_back}
+use Rattle.dms_recovery.proofs.Named.{counted_open, grows_back, list_is, mends_back, mends_in, nothing_missed, point_back}
 use Rattle.dms_recovery.proofs.Seen.{grows_nothing}
 use Rattle.dms_recovery.proofs.reconstructing.reconstruct.Goals as goal
 
@@ -24,14 +20,14 @@ pub returns-in-Ok-reconstruct_rows-clause-ends : goal.returns-in-Ok-reconstruct_
 returns-in-Ok-reconstruct_rows-clause-ends g c u t f n desc tells may =
     let l = c.in-Ok.ensures in
     let m = mends_in g.S.Site c.args.found.site c.in-Ok.looked.site (l.files tells) t f u c.args.dump c.args.named.now c.in-Ok.looked.rows.items c.deref.result.now c.deref.ensures.value n desc (l.names tells) may in
-    c.in-Ok-reconstruct_rows.ensures.ends u t f n tells m.trail m.none m.last m.mended
+    c.in-Ok-reconstruct_rows.ensures.ends u t f n tells m.trail m.last m.mended
 
 pub returns-in-Ok-reconstruct_rows-clause-moments : goal.returns-in-Ok-reconstruct_rows-clause-moments
 returns-in-Ok-reconstruct_rows-clause-moments g c u t f n desc tells may =
     let l = c.in-Ok.ensures in
     let m = mends_in g.S.Site c.args.found.site c.in-Ok.looked.site (l.files tells) t f u c.args.dump c.args.named.now c.in-Ok.looked.rows.items c.deref.result.now c.deref.ensures.value n desc (l.names tells) may in
-    restores_back g.S.Site c.args.found.site c.in-Ok.looked.site (l.files tells) (g.met.S.Site.counts_now c.args.found.site) l.moments c.in-Ok-reconstruct_rows.recovered.site t f n u
-    (c.in-Ok-reconstruct_rows.ensures.moments u t f n tells m.trail m.none m.last m.mended)
+    mends_back g.S.Site c.args.found.site c.in-Ok.looked.site (l.files tells) (g.met.S.Site.counts_now c.args.found.site) l.moments c.in-Ok-reconstruct_rows.recovered.site t f u c.args.dump c.args.named.now c.in-Ok.looked.rows.items c.deref.result.now c.deref.ensures.value n desc (l.names tells) may
+    (c.in-Ok-reconstruct_rows.ensures.moments u t f n tells m.trail m.last m.mended)
 
 pub returns-in-Ok-reconstruct_rows-clause-point : goal.returns-in-Ok-reconstruct_rows-clause-point
 returns-in-Ok-reconstruct_rows-clause-point g c tells = point_back (g.S.Site.files c.args.found.site) (g.S.Site.files c.in-Ok.looked.site) _ (c.in-Ok.ensures.files tells) (c.in-Ok-reconstruct_rows.ensures.point tells)
@@ -47,8 +43,8 @@ pub returns-clause-stopped : goal.returns-clause-stopped
 returns-clause-stopped g c u t f n desc tells may =
     let l = c.in-Ok.ensures in
     let m = mends_in g.S.Site c.args.found.site c.in-Ok.looked.site (l.files tells) t f u c.args.dump c.args.named.now c.in-Ok.looked.rows.items c.deref.result.now c.deref.ensures.value n desc (l.names tells) may in
-    restores_back g.S.Site c.args.found.site c.in-Ok.looked.site (l.files tells) (g.met.S.Site.counts_now c.args.found.site) l.moments c.in-Err-reconstruct_rows.site t f n u
-    (c.in-Err-reconstruct_rows.ensures.stopped u t f n tells m.trail m.none m.last m.mended)
+    mends_back g.S.Site c.args.found.site c.in-Ok.looked.site (l.files tells) (g.met.S.Site.counts_now c.args.found.site) l.moments c.in-Err-reconstruct_rows.site t f u c.args.dump c.args.named.now c.in-Ok.looked.rows.items c.deref.result.now c.deref.ensures.value n desc (l.names tells) may
+    (c.in-Err-reconstruct_rows.ensures.stopped u t f n tells m.trail m.last m.mended)
 
 pub returns-clause-refused : goal.returns-clause-refused
 returns-clause-refused g c tells =
@@ -82,7 +78,7 @@ returns-clause-disk g c = counted_open c.in-Err-reconstruct_rows.fault _ _ _ c.i
 
 pub returns-in-Err-clause-stopped : goal.returns-in-Err-clause-stopped
 returns-in-Err-clause-stopped g c u t f n desc tells may =
-    unchanged (g.S.Site.clock c.args.found.site) _ (RestoresTo (telling_of t f) (g.S.Site.files c.args.found.site) u n) (g.met.S.Site.counts_now c.args.found.site) c.in-Err.ensures.moments_then
+    unchanged (g.S.Site.clock c.args.found.site) _ (MendsTo (telling_of t f) (g.S.Site.files c.args.found.site) u (named_blocks desc.structures c.args.named.now) n) (g.met.S.Site.counts_now c.args.found.site) c.in-Err.ensures.moments_then
 
 pub returns-in-Err-clause-complete : goal.returns-in-Err-clause-complete
 returns-in-Err-clause-complete g c tells t f can = nothing_missed t f (g.S.Site.files c.args.found.site) c.args.dump c.args.named.now c.in-Err.refused.0 can (c.in-Err.ensures.refused tells)

@@ -1,16 +1,17 @@
 use Rattle.std.proofs.Common.{◌∙◌, sym, subst}
 use Rattle.dms_site.specs.Files.{Only, stored_of}
+use Rattle.dms_history.specs.Entries.{named_by}
 use Rattle.dms_restore.specs.Logging.{telling_of}
 use Rattle.dms_restore.specs.Views.{view_of}
 use Rattle.dms_opening.specs.Doing.{kind_asked}
-use Rattle.dms_recovery.specs.Leaving.{HoldsUpTo, RollsTo, RestoresTo}
+use Rattle.dms_recovery.specs.Leaving.{HoldsUpTo, MendsTo, RollsTo, RestoresTo}
 use Rattle.dms_recovery.specs.Refusing.{RecoveryGrows}
 use Rattle.dms_recovery.specs.Wanting.{asked_with, last_of}
 use Rattle.dms_moments.specs.Moments.{Runs}
 use Rattle.dms_opening.proofs.OneTrail.{unchanged}
 use Rattle.dms_opening.proofs.Opens.{counted_on}
 use Rattle.dms_recovery.proofs.Answered.{written_refuses, nothing_refuses}
-use Rattle.dms_recovery.proofs.Seen.{ready_here, none_before, may_begin_here, ends_here, leaves_here, grows_here, grows_nothing, point_of_trail, rolls_here, rolled_here, rolls_since}
+use Rattle.dms_recovery.proofs.Seen.{ready_here, none_before, may_begin_here, ends_here, leaves_here, grows_here, grows_nothing, point_of_trail, rolls_here, rolled_here, rolls_since, mends_here, mended_here, mends_since}
 use Rattle.dms_recovery.proofs.recovering.recover.Goals as goal
 
 pub returns-in-Ok-carry-clause-ends : goal.returns-in-Ok-carry-clause-ends
@@ -168,6 +169,45 @@ returns-in-Err-carry-clause-rolls_then g c n t f q tells is found pending whole 
 
 pub returns-in-Err-clause-rolls_then : goal.returns-in-Err-clause-rolls_then
 returns-in-Err-clause-rolls_then g c n t f q tells is found pending whole = unchanged (g.S.Site.clock c.args.found.site) _ (RollsTo (telling_of t f) (g.S.Site.files c.args.found.site) n) (g.met.S.Site.counts_now c.args.found.site) c.in-Err.ensures.moments_then
+
+pub returns-in-Ok-carry-clause-mended : goal.returns-in-Ok-carry-clause-mended
+returns-in-Ok-carry-clause-mended g c u d n t f q tells is found pending last mended =
+    let p = c.in-Ok.planned in
+    let l = c.in-Ok.ensures in
+    let wanted = c.args.wanted in
+    let rows = c.args.rows.now in
+    let site = c.args.found.site in
+    let kind = c.requires.is (last_of t f (g.S.Site.files site)) ∙ (λ i. kind_asked (asked_with (last_of t f (g.S.Site.files site)) (is i)) rows) in
+    subst (λ s. HoldsUpTo (telling_of t f) u n (g.S.Site.files s) × Only (g.S.Site.files s) (g.S.Site.clock s)) (sym c.recovered.ensures.0)
+    (mended_here g.S.Site site p (l.files tells) (l.trail tells) (l.starts tells) wanted rows (l.plans tells) t f n d q u found pending last mended is c.in-Ok-carry.opened.log.site
+    (c.in-Ok-carry.ensures.mended u d rows tells kind (mends_here g.S.Site site p (l.files tells) (l.trail tells) (l.starts tells) wanted rows (l.plans tells) t f n d q u found pending last mended is)))
+
+pub returns-in-Ok-carry-clause-mends : goal.returns-in-Ok-carry-clause-mends
+returns-in-Ok-carry-clause-mends g c u d n t f q tells is found pending last mended =
+    let p = c.in-Ok.planned in
+    let l = c.in-Ok.ensures in
+    let wanted = c.args.wanted in
+    let rows = c.args.rows.now in
+    let site = c.args.found.site in
+    let kind = c.requires.is (last_of t f (g.S.Site.files site)) ∙ (λ i. kind_asked (asked_with (last_of t f (g.S.Site.files site)) (is i)) rows) in
+    subst (λ s. Runs (g.S.Site.clock site) (g.S.Site.clock s) (MendsTo (telling_of t f) (g.S.Site.files site) u (named_by rows) n)) (sym c.recovered.ensures.0)
+    (mends_since g.S.Site site p (l.files tells) (l.trail tells) (l.starts tells) wanted rows (l.plans tells) t f n d q u found pending last mended is c.in-Ok-carry.opened.log.site g.met.S.Site.counts_now l.moments
+    (c.in-Ok-carry.ensures.mends u d rows tells kind (mends_here g.S.Site site p (l.files tells) (l.trail tells) (l.starts tells) wanted rows (l.plans tells) t f n d q u found pending last mended is)))
+
+pub returns-in-Err-carry-clause-mends_then : goal.returns-in-Err-carry-clause-mends_then
+returns-in-Err-carry-clause-mends_then g c u d n t f q tells is found pending last mended =
+    let p = c.in-Ok.planned in
+    let l = c.in-Ok.ensures in
+    let wanted = c.args.wanted in
+    let rows = c.args.rows.now in
+    let site = c.args.found.site in
+    let kind = c.requires.is (last_of t f (g.S.Site.files site)) ∙ (λ i. kind_asked (asked_with (last_of t f (g.S.Site.files site)) (is i)) rows) in
+    mends_since g.S.Site site p (l.files tells) (l.trail tells) (l.starts tells) wanted rows (l.plans tells) t f n d q u found pending last mended is c.in-Err-carry.refused.1 g.met.S.Site.counts_now l.moments
+    (c.in-Err-carry.ensures.mends_then u d rows tells kind (mends_here g.S.Site site p (l.files tells) (l.trail tells) (l.starts tells) wanted rows (l.plans tells) t f n d q u found pending last mended is))
+
+pub returns-in-Err-clause-mends_then : goal.returns-in-Err-clause-mends_then
+returns-in-Err-clause-mends_then g c u d n t f q tells is found pending last mended =
+    unchanged (g.S.Site.clock c.args.found.site) _ (MendsTo (telling_of t f) (g.S.Site.files c.args.found.site) u (named_by c.args.rows.now) n) (g.met.S.Site.counts_now c.args.found.site) c.in-Err.ensures.moments_then
 
 pub returns-in-Ok-carry-clause-same : goal.returns-in-Ok-carry-clause-same
 returns-in-Ok-carry-clause-same g c = subst (λ s. g.S.Site.same_site c.args.found.site s) (sym c.recovered.ensures.0) (g.met.S.Site.same_then _ _ _ c.in-Ok.ensures.same c.in-Ok-carry.ensures.same)

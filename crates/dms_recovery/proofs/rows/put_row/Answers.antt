@@ -1,4 +1,4 @@
-use Rattle.std.proofs.Common.{ℕ, ◌≡◌, ◌^◌, ◌<◌, ◌≤◌, ◌∙◌, length, get_or, sym, ap, rules, arith}
+use Rattle.std.proofs.Common.{◌≡◌, ◌^◌, ◌<◌, ◌≤◌, ◌∙◌, length, get_or, sym, ap, rules, arith}
 use Rattle.dms_recovery.proofs.Placed.{key, place_end, place_here, place_next, place_there, placed, puts}
 use Rattle.dms_recovery.proofs.rows.put_row.Goals as goal
 

@@ -9,7 +9,7 @@ use Rattle.dms_model.specs.Stores.{TellsOf}
 use Rattle.dms_sets.specs.Finds.{spot_by}
 use Rattle.dms_store.specs.Lifted.{db_of}
 use Rattle.dms_spelling.specs.ServingLaws.{set_at}
-use Rattle.dms_store.proofs.Standing.{member_fits, own_told, same_true, small_number, strange, told_of}
+use Rattle.dms_store.proofs.Standing.{member_fits, own_told, other_told, same_false, same_true, small_number, strange, told_of}
 use Rattle.dms_store.proofs.entries.member_at.Goals as goal
 
 pub get-requires-clause-set : goal.get-requires-clause-set
@@ -49,6 +49,20 @@ returns-in_ok-spot-in-Some-clause-found g c =
     subst (λ (x : Spot). TellsOf {T = Option Spot} db (λ d. spot_by s d c.args.owner (Some c.args.found.now)) (Some x)) (sym c.in_ok-spot-in-Some.ensures)
     (own_told c.args.kinds.now s c.requires.kept db c.args.owner n rec c.args.found.now found (sym c.in_ok-is_entry-in-Some.ensures ∙ c.if-not-branch.false) (small_number desc s.set n c.requires.usable.serves.served number) c.requires.owner fits.owner
     (same_true c.args.owner rec.owner c.if-owner-rec.false))
+
+pub returns-then-owner-rec-clause-found : goal.returns-then-owner-rec-clause-found
+returns-then-owner-rec-clause-found g c =
+    let desc = as_described c.args.desc.now in
+    let o = c.args.over.now in
+    let s = shape_of c.args.s.now in
+    let n = c.number_in-number.result in
+    let db = db_of desc (under o).told (under o).content in
+    let rec : Record = c.in-Some.rec in
+    let found : TellsOf {T = Option Record} db (λ e. get e.records (s.set, n)) (Some rec) = rw c.in-Some.is at c.in_ok-get.ensures.found in
+    let number : IsNumber desc s.set n = rw c.in-Some.is at c.in_ok-get.ensures.number in
+    let fits : RecordFits desc s.set rec = rw c.in-Some.is at c.in_ok-get.ensures.fits in
+    other_told c.args.kinds.now s c.requires.kept db c.args.owner n rec c.args.found.now found (sym c.in_ok-is_entry-in-Some.ensures ∙ c.if-not-branch.false) (small_number desc s.set n c.requires.usable.serves.served number) c.requires.owner fits.owner
+    (same_false c.args.owner rec.owner c.if-owner-rec.true)
 
 pub returns-in_ok-spot-in-Some-clause-fits : goal.returns-in_ok-spot-in-Some-clause-fits
 returns-in_ok-spot-in-Some-clause-fits g c =

@@ -1,6 +1,6 @@
 use Rattle.std.proofs.Common.{◌≡◌, drop}
 use Rattle.dasdl_compile.specs.Finding.{kind_of}
-use Rattle.dasdl_compile.proofs.find.kind_of.Given as goal
+use Rattle.dasdl_compile.proofs.find.is_restart.Given as goal
 
 -- what is left gives what the whole gives
 abbrev pub invariant-loop-draft : goal.invariant-loop-draft
