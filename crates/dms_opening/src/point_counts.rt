@@ -90,10 +90,10 @@ fn read_counts<S: Site>(
     ensures disk { CountedAt (IsErrOf result AudFault.Disk) (S.disk_faults site.old) (S.disk_faults site.new) }
 {
     let mut buffer = [0u8; LIST_BYTES];
-    if control.size > LIST_BYTES as u64 || control.at > MOST_PLACE {
+    if usize::from(control.size) > LIST_BYTES || control.at > MOST_PLACE {
         return Err(AudFault::Damaged(control.audit, 0));
     }
-    let list = &mut buffer[..control.size as usize];
+    let list = &mut buffer[..usize::from(control.size)];
     match read_list(site, control, list) {
         Ok(true) => {}
         Ok(false) => return Err(AudFault::Damaged(control.audit, 0)),
