@@ -61,7 +61,7 @@ either_named : (t : Bool) (one two : Noted) (u : Bool) → one.named ≡ u → t
 either_named true one two u first second = first
 either_named false one two u first second = second
 
-unnamed_by : (f b : ℕ) (n : Noted) (x : Logged) → n.named ≡ false → (noted_by f b false n x).named ≡ false
+pub unnamed_by : (f b : ℕ) (n : Noted) (x : Logged) → n.named ≡ false → (noted_by f b false n x).named ≡ false
 unnamed_by f b n (event (change g k before after)) off = either_named (is_at f b g k) (record { stands = Some after; named = n.named || false }) n false (or_false n.named ∙ off) off
 unnamed_by f b n (event (quiet m)) off = off
 unnamed_by f b n (event (control m next counts described)) off = off
