@@ -8,7 +8,12 @@ use Rattle.dms_site.specs.Files.{Files, Left, stored_of}
 use Rattle.dms_history.specs.Events.{AllBlocks}
 use Rattle.dms_history.specs.History.{Pending, History}
 use Rattle.dms_history.specs.Entries.{Entry, Kind, begin_restore, by_halt_load, control_point}
-use Rattle.dms_history.specs.EntryEvents.{history_of}
+use Rattle.dms_history.specs.Events.{Event}
+use Rattle.dms_history.specs.Lists.{until_first}
+use Rattle.dms_history.specs.Places.{is_point}
+use Rattle.dms_history.specs.EntryEvents.{events, history_of, live_of}
+use Rattle.dms_history.proofs.Alone.{alone_events}
+use Rattle.dms_history.proofs.Whole.{pending_cut}
 use Rattle.dms_history.specs.Schemas.{schema_entries}
 use Rattle.dms_history.specs.declared.event.FileCount.{FileCount}
 use Rattle.dms_history.specs.declared.event.Row.{Row}
@@ -37,6 +42,7 @@ use Rattle.dms_restore.proofs.CountBytes.{IsCountTable, counts_read, counts_told
 use Rattle.dms_opening.proofs.GoneOn.{each_on}
 use Rattle.dms_wal.specs.Lifting.{last_blocks}
 use Rattle.dms_wal.specs.Marks.{last_number}
+use Rattle.dms_wal.proofs.Imaging.{back_sealed, begun_live}
 use Rattle.dms_wal.proofs.Under.{under_control}
 use Rattle.dms_opening.specs.declared.asked.Asked.{Asked}
 use Rattle.dms_opening.specs.declared.plan.OpeningPlan.{OpeningPlan}
@@ -120,6 +126,24 @@ module _ (a b : LogView) (plan : OpeningPlan) (w : BeginsWhole a plan b) (ready 
     count = λ f. counts_told plan.counts.items (count_table plan ready) bytes is f ∙ plans.counts_are f;
   }
 
+  -- what is live behind the Begin, or while the restore that goes on is pending
+  begun_is : (o : Option Pending) → (history_of (trail_entries a.end.total a.first a.files)).pending ≡ o → (before : List Event) × (live_of (entries b) ≡ until_first (is_point plan.choice.point) before)
+  begun_is o pending =
+      let old = trail_entries a.end.total a.first a.files in
+      let nothing : entries b ≡ (telling b).entries b.files = ap (λ (l : List Entry). (telling b).entries b.files ++ l) w.begun.begun.nothing ∙ append_none ((telling b).entries b.files) in
+      let now : entries b ≡ old ++ begin_where_none o plan.choice.point =
+      nothing ∙ (λ i. trail_entries (w.begins.total_same i) (w.begins.first_same i) b.files) ∙ w.begins.sealed ∙ ap (λ (q : Option Pending). old ++ begin_where_none q plan.choice.point) pending in
+      go o now nothing
+    where
+      go : (o : Option Pending) → entries b ≡ trail_entries a.end.total a.first a.files ++ begin_where_none o plan.choice.point → entries b ≡ (telling b).entries b.files
+          → (before : List Event) × (live_of (entries b) ≡ until_first (is_point plan.choice.point) before)
+      go None now nothing = let old = trail_entries a.end.total a.first a.files in (live_of old, ap live_of now ∙ begun_live old plan.choice.point by_halt_load)
+      go (Some p) now nothing =
+          let old = trail_entries a.end.total a.first a.files in
+          let same : entries b ≡ old = now ∙ append_none old in
+          let is : (history_of old).pending ≡ Some restore = ap (λ (l : List Entry). (history_of l).pending) (sym same ∙ nothing) ∙ w.begun.begun.pending in
+          (restore.entries, ap live_of same ∙ pending_cut (events old) (alone_events old w.whole.stands.kept.alone) restore is ∙ ap (λ n. until_first (is_point n) restore.entries) plans.chooses.is.point_is)
+
   -- the database runs
   module _ (c : LogView) (kind : telling c ≡ telling a) (schema : List ℕ) (described : schema ≡ plan.schema.items) (opened : OpenedAt restore b c (schema_control schema plan.choice.point plan.next bytes)) where
     abbrev o : OpenedAt restore b c (schema_control plan.schema.items plan.choice.point plan.next bytes)
@@ -160,6 +184,8 @@ module _ (a b : LogView) (plan : OpeningPlan) (w : BeginsWhole a plan b) (ready 
       runs = o.runs;
       nothing = o.nothing;
       entries_are = sealed ∙ ap (λ (t : Telling). t.entries a.files ++ opening_entries (history_of (t.entries a.files)).pending plan.choice.point plan.next plan.schema.items plan.counts.items) (sym kind);
+      went_back = let cut = begun_is (history_of found).pending refl in
+          back_sealed c (entries b) (entries c) plan.choice.point plan.next plan.schema.items (counts_at (length bytes / 8) bytes) cut.0 cut.1 behind ready.described.0;
       points_same = points_are ∙ ap (λ (t : Telling). points_of t a.files) (sym kind);
       all_durable = o.all_durable ∙ ap (λ (ps : List DescribedPoint). length ps) (sym o.points_same);
       next_is = o.next_same ∙ w.keeps.next_same ∙ plans.next_is;

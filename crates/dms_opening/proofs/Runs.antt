@@ -8,7 +8,8 @@ use Rattle.dms_audfile.specs.declared.audit_end.AuditEnd.{AuditEnd}
 use Rattle.dms_history.specs.Events.{AllBlocks}
 use Rattle.dms_running.specs.Points.{DescribedPoint}
 use Rattle.dms_restore.specs.declared.log.Log.{Log}
-use Rattle.dms_restore.specs.Logging.{LogView, telling, points}
+use Rattle.dms_restore.specs.Logging.{LogView, telling, points, entries}
+use Rattle.dms_restore.specs.TailTables.{IsBackTo}
 use Rattle.dms_restore.specs.Views.{view_of}
 use Rattle.dms_restore.specs.Counts.{count_of, file_counts}
 use Rattle.dms_audfile.specs.TrailEntries.{trail_entries}
@@ -35,6 +36,7 @@ starts_from files point next schema counts v s r described numbered pointed coun
   none_imaged =
       let es = trail_entries v.end.total v.first files in
       none_imaged v es (begin_where_none (history_of es).pending point) schema point next (file_counts 30001 counts) r.entries_are;
+  went_back = λ on. subst (IsBackTo (entries v)) (sym pointed) r.went_back;
   unchanged = λ same. record { content_is = r.content_is; counts_are = counted ∙ sym marked };
 }
 

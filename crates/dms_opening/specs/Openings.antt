@@ -33,6 +33,7 @@ use Rattle.dms_audrec.specs.Bodies.{bodies}
 use Rattle.dms_opening.specs.declared.asked.Asked.TheVariants.{HaltLoad}
 use Rattle.dms_opening.specs.Choices.{Chooses, judge_files}
 use Rattle.dms_restore.specs.Counts.{count_of, file_counts}
+use Rattle.dms_restore.specs.TailTables.{IsBackTo}
 use Rattle.dms_restore.specs.Views.{view_of}
 use Rattle.dms_restore.specs.Logging as logs
 use Rattle.dms_restore.specs.Logging.{LogView, telling_of, telling, state, waits, LogRuns, TrailKept, LeavesTrail, entries, points, durable, content}
@@ -85,13 +86,14 @@ ending_entries point next schema counts = schema_entries (bodies schema) ++ cont
 abbrev pub opening_entries : Option Pending → ℕ → ℕ → List ℕ → List ℕ → List Entry
 opening_entries pending point next schema counts = begin_where_none pending point ++ ending_entries point next schema counts
 
--- The database that these files held runs. Exactly those entries were sealed behind its own, and nothing waits. Its points and its next number
--- are the same, and all points are durable. The content is that of the last point, each block of it stands in its file, and a stop now leaves
--- what is read. The last live Schema is that of the description.
+-- The database that these files held runs. Exactly those entries were sealed behind its own, and nothing waits: they end with the Control of a
+-- restore to the last point. Its points and its next number are the same, and all points are durable. The content is that of the last point,
+-- each block of it stands in its file, and a stop now leaves what is read. The last live Schema is that of the description.
 pub record RunsFrom (files : Files) (point next : ℕ) (schema counts : List ℕ) (v : LogView) : Type 0 where
   pub runs : LogRuns v
   pub nothing : waits v.end ≡ []
   pub entries_are : entries v ≡ trail_entries v.end.total v.first files ++ opening_entries (history_of (trail_entries v.end.total v.first files)).pending point next schema counts
+  pub went_back : IsBackTo (entries v) point
   pub points_same : points v ≡ points_of (telling v) files
   pub all_durable : durable v ≡ length (points v)
   pub next_is : logs.next v ≡ next

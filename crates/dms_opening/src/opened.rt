@@ -113,6 +113,7 @@ impl<S: Site> Opened<S> {
             point,
             every,
             changed: false,
+            back: true,
         };
         match Running::new(alloc, log, start, frames) {
             Ok(mut running) => {

@@ -1,9 +1,9 @@
 -- A restore by the audit over a log.
-use Rattle.std.proofs.Common.{ℕ, zero, suc, ◌<◌, ◌≡◌, List, [], ◌∷◌, ◌++◌, take, drop, refl, sym, ◌∙◌, ap, subst, arith}
+use Rattle.std.proofs.Common.{ℕ, zero, suc, ◌<◌, ◌≡◌, inl, inr, Bool, true, length, List, [], ◌∷◌, ◌++◌, take, drop, refl, sym, ◌∙◌, ap, subst, arith}
 use Rattle.std.proofs.lemmas.Bool.{true≢false}
 use Rattle.dms_moments.specs.Moments.{Clock, Steps}
 use Rattle.dms_moments.specs.MomentLaws.{steps_on}
-use Rattle.dms_site.specs.Files.{Files, Left, Only, Same}
+use Rattle.dms_site.specs.Files.{Files, Left, Only, Same, stored_of}
 use Rattle.dms_history.specs.History.{Pending}
 use Rattle.dms_history.specs.Entries.{Kind, Entry, begin_restore, how_of}
 use Rattle.dms_audfile.specs.BlockLaws.{AreNoBegins}
@@ -12,7 +12,7 @@ use Rattle.dms_audfile.specs.Ends as ends
 use Rattle.dms_audfile.specs.Ends.{EndsAt, Appends}
 use Rattle.dms_audfile.specs.TrailEntries.{trail_entries}
 use Rattle.dms_audfile.specs.declared.audit_end.AuditEnd.{AuditEnd}
-use Rattle.dms_restore.proofs.ByAudit.{rewritten_kept, rewrites_kept}
+use Rattle.dms_restore.proofs.ByAudit.{rewritten_kept, rewrites_kept, free_among}
 use Rattle.dms_running.specs.ByHow.{IsKeptBy}
 use Rattle.dms_running.proofs.Rewriting.{rewritten_on, steps_more}
 use Rattle.dms_running.specs.Telling.{Telling, IsTelling}
@@ -29,7 +29,11 @@ use Rattle.dms_restore.specs.Begins.{LastIs, begun_to, BegunAt, BeginsRestore, R
 use Rattle.dms_restore.specs.declared.told.Told.{Told}
 use Rattle.dms_restore.specs.declared.run.Run.{Run}
 use Rattle.dms_restore.specs.Over.{WritesOver}
-use Rattle.dms_restore.specs.Table.{Kept, keeps_by, Writes, Holds, all_in}
+use Rattle.dms_restore.specs.Table.{Kept, keeps_by, AreFree, IsAmong, IsPlanHere, Writes, Holds, all_in}
+use Rattle.dms_history.specs.Events.{BlockBytes}
+use Rattle.dms_history.specs.Images.{is_at}
+use Rattle.dms_history.proofs.Picks.{place_cases}
+use Rattle.dms_site.specs.StoredLaws.{stored_whole}
 use Rattle.dms_restore.proofs.Trails.{is_telling, first_low, waits_is}
 use Rattle.dms_restore.proofs.Logs.{ReadsNow, tells, plain, entry_steps, same_telling, appended, ends_then, settles, sealing}
 
@@ -156,6 +160,26 @@ module _ (p : Pending) (a : LogView) (r : BegunAt p a) (read : ReadsNow a) where
     pub table_restored : (runs : List Run) (table : List Told) → Writes p a.files runs table → Holds a.files (all_in runs ++ table) files → Only files clock → RestoredAt p then_
     table_restored runs table is holds only = record {
       restored = restored_all (telling a) tells_it p (state a) r.begun read (state then_) written (λ f b low x told size. (holds f b x (is.all f b x low told size)).1);
+      only = only;
+    }
+
+    -- a block that isn't written stands as it did
+    unwritten : (table : List Told) → ((keeps : ℕ → ℕ → Bool) → AreFree (Kept keeps) table → Rewritten (Kept keeps) a.files files) → (f b : ℕ) (x : BlockBytes) → (IsAmong f b table → ⊥) → stored_of a.files f b ≡ x → length x ≡ 1024 → stored_of files f b ≡ x
+    unwritten table others f b x out stands size =
+        let keeps : ℕ → ℕ → Bool = λ g k. is_at f b g k in
+        let free : AreFree (Kept keeps) table = free_among (Kept keeps) table (λ g k among kept. elim (place_cases f b g k) [
+          | inl place ↦ out (subst (λ h. IsAmong h b table) place.0 (subst (λ h. IsAmong g h table) place.1 among))
+          | inr apart ↦ true≢false (sym kept ∙ apart.1)
+        ]) in
+        let own : is_at f b f b ≡ true = elim (place_cases f b f b) [ inl place ↦ place.2 | inr apart ↦ absurd (apart.0 refl refl) ] in
+        (others keeps free).kept f b own (stored_whole a.files f b (ap (λ (l : BlockBytes). length l) stands ∙ size)).1 ∙ stands
+
+    pub table_here : (table : List Told) → IsPlanHere p a.files table → Holds a.files table files → ((keeps : ℕ → ℕ → Bool) → AreFree (Kept keeps) table → Rewritten (Kept keeps) a.files files) → Only files clock → RestoredAt p then_
+    table_here table is holds others only = record {
+      restored = restored_all (telling a) tells_it p (state a) r.begun read (state then_) written (λ f b low x told size. elim (is.all f b x told) [
+        | inl same ↦ (holds f b x same).1
+        | inr (out, stands) ↦ unwritten table others f b x out stands size
+      ]);
       only = only;
     }
 

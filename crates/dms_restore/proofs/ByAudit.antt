@@ -4,8 +4,8 @@ use Rattle.std.proofs.Common.{ℕ, ◌<◌, ◌≡◌, ◌⊎◌, inl, inr, ◌&
 use Rattle.std.proofs.lemmas.Bool.Decides.{nat_tests}
 use Rattle.dms_moments.specs.Moments.{Clock, Steps}
 use Rattle.dms_moments.specs.MomentLaws.{steps_weaken}
-use Rattle.dms_site.specs.Files.{Files, Left}
-use Rattle.dms_history.specs.Events.{BlockBytes, How, halt_load, back_out, roll_back, rebuild, reconstruct, Event}
+use Rattle.dms_site.specs.Files.{Files, Left, stored_of}
+use Rattle.dms_history.specs.Events.{BlockBytes, Stored, How, halt_load, back_out, roll_back, rebuild, reconstruct, Event}
 use Rattle.dms_history.specs.History.{Pending}
 use Rattle.dms_history.specs.Pick.{Dumps, count_at}
 use Rattle.dms_history.specs.Restores.{takes_stored}
@@ -18,7 +18,7 @@ use Rattle.dms_restore.specs.Dumped.{dumps_of}
 use Rattle.dms_restore.specs.declared.told.Told.{Told}
 use Rattle.dms_restore.specs.declared.run.Run.{Run}
 use Rattle.dms_restore.specs.declared.restore_table.RestoreTable.{RestoreTable}
-use Rattle.dms_restore.specs.Table.{Kept, keeps_by, AreFree, IsAmong, IsTable, Writes, IsPlan}
+use Rattle.dms_restore.specs.Table.{Kept, keeps_by, AreFree, IsAmong, IsTable, IsTableOver, IsPlanHere, Writes, IsPlan}
 
 -- by the test
 lt_test : (a b : ℕ) → a < b → nat_lt a b ≡ true
@@ -68,6 +68,18 @@ plan_by_audit p by_audit files table is = record {
       (sym (is.tells f b) ∙ takes_is p.how by_audit p.entries p.point f b (and_second (nat_lt b (count_at p.entries p.point f)) (takes_stored p.how p.entries p.point f b) kept)));
   whole = is.whole;
   all = λ f b x low told size. sym (is.tells f b) ∙ sym (told_is p.how by_audit (dumps_of files) p.entries p.point f b) ∙ told;
+}
+
+-- a table over the blocks that stand is a plan over them
+pub plan_over : (p : Pending) → ByAudit p.how → (files : Files) (stored : Stored) (table : List Told) → stored_of files ≡ stored → IsTableOver p.entries p.point stored files table → IsPlanHere p files table
+plan_over p by_audit files stored table same is = record {
+  free = free_among (Kept (keeps_by p.how p.entries p.point)) table (λ f b among kept.
+      is.among f b among (takes_is p.how by_audit p.entries p.point f b (and_second (nat_lt b (count_at p.entries p.point f)) (takes_stored p.how p.entries p.point f b) kept)));
+  whole = is.whole;
+  all = λ f b x told. elim (is.tells f b x (sym (told_is p.how by_audit (dumps_of files) p.entries p.point f b) ∙ told)) [
+    | inl one ↦ inl one
+    | inr (out, stands) ↦ inr (out, ap (λ (s : Stored). s f b) same ∙ stands)
+  ];
 }
 
 -- the same, of lists that were lent

@@ -1,19 +1,21 @@
 -- The table of a point from what stands behind an earlier Control.
 use Rattle.std.specs.Prelude.{◌==◌, ◌||◌}
-use Rattle.std.proofs.Common.{ℕ, zero, suc, ◌+◌, ◌<◌, ◌≤◌, ◌≡◌, inl, inr, Bool, true, false, cond, List, [], ◌∷◌, ◌++◌, map, length, take, drop, get_or, Some, refl, sym, ◌∙◌, ap, subst, arith, append_assoc}
-use Rattle.std.proofs.lemmas.Bool.{cases_Bool}
+use Rattle.std.proofs.Common.{ℕ, zero, suc, ◌+◌, ◌<◌, ◌≤◌, ◌≡◌, inl, inr, Bool, true, false, cond, List, [], ◌∷◌, ◌++◌, map, length, take, drop, get_or, Option, Some, refl, sym, ◌∙◌, ap, subst, arith, append_assoc}
+use Rattle.std.proofs.lemmas.Bool.{cases_Bool, true≢false}
 use Rattle.std.proofs.lemmas.Bool.Decides.{nat_tests}
-use Rattle.std.proofs.lemmas.List.{map-append, take-append-drop}
-use Rattle.dms_site.specs.Files.{Files}
-use Rattle.dms_history.specs.Agrees.{Numbered}
+use Rattle.std.proofs.lemmas.List.{map-append, take-append-drop, take_all}
+use Rattle.dms_site.specs.Files.{Files, stored_of}
+use Rattle.dms_history.specs.Agrees.{Numbered, ListAgrees}
+use Rattle.dms_history.specs.Here.{here, here_by}
+use Rattle.dms_history.specs.History.{Pending}
 use Rattle.dms_history.specs.Entries.{Entry, schema_part, image, byte_range, quiet_point, control_point, begin_restore, counts_in}
-use Rattle.dms_history.specs.EntryEvents.{events_in, live_of, next_of}
-use Rattle.dms_history.specs.Events.{Counts, Event, control}
+use Rattle.dms_history.specs.EntryEvents.{events_in, history_of, live_of, next_of}
+use Rattle.dms_history.specs.Events.{Counts, Event, Stored, control}
 use Rattle.dms_history.specs.Images.{or_else, last_after, first_before}
 use Rattle.dms_history.specs.LawsOfRanges.{HasImages}
 use Rattle.dms_history.specs.Lists.{has, until_first, after_first, after_last}
 use Rattle.dms_history.specs.Places.{is_control, is_point, point_numbers}
-use Rattle.dms_history.specs.Ranges.{Logged, event, all_changes, live_logged}
+use Rattle.dms_history.specs.Ranges.{Logged, event, all_changes, live_logged, is_control_logged}
 use Rattle.dms_history.specs.Schemas.{no_parts, parts_from, is_whole}
 use Rattle.dms_history.specs.Told.{undone_to, told_block}
 use Rattle.dms_history.specs.declared.event.FileCount.{FileCount}
@@ -34,21 +36,25 @@ use Rattle.dms_audfile.specs.declared.audit_end.AuditEnd.{AuditEnd}
 use Rattle.dms_audfile.specs.declared.place.EntryPlace.{EntryPlace}
 use Rattle.dms_restore.specs.declared.audit_block.AuditBlock.{AuditBlock}
 use Rattle.dms_restore.specs.declared.live.LiveEntry.{LiveEntry}
+use Rattle.dms_restore.specs.declared.live.LiveEntry.TheVariants.{Quiet}
 use Rattle.dms_restore.specs.declared.told.Told.{Told}
 use Rattle.dms_restore.specs.declared.trace.TrailTrace.{TrailTrace}
 use Rattle.dms_restore.specs.declared.tracing.TrailHistory.{TrailHistory}
 use Rattle.dms_restore.specs.Finding.{IsFoundFrom}
 use Rattle.dms_restore.specs.LiveEntries.{logged_live, changes_at, AllStandWhole}
-use Rattle.dms_restore.specs.Logging.{LogView, LogRuns}
+use Rattle.dms_restore.specs.Logging.{LogView, telling, waits, entries, LogRuns}
+use Rattle.dms_running.specs.Standing.{MayRun}
+use Rattle.dms_running.proofs.Wholes.{stands_agrees}
 use Rattle.dms_restore.specs.Scanned.{AreInAudit}
-use Rattle.dms_restore.specs.Table.{IsTable}
-use Rattle.dms_restore.specs.TailTables.{IsInTrail, control_number, AreInOrder, TellsPlaced, TellsLast, FindsControl, IsOrdered, TellsTrail}
+use Rattle.dms_restore.specs.Table.{IsTable, IsTableOver}
+use Rattle.dms_restore.specs.TailTables.{IsInTrail, control_number, AreInOrder, TellsPlaced, TellsLast, HasControl, FindsControl, IsOrdered, TellsTrail, IsBackTo, Undoes, UndoesLast, UndoesPlaced, Serves}
 use Rattle.dms_restore.specs.Traces.{TracesPlaces}
 use Rattle.dms_restore.specs.Tracing.{IsTraced}
 use Rattle.dms_restore.proofs.Changes.{live_append, live_changes}
 use Rattle.dms_restore.proofs.InAudit.{found_in_audit}
 use Rattle.dms_restore.proofs.Logs.{ReadsNow}
-use Rattle.dms_restore.proofs.Patched.{control_from}
+use Rattle.dms_restore.proofs.Patched.{control_from, behind_control, at_control, no_control}
+use Rattle.dms_restore.proofs.BackTables.{quiet_first, undoes_quiet, table_over, table_as}
 use Rattle.dms_restore.proofs.ReadOn.{no_place, get_place, there_at, map_length}
 use Rattle.dms_restore.proofs.RunLoops.{drop_at}
 
@@ -128,6 +134,14 @@ control_first : (k next : ℕ) (counts : Counts) (described : Bool) (xs : List L
 unfolding all_changes
 control_first k next counts described xs = control_from k next counts described xs []
 
+-- where all stands behind the last Control there is none
+none_late : (xs : List Logged) → after_last is_control_logged xs ≡ xs → has is_control (all_changes xs) ≡ false
+unfolding all_changes
+none_late xs same = elim (cases_Bool (has is_control_logged xs)) [
+  | inl on ↦ absurd (true≢false (sym on ∙ ap (λ (l : List Logged). has is_control_logged l) (sym same) ∙ (at_control xs on).none))
+  | inr off ↦ no_control xs [] refl off
+]
+
 module _ (files : Files) (front es : List Entry) (k next : ℕ) (counts : List FileCount) (h : TrailHistory) (t : IsTraced files es h) (plain : h.begun ≡ false) where
   abbrev all : List Entry
   all = front ++ control_point k next counts ∷ es
@@ -158,6 +172,16 @@ module _ (files : Files) (front es : List Entry) (k next : ℕ) (counts : List F
       subst (λ (l : List Event). IsTable l m files table) (sym same)
       (table_same (all_changes before_it) (all_changes behind_it) k next (counts_in counts) described m above (next_of all) files table (subst (λ (l : List Event). Numbered l (next_of all)) same order.numbered) is)
 
+  -- a table that undoes what stands behind this Control, where it is the last one
+  undoes_all : (table : List Told) → AreInOrder all → after_last is_control_logged behind_it ≡ behind_it → IsTable (changes_at files (Quiet 0 ∷ h.live.items)) 0 files table → UndoesLast all files table
+  undoes_all table order late is =
+      let since = all_changes behind_it in
+      let c = control k next (counts_in counts) described in
+      let last : after_last is_control (live_of all) ≡ since =
+      ap (λ (l : List Event). after_last is_control l) (changes_all order.images)
+      ∙ behind_control (all_changes before_it) since k next (counts_in counts) described (none_late behind_it late) in
+      subst (λ (l : List Event). Undoes l files table) (sym last) (undoes_quiet since files table (subst (λ (l : List Event). IsTable l 0 files table) (quiet_first 0 behind_it) is))
+
 -- the table of the entries that were read
 pub tells_placed : (old : Files) (places : List EntryPlace) (m : ℕ) (t : TrailTrace) (lent : List LiveEntry) (table : List Told) → lent ≡ t.history.live.items → t.history.begun ≡ false → TracesPlaces old places t
     → ((files : Files) → AllStandWhole files lent → IsTable (changes_at files lent) m files table) → TellsPlaced old places m table
@@ -165,6 +189,16 @@ tells_placed old places m t lent table same plain traces is placed audit are the
     let h = (traces audit placed are there new also).history in
     table_all new front (map entry_in placed) k next counts t.history h plain m table above order
     (subst (λ (l : List LiveEntry). AllStandWhole new l → IsTable (changes_at new l) m new table) same (is new) h.live_whole)
+
+-- so it is of a table that undoes them
+pub undoes_placed : (old : Files) (places : List EntryPlace) (t : TrailTrace) (lent : List LiveEntry) (table : List Told) → lent ≡ t.history.live.items → t.history.begun ≡ false → TracesPlaces old places t
+    → ((files : Files) → after_last is_control_logged (logged_live files lent) ≡ logged_live files lent)
+    → ((files : Files) → AllStandWhole files lent → IsTable (changes_at files (Quiet 0 ∷ lent)) 0 files table) → UndoesPlaced old places table
+undoes_placed old places t lent table same plain traces last is placed audit are there new also front k next counts order =
+    let h = (traces audit placed are there new also).history in
+    undoes_all new front (map entry_in placed) k next counts t.history h plain table order
+    (subst (λ (l : List LiveEntry). after_last is_control_logged (logged_live new l) ≡ logged_live new l) same (last new))
+    (subst (λ (l : List LiveEntry). AllStandWhole new l → IsTable (changes_at new (Quiet 0 ∷ l)) 0 new table) same (is new) h.live_whole)
 
 -- ---- a Control among the last entries
 
@@ -207,23 +241,55 @@ there_drop files zero ps there = there
 there_drop files (suc n) [] there = tt
 there_drop files (suc n) (p ∷ ps) there = there_drop files n ps there.1
 
-pub tells_last : (old files : Files) (places rest : List EntryPlace) (up_to number m : ℕ) (table : List Told) → number < m → rest ≡ drop up_to places → files ≡ old → FindsControl old places up_to number → TellsPlaced files rest m table
-    → TellsLast old places m table
-tells_last old files places rest up_to number m table above is same finds tells placed audit are there new also front order =
-    let found = finds placed are there in
-    let late = drop up_to placed in
-    let e = control_is found.control.entry number found.number_is in
-    let x = control_point number e.0 e.1 in
-    let early = map entry_in found.front in
-    let all : front ++ map entry_in placed ≡ (front ++ early) ++ x ∷ map entry_in late =
-    ap (λ (l : List Placed). front ++ map entry_in l) found.are
-    ∙ ap (λ (l : List Entry). front ++ l) (map-append entry_in found.front (found.control ∷ late) ∙ ap (λ (y : Entry). early ++ y ∷ map entry_in late) e.2)
-    ∙ sym (append_assoc front early (x ∷ map entry_in late)) in
-    let there_now : AreThere files late = subst (λ (f : Files). AreThere f late) (sym same) (there_drop old up_to placed there) in
-    let audit_now : AreInAudit rest = subst AreInAudit (sym is) (audit_drop up_to places audit) in
-    let are_now : rest ≡ map place_in late = is ∙ ap (drop up_to) are ∙ drop_places up_to placed in
-    subst (λ (l : List Entry). IsTable (live_of l) m new table) (sym all)
-    (tells late audit_now are_now there_now new (there_drop new up_to placed also) (front ++ early) number e.0 e.1 above (subst AreInOrder all order))
+module _ (old files : Files) (places rest : List EntryPlace) (up_to number : ℕ) (is : rest ≡ drop up_to places) (same : files ≡ old) (finds : FindsControl old places up_to number)
+    (placed : List Placed) (audit : AreInAudit places) (are : places ≡ map place_in placed) (there : AreThere old placed) (front : List Entry) where
+  abbrev found : HasControl placed up_to number
+  found = finds placed are there
+
+  abbrev late : List Placed
+  late = drop up_to placed
+
+  abbrev e : (next : ℕ) × (counts : List FileCount) × (found.control.entry ≡ control_point number next counts)
+  e = control_is found.control.entry number found.number_is
+
+  abbrev before : List Entry
+  before = front ++ map entry_in found.front
+
+  all_are : front ++ map entry_in placed ≡ before ++ control_point number e.0 e.1 ∷ map entry_in late
+  all_are =
+      ap (λ (l : List Placed). front ++ map entry_in l) found.are
+      ∙ ap (λ (l : List Entry). front ++ l) (map-append entry_in found.front (found.control ∷ late) ∙ ap (λ (y : Entry). map entry_in found.front ++ y ∷ map entry_in late) e.2)
+      ∙ sym (append_assoc front (map entry_in found.front) (control_point number e.0 e.1 ∷ map entry_in late))
+
+  there_now : AreThere files late
+  there_now = subst (λ (f : Files). AreThere f late) (sym same) (there_drop old up_to placed there)
+
+  audit_now : AreInAudit rest
+  audit_now = subst AreInAudit (sym is) (audit_drop up_to places audit)
+
+  are_now : rest ≡ map place_in late
+  are_now = is ∙ ap (drop up_to) are ∙ drop_places up_to placed
+
+pub tells_last : (back : Bool) (old files : Files) (places rest : List EntryPlace) (up_to number m : ℕ) (table : List Told) → number < m → rest ≡ drop up_to places → files ≡ old → FindsControl old places up_to number → TellsPlaced files rest m table
+    → TellsLast back old places m table
+tells_last back old files places rest up_to number m table above is same finds tells placed audit are there new also front order =
+    let all = all_are old files places rest up_to number is same finds placed audit are there front in
+    let x = e old files places rest up_to number is same finds placed audit are there front in
+    subst (λ (l : List Entry). Serves back l m new table) (sym all)
+    (inl (tells (drop up_to placed) (audit_now old files places rest up_to number is same finds placed audit are there front) (are_now old files places rest up_to number is same finds placed audit are there front)
+    (there_now old files places rest up_to number is same finds placed audit are there front) new (there_drop new up_to placed also) (before old files places rest up_to number is same finds placed audit are there front) number x.0 x.1 above (subst AreInOrder all order)))
+
+pub undoes_last : (back : Bool) (old files : Files) (places rest : List EntryPlace) (up_to number m : ℕ) (table : List Told) → back ≡ true → rest ≡ drop up_to places → files ≡ old → FindsControl old places up_to number → UndoesPlaced files rest table
+    → TellsLast back old places m table
+undoes_last back old files places rest up_to number m table on is same finds undoes placed audit are there new also front order =
+    let all = all_are old files places rest up_to number is same finds placed audit are there front in
+    let x = e old files places rest up_to number is same finds placed audit are there front in
+    subst (λ (l : List Entry). Serves back l m new table) (sym all)
+    (inr (
+      on,
+      undoes (drop up_to placed) (audit_now old files places rest up_to number is same finds placed audit are there front) (are_now old files places rest up_to number is same finds placed audit are there front)
+          (there_now old files places rest up_to number is same finds placed audit are there front) new (there_drop new up_to placed also) (before old files places rest up_to number is same finds placed audit are there front) number x.0 x.1 (subst AreInOrder all order),
+    ))
 
 -- ---- the last entries of a trail
 
@@ -238,9 +304,9 @@ there_last files (x ∷ xs) ys there = there_last files xs ys there.1
 whole_same : (xs ys : List Placed) → whole xs ≡ whole ys → xs ≡ ys
 whole_same xs ys is = cc
 
-pub tells_trail : EntriesAreThere → PlacesStay → TailIsFound → (end : AuditEnd) (first : ℕ) (old files : Files) (from : AuditBlock) (places lent : List EntryPlace) (m : ℕ) (table : List Told) → IsInTrail end first from → lent ≡ places → files ≡ old
-    → ReadsPlaces (tail_read end.total end.file end.count from.file from.block old) places → TellsLast files lent m table → TellsTrail end first old m table
-tells_trail stand stay tail end first old files from places lent m table within same still reads tells o new grown =
+pub tells_trail : (back : Bool) → EntriesAreThere → PlacesStay → TailIsFound → (end : AuditEnd) (first : ℕ) (old files : Files) (from : AuditBlock) (places lent : List EntryPlace) (m : ℕ) (table : List Told) → IsInTrail end first from → lent ≡ places → files ≡ old
+    → ReadsPlaces (tail_read end.total end.file end.count from.file from.block old) places → TellsLast back files lent m table → TellsTrail back end first old m table
+tells_trail back stand stay tail end first old files from places lent m table within same still reads tells o new grown =
     let f = o.found.finds in
     let start = o.found.first_is in
     let own : IsWrittenUpTo end.total end.tag f.trail.first end.file end.count old = subst (λ k. IsWrittenUpTo end.total end.tag k end.file end.count old) (sym start) o.writes in
@@ -252,7 +318,7 @@ tells_trail stand stay tail end first old files from places lent m table within 
     let audit : AreInAudit (map place_in f.placed) = found_in_audit stand old first (map place_in f.placed) (record { entries = f.placed; places_are = refl; trail = f.trail; first_is = start }) in
     let now : AreInAudit lent = subst AreInAudit (sym are) (audit_last r.before r.last (subst (λ (l : List Placed). AreInAudit (map place_in l)) (sym r.are) audit)) in
     let entries : map entry_in r.before ++ map entry_in r.last ≡ trail_entries end.total first old = sym (map-append entry_in r.before r.last) ∙ ap (map entry_in) r.are ∙ f.are in
-    subst (λ (l : List Entry). IsTable (live_of l) m new table) entries
+    subst (λ (l : List Entry). Serves back l m new table) entries
     (tells r.last now are (subst (λ (f : Files). AreThere f r.last) (sym still) there) new also (map entry_in r.before) (subst AreInOrder (sym entries) o.order))
 
 -- ---- a database that runs
@@ -269,3 +335,18 @@ log_ordered v r read =
         images = subst (λ (l : List Entry). HasImages (live_logged [] (events_in l))) all may.stands.kept.images;
       };
     }
+
+-- the table of the last point of a database that runs, over its blocks
+pub runs_over : (v : LogView) → LogRuns v → ReadsNow v → (back : Bool) (m : ℕ) (new : Files) (table : List Told) → (back ≡ true → IsBackTo (entries v) m) → Serves back (entries v) m new table
+    → IsTableOver (live_of (entries v)) m (stored_of v.files) new table
+runs_over v r read back m new table went (inl is) = table_as (live_of (entries v)) m (stored_of v.files) new table is
+runs_over v r read back m new table went (inr (on, undoes)) =
+    let may = r.runs.each (length (waits v.end)) read.0 read.1 in
+    let es = entries v in
+    let all : trail_entries v.end.total v.first v.files ++ take (length (waits v.end)) (waits v.end) ≡ es = ap (λ (l : List Entry). trail_entries v.end.total v.first v.files ++ l) (take_all (length (waits v.end)) (waits v.end) (omega arith)) in
+    let dumps = (telling v).dumps read.0.files in
+    let now : MayRun (telling v).first es dumps r.runs.base (stored_of v.files) =
+    subst (λ (f : Files). MayRun (telling v).first es dumps r.runs.base (stored_of f)) read.2 (subst (λ (l : List Entry). MayRun (telling v).first l dumps r.runs.base (stored_of read.0.files)) all may) in
+    let agrees = (stands_agrees (telling v).first es dumps r.runs.base (stored_of v.files) now.stands).events_agree.lists in
+    let plain : here dumps (history_of es) (stored_of v.files) ≡ stored_of v.files = ap (λ (p : Option Pending). here_by p dumps (stored_of v.files)) now.none in
+    table_over (live_of es) m (went on) (telling v).first (next_of es) (stored_of v.files) (subst (λ (s : Stored). ListAgrees (telling v).first (live_of es) (next_of es) s) plain agrees) new table undoes

@@ -1,8 +1,13 @@
 -- The table of a point from the last entries of a trail alone.
-use Rattle.std.specs.Prelude.{ℕ, ◌-◌, ◌<◌, ◌≤◌, ◌≡◌, ◌==◌, if◌then◌else◌, List, [], ◌∷◌, ◌++◌, map, drop, Option, Some, None}
+use Rattle.std.specs.Prelude.{ℕ, ◌-◌, ◌<◌, ◌≤◌, ◌≡◌, ◌⊎◌, ◌==◌, if◌then◌else◌, Bool, true, false, List, [], ◌∷◌, ◌++◌, map, drop, Option, Some, None}
 use Rattle.dms_site.specs.Files.{Files}
 use Rattle.dms_history.specs.Agrees.{Numbered}
 use Rattle.dms_history.specs.Entries.{Entry, schema_part, image, byte_range, quiet_point, control_point, begin_restore}
+use Rattle.dms_history.specs.Events.{Counts, Event, control}
+use Rattle.dms_history.specs.Images.{first_before}
+use Rattle.dms_history.specs.Lists.{has, until_first, after_last}
+use Rattle.dms_history.specs.Places.{is_control, is_point}
+use Rattle.dms_history.specs.Told.{undone_to}
 use Rattle.dms_history.specs.EntryEvents.{events_in, live_of, next_of}
 use Rattle.dms_history.specs.LawsOfRanges.{HasImages}
 use Rattle.dms_history.specs.Ranges.{live_logged}
@@ -18,7 +23,7 @@ use Rattle.dms_restore.specs.declared.audit_block.AuditBlock.{AuditBlock}
 use Rattle.dms_restore.specs.declared.told.Told.{Told}
 use Rattle.dms_restore.specs.Finding.{IsFoundFrom}
 use Rattle.dms_restore.specs.Scanned.{AreInAudit}
-use Rattle.dms_restore.specs.Table.{IsTable}
+use Rattle.dms_restore.specs.Table.{AreWhole, last_of, IsAmong, IsTable}
 
 -- the last sealed block of a trail
 abbrev pub last_block : AuditEnd → AuditBlock
@@ -42,6 +47,45 @@ pub record AreInOrder (entries : List Entry) : Type 0 where
   pub numbered : Numbered (live_of entries) (next_of entries)
   pub images : HasImages (live_logged [] (events_in entries))
 
+-- Live changes end with the Control of a restore to point m and what stands behind it: before it stands what was live up to the first place of
+-- that point, none where it had no place, and no other Control stands behind it.
+pub record IsBack (live : List Event) (m : ℕ) : Type 0 where
+  pub before : List Event
+  pub since : List Event
+  pub next : ℕ
+  pub counts : Counts
+  pub described : Bool
+  pub are : live ≡ until_first (is_point m) before ++ control m next counts described ∷ since
+  pub last : has is_control since ≡ false
+
+-- so do the live changes of these entries
+abbrev pub IsBackTo : List Entry → ℕ → Type 0
+IsBackTo es m = IsBack (live_of es) m
+
+-- The table undoes changes: of each block that one of them changes it tells what stood before the first one, and no other block.
+pub record Undoes (since : List Event) (files : Files) (table : List Told) : Type 0 where
+  pub whole : AreWhole files table
+  pub tells : (f b : ℕ) → undone_to (first_before f b since) ≡ last_of files f b table
+  pub among : (f b : ℕ) → IsAmong f b table → last_of files f b table ≡ None → ⊥
+
+-- so it does of the live changes behind the last Control of these entries
+abbrev pub UndoesLast : List Entry → Files → List Told → Type 0
+UndoesLast es files table = Undoes (after_last is_control (live_of es)) files table
+
+-- The table is that of point m; or it undoes what stands behind the last Control, where that may do.
+abbrev pub Serves : Bool → List Entry → ℕ → Files → List Told → Type 0
+Serves back es m files table = IsTable (live_of es) m files table ⊎ ((back ≡ true) × UndoesLast es files table)
+
+-- Whatever stands before a Control, and these entries directly behind it: the table undoes what stands behind the last Control.
+abbrev pub UndoesBehind : List Entry → Files → List Told → Type 0
+UndoesBehind es files table = (front : List Entry) (k next : ℕ) (counts : List FileCount) → AreInOrder (front ++ control_point k next counts ∷ es)
+    → UndoesLast (front ++ control_point k next counts ∷ es) files table
+
+-- So it is of the entries that stand at these places in old files, over whatever files in which they stand there.
+abbrev pub UndoesPlaced : Files → List EntryPlace → List Told → Type 0
+UndoesPlaced old places table = (placed : List Placed) → AreInAudit places → places ≡ map place_in placed → AreThere old placed
+    → (new : Files) → AreThere new placed → UndoesBehind (map entry_in placed) new table
+
 -- Whatever stands before an earlier Control, and these entries directly behind it: the table is that of point m.
 abbrev pub TellsBehind : List Entry → ℕ → Files → List Told → Type 0
 TellsBehind es m files table = (front : List Entry) (k next : ℕ) (counts : List FileCount) → k < m → AreInOrder (front ++ control_point k next counts ∷ es)
@@ -52,10 +96,10 @@ abbrev pub TellsPlaced : Files → List EntryPlace → ℕ → List Told → Typ
 TellsPlaced old places m table = (placed : List Placed) → AreInAudit places → places ≡ map place_in placed → AreThere old placed
     → (new : Files) → AreThere new placed → TellsBehind (map entry_in placed) m new table
 
--- Whatever stands before the entries at these places, the table is that of point m.
-abbrev pub TellsLast : Files → List EntryPlace → ℕ → List Told → Type 0
-TellsLast old places m table = (placed : List Placed) → AreInAudit places → places ≡ map place_in placed → AreThere old placed
-    → (new : Files) → AreThere new placed → (front : List Entry) → AreInOrder (front ++ map entry_in placed) → IsTable (live_of (front ++ map entry_in placed)) m new table
+-- Whatever stands before the entries at these places, the table serves for point m.
+abbrev pub TellsLast : Bool → Files → List EntryPlace → ℕ → List Told → Type 0
+TellsLast back old places m table = (placed : List Placed) → AreInAudit places → places ≡ map place_in placed → AreThere old placed
+    → (new : Files) → AreThere new placed → (front : List Entry) → AreInOrder (front ++ map entry_in placed) → Serves back (front ++ map entry_in placed) m new table
 
 -- Among these entries the last of the first so many is a Control of this number.
 pub record HasControl (placed : List Placed) (up_to number : ℕ) : Type 0 where
@@ -74,6 +118,6 @@ pub record IsOrdered (end : AuditEnd) (first : ℕ) (files : Files) : Type 0 whe
   pub found : IsFoundFrom end.total first files
   pub order : AreInOrder (trail_entries end.total first files)
 
--- The table is that of point m of such a trail, and stays so while the trail grows.
-abbrev pub TellsTrail : AuditEnd → ℕ → Files → ℕ → List Told → Type 0
-TellsTrail end first files m table = IsOrdered end first files → (new : Files) → Grown end.total first files new → IsTable (live_of (trail_entries end.total first files)) m new table
+-- The table serves for point m of such a trail, and does so while the trail grows.
+abbrev pub TellsTrail : Bool → AuditEnd → ℕ → Files → ℕ → List Told → Type 0
+TellsTrail back end first files m table = IsOrdered end first files → (new : Files) → Grown end.total first files new → Serves back (trail_entries end.total first files) m new table

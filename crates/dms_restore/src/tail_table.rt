@@ -1,6 +1,9 @@
 //! The table of a point, from the last entries of a trail alone.
 
-ghost use Rattle.std.specs.Prelude.{◌≡◌, ◌≤◌, Some, IfOk, IfErr, IfSome, IsErrOf, IsTrue, length};
+ghost use Rattle.std.specs.Prelude.{◌≡◌, ◌≤◌, ◌∷◌, Some, IfOk, IfErr, IfSome, IsErrOf, IsTrue, length};
+ghost use Rattle.dms_site.specs.Files.{Files};
+ghost use Rattle.dms_history.specs.Lists.{after_last};
+ghost use Rattle.dms_history.specs.Ranges.{is_control_logged};
 ghost use Rattle.dms_history.specs.Entries as meaning;
 ghost use Rattle.dms_audrec.specs.Seen.{entry_seen};
 ghost use Rattle.dms_audfile.specs.AuditTrail.{entry_there};
@@ -8,12 +11,16 @@ ghost use Rattle.dms_audfile.specs.Counting.{CountedAt};
 ghost use Rattle.dms_audfile.specs.EntryReading.{IsCurrent};
 ghost use Rattle.dms_audfile.specs.Reads.{ReadsAlone};
 ghost use Rattle.dms_restore.specs.BackOuts.{IsDiskOrMemory};
-ghost use Rattle.dms_restore.specs.Table.{AreBlocks};
-ghost use Rattle.dms_restore.specs.TailTables.{IsInTrail, control_number, FindsControl, TellsLast, TellsPlaced, TellsTrail};
+ghost use Rattle.dms_restore.specs.LiveEntries.{logged_live, changes_at, AllStandWhole};
+ghost use Rattle.dms_restore.specs.declared.live.LiveEntry.TheVariants.{Quiet};
+ghost use Rattle.dms_restore.specs.Table.{AreBlocks, IsTable};
+ghost use Rattle.dms_restore.specs.TailTables.{IsInTrail, control_number, FindsControl, TellsLast, TellsPlaced, TellsTrail, UndoesPlaced};
 
+use crate::placing::after_control;
 use crate::reading::read_trail;
 use crate::rereading::{disk_or_memory, point_told, table_of_point};
-use crate::{AuditBlock, Told};
+use crate::table::table_of;
+use crate::{AuditBlock, LiveEntry, Told};
 use dms_audfile::laws::{
     entries_stand_at_their_places, entries_stay_at_their_places, what_is_read_from_a_block_is_found,
 };
@@ -126,16 +133,61 @@ fn table_behind<S: Site>(
     }
 }
 
-/// The table of a point from the last entries of a trail, which stand at these places; None where no Control of an earlier point is the
-/// first Control among them, or a Begin stands behind it.
+/// The table that undoes the changes of live entries; None where a Control is among them.
+fn table_since(alloc: Global, live: &[LiveEntry]) -> Result<Option<Vec<Told>>, AudFault>
+    ensures blocks { IfOk result (λ o. IfSome o (λ v. AreBlocks v.items)) }
+    ensures last { IfOk result (λ o. IfSome o (λ v. (files : Files) → after_last is_control_logged (logged_live files live.now) ≡ logged_live files live.now)) }
+    ensures table { IfOk result (λ o. IfSome o (λ v. (files : Files) → AllStandWhole files live.now → IsTable (changes_at files (Quiet 0 ∷ live.now)) 0 files v.items)) }
+    ensures only { IfErr result (λ e. e ≡ AudFault.Memory) }
+{
+    if after_control(live) != 0 {
+        return Ok(None);
+    }
+    match table_of(alloc, &[LiveEntry::Quiet(0)], live) {
+        Ok(table) => Ok(Some(table)),
+        Err(_) => Err(AudFault::Memory),
+    }
+}
+
+/// The table that undoes the entries at these places, which stand directly behind a Control; None where a Begin or a Control is among them.
+fn undo_behind<S: Site>(
+    alloc: Global,
+    site: &mut S,
+    places: &[EntryPlace],
+) -> Result<Option<Vec<Told>>, AudFault>
+    ensures blocks { IfOk result (λ o. IfSome o (λ v. AreBlocks v.items)) }
+    ensures table { IfOk result (λ o. IfSome o (λ v. IsTrue S.tells → UndoesPlaced (S.files site.old) places.now v.items)) }
+    ensures only { IfErr result IsDiskOrMemory }
+    ensures reads { ReadsAlone S.Site site.old site.new }
+    ensures same_site { S.same_site site.old site.new }
+    ensures disk { CountedAt (IsErrOf result AudFault.Disk) (S.disk_faults site.old) (S.disk_faults site.new) }
+{
+    let trace = match read_trail(alloc, site, places) {
+        Ok(trace) => trace,
+        Err(fault) => return Err(disk_or_memory(fault)),
+    };
+    if trace.history.begun {
+        return Ok(None);
+    }
+    match table_since(alloc, &trace.history.live) {
+        Ok(table) => Ok(table),
+        Err(fault) => Err(fault),
+    }
+}
+
+/// The table of a point from the last entries of a trail, which stand at these places; None where these don't tell it by themselves.
+///
+/// They do where a Control of an earlier point is the first Control among them, and no Begin stands behind it. Where the first Control is
+/// of the point itself, and `back` says that it ended a restore to it, they do where neither a Begin nor a Control stands behind it.
 fn table_of_last<S: Site>(
     alloc: Global,
     site: &mut S,
     places: &[EntryPlace],
     point: u64,
+    back: bool,
 ) -> Result<Option<Vec<Told>>, AudFault>
     ensures blocks { IfOk result (λ o. IfSome o (λ v. AreBlocks v.items)) }
-    ensures table { IfOk result (λ o. IfSome o (λ v. IsTrue S.tells → TellsLast (S.files site.old) places.now point v.items)) }
+    ensures table { IfOk result (λ o. IfSome o (λ v. IsTrue S.tells → TellsLast back (S.files site.old) places.now point v.items)) }
     ensures only { IfErr result IsDiskOrMemory }
     ensures reads { ReadsAlone S.Site site.old site.new }
     ensures same_site { S.same_site site.old site.new }
@@ -146,10 +198,13 @@ fn table_of_last<S: Site>(
         Ok(None) => return Ok(None),
         Err(fault) => return Err(fault),
     };
-    if point <= control.number {
+    if control.number < point {
+        return table_behind(alloc, site, &places[control.up_to..], point);
+    }
+    if !back {
         return Ok(None);
     }
-    table_behind(alloc, site, &places[control.up_to..], point)
+    undo_behind(alloc, site, &places[control.up_to..])
 }
 
 /// Whether a block is a sealed one of the trail that begins with file `first`.
@@ -172,9 +227,10 @@ fn told_near<S: Site>(
     first: u32,
     from: &AuditBlock,
     point: u64,
+    back: bool,
 ) -> Result<Option<Vec<Told>>, AudFault>
     ensures blocks { IfOk result (λ o. IfSome o (λ v. AreBlocks v.items)) }
-    ensures table { IfOk result (λ o. IfSome o (λ v. IsTrue S.tells → TellsTrail end.now first (S.files site.old) point v.items)) }
+    ensures table { IfOk result (λ o. IfSome o (λ v. IsTrue S.tells → TellsTrail back end.now first (S.files site.old) point v.items)) }
     ensures only { IfErr result IsDiskOrMemory }
     ensures reads { ReadsAlone S.Site site.old site.new }
     ensures same_site { S.same_site site.old site.new }
@@ -190,14 +246,14 @@ fn told_near<S: Site>(
         Ok(places) => places,
         Err(fault) => return Err(disk_or_memory(fault)),
     };
-    table_of_last(alloc, site, &places, point)
+    table_of_last(alloc, site, &places, point, back)
 }
 
 /// What the audit tells of each block at a point, and of no other, where the trail from file `first` on ends here. It stays so while the
-/// trail grows.
+/// trail grows. `back` says whether the last Control ended a restore to this point: then blocks that didn't change since may be left out.
 ///
-/// Reads the trail from block `from` on. Where a Control of a point before this one isn't the first Control from there on, or a Begin
-/// stands behind it, it reads the whole trail. Nothing changes. Answers Disk where a call of the site failed, and Memory, also where
+/// Reads the trail from block `from` on. Where the first Control from there on is neither one of a point before this one nor such a one, or
+/// a Begin stands behind it, it reads the whole trail. Nothing changes. Answers Disk where a call of the site failed, and Memory, also where
 /// another program has written the audit.
 pub(crate) fn point_told_near<S: Site>(
     alloc: Global,
@@ -206,15 +262,16 @@ pub(crate) fn point_told_near<S: Site>(
     first: u32,
     from: &AuditBlock,
     point: u64,
+    back: bool,
 ) -> Result<Vec<Told>, AudFault>
     ensures blocks { IfOk result (λ v. AreBlocks v.items) }
-    ensures table { IfOk result (λ v. IsTrue S.tells → TellsTrail end.now first (S.files site.old) point v.items) }
+    ensures table { IfOk result (λ v. IsTrue S.tells → TellsTrail back end.now first (S.files site.old) point v.items) }
     ensures only { IfErr result IsDiskOrMemory }
     ensures reads { ReadsAlone S.Site site.old site.new }
     ensures same_site { S.same_site site.old site.new }
     ensures disk { CountedAt (IsErrOf result AudFault.Disk) (S.disk_faults site.old) (S.disk_faults site.new) }
 {
-    match told_near(alloc, site, end, first, from, point) {
+    match told_near(alloc, site, end, first, from, point, back) {
         Ok(Some(table)) => Ok(table),
         Ok(None) => point_told(alloc, site, end.total, first, point),
         Err(fault) => Err(fault),

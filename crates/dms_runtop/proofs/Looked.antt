@@ -28,6 +28,7 @@ looked_from files point next schema counts v now later same steps r = subst (λ 
   runs = runs_still v v.files later refl r.runs (steps_weaken steps (λ x y was is. ap (λ (l : Left). l.files) is));
   nothing = r.nothing;
   entries_are = r.entries_are;
+  went_back = r.went_back;
   points_same = r.points_same;
   all_durable = r.all_durable;
   next_is = r.next_is;

@@ -9,6 +9,7 @@ use Rattle.dms_history.specs.EntryEvents.{events_in}
 use Rattle.dms_pool.specs.Entries.{same_key}
 use Rattle.dms_restore.specs.Counts.{count_of}
 use Rattle.dms_restore.specs.Logging.{LogView, entries}
+use Rattle.dms_restore.specs.TailTables.{IsBackTo}
 use Rattle.dms_wal.specs.declared.imaged.ImagedBlocks.{ImagedBlocks}
 
 -- whether a block is among them
@@ -22,20 +23,26 @@ room_of set = spare set.keys
 abbrev pub HasNone : ImagedBlocks → Type 0
 HasNone set = (f b : ℕ) → has_block set f b ≡ false
 
+-- the last Control is the same
+abbrev pub KeepsControl : ImagedBlocks → ImagedBlocks → Type 0
+KeepsControl old new = (new.back ≡ old.back) × (new.number ≡ old.number)
+
 abbrev pub SameImages : ImagedBlocks → ImagedBlocks → Type 0
-SameImages old new = (f b : ℕ) → has_block new f b ≡ has_block old f b
+SameImages old new = ((f b : ℕ) → has_block new f b ≡ has_block old f b) × KeepsControl old new
 
 -- this block is one more of them
 abbrev pub AddsImage : ℕ → ℕ → ImagedBlocks → ImagedBlocks → Type 0
-AddsImage g k old new = (f b : ℕ) → has_block new f b ≡ (has_block old f b || is_at f b g k)
+AddsImage g k old new = ((f b : ℕ) → has_block new f b ≡ (has_block old f b || is_at f b g k)) × KeepsControl old new
 
 -- block b of file f has an Image itself since the last Control
 abbrev pub has_image : List Entry → ℕ → ℕ → Bool
 has_image es f b = has (is_image f b) (after_last is_control_logged (live_logged [] (events_in es)))
 
--- the set is the blocks with an Image itself since the last Control
-abbrev pub IsImagedSet : LogView → ImagedBlocks → Type 0
-IsImagedSet v set = (f b : ℕ) → has_block set f b ≡ has_image (entries v) f b
+-- The set is the blocks with an Image itself since the last Control. Where it says that this Control ended a restore to the point of its number, it
+-- did.
+pub record IsImagedSet (v : LogView) (set : ImagedBlocks) : Type 0 where
+  pub has_them : (f b : ℕ) → has_block set f b ≡ has_image (entries v) f b
+  pub went_back : set.back ≡ true → IsBackTo (entries v) set.number
 
 -- each of them is one of the table
 abbrev pub ImagesCounted : ImagedBlocks → List ℕ → Type 0

@@ -1,6 +1,6 @@
 //! The blocks with an Image since the last Control, and where that stands.
 
-ghost use Rattle.std.specs.Prelude.{◌≡◌, ◌≤◌, ◌<◌, ◌+◌, nat_lt, if◌then◌else◌, OnOk};
+ghost use Rattle.std.specs.Prelude.{◌≡◌, ◌≤◌, ◌<◌, ◌+◌, true, OnOk};
 ghost use Rattle.dms_wal.specs.ImagedSets.{AddsImage, has_block, HasNone, room_of, SameImages};
 
 use dms_base::Memory;
@@ -10,8 +10,8 @@ use dms_restore::AuditBlock;
 use std::alloc::Global;
 use std::collections::HashSet;
 
-/// The blocks with an Image since the last Control, and where that stands. Nothing is promised of the places: who reads there looks
-/// whether they are right.
+/// The blocks with an Image since the last Control, where that stands, and whether it ended a restore. Nothing is promised of the places:
+/// who reads there looks whether they are right.
 #[derive(Drop)]
 pub struct ImagedBlocks {
     pub keys: HashSet<FrameKey>,
@@ -19,31 +19,38 @@ pub struct ImagedBlocks {
     pub control: AuditBlock,
     /// The number of that Control.
     pub number: u64,
+    /// Whether it ended a restore to the point of that number.
+    pub back: bool,
     /// The block of the audit with the last Control of a lower number.
     pub earlier: AuditBlock,
 }
 
 impl ImagedBlocks {
-    /// No block, behind a Control of this number.
-    pub fn new(alloc: Global, control: AuditBlock, number: u64) -> ImagedBlocks
-        ensures { HasNone result }
+    /// No block, behind a Control of this number, which ended a restore to its point or did not.
+    pub fn new(alloc: Global, control: AuditBlock, number: u64, back: bool) -> ImagedBlocks
+        ensures none { HasNone result }
+        ensures control { (result.number ≡ number) × (result.back ≡ back) }
     {
         ImagedBlocks {
             keys: HashSet::new(alloc),
             control,
             number,
+            back,
             earlier: control,
         }
     }
 
-    /// The block of the audit with the last Control of a number below this one.
-    pub fn control_before(&self, number: u64) -> AuditBlock
-        ensures { result ≡ (if nat_lt self.now.number number then self.now.control else self.now.earlier) }
+    /// Where the audit tells a point of at least the last Control's number: behind that Control, where its number is lower or it ended a
+    /// restore to the point, which is said too; else behind the last one of a lower number.
+    pub fn told_from(&self, number: u64) -> (AuditBlock, bool)
+        ensures { result.1 ≡ true → (self.now.back ≡ true) × (self.now.number ≡ number) }
     {
-        if self.number < number {
-            self.control
+        if self.back && self.number == number {
+            (self.control, true)
+        } else if self.number < number {
+            (self.control, false)
         } else {
-            self.earlier
+            (self.earlier, false)
         }
     }
 
@@ -72,9 +79,10 @@ impl ImagedBlocks {
         let _added = self.keys.insert(FrameKey::of(id));
     }
 
-    /// Leaves no block, behind a Control of this number.
-    pub fn clear(&mut self, control: AuditBlock, number: u64)
-        ensures { HasNone self.new }
+    /// Leaves no block, behind a Control of this number, which ended a restore to its point or did not.
+    pub fn clear(&mut self, control: AuditBlock, number: u64, back: bool)
+        ensures none { HasNone self.new }
+        ensures control { (self.new.number ≡ number) × (self.new.back ≡ back) }
     {
         self.keys.clear();
         if self.number < number {
@@ -82,5 +90,6 @@ impl ImagedBlocks {
         }
         self.control = control;
         self.number = number;
+        self.back = back;
     }
 }

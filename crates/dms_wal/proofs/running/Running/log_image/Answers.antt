@@ -70,7 +70,7 @@ returns-in-Err-keep-clause-full g c n is = absurd (disk_not_full c.in-Err-keep.f
 
 pub returns-in-Ok-keep-clause-logs : goal.returns-in-Ok-keep-clause-logs
 returns-in-Ok-keep-clause-logs g c t =
-    logs_image (view_of g.S.Site c.args.self.now.log) (view_of g.S.Site c.keep.new.log) c.args.change.now (option_copied c.bytes_of.result) (c.requires.differs t) (sym (c.requires.sound.imaged t c.args.change.now.id.file c.args.change.now.id.block) ∙ c.requires.first t)
+    logs_image (view_of g.S.Site c.args.self.now.log) (view_of g.S.Site c.keep.new.log) c.args.change.now (option_copied c.bytes_of.result) (c.requires.differs t) (sym ((c.requires.sound.imaged t).has_them c.args.change.now.id.file c.args.change.now.id.block) ∙ c.requires.first t)
     (subst (λ (o : Option (List ℕ)). TellsBefore c.args.change.now.id.block o (content (view_of g.S.Site c.args.self.now.log) c.args.change.now.id.file)) (sym c.bytes_of.ensures.bytes) (c.requires.before t))
     ((c.in-Ok-keep.ensures.kept t).entries_same ∙ (c.in-Ok.ensures.logs t).entries_are)
 

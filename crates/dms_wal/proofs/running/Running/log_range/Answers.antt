@@ -21,7 +21,7 @@ returns-in-Err-clause-alters g c =
     c.append_fault.result (disk_or_full _ _ _ _ c.append_fault.ensures) c.args.self.now.pool _ c.args.self.now.counts c.args.self.now.imaged refl
 
 pub range-requires-clause-imaged : goal.range-requires-clause-imaged
-range-requires-clause-imaged g c t = sym (c.requires.sound.imaged t c.args.change.now.id.file c.args.change.now.id.block) ∙ c.requires.again
+range-requires-clause-imaged g c t = sym ((c.requires.sound.imaged t).has_them c.args.change.now.id.file c.args.change.now.id.block) ∙ c.requires.again
 
 pub range-requires-clause-fits : goal.range-requires-clause-fits
 range-requires-clause-fits g c = (c.requires.spans.some, c.requires.within)
@@ -31,7 +31,7 @@ keep-requires-clause-changed g c t =
     let id = c.args.change.now.id in
     let v = view_of g.S.Site c.args.self.now.log in
     ranged v (view_of g.S.Site c.range.new.self) c.args.self.now.pool id.file id.block c.args.place c.args.bytes.now c.args.change.now.block.0 (kind_is c.range.ensures.kind.0 c.range.ensures.kind.3) (c.in-Ok.ensures.runs t) (c.requires.sound.goes t).holds
-    (sym (c.requires.sound.imaged t id.file id.block) ∙ c.requires.again) (c.requires.before t).0 (patched_told (content v) id.file id.block c.args.old.now.0 c.args.change.now.block.0 c.args.place c.args.bytes.now c.requires.long (c.requires.before t).1 c.requires.spans) (c.in-Ok.ensures.logs t)
+    (sym ((c.requires.sound.imaged t).has_them id.file id.block) ∙ c.requires.again) (c.requires.before t).0 (patched_told (content v) id.file id.block c.args.old.now.0 c.args.change.now.block.0 c.args.place c.args.bytes.now c.requires.long (c.requires.before t).1 c.requires.spans) (c.in-Ok.ensures.logs t)
 
 pub returns-in-Ok-keep-clause-counts : goal.returns-in-Ok-keep-clause-counts
 returns-in-Ok-keep-clause-counts g c = sym (raise_same _ c.args.change.now.id.file c.args.change.now.id.block c.requires.there)
@@ -88,7 +88,7 @@ returns-in-Ok-keep-clause-logs g c t =
     let x = c.args.change.now in
     let v = view_of g.S.Site c.args.self.now.log in
     let spans = spans_told (content v) x.id.file x.id.block c.args.old.now.0 x.block.0 c.args.place c.args.bytes.now (c.requires.before t).1 c.requires.spans in
-    logs_range v (view_of g.S.Site c.keep.new.log) x c.args.place c.args.bytes.now (differs_spanned (content v) x c.args.place c.args.bytes.now (c.requires.before t).0 spans) (sym (c.requires.sound.imaged t x.id.file x.id.block) ∙ c.requires.again) spans
+    logs_range v (view_of g.S.Site c.keep.new.log) x c.args.place c.args.bytes.now (differs_spanned (content v) x c.args.place c.args.bytes.now (c.requires.before t).0 spans) (sym ((c.requires.sound.imaged t).has_them x.id.file x.id.block) ∙ c.requires.again) spans
     ((c.in-Ok-keep.ensures.kept t).entries_same ∙ (c.in-Ok.ensures.logs t).entries_are)
 
 pub returns-in-Err-clause-kept : goal.returns-in-Err-clause-kept
