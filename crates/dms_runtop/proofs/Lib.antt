@@ -22,3 +22,4 @@ pub mod Fulls
 pub mod Bounds
 pub mod Inputs
 pub mod Grows
+pub mod Naming

@@ -58,5 +58,6 @@ module _ {S I : Type 0} (g : Ghosts S) (i : source.Ghosts I) where
     pub by_input : BlamesInput (i.left from) (i.left to) status
     -- status 8 of an audit file comes only where the trail goes on after that file: it begins after it, or all gates of that file are open
     pub full : HasNoRoom g old new status
-    -- no file changes, at any moment, but audit files and structure files
+    -- no file changes, at any moment, but audit files and the files of structures: where the files are told, of no more than the description file names
+    -- at entry
     pub beside : StaysBeside g old new

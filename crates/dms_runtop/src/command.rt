@@ -197,7 +197,7 @@ fn run_known<S: Site, I: Source, K: Knows>(
     ensures statuses { (result.status ≡ Status.Ok) ⊎ IsOfScript result.status }
     ensures disk { CountedAt (result.status ≡ Status.DiskFault) (S.disk_faults opened.log.site.site + opened.log.site.refused) (S.disk_faults result.site.site + result.site.refused) }
     ensures say { CountedAt (result.status ≡ Status.SayFault) (S.say_faults opened.log.site.site) (S.say_faults result.site.site) }
-    ensures same { SameGuarded S.Site opened.log.site.site result.site.site }
+    ensures same { SameGuarded S.Site opened.log.site.structures opened.log.site.site result.site.structures result.site.site }
 {
     run_opened(alloc, opened, source)
 }
@@ -218,7 +218,7 @@ fn run_confirmed<S: Site, I: Source, K: Knows>(
     ensures passes { PassesAtFull S.Site opened.log.end.total opened.log.first result.status result.site.site }
     ensures disk { CountedAt (result.status ≡ Status.DiskFault) (S.disk_faults opened.log.site.site + opened.log.site.refused) (S.disk_faults result.site.site + result.site.refused) }
     ensures say { CountedAt (result.status ≡ Status.SayFault) (S.say_faults opened.log.site.site) (S.say_faults result.site.site) }
-    ensures same { SameGuarded S.Site opened.log.site.site result.site.site }
+    ensures same { SameGuarded S.Site opened.log.site.structures opened.log.site.site result.site.structures result.site.site }
 {
     let first = opened.log.first;
     let total = opened.log.end.total;
@@ -249,7 +249,7 @@ fn run_found<S: Site, I: Source>(
     ensures full { HasNoRoom S.Site site.site result.site.site result.status }
     ensures disk { CountedAt (result.status ≡ Status.DiskFault) (S.disk_faults site.site + site.refused) (S.disk_faults result.site.site + result.site.refused) }
     ensures say { CountedAt (result.status ≡ Status.SayFault) (S.say_faults site.site) (S.say_faults result.site.site) }
-    ensures same { SameGuarded S.Site site.site result.site.site }
+    ensures same { SameGuarded S.Site site.structures site.site result.site.structures result.site.site }
 {
     held_law();
     states_law();
@@ -282,6 +282,7 @@ fn run_guarded<S: Site, I: Source>(alloc: Global, site: S, source: &mut I) -> En
         alloc,
         RunSite {
             site,
+            structures: 0,
             refused: 0,
             by,
         },
@@ -290,10 +291,12 @@ fn run_guarded<S: Site, I: Source>(alloc: Global, site: S, source: &mut I) -> En
     let status = ended.status;
     let RunSite {
         site,
+        structures: _,
         refused,
         by: _by,
     } = ended.into_site();
-    // No run comes to a call that is refused: nothing below writes such a file.
+    // No run comes to a call that is refused, where the audit has blocks of no other structures than the description names: nothing below writes
+    // another file.
     if refused > 0 {
         return Ended {
             status: Status::Memory,

@@ -1,6 +1,8 @@
-//! The site of a run: of it only audit files and structure files are written, and its files are told only where it is known what they stand for.
+//! The site of a run: of it only audit files and the files of its structures are written, and its files are told only where it is known what they stand for.
 
-ghost use Rattle.std.specs.Prelude.{◌↔◌, ◌+◌, ◌&&◌, Bool, true, IsTrue};
+ghost use Rattle.std.specs.Prelude.{◌↔◌, ◌≤◌, ◌+◌, ◌++◌, ◌&&◌, ℕ, List, Bool, length, true, IsTrue};
+ghost use Rattle.dms_desc.specs.Shape.{Described};
+ghost use Rattle.dms_descfile.specs.DescriptionFile.{IsSealed};
 ghost use Rattle.dms_runtop.specs.Both.{second_of};
 ghost use Rattle.dms_runtop.specs.Guard.{IsBeside, SameGuarded};
 
@@ -16,18 +18,37 @@ impl Knows for Brand {
     ghost known = { true };
 }
 
-/// Whether a file is neither an audit file nor one of the 200 structure files that a database may have.
-fn is_beside(file: u32) -> bool
-    ensures { IsTrue result ↔ IsBeside file }
+/// The number of the description file.
+const DESCRIPTION_FILE: u32 = 1;
+
+/// Whether a file is neither an audit file nor one of so many structure files.
+fn is_beside(file: u32, structures: u8) -> bool
+    ensures { IsTrue result ↔ IsBeside structures file }
 {
-    file <= 10_000 || (file > 20_000 && file <= 30_000) || file > 30_200
+    file <= 10_000 || (file > 20_000 && file <= 30_000) || file > 30_000 + u32::from(structures)
 }
 
-/// A site of which only audit files and structure files are written: a write or a cut of another file is refused and makes no call, and counts
-/// as one that failed. Each other call is that of the site. Its files are told only where it is known what they stand for.
+/// How many structures a description file names that begins with these bytes, by the number that stands at its place 22; at most 200, and 0 where
+/// that isn't among them.
+fn named_structures(bytes: &[u8]) -> u8
+    ensures few { result ≤ 200 }
+    ensures named { (d : Described) (rest : List ℕ) → IsSealed (bytes.now ++ rest) d → result ≤ length d.structures }
+{
+    if bytes.len() < 24 {
+        return 0;
+    }
+    let named = u32::from(bytes[22]) * 256 + u32::from(bytes[23]);
+    named.min(200) as u8
+}
+
+/// A site of which only audit files are written, and the files of as many structures as its description file named when it was read last: a write
+/// or a cut of another file is refused and makes no call, and counts as one that failed. Each other call is that of the site. Its files are told
+/// only where it is known what they stand for.
 #[derive(Drop)]
 pub struct RunSite<S: Site, K: Knows> {
     pub site: S,
+    /// How many structures the description file named when it was read last; 0 before.
+    pub structures: u8,
     /// How many calls were refused. It stays at 2^64 - 1.
     pub refused: u64,
     pub by: PhantomData<K>,
@@ -46,11 +67,11 @@ impl<S: Site, K: Knows> Site for RunSite<S, K> {
 
     ghost clock = { λ s. S.Site.clock s.site };
 
-    ghost same_site = { λ a b. SameGuarded S.Site a.site b.site };
+    ghost same_site = { λ a b. SameGuarded S.Site a.structures a.site b.structures b.site };
 
-    ghost same_again = { λ s. guarded_again S.Site.same_again s.site };
+    ghost same_again = { λ s. guarded_again S.Site.same_again s.structures s.site };
 
-    ghost same_then = { λ r s t one two. guarded_then S.Site.same_then r.site s.site t.site one two };
+    ghost same_then = { λ r s t one two. guarded_then S.Site.same_then r.structures r.site s.structures s.site t.structures t.site one two };
 
     ghost disk_faults = { λ s. S.Site.disk_faults s.site + s.refused };
 
@@ -71,11 +92,15 @@ impl<S: Site, K: Knows> Site for RunSite<S, K> {
     }
 
     fn read(&mut self, file: u32, at: u64, into: &mut [u8]) -> Result<usize, Failed> {
-        self.site.read(file, at, into)
+        let count = self.site.read(file, at, into)?;
+        if file == DESCRIPTION_FILE && at == 0 {
+            self.structures = named_structures(&into[..count]);
+        }
+        Ok(count)
     }
 
     fn write_at(&mut self, file: u32, at: u64, bytes: &[u8]) -> Result<(), Failed> {
-        if is_beside(file) {
+        if is_beside(file, self.structures) {
             self.refused = self.refused.saturating_add(1);
             return Err(Failed);
         }
@@ -83,7 +108,7 @@ impl<S: Site, K: Knows> Site for RunSite<S, K> {
     }
 
     fn cut(&mut self, file: u32, len: u64) -> Result<(), Failed> {
-        if is_beside(file) {
+        if is_beside(file, self.structures) {
             self.refused = self.refused.saturating_add(1);
             return Err(Failed);
         }

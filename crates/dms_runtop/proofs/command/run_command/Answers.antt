@@ -24,4 +24,4 @@ returns-clause-does g c =
       complete_state = one.opens.complete_state;
     })
     (λ tells s is valid next has room all held. let r = one.ran tells s is valid next has room all held in record { total = r.total; first = r.first; trail = r.trail; runs = r.runs })
-    (λ tells s is. let k = one.trail tells s is in record { kept = k.kept; left = k.left }) one.takes.blames one.full (record { read = one.beside.read; left = one.beside.left })))
+    (λ tells s is. let k = one.trail tells s is in record { kept = k.kept; left = k.left }) one.takes.blames one.full (λ s has. let b = one.beside s has in record { read = b.read; left = b.left })))

@@ -4,6 +4,8 @@ use Rattle.dms_site.specs.Files.{Same}
 use Rattle.dms_status.specs.declared.status.LimitKind.TheVariants.{AuditFile}
 use Rattle.dms_status.specs.declared.status.Status.TheVariants.{Limit}
 use Rattle.dms_runtop.specs.Bare.{bare}
+use Rattle.dms_runtop.specs.Guard.{SameGuarded}
+use Rattle.dms_runtop.specs.GuardLaws.{guarded_then}
 use Rattle.dms_runtop.proofs.Grows.{grows_upto}
 use Rattle.dms_runtop.proofs.Instead.{full_place, opened_instead}
 use Rattle.dms_runtop.proofs.Taking.{takes_full}
@@ -27,3 +29,9 @@ pub returns-in-Limit-AuditFile-clause-takes : goal.returns-in-Limit-AuditFile-cl
 returns-in-Limit-AuditFile-clause-takes g c =
     let was : c.run_known-ended.result.status ≡ Limit (AuditFile c.in-Limit-AuditFile.limit) = search rules in
     takes_full g.I.Source c.args.source.now c.run_known-ended.new.source c.in-Limit-AuditFile.limit c.run_known-ended.result.status c.status_of_full-status.result was c.status_of_full-status.ensures.kind c.run_known-ended.ensures.takes
+
+pub returns-in-Limit-AuditFile-clause-same : goal.returns-in-Limit-AuditFile-clause-same
+returns-in-Limit-AuditFile-clause-same g c =
+    let new = c.status_of_full-status.new.site in
+    guarded_then g.met.S.Site.same_then _ c.args.opened.log.site.site _ c.run_known-ended.result.site.site _ new.site c.run_known-ended.ensures.same
+    (subst (λ x. SameGuarded g.S.Site x.structures x.site new.structures new.site) c.into_site-site.ensures c.status_of_full-status.ensures.same_site)

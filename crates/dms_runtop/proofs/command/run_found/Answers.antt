@@ -37,7 +37,7 @@ pub returns-in-Err-clause-takes : goal.returns-in-Err-clause-takes
 returns-in-Err-clause-takes g c = takes_unopened g.I.Source g.met.I.Source.same_again c.args.source.now c.in-Err.fault c.status_of_open.result c.status_of_open.ensures
 
 pub returns-in-Ok-clause-same : goal.returns-in-Ok-clause-same
-returns-in-Ok-clause-same g c = guarded_then g.met.S.Site.same_then c.args.site.site c.in-Ok.opened.log.site.site c.run_confirmed.result.site.site c.in-Ok.ensures.same c.run_confirmed.ensures.same
+returns-in-Ok-clause-same g c = guarded_then g.met.S.Site.same_then _ c.args.site.site _ c.in-Ok.opened.log.site.site _ c.run_confirmed.result.site.site c.in-Ok.ensures.same c.run_confirmed.ensures.same
 
 pub returns-in-Err-clause-same : goal.returns-in-Err-clause-same
 returns-in-Err-clause-same g c = c.in-Err.ensures.same_then

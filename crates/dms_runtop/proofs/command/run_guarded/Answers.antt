@@ -1,6 +1,8 @@
-use Rattle.std.proofs.Common.{◌<◌, sym, subst}
+use Rattle.std.proofs.Common.{◌<◌, refl, sym, subst}
 use Rattle.dms_status.specs.declared.status.Status.TheVariants.{Memory}
 use Rattle.dms_runtop.specs.Command.{RunKeepsTrail, RunsCommand}
+use Rattle.dms_runtop.specs.Guard.{StaysBeside}
+use Rattle.dms_runtop.specs.GuardLaws.{guarded_beside}
 use Rattle.dms_runtop.specs.RunDoes.{Opens}
 use Rattle.dms_runtop.specs.Statuses.{IsRefusal}
 use Rattle.dms_runtop.proofs.Guarding.{refused_counts}
@@ -50,3 +52,11 @@ returns-then-refused-gt0-clause-takes g c =
     let counted = refused_counts c.run_found-ended.result.status (g.S.Site.disk_faults c.args.site) (g.S.Site.disk_faults c.run_found-ended.result.site.site) c.run_found-ended.result.site.refused ended.same.counted
     (subst (λ x. 0 < x.refused) c.into_site-site.ensures c.if-refused-gt0.true) ended.disk in
     takes_refused g.I.Source c.args.source.now c.run_found-ended.new.source c.run_found-ended.result.status counted.0 ended.takes
+
+pub returns-clause-beside : goal.returns-clause-beside
+returns-clause-beside g c =
+    subst (λ x. StaysBeside g.S.Site c.args.site x.site) (sym c.into_site-site.ensures) (guarded_beside 0 c.args.site c.run_found-ended.result.site.structures c.run_found-ended.result.site.site refl c.run_found-ended.ensures.same)
+
+pub returns-then-refused-gt0-clause-beside : goal.returns-then-refused-gt0-clause-beside
+returns-then-refused-gt0-clause-beside g c =
+    subst (λ x. StaysBeside g.S.Site c.args.site x.site) (sym c.into_site-site.ensures) (guarded_beside 0 c.args.site c.run_found-ended.result.site.structures c.run_found-ended.result.site.site refl c.run_found-ended.ensures.same)

@@ -1,10 +1,8 @@
 use Rattle.dms_audfile.specs.Counting.{not_counted}
 use Rattle.std.proofs.Common.{◌∙◌, ap}
-use Rattle.dms_desc.specs.Shape.{Described, as_described}
+use Rattle.dms_desc.specs.Shape.{as_described}
 use Rattle.dms_store.specs.Storing.{seen_by}
 use Rattle.dms_storeverbs.specs.View.{view}
-use Rattle.dms_wal.specs.declared.running.Running.{Running}
-use Rattle.dms_runtop.specs.Over.{GrowsOver, RunsOver}
 use Rattle.dms_runtop.proofs.Engine.{fresh_over, memory_not_disk, memory_not_say, ran_same, refused_over}
 use Rattle.dms_runtop.proofs.Grows.{grown_same, grows_left}
 use Rattle.dms_runtop.proofs.Taking.{takes_none}
