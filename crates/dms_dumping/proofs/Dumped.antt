@@ -36,26 +36,33 @@ use Rattle.dms_statelaws.proofs.Kept.{is_whole}
 use Rattle.dms_statelaws.proofs.Statements.{dump_law}
 use Rattle.dms_statelaws.proofs.Trails.{WritesWithin, writes_within}
 use Rattle.dms_runtop.specs.Command.{DatabaseState, HoldsState, KeepsTrail, StatesHold}
-use Rattle.dms_runtop.specs.Guard.{IsBeside, StaysBeside}
+use Rattle.dms_runtop.specs.Guard.{IsBeside, StaysBeside, StaysBut}
+use Rattle.dms_runtop.specs.GuardLaws.{all_structures}
 use Rattle.dms_runtop.proofs.Grows.{keeps_entered}
 use Rattle.dms_runtop.proofs.Since.{last_is}
 use Rattle.dms_dumping.specs.DumpDoes.{AsLeft, LeavesDump, StaysBesideDump}
 use Rattle.dms_dumping.specs.Writing.{IsHeadOf, WritesDump}
 
 module _ {S : Type 0} (g : Ghosts S) (d : ℕ) (some : 1 ≤ d) (few : d ≤ 9999) where
-  is_beside : IsBeside (20000 + d)
+  is_beside : IsBeside 200 (20000 + d)
   is_beside = inr (inl (omega (arith, some), omega (arith, few)))
+
+  -- all but audit files and the structure files that a database may have
+  stays_all : (a b : S) → StaysBeside g a b → StaysBut g 200 a b
+  stays_all a b stays = stays 200 (all_structures g.tells (g.files a))
 
   -- ---- an opening alone
 
   pub beside_alone : (a b : S) → StaysBeside g a b → StaysBesideDump g d a b
-  beside_alone a b stays = record {
-    read = λ tells f is not. stays.read tells f is;
-    left = λ tells. steps_weaken stays.left (λ x y now p f is not. p f is);
-  }
+  beside_alone a b stays = λ s has.
+      let these = stays s has in
+      record {
+        read = λ tells f is not. these.read tells f is;
+        left = λ tells. steps_weaken these.left (λ x y now p f is not. p f is);
+      }
 
   as_left : (a b : S) → StaysBeside g a b → Runs (g.clock a) (g.clock b) (AsLeft (g.clock a) (20000 + d))
-  as_left a b stays = runs_weaken stays.left.runs (λ x after. (after.0, after.1, after.2 (20000 + d) is_beside))
+  as_left a b stays = runs_weaken (stays_all a b stays).left.runs (λ x after. (after.0, after.1, after.2 (20000 + d) is_beside))
 
   pub dump_alone : (a b : S) (n : ℕ) (blocks : Left → Files) → StaysBeside g a b → Runs (g.clock a) (g.clock b) (λ x. LeavesDump d n (g.clock a) (blocks x) x)
   dump_alone a b n blocks stays = runs_weaken (as_left a b stays) (λ x p. inl p)
@@ -79,17 +86,19 @@ module _ {S : Type 0} (g : Ghosts S) (d : ℕ) (some : 1 ≤ d) (few : d ≤ 999
     keeps_others writes = steps_weaken writes (λ x y now w. w.others)
 
     pub beside_on : StaysBeside g old mid → (IsTrue g.tells → Others (g.files mid) (g.files new)) → (IsTrue g.tells → Writes) → StaysBesideDump g d old new
-    beside_on stays others writes = record {
-      read = λ tells f is not. others tells f not ∙ stays.read tells f is;
-      left = λ tells. steps_on stays.left (keeps_others (writes tells)) (λ x y z nx ny p q f is not. q f not ∙ p f is) (λ x y nx p f is not. p f is);
-    }
+    beside_on stays others writes = λ s has.
+        let these = stays s has in
+        record {
+          read = λ tells f is not. others tells f not ∙ these.read tells f is;
+          left = λ tells. steps_on these.left (keeps_others (writes tells)) (λ x y z nx ny p q f is not. q f not ∙ p f is) (λ x y nx p f is not. p f is);
+        }
 
     same_blocks : (then now : Files) → Others then now → stored_of now ≡ stored_of then
     same_blocks then now others = stored_same now then (λ f up. others f (λ is. omega (arith, is, up, few)))
 
     -- the dump that is written, of the same blocks
     becomes : (y x : Left) (blocks : Files) → StaysBeside g old mid → Now (g.clock mid) y → stored_of blocks ≡ stored_of (g.files mid) → BecomesDump made (y.files (20000 + d)) (x.files (20000 + d)) → LeavesDump d o.point (g.clock old) blocks x
-    becomes y x blocks stays now same (inl is) = let z = stays.left.follows y now in inl (z.0, z.1, is ∙ z.2 (20000 + d) is_beside)
+    becomes y x blocks stays now same (inl is) = let z = (stays_all old mid stays).left.follows y now in inl (z.0, z.1, is ∙ z.2 (20000 + d) is_beside)
     becomes y x blocks stays now same (inr (inl shut)) = inr (inl shut)
     becomes y x blocks stays now same (inr (inr is)) = inr (inr (record {
       tag = o.log.end.tag;

@@ -9,7 +9,7 @@ use Rattle.dms_dump.specs.Stops.{IsShut}
 use Rattle.dms_run.specs.State.{StateOf}
 use Rattle.dms_runtop.specs.Command.{DatabaseState, KeepsTrail}
 use Rattle.dms_runtop.specs.Full.{HasNoRoom}
-use Rattle.dms_runtop.specs.Guard.{IsBeside}
+use Rattle.dms_runtop.specs.Guard.{HasAtMost, IsBeside}
 use Rattle.dms_statelaws.specs.Statements.{DumpEnds, DumpStands}
 use Rattle.dms_status.specs.declared.status.Status.{Status}
 use Rattle.dms_dumping.specs.Preparing.{IsDumpRefused, NeverRefusesDump}
@@ -31,15 +31,19 @@ pub record IsWholeDump (d n : ℕ) (blocks files : Files) : Type 0 where
 abbrev pub LeavesDump : ℕ → ℕ → Clock Left → Files → Left → Type 0
 LeavesDump d n then blocks x = AsLeft then (20000 + d) x ⊎ (IsShut (x.files (20000 + d)) ⊎ IsWholeDump d n blocks x.files)
 
--- a stop leaves the same of all files but audit files, structure files and dump d
-abbrev pub LeavesBesideDump : ℕ → Left → Left → Type 0
-LeavesBesideDump d old new = (f : ℕ) → IsBeside f → f ≢ 20000 + d → new.files f ≡ old.files f
+-- a stop leaves the same of all files but audit files, the first s structure files and dump d
+abbrev pub LeavesBesideDump : ℕ → ℕ → Left → Left → Type 0
+LeavesBesideDump s d old new = (f : ℕ) → IsBeside s f → f ≢ 20000 + d → new.files f ≡ old.files f
 
 module _ {S : Type 0} (g : Ghosts S) where
-  -- No file but audit files, structure files and dump d changed, and a stop left the others as it could leave them before.
-  pub record StaysBesideDump (d : ℕ) (a b : S) : Type 0 where
-    pub read : IsTrue g.tells → (f : ℕ) → IsBeside f → f ≢ 20000 + d → g.files b f ≡ g.files a f
-    pub left : IsTrue g.tells → Steps (LeavesBesideDump d) (g.clock a) (g.clock b)
+  -- No file but audit files, the first s structure files and dump d changed, and a stop left the others as it could leave them before.
+  pub record StaysButDump (s d : ℕ) (a b : S) : Type 0 where
+    pub read : IsTrue g.tells → (f : ℕ) → IsBeside s f → f ≢ 20000 + d → g.files b f ≡ g.files a f
+    pub left : IsTrue g.tells → Steps (LeavesBesideDump s d) (g.clock a) (g.clock b)
+
+  -- So it is of 200 structure files in any case, and of as many as the description names, where the files are told.
+  abbrev pub StaysBesideDump : ℕ → S → S → Type 0
+  StaysBesideDump d a b = (s : ℕ) → HasAtMost s g.tells (g.files a) → StaysButDump s d a b
 
   -- where the files stood for a state, whichever it was
   abbrev pub OfState : S → (DatabaseState → Type 0) → Type 0
@@ -66,7 +70,8 @@ module _ {S : Type 0} (g : Ghosts S) where
     -- where the files stand for a state, at every moment a stop leaves their trail, with the same tag, and blocks after it that hold an entry; the audit
     -- files before it stay
     pub trail : OfState old (λ s. KeepsTrail g old new)
-    -- no file but audit files, structure files and that dump changes, at any moment
+    -- no file but audit files, the files of structures and that dump changes, at any moment: where the files are told, of no more structures than the
+    -- description file names at entry
     pub beside : StaysBesideDump d old new
     pub says : SaysDump d old new status
     -- at every moment the files stand for the state that they stood for, with each state that they had at a point

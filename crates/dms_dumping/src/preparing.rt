@@ -98,6 +98,7 @@ fn bared<S: Site>(ready: ReadyDump<RunSite<S, Brand>>) -> ReadyDump<S>
     let Log { site, end, first } = log;
     let RunSite {
         site,
+        structures: _,
         refused: _,
         by: _by,
     } = site;
@@ -147,6 +148,7 @@ pub(crate) fn prepare_dump<S: Site>(
     let by: PhantomData<Brand> = PhantomData;
     let guarded = RunSite {
         site,
+        structures: 0,
         refused: 0,
         by,
     };
@@ -155,10 +157,12 @@ pub(crate) fn prepare_dump<S: Site>(
         Err((status, guarded)) => {
             let RunSite {
                 site,
+                structures: _,
                 refused,
                 by: _by,
             } = guarded;
-            // No opening comes to a call that is refused: nothing below writes such a file.
+            // No opening comes to a call that is refused, where the audit has blocks of no other structures than the description names: nothing
+            // below writes another file.
             if refused > 0 {
                 return Err((Status::Memory, site));
             }
