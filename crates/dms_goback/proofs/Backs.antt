@@ -28,7 +28,7 @@ module _ {S : Type 0} (g : Ghosts S) (site : S) where
   trail_none = record { kept = λ total first found. kept_none total first (g.files site); left = λ total first found. left_none total first (g.clock site) }
 
   pub beside_none : StaysBeside g site site
-  beside_none = record { read = λ tells f is. refl; left = record { follows = λ x now. (x, now, λ f is. refl); runs = runs_none (g.clock site) _ } }
+  beside_none s has = record { read = λ tells f is. refl; left = record { follows = λ x now. (x, now, λ f is. refl); runs = runs_none (g.clock site) _ } }
 
   pub same_none : Steps SameFiles (g.clock site) (g.clock site)
   same_none = record { follows = λ x now. (x, now, refl); runs = runs_none (g.clock site) _ }
@@ -49,10 +49,12 @@ trail_goes total first x y z l same = record {
 
 module _ {S : Type 0} (g : Ghosts S) (old mid new : S) (steps : Steps SameFiles (g.clock mid) (g.clock new)) where
   pub beside_behind : (IsTrue g.tells → g.files new ≡ g.files mid) → StaysBeside g old mid → StaysBeside g old new
-  beside_behind files b = record {
-    read = λ tells f is. ap (λ (k : Files). k f) (files tells) ∙ b.read tells f is;
-    left = steps_on b.left steps (λ x y z nx ny one same f is. ap (λ (k : Files). k f) same ∙ one f is) (λ x y nx one. one);
-  }
+  beside_behind files b s has =
+      let these = b s has in
+      record {
+        read = λ tells f is. ap (λ (k : Files). k f) (files tells) ∙ these.read tells f is;
+        left = steps_on these.left steps (λ x y z nx ny one same f is. ap (λ (k : Files). k f) same ∙ one f is) (λ x y nx one. one);
+      }
 
   pub trail_behind : g.files new ≡ g.files mid → KeepsTrail g old mid → KeepsTrail g old new
   trail_behind files k = record {

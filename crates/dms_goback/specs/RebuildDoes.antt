@@ -33,7 +33,8 @@ module _ {S : Type 0} (g : Ghosts S) where
     pub full : HasNoRoom g old new status
     -- at every moment a stop leaves the trail, with the same tag, and blocks after it that hold an entry; the audit files before it stay
     pub trail : IsTrue g.tells → KeepsTrail g old new
-    -- no file but audit files and structure files changes, at any moment
+    -- no file but audit files and the files of structures changes, at any moment: where the files are told, of no more structures than the description
+    -- file names at entry
     pub beside : StaysBeside g old new
     pub says : SaysRebuilt chosen old new status
     -- Of each database that differs from the files in structure files alone, and of which that dump is true: at every moment nothing was done, or the

@@ -25,7 +25,8 @@ module _ {S : Type 0} (g : Ghosts S) where
     pub full : HasNoRoom g old new status
     -- at every moment a stop leaves the trail, with the same tag, and blocks after it that hold an entry; the audit files before it stay
     pub trail : IsTrue g.tells → KeepsTrail g old new
-    -- no file but audit files and structure files changes, at any moment
+    -- no file but audit files and the files of structures changes, at any moment: where the files are told, of no more structures than the description
+    -- file names at entry
     pub beside : StaysBeside g old new
     -- at status 0 the line is said, at 10 a prefix of it, else nothing
     pub says : IsTrue g.tells_said → SaysDone status (rolled_text n) (g.said old) (g.said new)

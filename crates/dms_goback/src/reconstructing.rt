@@ -99,6 +99,7 @@ fn reconstruct_guarded<S: Site>(
     let by: PhantomData<Brand> = PhantomData;
     let guarded = RunSite {
         site,
+        structures: 0,
         refused: 0,
         by,
     };
@@ -107,10 +108,12 @@ fn reconstruct_guarded<S: Site>(
         Err((status, guarded)) => {
             let RunSite {
                 site,
+                structures: _,
                 refused,
                 by: _by,
             } = guarded;
-            // No restore comes to a call that is refused: nothing below writes such a file.
+            // No restore comes to a call that is refused, where the audit has blocks of no other structures than the description names: nothing
+            // below writes another file.
             if refused > 0 {
                 return Err((Status::Memory, site));
             }

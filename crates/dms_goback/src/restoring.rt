@@ -84,6 +84,7 @@ pub(crate) fn bared<S: Site>(recovered: Recovered<RunSite<S, Brand>>) -> Recover
     let Recovered { site, point } = recovered;
     let RunSite {
         site,
+        structures: _,
         refused: _,
         by: _by,
     } = site;
@@ -118,6 +119,7 @@ pub(crate) fn roll_guarded<S: Site>(
     let by: PhantomData<Brand> = PhantomData;
     let guarded = RunSite {
         site,
+        structures: 0,
         refused: 0,
         by,
     };
@@ -126,10 +128,12 @@ pub(crate) fn roll_guarded<S: Site>(
         Err((status, guarded)) => {
             let RunSite {
                 site,
+                structures: _,
                 refused,
                 by: _by,
             } = guarded;
-            // No restore comes to a call that is refused: nothing below writes such a file.
+            // No restore comes to a call that is refused, where the audit has blocks of no other structures than the description names: nothing
+            // below writes another file.
             if refused > 0 {
                 return Err((Status::Memory, site));
             }
@@ -170,6 +174,7 @@ pub(crate) fn rebuild_guarded<S: Site>(
     let by: PhantomData<Brand> = PhantomData;
     let guarded = RunSite {
         site,
+        structures: 0,
         refused: 0,
         by,
     };
@@ -178,10 +183,12 @@ pub(crate) fn rebuild_guarded<S: Site>(
         Err((status, guarded)) => {
             let RunSite {
                 site,
+                structures: _,
                 refused,
                 by: _by,
             } = guarded;
-            // No restore comes to a call that is refused: nothing below writes such a file.
+            // No restore comes to a call that is refused, where the audit has blocks of no other structures than the description names: nothing
+            // below writes another file.
             if refused > 0 {
                 return Err((Status::Memory, site));
             }

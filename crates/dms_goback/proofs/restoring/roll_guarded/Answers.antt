@@ -1,6 +1,8 @@
-use Rattle.std.proofs.Common.{IsTrue, sym, subst}
+use Rattle.std.proofs.Common.{IsTrue, refl, sym, subst}
 use Rattle.dms_runtop.specs.Command.{KeepsTrail}
 use Rattle.dms_statelaws.specs.SiteLaws.{RollsEnd}
+use Rattle.dms_runtop.specs.Guard.{StaysBeside}
+use Rattle.dms_runtop.specs.GuardLaws.{guarded_beside}
 use Rattle.dms_goback.proofs.restoring.roll_guarded.Goals as goal
 
 pub returns-in-Ok-clause-trail : goal.returns-in-Ok-clause-trail
@@ -23,3 +25,12 @@ returns-then-refused-gt0-clause-complete g c = λ tells total first can refusal.
 
 pub returns-in-Ok-clause-ends : goal.returns-in-Ok-clause-ends
 returns-in-Ok-clause-ends g c = subst (λ x. IsTrue g.S.Site.tells → RollsEnd g.S.Site c.args.site x c.args.point) (sym c.bared.ensures.site) c.in-Ok.ensures.ends
+
+pub returns-in-Ok-clause-beside : goal.returns-in-Ok-clause-beside
+returns-in-Ok-clause-beside g c = subst (λ x. StaysBeside g.S.Site c.args.site x) (sym c.bared.ensures.site) (guarded_beside 0 c.args.site _ c.in-Ok.recovered.site.site refl c.in-Ok.ensures.same)
+
+pub returns-then-refused-gt0-clause-beside_then : goal.returns-then-refused-gt0-clause-beside_then
+returns-then-refused-gt0-clause-beside_then g c = guarded_beside 0 c.args.site _ _ refl c.in-Err.ensures.same_then
+
+pub returns-else-refused-gt0-clause-beside_then : goal.returns-else-refused-gt0-clause-beside_then
+returns-else-refused-gt0-clause-beside_then g c = guarded_beside 0 c.args.site _ _ refl c.in-Err.ensures.same_then
