@@ -13,7 +13,8 @@ use Rattle.dms_moments.specs.Moments.{After, Clock, Now, Runs, Steps}
 use Rattle.dms_moments.specs.MomentLaws.{runs_on, runs_since, runs_step, runs_weaken}
 use Rattle.dms_newdb.specs.State.{StandsNew}
 use Rattle.dms_run.specs.RunStands.{RunStands}
-use Rattle.dms_runtop.specs.Guard.{IsBeside, KeepsBeside, LeavesBeside}
+use Rattle.dms_runtop.specs.Guard.{IsBeside, LeavesBeside, StaysBut}
+use Rattle.dms_runtop.specs.GuardLaws.{all_structures}
 use Rattle.dms_site.specs.declared.site.Site.{Ghosts}
 use Rattle.dms_site.specs.Files.{Files, Left, Only, PrintsPartOf, Same}
 use Rattle.dms_status.specs.declared.status.LimitKind.TheVariants.{AuditFile}
@@ -22,7 +23,7 @@ use Rattle.dms_status.specs.declared.status.Status.{Status}
 use Rattle.dms_status.specs.declared.status.Status.TheVariants.{Limit}
 
 -- the files that a load leaves are among those that a run leaves
-pub apart_beside : (f : ℕ) → IsApart f → IsBeside f
+pub apart_beside : (f : ℕ) → IsApart f → IsBeside 200 f
 apart_beside f (inl low) = inl (omega (arith, low))
 apart_beside f (inr (inl is)) = inr (inl (omega (arith, is), omega (arith, is)))
 apart_beside f (inr (inr high)) = inr (inr high)
@@ -78,18 +79,22 @@ any_said made d n db next quiets x r = record {
 
 module _ {S : Type 0} (g : Ghosts S) (d : Described) (seed n : ℕ) (was : Files) (a : Clock Left) (old new : S) (status : Status) (tells : IsTrue g.tells)
     (begun : IsNew d was (g.files old) (g.clock old)) (makes : Makes d was a (g.clock old)) (fills : Fills g d seed n old new status) where
+  -- all but audit files and the structure files that a database may have
+  stays : StaysBut g 200 old new
+  stays = fills.beside 200 (all_structures g.tells (g.files old))
+
   -- the new database, with nothing run yet
   new_leaves : (files : Files) → files ≡ g.files old → LeavesLoad d seed n was files
   new_leaves files same = record { others = λ f apart other. ap (λ (fs : Files). fs f) same ∙ begun.others f apart other; holds = inr (inl (subst (λ (fs : Files). StandsNew 0 d fs) (sym same) begun.stands)) }
 
-  run_leaves : (x : Left) → RunStands (g.files old) d None 0 empty_db 1 (load_quiets d seed n) x → After (g.clock old) LeavesBeside x → LeavesLoad d seed n was x.files
+  run_leaves : (x : Left) → RunStands (g.files old) d None 0 empty_db 1 (load_quiets d seed n) x → After (g.clock old) (LeavesBeside 200) x → LeavesLoad d seed n was x.files
   run_leaves x r y = record {
     others = λ f apart other. y.2 f (apart_beside f apart) ∙ ap (λ (fs : Files). fs f) (begun.only y.0 y.1) ∙ begun.others f apart other;
     holds = inr (inr (record { made = g.files old; new = begun.stands; stands = any_said (g.files old) d 0 empty_db 1 (load_quiets d seed n) x r }));
   }
 
-  run_both : Runs (g.clock old) (g.clock new) (λ x. Both (RunStands (g.files old) d None 0 empty_db 1 (load_quiets d seed n) x) (After (g.clock old) LeavesBeside x))
-  run_both = both_runs (g.clock old) (g.clock new) (fills.stands tells) fills.beside.left.runs
+  run_both : Runs (g.clock old) (g.clock new) (λ x. Both (RunStands (g.files old) d None 0 empty_db 1 (load_quiets d seed n) x) (After (g.clock old) (LeavesBeside 200) x))
+  run_both = both_runs (g.clock old) (g.clock new) (fills.stands tells) stays.left.runs
 
   -- while the script is run
   pub fills_loads : Loads d seed n was a (g.clock new)
@@ -107,7 +112,7 @@ module _ {S : Type 0} (g : Ghosts S) (d : Described) (seed n : ℕ) (was : Files
   says_loads counted text last step = runs_step fills_loads step (λ y x now prints. inr (subst (λ (fs : Files). LeavesLoad d seed n was fs) (sym prints.files) (end_leaves y (counted (g.clock old).now y run_both.later now))))
 
   pub fills_others : AllButDescriptionStay was (g.files new)
-  fills_others f apart other = fills.beside.read tells f (apart_beside f apart) ∙ begun.others f apart other
+  fills_others f apart other = stays.read tells f (apart_beside f apart) ∙ begun.others f apart other
 
   pub fills_audit : (k : ℕ) → status ≡ Limit (AuditFile k) → FillsAudit d k (g.files new)
   fills_audit k is = record { made = g.files old; new = begun.stands; full = fills.full k is tells }

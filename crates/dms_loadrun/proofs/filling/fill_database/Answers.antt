@@ -9,4 +9,4 @@ returns-clause-fills g c =
     let old = c.args.site.now in
     let status = c.fill_by-ended.result.status in
     subst (λ (x : g.row.S.Denot). Fills g.S.Site load_description c.args.seed c.args.n old x status) (search rules)
-    (subst (λ (x : MutBor g.row.S.Denot). Fills g.S.Site load_description c.args.seed c.args.n old x.now status) (sym c.into_site-site.ensures) (record { stands = f.stands; ends = f.ends; beside = record { read = f.beside.read; left = f.beside.left }; found = f.found; full = f.full }))
+    (subst (λ (x : MutBor g.row.S.Denot). Fills g.S.Site load_description c.args.seed c.args.n old x.now status) (sym c.into_site-site.ensures) (record { stands = f.stands; ends = f.ends; beside = λ s has. let these = f.beside s has in record { read = these.read; left = these.left }; found = f.found; full = f.full }))
