@@ -159,7 +159,7 @@ module _ {S : Type 0} (g : Ghosts S) (old : S) (status : Status) (text : IsOfTex
     complete = λ tells total first openable shut none is. of_text (λ s. IsDumpRefusal s → ⊥) (λ r. r) (λ r. r) is;
     full = text_room g old old status text;
     trail = λ tells s is. record { kept = λ total first found. kept_none total first (g.files old); left = λ total first found. left_none total first (g.clock old) };
-    beside = record { read = λ tells f is not. refl; left = λ tells. record { follows = λ x now. (x, now, λ f is not. refl); runs = runs_none (g.clock old) _ } };
+    beside = λ structures has. record { read = λ tells f is not. refl; left = λ tells. record { follows = λ x now. (x, now, λ f is not. refl); runs = runs_none (g.clock old) _ } };
     says = record { point = 0; line = λ tells. text_says _ _ status text; is = λ made. absurd (text_unmade status text made) };
     every_moment = λ tells n desc db s. runs_none (g.clock old) _;
     dump = λ tells. runs_none (g.clock old) _;

@@ -16,7 +16,7 @@ returns-clause-does g c =
       complete = one.complete;
       full = one.full;
       trail = λ tells s is. let k = one.trail tells s is in record { kept = k.kept; left = k.left };
-      beside = record { read = one.beside.read; left = one.beside.left };
+      beside = λ s has. let these = one.beside s has in record { read = these.read; left = these.left };
       says = record { point = one.says.point; line = one.says.line; is = one.says.is };
       every_moment = one.every_moment;
       dump = one.dump;

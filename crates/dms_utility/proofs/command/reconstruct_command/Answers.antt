@@ -17,7 +17,7 @@ returns-clause-does g c =
       complete = one.complete;
       full = one.full;
       trail = λ tells. let k = one.trail tells in record { kept = k.kept; left = k.left };
-      beside = record { read = one.beside.read; left = one.beside.left };
+      beside = λ s has. let these = one.beside s has in record { read = these.read; left = these.left };
       says = record { point = one.says.point; line = one.says.line; is = one.says.is };
       every_moment = one.every_moment;
       at_ok = one.at_ok;
