@@ -20,7 +20,7 @@ use Rattle.dms_restore.specs.LiveEntries.{logged_at, logged_live}
 use Rattle.dms_history.specs.Ranges.{Logged, is_point_logged}
 use Rattle.dms_restore.proofs.Points.{live_in, point_is_logged}
 use Rattle.dms_restore.specs.Scanned.{IsNoEntryOf}
-use Rattle.dms_restore.specs.SchemaSpans.{part_bytes, span_bytes}
+use Rattle.dms_restore.specs.SchemaSpans.{part_bytes, span_bytes, spans_before}
 use Rattle.dms_restore.specs.Traces.{IsTraceOf}
 use Rattle.dms_restore.proofs.ReadOn.{no_place, get_place, there_at, map_length, entries_more}
 use Rattle.dms_restore.proofs.Spanned.{until_some, length_take}
@@ -30,8 +30,8 @@ use Rattle.dms_restore.proofs.Spanned.{until_some, length_take}
 -- the Schema at a point is the one before its live entry
 pub record SchemaThere (entries : List Entry) (t : TrailTrace) (point k : ℕ) : Type 0 where
   pub some : 0 < k
-  pub within : k ≤ length t.schemas.before.items
-  pub is : span_bytes entries (get_or t.schemas.before.items (k - 1) None) ≡ schema_at entries point
+  pub within : k ≤ length (spans_before t.schemas)
+  pub is : span_bytes entries (get_or (spans_before t.schemas) (k - 1) None) ≡ schema_at entries point
 
 pub schema_there : (files : Files) (entries : List Entry) (t : TrailTrace) (point k : ℕ) (lent : List LiveEntry) → lent ≡ t.history.live.items → k ≤ length lent → until_first (is_point_logged point) (logged_live files lent) ≡ logged_live files (take k lent)
     → IsTraceOf files entries t → has (is_point point) (live_of entries) ≡ true → SchemaThere entries t point k

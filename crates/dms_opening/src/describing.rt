@@ -15,23 +15,23 @@ ghost use Rattle.dms_audfile.specs.AuditTrail.{AreThere, entry_there};
 ghost use Rattle.dms_audfile.specs.EntryReading.{IsCurrent};
 ghost use Rattle.dms_restore.specs.Scanned.{IsNoEntryOf};
 ghost use Rattle.dms_opening.specs.Claims.{MissesEntry};
-ghost use Rattle.dms_restore.specs.SchemaSpans.{part_bytes, span_bytes};
+ghost use Rattle.dms_restore.specs.SchemaSpans.{part_bytes, span_bytes, spans_before};
 ghost use Rattle.dms_restore.specs.Traces.{IsTraceOf};
 
 use dms_audfile::{AudFault, EntryPlace, EntryReader};
 use dms_audrec::Entry;
-use dms_restore::{SchemaSpan, TrailTrace, place};
+use dms_restore::{SchemaHistory, SchemaSpan, TrailTrace, place};
 use dms_site::Site;
 use std::alloc::{AllocError, Global};
 
-/// What stands directly before an end in a list of Schemas.
-fn span_before(before: &[Option<SchemaSpan>], end: usize) -> Option<SchemaSpan>
-    ensures { 0 < end → end ≤ length before.now → result ≡ slice_index_or before.now (end - 1) None }
+/// The last whole live Schema before the last of the first so many live entries.
+fn span_before(schemas: &SchemaHistory, end: usize) -> Option<SchemaSpan>
+    ensures { 0 < end → end ≤ length (spans_before schemas.now) → result ≡ slice_index_or (spans_before schemas.now) (end - 1) None }
 {
-    if end == 0 || before.len() < end {
+    if end == 0 {
         None
     } else {
-        before[end - 1]
+        schemas.span_at(end - 1)
     }
 }
 
@@ -42,7 +42,7 @@ pub(crate) fn schema_span(trace: &TrailTrace, point: u64) -> Option<SchemaSpan>
 {
     match place(&trace.history.live, point) {
         None => None,
-        Some(end) => span_before(&trace.schemas.before, end),
+        Some(end) => span_before(&trace.schemas, end),
     }
 }
 
