@@ -69,10 +69,10 @@ unnamed_by f b n (event (begin m how)) off = off
 unnamed_by f b n (range g k place bytes) off =
     either_named (is_at f b g k) (laid_over false place bytes n) n false (ap (λ t. n.named || t) (and_false (is_some n.stands)) ∙ or_false n.named ∙ off) off
 
-not_yet : (k i : ℕ) → i < k → nat_le k i ≡ false
+pub not_yet : (k i : ℕ) → i < k → nat_le k i ≡ false
 not_yet k i low = grind (arith, nat_tests, low)
 
-from_now : (k i : ℕ) → k ≤ i → nat_le k i ≡ true
+pub from_now : (k i : ℕ) → k ≤ i → nat_le k i ≡ true
 from_now k i le = grind (arith, nat_tests, le)
 
 -- The first k entries name nothing.

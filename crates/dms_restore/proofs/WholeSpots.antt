@@ -50,7 +50,7 @@ one_whole files (Ranged r) t w is = subst (Stands files) (sym is) w.0.0
 one_whole files (Quiet n) t w is = absurd is
 one_whole files (Controlled c) t w is = absurd is
 
-among_whole : (files : Files) (es : List LiveEntry) (t : Told) → AllStandWhole files es → IsPieceAmong es t → Stands files t
+pub among_whole : (files : Files) (es : List LiveEntry) (t : Told) → AllStandWhole files es → IsPieceAmong es t → Stands files t
 among_whole files [] t all is = absurd is
 among_whole files (e ∷ es) t all is = elim is [
   | inl one ↦ one_whole files e t all.0 one
