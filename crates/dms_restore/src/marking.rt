@@ -6,7 +6,7 @@ ghost use Rattle.dms_history.specs.Entries.{named_by};
 ghost use Rattle.dms_history.specs.Images.{is_at};
 ghost use Rattle.dms_restore.specs.Chosen.{place_from};
 ghost use Rattle.dms_restore.specs.LiveEntries.{logged_at, logged_live};
-ghost use Rattle.dms_restore.specs.Named.{Noted, noted_by, noted_front, undone_by, undone, is_marked, is_of_block, IsBare};
+ghost use Rattle.dms_restore.specs.Named.{Noted, noted_by, noted_front, undone_by, undone, is_marked, IsUnmarked, is_of_block, IsBare};
 
 use crate::LiveEntry;
 use crate::chosen::{is_naming, is_of_rows};
@@ -64,7 +64,7 @@ fn mark_naming(
     requires { IsBare spots.old }
     ensures bare { OnOk result (IsBare spots.new) }
     ensures stays { OnOk result ((f b : ℕ) → is_marked spots.new f b ≡ false → is_marked spots.old f b ≡ false) }
-    ensures names { OnOk result ((files : Files) (f b : ℕ) (n : Noted) → is_marked spots.new f b ≡ false → n.named ≡ false
+    ensures names { OnOk result ((files : Files) (f b : ℕ) (n : Noted) → IsUnmarked spots.new f b → n.named ≡ false
         → (noted_by f b (nat_le (place_from rows.now of_rows of_others f b) before) n (logged_at files entry.now)).named ≡ false) }
 {
     if is_naming(rows, of_rows, of_others, before, entry) {
