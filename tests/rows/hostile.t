@@ -129,3 +129,28 @@ A line that is cut at each of its bytes is answered, and the run goes on.
         1 A DONE
         5 A EXCEPTION
        13 BADLINE
+
+A description that names fewer structures than the audit has blocks of: the files of the others aren't written, and stay. With the right description the database is as it was.
+
+  $ mkdir ../two ../three && cd ../three
+  $ printf 'RDS RESTART DATA SET (PID ALPHA(10););\nD DATA SET (X NUMBER(4););\nE DATA SET (Y NUMBER(4););\n' | "$DMS" compile
+  COMPILED 3 STRUCTURES
+  $ "$DMS" initialize
+  INITIALIZED AT POINT 0
+  $ printf 'A: OPEN UPDATE\nA: BEGIN-TRANSACTION NO-AUDIT RDS\nA: CREATE E\nA: PUT E Y = 5\nA: STORE E\nA: END-TRANSACTION NO-AUDIT RDS\n' | "$DMS" run | tail -n 1
+  6 A DONE
+  $ cd ../two
+  $ printf 'RDS RESTART DATA SET (PID ALPHA(10););\nD DATA SET (X NUMBER(4););\n' | "$DMS" compile
+  COMPILED 2 STRUCTURES
+  $ "$DMS" initialize
+  INITIALIZED AT POINT 0
+  $ cd ../three && cp F00001.DMS right && cp F30003.DMS before && cp ../two/F00001.DMS .
+  $ "$DMS" run < /dev/null
+  dms: no memory
+  [7]
+  $ cmp F30003.DMS before
+  $ cp right F00001.DMS
+  $ printf 'A: OPEN INQUIRY\nA: FIND FIRST E\nA: GET E Y\n' | "$DMS" run
+  1 A DONE
+  2 A DONE
+  3 A DONE Y=5
