@@ -1,4 +1,4 @@
-A back-out reads the audit from the last control point on, where that stands before its point or ended a restore to it, and not what was logged before. A first run stores 1,000 records, which makes an audit of more than 200,000 bytes. How many bytes a command reads is told by the system: the shell's own count has those of its children that have ended. Where the system doesn't count so, the rest is skipped.
+A back-out reads the audit from the last control point on, and not what was logged before. A first run stores 1,000 records, which makes an audit of more than 200,000 bytes. How many bytes a command reads is told by the system: the shell's own count has those of its children that have ended. Where the system doesn't count so, the rest is skipped.
 
   $ test -r "/proc/$$/io" || exit 80
   $ readings() { sed -n 's/^rchar: //p' "/proc/$$/io"; }
@@ -48,3 +48,33 @@ So does one in which ten are backed out before any ends: the first back-out goes
   1 A DONE
   2 A DONE
   3 A DONE X=3010
+
+A control point has the number of the quiet point that it follows. Behind one that a run makes after 1,000 stores, a back-out doesn't read what these logged, more than 200,000 bytes: the run reads less than 50,000 more than without it. The one line of each that isn't DONE is its syncpoint.
+
+  $ mkdir ../control && cd ../control
+  $ "$DMS" compile <<'END'
+  > AUDIT TRAIL (BLOCKS = 64, FILES = 100);
+  > PARAMETERS (CONTROLPOINT = 1 SYNCPOINTS);
+  > RDS RESTART DATA SET (PID ALPHA(10););
+  > D DATA SET (X NUMBER(4); A ALPHA(200););
+  > END
+  COMPILED 2 STRUCTURES
+  $ "$DMS" initialize
+  INITIALIZED AT POINT 0
+  $ cp -r . ../again
+  $ { cat ../opens; printf "$begin"; for i in $(seq 1000); do stores "$i"; done; printf 'A: END-TRANSACTION NO-AUDIT RDS SYNC\n'; } > ../stores
+  $ { cat ../stores; again 5000; printf "$abort"; } > ../backs_out
+  $ reads ../stores; storing=$bytes; tail -n 2 ../answers
+  1
+  3003 A DONE
+  SYNCPOINT 1
+  $ test "$(cat F1*.DMS | wc -c)" -gt 200000 || echo short
+  $ cd ../again
+  $ reads ../backs_out; backing=$bytes; tail -n 1 ../answers
+  1
+  3008 A DONE
+  $ test "$((backing - storing))" -lt 50000 || echo "$backing, $storing"
+  $ printf 'A: OPEN INQUIRY\nA: FIND FIRST D\nA: GET D X\n' | "$DMS" run
+  1 A DONE
+  2 A DONE
+  3 A DONE X=1

@@ -42,7 +42,7 @@ use Rattle.dms_restore.proofs.CountBytes.{IsCountTable, counts_read, counts_told
 use Rattle.dms_opening.proofs.GoneOn.{each_on}
 use Rattle.dms_wal.specs.Lifting.{last_blocks}
 use Rattle.dms_wal.specs.Marks.{last_number}
-use Rattle.dms_wal.proofs.Imaging.{back_sealed, begun_live}
+use Rattle.dms_wal.proofs.Imaging.{ends_sealed, begun_live}
 use Rattle.dms_wal.proofs.Under.{under_control}
 use Rattle.dms_opening.specs.declared.asked.Asked.{Asked}
 use Rattle.dms_opening.specs.declared.plan.OpeningPlan.{OpeningPlan}
@@ -184,8 +184,8 @@ module _ (a b : LogView) (plan : OpeningPlan) (w : BeginsWhole a plan b) (ready 
       runs = o.runs;
       nothing = o.nothing;
       entries_are = sealed ∙ ap (λ (t : Telling). t.entries a.files ++ opening_entries (history_of (t.entries a.files)).pending plan.choice.point plan.next plan.schema.items plan.counts.items) (sym kind);
-      went_back = let cut = begun_is (history_of found).pending refl in
-          back_sealed c (entries b) (entries c) plan.choice.point plan.next plan.schema.items (counts_at (length bytes / 8) bytes) cut.0 cut.1 behind ready.described.0;
+      ended = let cut = begun_is (history_of found).pending refl in
+          ends_sealed c (entries b) (entries c) plan.choice.point plan.next plan.schema.items (counts_at (length bytes / 8) bytes) cut.0 cut.1 behind ready.described.0;
       points_same = points_are ∙ ap (λ (t : Telling). points_of t a.files) (sym kind);
       all_durable = o.all_durable ∙ ap (λ (ps : List DescribedPoint). length ps) (sym o.points_same);
       next_is = o.next_same ∙ w.keeps.next_same ∙ plans.next_is;

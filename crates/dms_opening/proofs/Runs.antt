@@ -9,11 +9,13 @@ use Rattle.dms_history.specs.Events.{AllBlocks}
 use Rattle.dms_running.specs.Points.{DescribedPoint}
 use Rattle.dms_restore.specs.declared.log.Log.{Log}
 use Rattle.dms_restore.specs.Logging.{LogView, telling, points, entries}
-use Rattle.dms_restore.specs.TailTables.{IsBackTo}
+use Rattle.dms_restore.specs.TailTables.{IsAtLastControl, IsUnchangedSince}
+use Rattle.dms_restore.proofs.AtControls.{ended_at, unchanged_ended}
 use Rattle.dms_restore.specs.Views.{view_of}
 use Rattle.dms_restore.specs.Counts.{count_of, file_counts}
 use Rattle.dms_audfile.specs.TrailEntries.{trail_entries}
-use Rattle.dms_history.specs.EntryEvents.{history_of}
+use Rattle.dms_history.specs.EntryEvents.{history_of, live_of}
+use Rattle.dms_history.proofs.Picks.{some_is}
 use Rattle.dms_wal.specs.declared.running.Running.{Running}
 use Rattle.dms_wal.specs.declared.running.Start.{Start}
 use Rattle.dms_wal.specs.Database.{running_held}
@@ -36,8 +38,12 @@ starts_from files point next schema counts v s r described numbered pointed coun
   none_imaged =
       let es = trail_entries v.end.total v.first files in
       none_imaged v es (begin_where_none (history_of es).pending point) schema point next (file_counts 30001 counts) r.entries_are;
-  went_back = λ on. subst (IsBackTo (entries v)) (sym pointed) r.went_back;
-  unchanged = λ same. record { content_is = r.content_is; counts_are = counted ∙ sym marked };
+  at_control = subst (IsAtLastControl (entries v)) (sym pointed) (ended_at (live_of (entries v)) point r.ended);
+  unchanged = λ same. record {
+    content_is = r.content_is;
+    counts_are = counted ∙ sym marked;
+    still = λ m is. subst (IsUnchangedSince (live_of (entries v))) (some_is point m (sym r.last.number ∙ is)) (unchanged_ended (live_of (entries v)) point r.ended);
+  };
 }
 
 pub in_bounds : (s : Start) → IsDescription s.schema.items → AreCounts s.counts.items → s.marks.items ≡ s.counts.items → IsInBounds s

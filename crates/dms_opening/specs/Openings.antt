@@ -11,7 +11,7 @@ use Rattle.dms_block.specs.Held.{Held}
 use Rattle.dms_history.specs.History.{Pending}
 use Rattle.dms_history.specs.Pick.{count_at}
 use Rattle.dms_history.specs.Entries.{Entry, begin_restore, by_halt_load, control_point}
-use Rattle.dms_history.specs.EntryEvents.{history_of, next_of}
+use Rattle.dms_history.specs.EntryEvents.{history_of, live_of, next_of}
 use Rattle.dms_history.specs.Schemas.{schema_entries}
 use Rattle.dms_history.specs.SchemaAt.{schema_at}
 use Rattle.dms_audfile.specs.AuditTrail.{IsFound}
@@ -33,7 +33,7 @@ use Rattle.dms_audrec.specs.Bodies.{bodies}
 use Rattle.dms_opening.specs.declared.asked.Asked.TheVariants.{HaltLoad}
 use Rattle.dms_opening.specs.Choices.{Chooses, judge_files}
 use Rattle.dms_restore.specs.Counts.{count_of, file_counts}
-use Rattle.dms_restore.specs.TailTables.{IsBackTo}
+use Rattle.dms_restore.specs.TailTables.{EndsRestore}
 use Rattle.dms_restore.specs.Views.{view_of}
 use Rattle.dms_restore.specs.Logging as logs
 use Rattle.dms_restore.specs.Logging.{LogView, telling_of, telling, state, waits, LogRuns, TrailKept, LeavesTrail, entries, points, durable, content}
@@ -93,7 +93,7 @@ pub record RunsFrom (files : Files) (point next : ℕ) (schema counts : List ℕ
   pub runs : LogRuns v
   pub nothing : waits v.end ≡ []
   pub entries_are : entries v ≡ trail_entries v.end.total v.first files ++ opening_entries (history_of (trail_entries v.end.total v.first files)).pending point next schema counts
-  pub went_back : IsBackTo (entries v) point
+  pub ended : EndsRestore (live_of (entries v)) point
   pub points_same : points v ≡ points_of (telling v) files
   pub all_durable : durable v ≡ length (points v)
   pub next_is : logs.next v ≡ next

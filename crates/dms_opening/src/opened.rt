@@ -113,7 +113,6 @@ impl<S: Site> Opened<S> {
             point,
             every,
             changed: false,
-            back: true,
         };
         match Running::new(alloc, log, start, frames) {
             Ok(mut running) => {

@@ -24,7 +24,7 @@ use Rattle.dms_restore.specs.Named.{Noted, nothing_noted, noted_from, noted_fron
 use Rattle.dms_restore.specs.Table.{IsAmong, AreWhole, last_of}
 use Rattle.dms_restore.proofs.Changes.{changes_on, all_append, after_point}
 use Rattle.dms_restore.proofs.Noted.{some_named, or_nothing, stands_from, front_part, named_behind, undone_is}
-use Rattle.dms_restore.proofs.Patched.{AtControl, at_control, last_none, no_control, behind_control, cut_in_two, last_is_patched}
+use Rattle.dms_restore.proofs.Patched.{at_control, last_none, no_control, behind_control, cut_in_two, last_is_patched}
 
 -- ---- changes of two parts
 

@@ -1,11 +1,11 @@
 -- What a restore writes and keeps; one by the audit writes what the audit tells.
 use Rattle.std.specs.Prelude.{nat_lt}
-use Rattle.std.proofs.Common.{ℕ, ◌<◌, ◌≡◌, ◌⊎◌, inl, inr, ◌&&◌, Bool, true, false, cond, List, [], ◌∷◌, Option, Some, None, refl, sym, ◌∙◌, ap, subst, arith}
+use Rattle.std.proofs.Common.{ℕ, ◌<◌, ◌≡◌, inl, inr, ◌&&◌, Bool, true, false, List, [], ◌∷◌, None, refl, sym, ◌∙◌, ap, subst, arith}
 use Rattle.std.proofs.lemmas.Bool.Decides.{nat_tests}
 use Rattle.dms_moments.specs.Moments.{Clock, Steps}
 use Rattle.dms_moments.specs.MomentLaws.{steps_weaken}
 use Rattle.dms_site.specs.Files.{Files, Left, stored_of}
-use Rattle.dms_history.specs.Events.{BlockBytes, Stored, How, halt_load, back_out, roll_back, rebuild, reconstruct, Event}
+use Rattle.dms_history.specs.Events.{Stored, How, halt_load, back_out, roll_back, rebuild, reconstruct, Event}
 use Rattle.dms_history.specs.History.{Pending}
 use Rattle.dms_history.specs.Pick.{Dumps, count_at}
 use Rattle.dms_history.specs.Restores.{takes_stored}

@@ -1,9 +1,9 @@
 -- Runs of a dump and a table are what a restore by it writes.
-use Rattle.std.proofs.Common.{ℕ, ◌+◌, ◌<◌, ◌≤◌, ◌≡◌, ◌⊎◌, inl, inr, Bool, true, false, cond, List, [], ◌∷◌, length, drop, Option, Some, None, refl, sym, ◌∙◌, ap, subst, arith}
+use Rattle.std.proofs.Common.{ℕ, ◌+◌, ◌<◌, ◌≡◌, ◌⊎◌, inl, inr, true, false, cond, List, [], length, drop, Option, Some, None, sym, ◌∙◌, ap, subst}
 use Rattle.dms_site.specs.Files.{Files}
-use Rattle.dms_history.specs.Events.{BlockBytes, How, halt_load, back_out, roll_back, rebuild, reconstruct, Event, block_in}
+use Rattle.dms_history.specs.Events.{How, rebuild, reconstruct, Event, block_in}
 use Rattle.dms_history.specs.History.{Pending}
-use Rattle.dms_history.specs.Lists.{until_first, after_first}
+use Rattle.dms_history.specs.Lists.{after_first}
 use Rattle.dms_history.specs.Ranges.{Logged, all_changes, is_point_logged}
 use Rattle.dms_history.specs.Images.{last_after}
 use Rattle.dms_history.specs.Pick.{Dump, between, count_at, content_of}
@@ -13,23 +13,23 @@ use Rattle.dms_history.specs.Restores.{may_hold_anything}
 use Rattle.dms_history.specs.declared.event.Row.{Row}
 use Rattle.dms_history.proofs.Base.{content_length}
 use Rattle.dms_running.specs.Begun.{ByAudit}
-use Rattle.dms_dump.specs.Head.{Head, head_in}
+use Rattle.dms_dump.specs.Head.{head_in}
 use Rattle.dms_dump.specs.Body.{dumped_block, dump_with}
 use Rattle.dms_dump.specs.HeadSeen.{head_seen}
 use Rattle.dms_dump.specs.declared.reading.DumpHead.{DumpHead}
 use Rattle.dms_restore.specs.declared.live.HowAt.{HowAt}
-use Rattle.dms_restore.specs.declared.live.HowAt.TheVariants.{HaltLoad, BackOut, Rollback, Rebuild, Reconstruct}
+use Rattle.dms_restore.specs.declared.live.HowAt.TheVariants.{Rebuild, Reconstruct}
 use Rattle.dms_restore.specs.declared.live.LiveEntry.{LiveEntry}
 use Rattle.dms_restore.specs.declared.restore_table.RestoreTable.{RestoreTable}
 use Rattle.dms_restore.specs.declared.run.Run.{Run}
 use Rattle.dms_restore.specs.declared.told.Told.{Told}
 use Rattle.dms_restore.specs.Counts.{count_of}
 use Rattle.dms_restore.specs.Dumped.{dumps_of}
-use Rattle.dms_restore.specs.LiveEntries.{logged_live, AllStandWhole}
+use Rattle.dms_restore.specs.LiveEntries.{logged_live}
 use Rattle.dms_restore.specs.Named.{IsTableOf, TellsByRows, TellsBetween}
-use Rattle.dms_restore.specs.Table.{AreFree, AreWhole, IsAmong, last_of, all_in, IsPlanOf, Writes}
+use Rattle.dms_restore.specs.Table.{AreWhole, IsAmong, last_of, all_in, IsPlanOf, Writes}
 use Rattle.dms_restore.specs.Tracing.{MatchesHow}
-use Rattle.dms_restore.specs.ByDump.{table_tells, PlansByDump}
+use Rattle.dms_restore.specs.ByDump.{PlansByDump}
 use Rattle.dms_restore.specs.Planned.{HasHead, IsHeadFor, AreRunsOf, IsInRuns, CutsAt, PlansDump, PlansCut}
 use Rattle.dms_restore.proofs.ByAudit.{free_among, plan_by_audit}
 use Rattle.dms_restore.proofs.ByDump.{rebuild_plans, reconstruct_plans}

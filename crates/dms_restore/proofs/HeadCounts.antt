@@ -1,8 +1,7 @@
 -- The counts of the head of a dump.
 use Rattle.std.specs.Prelude.{nat_le, ◌==◌}
-use Rattle.std.proofs.Common.{ℕ, ◌+◌, ◌*◌, ◌^◌, ◌<◌, ◌≤◌, ◌≡◌, inl, inr, true, cond, List, [], ◌∷◌, ◌++◌, length, Option, Some, None, refl, sym, ◌∙◌, ap, subst, arith, ◌⊎◌}
+use Rattle.std.proofs.Common.{ℕ, ◌+◌, ◌*◌, ◌<◌, ◌≤◌, ◌≡◌, inl, inr, true, cond, List, [], ◌∷◌, length, Option, Some, None, sym, ◌∙◌, ap, subst, arith}
 use Rattle.std.proofs.lemmas.Bool.{cases_Bool}
-use Rattle.std.proofs.lemmas.Bool.Decides.{nat_tests}
 use Rattle.std.proofs.lemmas.Option.{none-some}
 use Rattle.dms_fields.specs.Prefix.{◌>>=◌}
 use Rattle.dms_site.specs.Files.{range}
@@ -18,7 +17,7 @@ use Rattle.dms_dump.specs.Judged.{DumpRead, missing, unsealed, damaged, sealed, 
 use Rattle.dms_dump.specs.declared.reading.DumpHead.{DumpHead}
 use Rattle.dms_dump.proofs.HeadRead.{both, le_of}
 use Rattle.dms_restore.specs.declared.run.Run.{Run}
-use Rattle.dms_restore.specs.Counts.{count_of, AllAtMost}
+use Rattle.dms_restore.specs.Counts.{AllAtMost}
 use Rattle.dms_restore.specs.Table.{IsRun, AreRuns}
 use Rattle.dms_restore.specs.Planned.{IsFitHead, IsRunOf, AreRunsOf}
 

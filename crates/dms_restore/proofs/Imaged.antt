@@ -2,7 +2,6 @@
 use Rattle.std.proofs.Common.{ℕ, ◌≡◌, inl, inr, Bool, true, false, List, [], ◌∷◌, ◌++◌, None, refl, sym, ◌∙◌, ap, subst, append_assoc}
 use Rattle.std.specs.Prelude.{◌||◌}
 use Rattle.std.proofs.lemmas.Bool.{cases_Bool, true≢false}
-use Rattle.dms_site.specs.Files.{stored_of}
 use Rattle.dms_history.specs.Events.{Event, change, quiet}
 use Rattle.dms_history.specs.Images.{is_at, last_after}
 use Rattle.dms_history.specs.Lists.{has, after_last}
@@ -16,7 +15,6 @@ use Rattle.dms_history.proofs.AtPoints.{or_no}
 use Rattle.dms_history.proofs.Order.{append_none}
 use Rattle.dms_history.proofs.Turns.{left_out}
 use Rattle.dms_running.specs.Telling.{Telling, IsTelling}
-use Rattle.dms_running.specs.Standing.{MayRun}
 use Rattle.dms_running.specs.Running.{State, entries_now, IsPlainEntry, AllPlain, IsRunning, IsAnOutcome, IsLogged, IsChanged}
 use Rattle.dms_running.proofs.Appending.{now_runs}
 use Rattle.dms_restore.proofs.Changes.{live_changes, live_more}

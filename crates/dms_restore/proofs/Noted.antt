@@ -5,12 +5,11 @@ use Rattle.std.proofs.lemmas.Bool.{cases_Bool, true≢false}
 use Rattle.std.proofs.lemmas.Bool.Decides.{nat_tests}
 use Rattle.dms_history.specs.Events.{BlockBytes, Event, change, quiet, control, begin}
 use Rattle.dms_history.specs.Images.{is_at, or_else, last_after, first_before}
-use Rattle.dms_history.specs.Ranges.{Logged, event, range, patch_bytes, range_change, changes_of, all_changes}
-use Rattle.dms_history.proofs.Picks.{place_cases, option_cases, last_append}
-use Rattle.dms_running.proofs.OneMore.{first_append}
+use Rattle.dms_history.specs.Ranges.{Logged, event, range, patch_bytes, range_change, changes_of}
+use Rattle.dms_history.proofs.Picks.{place_cases, last_append}
 use Rattle.dms_restore.proofs.Changes.{changes_on}
-use Rattle.dms_restore.proofs.Patched.{patched_by, patched, one_last, last_is_patched}
-use Rattle.dms_restore.specs.Named.{Noted, nothing_noted, laid_over, noted_by, noted_from, undone_by, undone, named_of}
+use Rattle.dms_restore.proofs.Patched.{patched_by, patched, one_last}
+use Rattle.dms_restore.specs.Named.{Noted, laid_over, noted_by, noted_from, undone_by, undone, named_of}
 
 abbrev Named : Type 0
 Named = Option (Option BlockBytes)

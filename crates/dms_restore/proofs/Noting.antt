@@ -2,11 +2,9 @@
 use Rattle.std.specs.Prelude.{◌||◌, nat_le, is_some}
 use Rattle.std.proofs.Common.{ℕ, ◌+◌, ◌<◌, ◌≤◌, ◌≡◌, inl, inr, Bool, true, false, cond, List, [], ◌∷◌, ◌++◌, length, drop, get_or, Option, Some, None, refl, sym, ◌∙◌, ap}
 use Rattle.std.specs.Ordering.{is_eq}
-use Rattle.std.proofs.lemmas.Bool.{true≢false}
 use Rattle.dms_site.specs.Files as site
 use Rattle.dms_site.specs.Files.{Files}
 use Rattle.dms_history.specs.Events.{BlockBytes}
-use Rattle.dms_history.specs.Entries.{named_by}
 use Rattle.dms_history.specs.Images.{is_at}
 use Rattle.dms_history.specs.Ranges.{Logged, patch_bytes}
 use Rattle.dms_history.specs.declared.event.Row.{Row}
@@ -16,8 +14,8 @@ use Rattle.dms_restore.specs.declared.live.PatchAt.{PatchAt}
 use Rattle.dms_restore.specs.declared.live.LiveEntry.{LiveEntry}
 use Rattle.dms_restore.specs.declared.live.LiveEntry.TheVariants.{Changed, Ranged, Quiet, Controlled}
 use Rattle.dms_restore.specs.declared.naming.NamedSpot.{NamedSpot}
-use Rattle.dms_restore.specs.Chosen.{is_of_rows, place_from, is_naming}
-use Rattle.dms_restore.specs.LiveEntries.{patch_in, logged_at, logged_live, before_in, after_in}
+use Rattle.dms_restore.specs.Chosen.{place_from, is_naming}
+use Rattle.dms_restore.specs.LiveEntries.{patch_in, logged_at, logged_live}
 use Rattle.dms_restore.specs.Named.{block_cmp, Spots, spot_of, Noted, noted_of, noted_in, noted_by, noted_from, undone_by, undone, laid_over, laid_all, stands_at}
 use Rattle.dms_restore.proofs.RunLoops.{drop_at, drop_end}
 use Rattle.dms_restore.proofs.Spots.{no_entry, noted_set, key_is, where_on, other_noted}

@@ -6,7 +6,6 @@ use Rattle.dms_history.specs.Lists.{until_first, after_first}
 use Rattle.dms_history.specs.Ranges.{is_point_logged}
 use Rattle.dms_history.specs.History.{Pending}
 use Rattle.dms_history.specs.Pick.{count_at}
-use Rattle.dms_history.specs.Entries.{Entry}
 use Rattle.dms_history.specs.EntryEvents.{history_of}
 use Rattle.dms_history.specs.declared.event.Row.{Row}
 use Rattle.dms_dump.specs.declared.reading.DumpHead.{DumpHead}

@@ -9,7 +9,7 @@ use Rattle.dms_history.specs.Images.{is_at}
 use Rattle.dms_history.specs.Pick.{Dump}
 use Rattle.dms_history.specs.Ranges.{patch_bytes}
 use Rattle.dms_history.proofs.Picks.{place_cases}
-use Rattle.dms_dump.specs.Head.{Head, head_size, head_in, all_blocks}
+use Rattle.dms_dump.specs.Head.{Head, head_size, head_in}
 use Rattle.dms_dump.specs.Body.{blocks_before, dumped_block}
 use Rattle.dms_restore.specs.declared.run.Run.{Run}
 use Rattle.dms_restore.specs.declared.told.Told.{Told}

@@ -34,7 +34,7 @@ use Rattle.dms_restore.specs.Tracing.{IsTraced}
 use Rattle.dms_restore.specs.declared.tracing.TrailHistory.{TrailHistory}
 use Rattle.dms_restore.specs.Logging.{LogView, view, telling, state, waits, Ends, LogRuns, points, durable, next, entries, LogsNothing, LogLeaves}
 use Rattle.dms_restore.specs.BackOuts.{GoesBackBy, WentBackTo, SealedAlone, FilesStay, ServesBehind, IsBackFault}
-use Rattle.dms_restore.specs.TailTables.{IsBackTo, Serves}
+use Rattle.dms_restore.specs.TailTables.{IsAtLastControl, Serves}
 use Rattle.dms_restore.proofs.TailTables.{runs_over}
 use Rattle.dms_restore.proofs.Logs as logs
 use Rattle.dms_restore.proofs.Logs.{ReadsNow}
@@ -56,13 +56,13 @@ table_traced files es h live m v lent table t =
     subst (λ (l : List Event). IsTable l m files v) (ap (changes_at files) lent ∙ ap all_changes (sym t.live_is) ∙ sym (live_changes es)) (table (subst (AllStandWhole files) (sym lent) t.live_whole))
 
 -- it serves behind entries of which none waits
-pub serves_on : (v : LogView) (r : LogRuns v) (read : ReadsNow v) (back : Bool) (files : Files) (m : ℕ) (table : List Told) → files ≡ v.files → waits v.end ≡ [] → (back ≡ true → IsBackTo (entries v) m)
-    → ((new : Files) → Grown v.end.total v.first v.files new → Serves back (trail_entries v.end.total v.first v.files) m new table) → (clock : Clock Left) → ServesBehind (view v.end v.first files clock) m table
-serves_on v r read back files m table same nothing went is clock =
+pub serves_on : (v : LogView) (r : LogRuns v) (read : ReadsNow v) (at_control : Bool) (files : Files) (m : ℕ) (table : List Told) → files ≡ v.files → waits v.end ≡ [] → (at_control ≡ true → IsAtLastControl (entries v) m)
+    → ((new : Files) → Grown v.end.total v.first v.files new → Serves at_control (trail_entries v.end.total v.first v.files) m new table) → (clock : Clock Left) → ServesBehind (view v.end v.first files clock) m table
+serves_on v r read at_control files m table same nothing went is clock =
     let all : entries v ≡ trail_entries v.end.total v.first v.files =
     ap (λ (l : List Entry). trail_entries v.end.total v.first v.files ++ l) nothing ∙ append_none (trail_entries v.end.total v.first v.files) in
     subst (λ (f : Files). ServesBehind (view v.end v.first f clock) m table) (sym same)
-    (λ new grown. runs_over v r read back m new table went (subst (λ (l : List Entry). Serves back l m new table) (sym all) (is new grown)))
+    (λ new grown. runs_over v r read at_control m new table went (subst (λ (l : List Entry). Serves at_control l m new table) (sym all) (is new grown)))
 
 -- ---- what waited was sealed, and then the trail was read
 

@@ -3,7 +3,7 @@ use Rattle.std.specs.Prelude.{◌==◌, ◌||◌}
 use Rattle.std.proofs.Common.{ℕ, zero, suc, ◌+◌, ◌<◌, ◌≤◌, ◌≡◌, inl, inr, Bool, true, false, cond, List, [], ◌∷◌, ◌++◌, map, length, take, drop, get_or, Option, Some, refl, sym, ◌∙◌, ap, subst, arith, append_assoc}
 use Rattle.std.proofs.lemmas.Bool.{cases_Bool, true≢false}
 use Rattle.std.proofs.lemmas.Bool.Decides.{nat_tests}
-use Rattle.std.proofs.lemmas.List.{map-append, take-append-drop, take_all}
+use Rattle.std.proofs.lemmas.List.{map-append, take-append-drop}
 use Rattle.dms_site.specs.Files.{Files, stored_of}
 use Rattle.dms_history.specs.Agrees.{Numbered, ListAgrees}
 use Rattle.dms_history.specs.Here.{here, here_by}
@@ -21,7 +21,7 @@ use Rattle.dms_history.specs.Told.{undone_to, told_block}
 use Rattle.dms_history.specs.declared.event.FileCount.{FileCount}
 use Rattle.dms_history.proofs.AtPoints.{or_no, or_true_right}
 use Rattle.dms_history.proofs.Base.{has_append, after_behind}
-use Rattle.dms_history.proofs.Cuts.{until_none, after_none}
+use Rattle.dms_history.proofs.Cuts.{until_none}
 use Rattle.dms_history.proofs.Order.{append_none, point_among, points_append}
 use Rattle.dms_history.proofs.Schemas.{logged_append}
 use Rattle.dms_history.proofs.Splits.{ranges_split}
@@ -42,16 +42,18 @@ use Rattle.dms_restore.specs.declared.trace.TrailTrace.{TrailTrace}
 use Rattle.dms_restore.specs.declared.tracing.TrailHistory.{TrailHistory}
 use Rattle.dms_restore.specs.Finding.{IsFoundFrom}
 use Rattle.dms_restore.specs.LiveEntries.{logged_live, changes_at, AllStandWhole}
-use Rattle.dms_restore.specs.Logging.{LogView, telling, waits, entries, LogRuns}
+use Rattle.dms_restore.specs.Logging.{LogView, telling, state, entries, LogRuns}
 use Rattle.dms_running.specs.Standing.{MayRun}
+use Rattle.dms_running.proofs.Appending.{now_runs}
 use Rattle.dms_running.proofs.Wholes.{stands_agrees}
 use Rattle.dms_restore.specs.Scanned.{AreInAudit}
 use Rattle.dms_restore.specs.Table.{IsTable, IsTableOver}
-use Rattle.dms_restore.specs.TailTables.{IsInTrail, control_number, AreInOrder, TellsPlaced, TellsLast, HasControl, FindsControl, IsOrdered, TellsTrail, IsBackTo, Undoes, UndoesLast, UndoesPlaced, Serves}
+use Rattle.dms_restore.specs.TailTables.{IsInTrail, control_number, AreInOrder, TellsPlaced, TellsLast, HasControl, FindsControl, IsOrdered, TellsTrail, IsAtLastControl, Undoes, UndoesLast, UndoesPlaced, Serves}
 use Rattle.dms_restore.specs.Traces.{TracesPlaces}
 use Rattle.dms_restore.specs.Tracing.{IsTraced}
 use Rattle.dms_restore.proofs.Changes.{live_append, live_changes}
 use Rattle.dms_restore.proofs.InAudit.{found_in_audit}
+use Rattle.dms_restore.proofs.Logs as lemmas
 use Rattle.dms_restore.proofs.Logs.{ReadsNow}
 use Rattle.dms_restore.proofs.Patched.{control_from, behind_control, at_control, no_control}
 use Rattle.dms_restore.proofs.BackTables.{quiet_first, undoes_quiet, table_over, table_as}
@@ -270,21 +272,21 @@ module _ (old files : Files) (places rest : List EntryPlace) (up_to number : ℕ
   are_now : rest ≡ map place_in late
   are_now = is ∙ ap (drop up_to) are ∙ drop_places up_to placed
 
-pub tells_last : (back : Bool) (old files : Files) (places rest : List EntryPlace) (up_to number m : ℕ) (table : List Told) → number < m → rest ≡ drop up_to places → files ≡ old → FindsControl old places up_to number → TellsPlaced files rest m table
-    → TellsLast back old places m table
-tells_last back old files places rest up_to number m table above is same finds tells placed audit are there new also front order =
+pub tells_last : (settled : Bool) (old files : Files) (places rest : List EntryPlace) (up_to number m : ℕ) (table : List Told) → number < m → rest ≡ drop up_to places → files ≡ old → FindsControl old places up_to number → TellsPlaced files rest m table
+    → TellsLast settled old places m table
+tells_last settled old files places rest up_to number m table above is same finds tells placed audit are there new also front order =
     let all = all_are old files places rest up_to number is same finds placed audit are there front in
     let x = e old files places rest up_to number is same finds placed audit are there front in
-    subst (λ (l : List Entry). Serves back l m new table) (sym all)
+    subst (λ (l : List Entry). Serves settled l m new table) (sym all)
     (inl (tells (drop up_to placed) (audit_now old files places rest up_to number is same finds placed audit are there front) (are_now old files places rest up_to number is same finds placed audit are there front)
     (there_now old files places rest up_to number is same finds placed audit are there front) new (there_drop new up_to placed also) (before old files places rest up_to number is same finds placed audit are there front) number x.0 x.1 above (subst AreInOrder all order)))
 
-pub undoes_last : (back : Bool) (old files : Files) (places rest : List EntryPlace) (up_to number m : ℕ) (table : List Told) → back ≡ true → rest ≡ drop up_to places → files ≡ old → FindsControl old places up_to number → UndoesPlaced files rest table
-    → TellsLast back old places m table
-undoes_last back old files places rest up_to number m table on is same finds undoes placed audit are there new also front order =
+pub undoes_last : (settled : Bool) (old files : Files) (places rest : List EntryPlace) (up_to number m : ℕ) (table : List Told) → settled ≡ true → rest ≡ drop up_to places → files ≡ old → FindsControl old places up_to number → UndoesPlaced files rest table
+    → TellsLast settled old places m table
+undoes_last settled old files places rest up_to number m table on is same finds undoes placed audit are there new also front order =
     let all = all_are old files places rest up_to number is same finds placed audit are there front in
     let x = e old files places rest up_to number is same finds placed audit are there front in
-    subst (λ (l : List Entry). Serves back l m new table) (sym all)
+    subst (λ (l : List Entry). Serves settled l m new table) (sym all)
     (inr (
       on,
       undoes (drop up_to placed) (audit_now old files places rest up_to number is same finds placed audit are there front) (are_now old files places rest up_to number is same finds placed audit are there front)
@@ -304,9 +306,9 @@ there_last files (x ∷ xs) ys there = there_last files xs ys there.1
 whole_same : (xs ys : List Placed) → whole xs ≡ whole ys → xs ≡ ys
 whole_same xs ys is = cc
 
-pub tells_trail : (back : Bool) → EntriesAreThere → PlacesStay → TailIsFound → (end : AuditEnd) (first : ℕ) (old files : Files) (from : AuditBlock) (places lent : List EntryPlace) (m : ℕ) (table : List Told) → IsInTrail end first from → lent ≡ places → files ≡ old
-    → ReadsPlaces (tail_read end.total end.file end.count from.file from.block old) places → TellsLast back files lent m table → TellsTrail back end first old m table
-tells_trail back stand stay tail end first old files from places lent m table within same still reads tells o new grown =
+pub tells_trail : (settled : Bool) → EntriesAreThere → PlacesStay → TailIsFound → (end : AuditEnd) (first : ℕ) (old files : Files) (from : AuditBlock) (places lent : List EntryPlace) (m : ℕ) (table : List Told) → IsInTrail end first from → lent ≡ places → files ≡ old
+    → ReadsPlaces (tail_read end.total end.file end.count from.file from.block old) places → TellsLast settled files lent m table → TellsTrail settled end first old m table
+tells_trail settled stand stay tail end first old files from places lent m table within same still reads tells o new grown =
     let f = o.found.finds in
     let start = o.found.first_is in
     let own : IsWrittenUpTo end.total end.tag f.trail.first end.file end.count old = subst (λ k. IsWrittenUpTo end.total end.tag k end.file end.count old) (sym start) o.writes in
@@ -318,7 +320,7 @@ tells_trail back stand stay tail end first old files from places lent m table wi
     let audit : AreInAudit (map place_in f.placed) = found_in_audit stand old first (map place_in f.placed) (record { entries = f.placed; places_are = refl; trail = f.trail; first_is = start }) in
     let now : AreInAudit lent = subst AreInAudit (sym are) (audit_last r.before r.last (subst (λ (l : List Placed). AreInAudit (map place_in l)) (sym r.are) audit)) in
     let entries : map entry_in r.before ++ map entry_in r.last ≡ trail_entries end.total first old = sym (map-append entry_in r.before r.last) ∙ ap (map entry_in) r.are ∙ f.are in
-    subst (λ (l : List Entry). Serves back l m new table) entries
+    subst (λ (l : List Entry). Serves settled l m new table) entries
     (tells r.last now are (subst (λ (f : Files). AreThere f r.last) (sym still) there) new also (map entry_in r.before) (subst AreInOrder (sym entries) o.order))
 
 -- ---- a database that runs
@@ -337,16 +339,13 @@ log_ordered v r read =
     }
 
 -- the table of the last point of a database that runs, over its blocks
-pub runs_over : (v : LogView) → LogRuns v → ReadsNow v → (back : Bool) (m : ℕ) (new : Files) (table : List Told) → (back ≡ true → IsBackTo (entries v) m) → Serves back (entries v) m new table
+pub runs_over : (v : LogView) → LogRuns v → ReadsNow v → (settled : Bool) (m : ℕ) (new : Files) (table : List Told) → (settled ≡ true → IsAtLastControl (entries v) m) → Serves settled (entries v) m new table
     → IsTableOver (live_of (entries v)) m (stored_of v.files) new table
-runs_over v r read back m new table went (inl is) = table_as (live_of (entries v)) m (stored_of v.files) new table is
-runs_over v r read back m new table went (inr (on, undoes)) =
-    let may = r.runs.each (length (waits v.end)) read.0 read.1 in
+runs_over v r read settled m new table went (inl is) = table_as (live_of (entries v)) m (stored_of v.files) new table is
+runs_over v r read settled m new table went (inr (on, undoes)) =
     let es = entries v in
-    let all : trail_entries v.end.total v.first v.files ++ take (length (waits v.end)) (waits v.end) ≡ es = ap (λ (l : List Entry). trail_entries v.end.total v.first v.files ++ l) (take_all (length (waits v.end)) (waits v.end) (omega arith)) in
-    let dumps = (telling v).dumps read.0.files in
-    let now : MayRun (telling v).first es dumps r.runs.base (stored_of v.files) =
-    subst (λ (f : Files). MayRun (telling v).first es dumps r.runs.base (stored_of f)) read.2 (subst (λ (l : List Entry). MayRun (telling v).first l dumps r.runs.base (stored_of read.0.files)) all may) in
+    let dumps = (telling v).dumps v.files in
+    let now : MayRun (telling v).first es dumps r.runs.base (stored_of v.files) = now_runs (telling v) (lemmas.tells v r read) (state v) r.runs read in
     let agrees = (stands_agrees (telling v).first es dumps r.runs.base (stored_of v.files) now.stands).events_agree.lists in
     let plain : here dumps (history_of es) (stored_of v.files) ≡ stored_of v.files = ap (λ (p : Option Pending). here_by p dumps (stored_of v.files)) now.none in
     table_over (live_of es) m (went on) (telling v).first (next_of es) (stored_of v.files) (subst (λ (s : Stored). ListAgrees (telling v).first (live_of es) (next_of es) s) plain agrees) new table undoes

@@ -1,9 +1,8 @@
 -- What stands whole is a block of a structure file, or bytes of one, so no table of it is refused.
-use Rattle.std.proofs.Common.{ℕ, ◌+◌, ◌-◌, ◌<◌, ◌≤◌, ◌^◌, ◌≡◌, ◌⊎◌, inl, inr, List, [], ◌∷◌, length, sym, subst, arith}
+use Rattle.std.proofs.Common.{◌≡◌, ◌⊎◌, inl, inr, List, [], ◌∷◌, length, sym, subst, arith}
 use Rattle.dms_site.specs.Files.{Files}
 use Rattle.dms_audfile.specs.declared.fault.AudFault.{AudFault}
 use Rattle.dms_audfile.specs.declared.fault.AudFault.TheVariants.{Memory}
-use Rattle.dms_restore.specs.declared.live.ImageAt.{ImageAt}
 use Rattle.dms_restore.specs.declared.live.LiveEntry.{LiveEntry}
 use Rattle.dms_restore.specs.declared.live.LiveEntry.TheVariants.{Changed, Ranged, Quiet, Controlled}
 use Rattle.dms_restore.specs.declared.told.Told.{Told}

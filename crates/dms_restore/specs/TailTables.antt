@@ -1,11 +1,11 @@
 -- The table of a point from the last entries of a trail alone.
-use Rattle.std.specs.Prelude.{ℕ, ◌-◌, ◌<◌, ◌≤◌, ◌≡◌, ◌⊎◌, ◌==◌, if◌then◌else◌, Bool, true, false, List, [], ◌∷◌, ◌++◌, map, drop, Option, Some, None}
+use Rattle.std.specs.Prelude.{ℕ, ◌-◌, ◌<◌, ◌≤◌, ◌≡◌, ◌⊎◌, ◌==◌, if◌then◌else◌, Bool, true, List, [], ◌∷◌, ◌++◌, map, drop, Option, Some, None}
 use Rattle.dms_site.specs.Files.{Files}
 use Rattle.dms_history.specs.Agrees.{Numbered}
 use Rattle.dms_history.specs.Entries.{Entry, schema_part, image, byte_range, quiet_point, control_point, begin_restore}
 use Rattle.dms_history.specs.Events.{Counts, Event, control}
 use Rattle.dms_history.specs.Images.{first_before}
-use Rattle.dms_history.specs.Lists.{has, until_first, after_last}
+use Rattle.dms_history.specs.Lists.{has, until_first, after_first, after_last}
 use Rattle.dms_history.specs.Places.{is_control, is_point}
 use Rattle.dms_history.specs.Told.{undone_to}
 use Rattle.dms_history.specs.EntryEvents.{events_in, live_of, next_of}
@@ -47,20 +47,31 @@ pub record AreInOrder (entries : List Entry) : Type 0 where
   pub numbered : Numbered (live_of entries) (next_of entries)
   pub images : HasImages (live_logged [] (events_in entries))
 
--- Live changes end with the Control of a restore to point m and what stands behind it: before it stands what was live up to the first place of
--- that point, none where it had no place, and no other Control stands behind it.
-pub record IsBack (live : List Event) (m : ℕ) : Type 0 where
+-- Live changes end with the Control of a restore to point m: before it stands what was live up to the first place of that point, none where it
+-- had no place.
+pub record EndsRestore (live : List Event) (m : ℕ) : Type 0 where
   pub before : List Event
-  pub since : List Event
   pub next : ℕ
   pub counts : Counts
   pub described : Bool
-  pub are : live ≡ until_first (is_point m) before ++ control m next counts described ∷ since
-  pub last : has is_control since ≡ false
+  pub are : live ≡ until_first (is_point m) before ++ control m next counts described ∷ []
 
--- so do the live changes of these entries
-abbrev pub IsBackTo : List Entry → ℕ → Type 0
-IsBackTo es m = IsBack (live_of es) m
+-- The point has a place among live changes, and behind the first one no block was changed.
+pub record IsUnchangedSince (live : List Event) (m : ℕ) : Type 0 where
+  pub lives : has (is_point m) live ≡ true
+  pub none : (f b : ℕ) → first_before f b (after_first (is_point m) live) ≡ None
+
+-- The point has a place among live changes, and between the first one and the last Control no block was changed: at that Control each block is as
+-- at the point.
+pub record IsAtControl (live : List Event) (m : ℕ) : Type 0 where
+  pub lives : has (is_point m) live ≡ true
+  pub still : List Event
+  pub are : after_first (is_point m) live ≡ still ++ after_last is_control live
+  pub none : (f b : ℕ) → first_before f b still ≡ None
+
+-- so it is of the live changes of these entries
+abbrev pub IsAtLastControl : List Entry → ℕ → Type 0
+IsAtLastControl es m = IsAtControl (live_of es) m
 
 -- The table undoes changes: of each block that one of them changes it tells what stood before the first one, and no other block.
 pub record Undoes (since : List Event) (files : Files) (table : List Told) : Type 0 where
@@ -74,7 +85,7 @@ UndoesLast es files table = Undoes (after_last is_control (live_of es)) files ta
 
 -- The table is that of point m; or it undoes what stands behind the last Control, where that may do.
 abbrev pub Serves : Bool → List Entry → ℕ → Files → List Told → Type 0
-Serves back es m files table = IsTable (live_of es) m files table ⊎ ((back ≡ true) × UndoesLast es files table)
+Serves at_control es m files table = IsTable (live_of es) m files table ⊎ ((at_control ≡ true) × UndoesLast es files table)
 
 -- Whatever stands before a Control, and these entries directly behind it: the table undoes what stands behind the last Control.
 abbrev pub UndoesBehind : List Entry → Files → List Told → Type 0
@@ -98,8 +109,8 @@ TellsPlaced old places m table = (placed : List Placed) → AreInAudit places �
 
 -- Whatever stands before the entries at these places, the table serves for point m.
 abbrev pub TellsLast : Bool → Files → List EntryPlace → ℕ → List Told → Type 0
-TellsLast back old places m table = (placed : List Placed) → AreInAudit places → places ≡ map place_in placed → AreThere old placed
-    → (new : Files) → AreThere new placed → (front : List Entry) → AreInOrder (front ++ map entry_in placed) → Serves back (front ++ map entry_in placed) m new table
+TellsLast at_control old places m table = (placed : List Placed) → AreInAudit places → places ≡ map place_in placed → AreThere old placed
+    → (new : Files) → AreThere new placed → (front : List Entry) → AreInOrder (front ++ map entry_in placed) → Serves at_control (front ++ map entry_in placed) m new table
 
 -- Among these entries the last of the first so many is a Control of this number.
 pub record HasControl (placed : List Placed) (up_to number : ℕ) : Type 0 where
@@ -120,4 +131,4 @@ pub record IsOrdered (end : AuditEnd) (first : ℕ) (files : Files) : Type 0 whe
 
 -- The table serves for point m of such a trail, and does so while the trail grows.
 abbrev pub TellsTrail : Bool → AuditEnd → ℕ → Files → ℕ → List Told → Type 0
-TellsTrail back end first files m table = IsOrdered end first files → (new : Files) → Grown end.total first files new → Serves back (trail_entries end.total first files) m new table
+TellsTrail at_control end first files m table = IsOrdered end first files → (new : Files) → Grown end.total first files new → Serves at_control (trail_entries end.total first files) m new table

@@ -178,16 +178,17 @@ fn undo_behind<S: Site>(
 /// The table of a point from the last entries of a trail, which stand at these places; None where these don't tell it by themselves.
 ///
 /// They do where a Control of an earlier point is the first Control among them, and no Begin stands behind it. Where the first Control is
-/// of the point itself, and `back` says that it ended a restore to it, they do where neither a Begin nor a Control stands behind it.
+/// of the point itself, and `at_control` says that each block was at the last Control as at the point, they do where neither a Begin nor a
+/// Control stands behind it.
 fn table_of_last<S: Site>(
     alloc: Global,
     site: &mut S,
     places: &[EntryPlace],
     point: u64,
-    back: bool,
+    at_control: bool,
 ) -> Result<Option<Vec<Told>>, AudFault>
     ensures blocks { IfOk result (λ o. IfSome o (λ v. AreBlocks v.items)) }
-    ensures table { IfOk result (λ o. IfSome o (λ v. IsTrue S.tells → TellsLast back (S.files site.old) places.now point v.items)) }
+    ensures table { IfOk result (λ o. IfSome o (λ v. IsTrue S.tells → TellsLast at_control (S.files site.old) places.now point v.items)) }
     ensures only { IfErr result IsDiskOrMemory }
     ensures reads { ReadsAlone S.Site site.old site.new }
     ensures same_site { S.same_site site.old site.new }
@@ -201,7 +202,7 @@ fn table_of_last<S: Site>(
     if control.number < point {
         return table_behind(alloc, site, &places[control.up_to..], point);
     }
-    if !back {
+    if !at_control {
         return Ok(None);
     }
     undo_behind(alloc, site, &places[control.up_to..])
@@ -227,10 +228,10 @@ fn told_near<S: Site>(
     first: u32,
     from: &AuditBlock,
     point: u64,
-    back: bool,
+    at_control: bool,
 ) -> Result<Option<Vec<Told>>, AudFault>
     ensures blocks { IfOk result (λ o. IfSome o (λ v. AreBlocks v.items)) }
-    ensures table { IfOk result (λ o. IfSome o (λ v. IsTrue S.tells → TellsTrail back end.now first (S.files site.old) point v.items)) }
+    ensures table { IfOk result (λ o. IfSome o (λ v. IsTrue S.tells → TellsTrail at_control end.now first (S.files site.old) point v.items)) }
     ensures only { IfErr result IsDiskOrMemory }
     ensures reads { ReadsAlone S.Site site.old site.new }
     ensures same_site { S.same_site site.old site.new }
@@ -246,14 +247,15 @@ fn told_near<S: Site>(
         Ok(places) => places,
         Err(fault) => return Err(disk_or_memory(fault)),
     };
-    table_of_last(alloc, site, &places, point, back)
+    table_of_last(alloc, site, &places, point, at_control)
 }
 
 /// What the audit tells of each block at a point, and of no other, where the trail from file `first` on ends here. It stays so while the
-/// trail grows. `back` says whether the last Control ended a restore to this point: then blocks that didn't change since may be left out.
+/// trail grows. `at_control` says whether each block was at the last Control as at this point: then blocks that didn't change since may be left
+/// out.
 ///
-/// Reads the trail from block `from` on. Where the first Control from there on is neither one of a point before this one nor such a one, or
-/// a Begin stands behind it, it reads the whole trail. Nothing changes. Answers Disk where a call of the site failed, and Memory, also where
+/// Reads the trail from block `from` on. Where the first Control from there on is neither one of a point before this one nor such a last one,
+/// or a Begin stands behind it, it reads the whole trail. Nothing changes. Answers Disk where a call of the site failed, and Memory, also where
 /// another program has written the audit.
 pub(crate) fn point_told_near<S: Site>(
     alloc: Global,
@@ -262,16 +264,16 @@ pub(crate) fn point_told_near<S: Site>(
     first: u32,
     from: &AuditBlock,
     point: u64,
-    back: bool,
+    at_control: bool,
 ) -> Result<Vec<Told>, AudFault>
     ensures blocks { IfOk result (λ v. AreBlocks v.items) }
-    ensures table { IfOk result (λ v. IsTrue S.tells → TellsTrail back end.now first (S.files site.old) point v.items) }
+    ensures table { IfOk result (λ v. IsTrue S.tells → TellsTrail at_control end.now first (S.files site.old) point v.items) }
     ensures only { IfErr result IsDiskOrMemory }
     ensures reads { ReadsAlone S.Site site.old site.new }
     ensures same_site { S.same_site site.old site.new }
     ensures disk { CountedAt (IsErrOf result AudFault.Disk) (S.disk_faults site.old) (S.disk_faults site.new) }
 {
-    match told_near(alloc, site, end, first, from, point, back) {
+    match told_near(alloc, site, end, first, from, point, at_control) {
         Ok(Some(table)) => Ok(table),
         Ok(None) => point_told(alloc, site, end.total, first, point),
         Err(fault) => Err(fault),

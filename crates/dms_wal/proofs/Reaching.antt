@@ -141,7 +141,7 @@ module _ {S : Type 0} (g : Ghosts S) (r : Running S) (e : AuditEnd) (alike : End
     pointed = λ t. subst (λ (ps : List DescribedPoint). IsMarkOf ps r.point r.marks.items) (sym (points_alike r.log.end e alike r.log.first (g.files r.log.site) (g.clock r.log.site))) (u.pointed t);
     unchanged = λ no t.
         let first = r.log.first in let files = g.files r.log.site in let clock = g.clock r.log.site in
-        mark_on (view_of g r.log) (view e first files clock) r.counts.items r.marks.items (content_alike r.log.end e alike first files clock) (points_alike r.log.end e alike first files clock) (u.unchanged no t);
+        mark_on (view_of g r.log) (view e first files clock) r.counts.items r.marks.items (content_alike r.log.end e alike first files clock) (points_alike r.log.end e alike first files clock) (entries_alike r.log.end e alike first files clock) (u.unchanged no t);
   }
 
 -- the same, as blocks see it

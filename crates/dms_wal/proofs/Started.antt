@@ -6,7 +6,7 @@ use Rattle.dms_pool.specs.Calls.{IsEmpty}
 use Rattle.dms_running.proofs.Framed.{holds_none}
 use Rattle.dms_restore.specs.declared.log.Log.{Log}
 use Rattle.dms_restore.specs.Logging.{telling, state, entries}
-use Rattle.dms_restore.specs.TailTables.{IsBackTo}
+use Rattle.dms_restore.specs.TailTables.{IsAtLastControl}
 use Rattle.dms_restore.specs.Views.{view_of}
 use Rattle.dms_wal.specs.declared.imaged.ImagedBlocks.{ImagedBlocks}
 use Rattle.dms_wal.specs.declared.running.Running.{Running}
@@ -40,8 +40,8 @@ started log s pool set = record {
   damaged = 0;
 }
 
-pub usable_new : {S : Type 0} (g : Ghosts S) (log : Log S) (s : Start) (pool : Pool) (set : ImagedBlocks) (n : ℕ) → IsEmpty n pool → HasNone set → (set.number ≡ s.point) × (set.back ≡ s.back) → AreCounts s.counts.items → IsInBounds s → (IsTrue g.tells → StartsFrom (view_of g log) s) → IsRunningUsable g (started log s pool set)
-usable_new g log s pool set n empty none control table bounds starts = record {
+pub usable_new : {S : Type 0} (g : Ghosts S) (log : Log S) (s : Start) (pool : Pool) (set : ImagedBlocks) (n : ℕ) → IsEmpty n pool → HasNone set → set.number ≡ s.point → AreCounts s.counts.items → IsInBounds s → (IsTrue g.tells → StartsFrom (view_of g log) s) → IsRunningUsable g (started log s pool set)
+usable_new g log s pool set n empty none number table bounds starts = record {
   unbroken = refl;
   described = bounds.described;
   table = table;
@@ -57,7 +57,7 @@ usable_new g log s pool set n empty none control table bounds starts = record {
   images_counted = images_none set s.counts.items none;
   imaged = λ t. record {
     has_them = λ f b. none f b ∙ sym ((starts t).none_imaged f b);
-    went_back = λ on. subst (IsBackTo (entries (view_of g log))) (sym control.0) ((starts t).went_back (sym control.1 ∙ on));
+    at_point = λ on. subst (IsAtLastControl (entries (view_of g log))) (sym number) (starts t).at_control;
   };
   pointed = λ t. (starts t).pointed;
   unchanged = λ no t. (starts t).unchanged no;

@@ -9,7 +9,7 @@ use Rattle.dms_history.specs.EntryEvents.{events_in}
 use Rattle.dms_pool.specs.Entries.{same_key}
 use Rattle.dms_restore.specs.Counts.{count_of}
 use Rattle.dms_restore.specs.Logging.{LogView, entries}
-use Rattle.dms_restore.specs.TailTables.{IsBackTo}
+use Rattle.dms_restore.specs.TailTables.{IsAtLastControl}
 use Rattle.dms_wal.specs.declared.imaged.ImagedBlocks.{ImagedBlocks}
 
 -- whether a block is among them
@@ -25,7 +25,7 @@ HasNone set = (f b : ℕ) → has_block set f b ≡ false
 
 -- the last Control is the same
 abbrev pub KeepsControl : ImagedBlocks → ImagedBlocks → Type 0
-KeepsControl old new = (new.back ≡ old.back) × (new.number ≡ old.number)
+KeepsControl old new = (new.at_point ≡ old.at_point) × (new.number ≡ old.number)
 
 abbrev pub SameImages : ImagedBlocks → ImagedBlocks → Type 0
 SameImages old new = ((f b : ℕ) → has_block new f b ≡ has_block old f b) × KeepsControl old new
@@ -38,11 +38,11 @@ AddsImage g k old new = ((f b : ℕ) → has_block new f b ≡ (has_block old f 
 abbrev pub has_image : List Entry → ℕ → ℕ → Bool
 has_image es f b = has (is_image f b) (after_last is_control_logged (live_logged [] (events_in es)))
 
--- The set is the blocks with an Image itself since the last Control. Where it says that this Control ended a restore to the point of its number, it
--- did.
+-- The set is the blocks with an Image itself since the last Control. Where it says that each block was at this Control as at the point of its number,
+-- that is so.
 pub record IsImagedSet (v : LogView) (set : ImagedBlocks) : Type 0 where
   pub has_them : (f b : ℕ) → has_block set f b ≡ has_image (entries v) f b
-  pub went_back : set.back ≡ true → IsBackTo (entries v) set.number
+  pub at_point : set.at_point ≡ true → IsAtLastControl (entries v) set.number
 
 -- each of them is one of the table
 abbrev pub ImagesCounted : ImagedBlocks → List ℕ → Type 0

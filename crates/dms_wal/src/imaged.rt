@@ -10,8 +10,8 @@ use dms_restore::AuditBlock;
 use std::alloc::Global;
 use std::collections::HashSet;
 
-/// The blocks with an Image since the last Control, where that stands, and whether it ended a restore. Nothing is promised of the places:
-/// who reads there looks whether they are right.
+/// The blocks with an Image since the last Control, where that stands, and whether each block was there as at its point. Nothing is promised
+/// of the place: who reads there looks whether it is right.
 #[derive(Drop)]
 pub struct ImagedBlocks {
     pub keys: HashSet<FrameKey>,
@@ -19,39 +19,29 @@ pub struct ImagedBlocks {
     pub control: AuditBlock,
     /// The number of that Control.
     pub number: u64,
-    /// Whether it ended a restore to the point of that number.
-    pub back: bool,
-    /// The block of the audit with the last Control of a lower number.
-    pub earlier: AuditBlock,
+    /// Whether each block was there as at the point of that number.
+    pub at_point: bool,
 }
 
 impl ImagedBlocks {
-    /// No block, behind a Control of this number, which ended a restore to its point or did not.
-    pub fn new(alloc: Global, control: AuditBlock, number: u64, back: bool) -> ImagedBlocks
+    /// No block, behind a Control of this number, where each block was as at the point of that number.
+    pub fn new(alloc: Global, control: AuditBlock, number: u64) -> ImagedBlocks
         ensures none { HasNone result }
-        ensures control { (result.number ≡ number) × (result.back ≡ back) }
+        ensures control { (result.number ≡ number) × (result.at_point ≡ true) }
     {
         ImagedBlocks {
             keys: HashSet::new(alloc),
             control,
             number,
-            back,
-            earlier: control,
+            at_point: true,
         }
     }
 
-    /// Where the audit tells a point of at least the last Control's number: behind that Control, where its number is lower or it ended a
-    /// restore to the point, which is said too; else behind the last one of a lower number.
-    pub fn told_from(&self, number: u64) -> (AuditBlock, bool)
-        ensures { result.1 ≡ true → (self.now.back ≡ true) × (self.now.number ≡ number) }
+    /// Whether each block was at the last Control as at the point of this number.
+    pub fn is_at(&self, number: u64) -> bool
+        ensures { result ≡ true → (self.now.at_point ≡ true) × (self.now.number ≡ number) }
     {
-        if self.back && self.number == number {
-            (self.control, true)
-        } else if self.number < number {
-            (self.control, false)
-        } else {
-            (self.earlier, false)
-        }
+        self.at_point && self.number == number
     }
 
     /// Whether a block is among them.
@@ -79,17 +69,14 @@ impl ImagedBlocks {
         let _added = self.keys.insert(FrameKey::of(id));
     }
 
-    /// Leaves no block, behind a Control of this number, which ended a restore to its point or did not.
-    pub fn clear(&mut self, control: AuditBlock, number: u64, back: bool)
+    /// Leaves no block, behind a Control of this number, where each block was as at the point of that number or was not.
+    pub fn clear(&mut self, control: AuditBlock, number: u64, at_point: bool)
         ensures none { HasNone self.new }
-        ensures control { (self.new.number ≡ number) × (self.new.back ≡ back) }
+        ensures control { (self.new.number ≡ number) × (self.new.at_point ≡ at_point) }
     {
         self.keys.clear();
-        if self.number < number {
-            self.earlier = self.control;
-        }
         self.control = control;
         self.number = number;
-        self.back = back;
+        self.at_point = at_point;
     }
 }
