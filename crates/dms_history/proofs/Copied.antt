@@ -1,19 +1,20 @@
 -- A dump that was copied while programs ran serves each point from its end on.
-use Rattle.std.proofs.Common.{ℕ, ◌<◌, ◌≤◌, ◌≡◌, ◌||◌, inl, inr, Bool, true, false, cond, List, [], ◌∷◌, ◌++◌, length, None, refl, sym, ◌∙◌, ap, subst, arith, append_assoc}
+use Rattle.std.proofs.Common.{ℕ, ◌<◌, ◌≤◌, ◌≡◌, ◌||◌, inl, inr, Bool, true, false, cond, List, [], ◌∷◌, ◌++◌, length, None, refl, sym, ◌∙◌, ap, subst, arith}
 use Rattle.std.proofs.lemmas.Bool.{true≢false}
 use Rattle.dms_history.specs.Events.{AllBlocks, Stored, Event, block_in}
 use Rattle.dms_history.specs.Replay.{Chain, replay}
 use Rattle.dms_history.specs.Images.{last_after, value}
 use Rattle.dms_history.specs.Lists.{has, until_first, after_first}
-use Rattle.dms_history.specs.Pick.{blocks_at, Dump, count_at, between, dump_pick}
+use Rattle.dms_history.specs.Pick.{blocks_at, Dump, count_at, between, dump_pick, pick}
 use Rattle.dms_history.specs.Places.{is_point, IsLive}
 use Rattle.dms_history.specs.Base.{Sound, from_control}
 use Rattle.dms_history.specs.Agrees.{Numbered}
-use Rattle.dms_history.specs.Copied.{CopiedAt, IsCopiedDump, CopiedDumpServes}
+use Rattle.dms_history.specs.Copied.{CopiedAt, IsCopiedDump, CopiedDumpServes, TrueDumpIsCopied}
 use Rattle.dms_history.proofs.Picks.{chain_split, option_cases, none_stands, last_stands, last_append, or_none}
 use Rattle.dms_history.proofs.AtPoints.{split_first, replay_append}
 use Rattle.dms_history.proofs.HalfDone.{until_until}
 use Rattle.dms_history.proofs.Given.{controlled, from_until, after_until, live_from, at_point, count_right}
+use Rattle.dms_history.proofs.Base.{content_length}
 use Rattle.dms_history.proofs.Order.{rolls_back}
 
 after_grow : (p : Event → Bool) (xs ys : List Event) → has p xs ≡ true → after_first p (xs ++ ys) ≡ after_first p xs ++ ys
@@ -24,14 +25,14 @@ after_grow p (e ∷ xs) ys found = go (p e) found (λ some. after_grow p xs ys s
     go true some rest = refl
     go false some rest = rest some
 
-module _ (live : List Event) (base : AllBlocks) (next m end : ℕ) (dump : Dump) (counted : Stored) (sound : Sound (from_control live) base counted) (numbered : Numbered live next) (at : IsLive live m) where
+module _ (live : List Event) (base : AllBlocks) (next m : ℕ) (dump : Dump) (counted : Stored) (sound : Sound (from_control live) base counted) (numbered : Numbered live next) (at : IsLive live m) where
   -- what stands up to a lower live point begins what stands up to a higher one
   front_of : (k n : ℕ) → IsLive live k → IsLive live n → n ≤ k → IsLive (until_first (is_point k) (from_control live)) n
   front_of k n at_k at_n le =
       let inner = (rolls_back live next k numbered at_k).kept n le at_n in
       subst (λ (l : List Event). IsLive l n) (from_until (is_point k) live (controlled live k at_k)) (live_from (until_first (is_point k) live) n inner)
 
-  copied_block : (f b : ℕ) → IsLive live dump.point → (c : CopiedAt dump end live counted f b) → end ≤ m → b < length (replay (until_first (is_point m) (from_control live)) base f)
+  copied_block : (f b : ℕ) → IsLive live dump.point → (c : CopiedAt dump live counted f b) → dump.end ≤ m → b < length (replay (until_first (is_point m) (from_control live)) base f)
       → last_after f b (after_first (is_point dump.point) (until_first (is_point m) (from_control live))) ≡ None
       → block_in dump.blocks f b ≡ block_in (replay (until_first (is_point m) (from_control live)) base) f b
   copied_block f b at_p c high low none =
@@ -59,7 +60,7 @@ module _ (live : List Event) (base : AllBlocks) (next m end : ℕ) (dump : Dump)
       let stays = none_stands rest (replay mid start) f b chain_rest nones.0 (subst (λ (x : AllBlocks). b < length (x f)) at_m low) in
       c.same ∙ ap (λ (x : AllBlocks). block_in x f b) (at_point live base counted k sound c.lives ∙ at_k) ∙ sym stays.1 ∙ ap (λ (x : AllBlocks). block_in x f b) (sym at_m)
 
-  copied_right : (f b : ℕ) → IsCopiedDump dump end live counted → dump.point ≤ m → end ≤ m → b < count_at live m f
+  copied_right : (f b : ℕ) → IsCopiedDump dump live counted → dump.point ≤ m → dump.end ≤ m → b < count_at live m f
       → dump_pick live dump m f b ≡ block_in (replay (until_first (is_point m) (from_control live)) base) f b
   unfolding dump_pick
   copied_right f b copied le high low =
@@ -90,6 +91,16 @@ module _ (live : List Event) (base : AllBlocks) (next m end : ℕ) (dump : Dump)
       ]
 
 pub copied_dump_serves : CopiedDumpServes
-copied_dump_serves live base next m end dump counted sound numbered at copied le high = record {
-  gives = λ f b low. copied_right live base next m end dump counted sound numbered at f b copied le high low ∙ ap (λ (x : AllBlocks). block_in x f b) (sym (at_point live base counted m sound at));
+copied_dump_serves live base next m dump counted sound numbered at copied high = record {
+  gives = λ f b low. copied_right live base next m dump counted sound numbered at f b copied (omega (arith, copied.order, high)) high low ∙ ap (λ (x : AllBlocks). block_in x f b) (sym (at_point live base counted m sound at));
+}
+
+pub true_dump_is_copied : TrueDumpIsCopied
+unfolding blocks_at
+true_dump_is_copied live dump counted ends is = record {
+  point_lives = is.point_lives;
+  end_lives = subst (λ n. IsLive live n) (sym ends) is.point_lives;
+  order = omega (arith, ends);
+  counts = λ f. ap (λ (x : AllBlocks). length (x f)) is.same ∙ content_length (count_at live dump.point) (pick live dump.point counted) f;
+  each = λ f b low. record { point = dump.point; lives = is.point_lives; low = omega arith; high = omega (arith, ends); same = ap (λ (x : AllBlocks). block_in x f b) is.same };
 }

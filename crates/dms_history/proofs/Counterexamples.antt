@@ -39,7 +39,7 @@ no_base base counted sound =
 -- and nothing is asked of what counts as it; and when the rebuild has ended no base fits what it left. So what counts is asked for while it is pending.
 
 abbrev false_dumps : Dumps
-false_dumps d = record { point = 1; blocks = λ f. (9 ∷ []) ∷ [] }
+false_dumps d = record { point = 1; end = 1; blocks = λ f. (9 ∷ []) ∷ [] }
 
 abbrev log_example : List Event
 log_example = control 0 1 (λ _. 0) true ∷ change 3 0 None (7 ∷ []) ∷ quiet 1 ∷ []

@@ -68,7 +68,7 @@ undescribed = refl
 
 -- dump 2 was made at point 1
 abbrev dumps : Dumps
-dumps d = record { point = 1; blocks = λ f. (7 ∷ []) ∷ [] }
+dumps d = record { point = 1; end = 1; blocks = λ f. (7 ∷ []) ∷ [] }
 
 rolled_back : (stored : Stored) → outcome roll_back dumps two_points 1 stored 30001 ≡ (7 ∷ []) ∷ []
 unfolding outcome content_of restore_pick pick count_at choice

@@ -19,7 +19,7 @@ use Rattle.dms_history.specs.declared.event.FileCount.{FileCount}
 use Rattle.dms_history.specs.Schemas.{no_parts, parts_from, is_whole, schema_entries}
 use Rattle.dms_history.specs.EntryEvents.{said_by, events_in, events, history_of, live_of, next_of, ends_restore_logged, BeginsAlone}
 use Rattle.dms_history.specs.Kept.{content_told, Kept}
-use Rattle.dms_history.specs.LawsOfKept.{KeptFirst, KeptImage, KeptRange, KeptQuiet, KeptSchema, KeptControl, KeptBegin, KeptEnds, KeptWrites, KeptRestores, KeptAgrees, AgreesKept, KeptInParts, FirstAgrees}
+use Rattle.dms_history.specs.LawsOfKept.{KeptFirst, KeptImage, KeptRange, KeptQuiet, KeptSchema, KeptControl, KeptLevel, KeptBegin, KeptEnds, KeptWrites, KeptRestores, KeptAgrees, AgreesKept, KeptInParts, FirstAgrees}
 use Rattle.dms_history.proofs.Picks.{last_append}
 use Rattle.dms_history.proofs.AtPoints.{replay_append}
 use Rattle.dms_history.proofs.Base.{parts}
@@ -29,7 +29,7 @@ use Rattle.dms_history.proofs.HalfDone.{has_front}
 use Rattle.dms_history.proofs.Stops.{restore_begins, restore_writes, restore_ends, outcome_length}
 use Rattle.dms_history.proofs.Runs.{writes_early}
 use Rattle.dms_history.proofs.Again.{runs_steady, ranges_steady, steady_of, here_unpending}
-use Rattle.dms_history.proofs.Order.{append_none, not_empty, numbers_change, numbers_quiet, numbers_begin, numbers_control, numbers_first}
+use Rattle.dms_history.proofs.Order.{append_none, not_empty, numbers_change, numbers_quiet, numbers_begin, numbers_control, numbers_level, numbers_first}
 use Rattle.dms_history.proofs.Schemas.{logged_append}
 use Rattle.dms_history.proofs.Splits.{images_go_on}
 use Rattle.dms_history.proofs.Turns.{live_of_ranges}
@@ -160,6 +160,20 @@ kept_control first es dumps base stored written n next counts k idle last placed
           ((runs_steady dumps (history_of es) base stored idle.none idle.controlled k.steady).control written n next (counts_in counts) (is_whole (parts_from no_parts es)) count stand)
           (still_opened live ev base idle.controlled k.opened)
           (numbers_control (events es) (history_of es) n next (counts_in counts) (is_whole (parts_from no_parts es)) k.numbered last placed carried)
+          (λ xs m how at. refl)
+          ((images_go_on (live_logged [] (events_in es)) k.images).others (event ev) refl);
+      tells = content_event first es (control_point n next counts) (event ev) ev dumps base is refl idle.controlled;
+    }
+
+pub kept_level : KeptLevel
+kept_level first es dumps base stored written n next counts k idle free up low count stand =
+    let ev = the_control first es n next counts in
+    let is = control_is first es n next counts in
+    let live = live_of es in record {
+      kept = kept_event first es (control_point n next counts) (event ev) ev dumps base is dumps stored written k (says_one es (control_point n next counts) (event ev) refl)
+          ((runs_steady dumps (history_of es) base stored idle.none idle.controlled k.steady).control written n next (counts_in counts) (is_whole (parts_from no_parts es)) count stand)
+          (still_opened live ev base idle.controlled k.opened)
+          (numbers_level (events es) live n next (counts_in counts) (is_whole (parts_from no_parts es)) k.numbered free up low)
           (λ xs m how at. refl)
           ((images_go_on (live_logged [] (events_in es)) k.images).others (event ev) refl);
       tells = content_event first es (control_point n next counts) (event ev) ev dumps base is refl idle.controlled;

@@ -7,19 +7,19 @@ use Rattle.dms_history.proofs.Picks.{some_is}
 use Rattle.dms_history.specs.Events.{AllBlocks, Stored, Event, change, quiet, control, begin}
 use Rattle.dms_history.specs.Replay.{replay}
 use Rattle.dms_history.specs.Lists.{has, until_first, after_first}
-use Rattle.dms_history.specs.Places.{is_point, is_described, is_control, point_numbers, IsLive}
+use Rattle.dms_history.specs.Places.{is_point, is_described, point_numbers, IsLive}
 use Rattle.dms_history.specs.History.{after_event}
 use Rattle.dms_history.specs.Base.{from_control, Sound}
 use Rattle.dms_history.specs.Agrees.{Numbered}
 use Rattle.dms_history.specs.Here.{here}
-use Rattle.dms_history.specs.Points.{LivePoint, live_number, numbers_from, live_numbers, point_at, live_points, up_to, AllAbove, Rises, AllLive, ListsPoints}
-use Rattle.dms_history.specs.LawsOfPointLists.{ListsChange, ListsQuiet, ListsControl, ListsBegin, LastKeepsAll}
+use Rattle.dms_history.specs.Points.{LivePoint, HasPoint, live_number, new_place, numbers_from, live_numbers, point_at, live_points, up_to, AllAbove, Rises, AllLive, ListsPoints}
+use Rattle.dms_history.specs.LawsOfPointLists.{ListsChange, ListsQuiet, ListsControl, ListsLevel, ListsBegin, LastKeepsAll}
 use Rattle.dms_history.proofs.AtPoints.{split_first, true_or}
 use Rattle.dms_history.proofs.Base.{has_append}
 use Rattle.dms_history.proofs.Converse.{opening_append}
 use Rattle.dms_history.proofs.Given.{described_control}
 use Rattle.dms_history.proofs.Order.{append_none, points_append, front_ends, point_among, last_lives, rolls_back}
-use Rattle.dms_history.proofs.Running.{above_all, quiet_is_live}
+use Rattle.dms_history.proofs.Running.{above_all, quiet_is_live, level_is_live}
 use Rattle.dms_history.proofs.Runs.{quiets}
 use Rattle.dms_history.proofs.Stops.{has_self, restore_begins}
 use Rattle.dms_history.proofs.Listed.{numbers_append, EachLive, all_live, points_listed, one_list, points_alike, numbers_rise, listed_rising, rest_above, points_front}
@@ -73,22 +73,37 @@ unfolding EachBelow
 rises_push [] n rises below = (tt, tt)
 rises_push (k ∷ ns) n rises below = (above_push k ns n rises.0 below.0, rises_push ns n rises.1 below.1)
 
-pub lists_quiet : ListsQuiet
+-- one event that makes a point
+lists_new : (live : List Event) (next : ℕ) (base : AllBlocks) (counted later : Stored) (ps : List LivePoint) (n : ℕ) (x : Event) → new_place live x ≡ n ∷ [] → Numbered live next → next ≤ n
+    → Sound (from_control live) base counted → Sound (from_control (live ++ x ∷ [])) base later → HasPoint (live ++ x ∷ []) later n (replay (from_control live) base) → ListsPoints live counted ps
+    → ListsPoints (live ++ x ∷ []) later (ps ++ record { number = n; blocks = replay (from_control live) base } ∷ [])
 unfolding live_points live_numbers
+lists_new live next base counted later ps n x placed numbered free sound grown at listed =
+    let new : numbers_from live (x ∷ []) ≡ n ∷ [] = ap (λ (l : List ℕ). l ++ []) placed in
+    let same : map (point_at (live ++ x ∷ []) later) (numbers_from [] (live ++ x ∷ [])) ≡ ps ++ record { number = n; blocks = replay (from_control live) base } ∷ [] =
+    points_front live (x ∷ []) base counted later sound grown ∙ ap (λ (l : List ℕ). live_points live counted ++ map (point_at (live ++ x ∷ []) later) l) new
+    ∙ (λ i. one_list live counted (live_points live counted) ps (points_listed live next counted numbered) listed i ++ record { number = n; blocks = at.same i } ∷ []) in
+    let numbers : numbers_from [] (live ++ x ∷ []) ≡ numbers_from [] live ++ n ∷ [] = numbers_append [] live (x ∷ []) ∙ ap (λ (l : List ℕ). numbers_from [] live ++ l) new in
+    subst (λ (l : List LivePoint). ListsPoints (live ++ x ∷ []) later l) same
+    (listed_rising (live ++ x ∷ []) later (subst Rises (sym numbers) (rises_push (numbers_from [] live) n (numbers_rise live next numbered) (each_below live next n numbered free (numbers_from [] live) (all_live live)))))
+
+-- its number is new, and a described Control stands before it
+newly_placed : (live : List Event) (next n : ℕ) (x : Event) → Numbered live next → next ≤ n → has is_described live ≡ true → live_number n live x ≡ n ∷ []
+newly_placed live next n x numbered free described =
+    let off : has (is_point n) live ≡ false = above_all live next n numbered free in
+    let told : has is_described (live ++ x ∷ []) ≡ true = has_append is_described live (x ∷ []) ∙ true_or (has is_described live) (has is_described (x ∷ [])) described in
+    λ i. cond (not (off i) && told i) (n ∷ []) []
+
+pub lists_quiet : ListsQuiet
 lists_quiet live next base counted ps n numbered free described sound listed =
     let e = quiet n in
-    let found : has is_control live ≡ true = described_control live described in
-    let grown : Sound (from_control (live ++ e ∷ [])) base counted = subst (λ (l : List Event). Sound l base counted) (sym (opening_append live (e ∷ []) found).1) (quiets (from_control live) base counted n sound) in
-    let at = quiet_is_live live next base counted n numbered free described sound in
-    let off : has (is_point n) live ≡ false = above_all live next n numbered free in
-    let told : has is_described (live ++ e ∷ []) ≡ true = has_append is_described live (e ∷ []) ∙ true_or (has is_described live) (has is_described (e ∷ [])) described in
-    let new : numbers_from live (e ∷ []) ≡ n ∷ [] = λ i. cond (not (off i) && told i) (n ∷ []) [] ++ [] in
-    let same : map (point_at (live ++ e ∷ []) counted) (numbers_from [] (live ++ e ∷ [])) ≡ ps ++ record { number = n; blocks = replay (from_control live) base } ∷ [] =
-    points_front live (e ∷ []) base counted counted sound grown ∙ ap (λ (l : List ℕ). live_points live counted ++ map (point_at (live ++ e ∷ []) counted) l) new
-    ∙ (λ i. one_list live counted (live_points live counted) ps (points_listed live next counted numbered) listed i ++ record { number = n; blocks = at.same i } ∷ []) in
-    let numbers : numbers_from [] (live ++ e ∷ []) ≡ numbers_from [] live ++ n ∷ [] = numbers_append [] live (e ∷ []) ∙ ap (λ (l : List ℕ). numbers_from [] live ++ l) new in
-    subst (λ (l : List LivePoint). ListsPoints (live ++ e ∷ []) counted l) same
-    (listed_rising (live ++ e ∷ []) counted (subst Rises (sym numbers) (rises_push (numbers_from [] live) n (numbers_rise live next numbered) (each_below live next n numbered free (numbers_from [] live) (all_live live)))))
+    let grown : Sound (from_control (live ++ e ∷ [])) base counted = subst (λ (l : List Event). Sound l base counted) (sym (opening_append live (e ∷ []) (described_control live described)).1) (quiets (from_control live) base counted n sound) in
+    lists_new live next base counted counted ps n e (newly_placed live next n e numbered free described) numbered free sound grown (quiet_is_live live next base counted n numbered free described sound) listed
+
+pub lists_level : ListsLevel
+lists_level live next base counted later ps n after counts described numbered free told sound grown listed =
+    let e = control n after counts described in
+    lists_new live next base counted later ps n e (newly_placed live next n e numbered free told) numbered free sound grown (level_is_live live next base later n after counts described numbered free told grown) listed
 
 -- ---- a Begin
 

@@ -7,7 +7,7 @@ use Rattle.dms_history.specs.Lists.{has, until_first, after_first}
 use Rattle.dms_history.specs.Places.{is_control, is_described, is_point, IsLive, point_numbers}
 use Rattle.dms_history.specs.History.{last_number, pending_point, next_after, next_number}
 use Rattle.dms_history.specs.Agrees.{Numbered}
-use Rattle.dms_history.specs.Numbers.{RollsBack, EachLast, LastLives, EachNext, Carries, NextStays, UsedOnce, NumbersChange, NumbersQuiet, NumbersBegin, NumbersControl, TrueDumpServes, NumbersFirst}
+use Rattle.dms_history.specs.Numbers.{RollsBack, EachLast, LastLives, EachNext, Carries, NextStays, UsedOnce, NumbersChange, NumbersQuiet, NumbersBegin, NumbersControl, NumbersLevel, TrueDumpServes, NumbersFirst}
 use Rattle.dms_history.proofs.Cuts.{until_none}
 use Rattle.dms_history.proofs.Picks.{some_is}
 use Rattle.dms_history.proofs.AtPoints.{split_first, true_or, or_true_right}
@@ -324,6 +324,19 @@ numbers_begin entries live m how numbered found =
       never_fall = λ xs ys zs a b is. numbered.never_fall xs ys (zs ++ rest) a b
           (halves ∙ ap (λ (l : List ℕ). l ++ rest) is ∙ append_assoc xs (a ∷ (ys ++ b ∷ zs)) rest ∙ ap (λ (l : List ℕ). xs ++ a ∷ l) (append_assoc ys (b ∷ zs) rest));
       below_next = λ xs ys a is. let k = numbered.below_next xs (ys ++ rest) a (halves ∙ ap (λ (l : List ℕ). l ++ rest) is ∙ append_assoc xs (a ∷ ys) rest) in omega (arith, k, stays);
+    }
+
+pub numbers_level : NumbersLevel
+numbers_level entries live n next counts described numbered free up low =
+    let e = control n next counts described in
+    let same : point_numbers (live ++ e ∷ []) ≡ point_numbers live ++ n ∷ [] = points_append live (e ∷ []) in
+    let carried : next_number entries ≤ next = omega (arith, free, up) in
+    let stays = next_stays entries e carried in
+    let is : next_number (entries ++ e ∷ []) ≡ min (2 ^ 64 - 1) next = (next_steps entries).control n next counts described in
+    let above_it : n < next_number (entries ++ e ∷ []) = omega (arith, up, low, is) in
+    record {
+      never_fall = λ xs ys zs a b at. fall_push (point_numbers live) n numbered.never_fall (λ us vs c on. let k = numbered.below_next us vs c on in omega (arith, k, free)) xs ys zs a b (sym same ∙ at);
+      below_next = λ xs ys a at. below_push (point_numbers live) n (next_number (entries ++ e ∷ [])) (λ us vs c on. let k = numbered.below_next us vs c on in omega (arith, k, stays)) above_it xs ys a (sym same ∙ at);
     }
 
 pub numbers_control : NumbersControl

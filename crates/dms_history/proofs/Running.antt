@@ -3,7 +3,7 @@ use Rattle.std.proofs.Common.{ℕ, ◌<◌, ◌≤◌, ◌≡◌, ◌||◌, ◌=
 use Rattle.std.proofs.lemmas.Bool.Decides.{nat_tests}
 use Rattle.std.proofs.lemmas.Bool.{cases_Bool, true≢false}
 use Rattle.dms_history.specs.Events.{AllBlocks, Stored, Event, change, quiet, control, begin}
-use Rattle.dms_history.specs.Replay.{Chain, replay}
+use Rattle.dms_history.specs.Replay.{Chain, apply, replay}
 use Rattle.dms_history.specs.Lists.{has, until_first, after_last}
 use Rattle.dms_history.specs.Places.{is_control, is_described, is_point, IsLive}
 use Rattle.dms_history.specs.History.{History, after_event, history_from}
@@ -11,7 +11,8 @@ use Rattle.dms_history.specs.Pick.{Dumps, content_of}
 use Rattle.dms_history.specs.Images.{last_after}
 use Rattle.dms_history.specs.Base.{from_control, Sound}
 use Rattle.dms_history.specs.Agrees.{Numbered}
-use Rattle.dms_history.specs.LawsOfRunning.{PointsGoOn, SealsRun, QuietIsLive, ControlStands}
+use Rattle.dms_history.specs.Points.{HasPoint}
+use Rattle.dms_history.specs.LawsOfRunning.{PointsGoOn, SealsRun, QuietIsLive, LevelIsLive, ControlStands}
 use Rattle.dms_history.proofs.AtPoints.{replay_append, true_or}
 use Rattle.dms_history.proofs.Base.{has_append, content_length, content_block}
 use Rattle.dms_history.proofs.Converse.{opening_append}
@@ -53,12 +54,12 @@ above_all live next n numbered le = elim (cases_Bool (has (is_point n) live)) [
 self_eq : (n : ℕ) → (n == n) ≡ true
 self_eq n = grind (arith, nat_tests)
 
-until_new : (live : List Event) (n : ℕ) → has (is_point n) live ≡ false → until_first (is_point n) (live ++ quiet n ∷ []) ≡ live ++ quiet n ∷ []
-until_new [] n off = ap (λ t. cond t (quiet n ∷ []) []) (self_eq n)
-until_new (e ∷ es) n off = go (is_point n e) (has (is_point n) es) (has (is_point n) (es ++ quiet n ∷ [])) off last (λ out. until_new es n out)
+until_new : (live : List Event) (n : ℕ) (x : Event) → is_point n x ≡ true → has (is_point n) live ≡ false → until_first (is_point n) (live ++ x ∷ []) ≡ live ++ x ∷ []
+until_new [] n x at off = ap (λ t. cond t (x ∷ []) []) at
+until_new (e ∷ es) n x at off = go (is_point n e) (has (is_point n) es) (has (is_point n) (es ++ x ∷ [])) off last (λ out. until_new es n x at out)
   where
-    go : (b c d : Bool) → b || c ≡ false → d ≡ true → (c ≡ false → until_first (is_point n) (es ++ quiet n ∷ []) ≡ es ++ quiet n ∷ [])
-        → cond b (e ∷ []) (cond d (e ∷ until_first (is_point n) (es ++ quiet n ∷ [])) []) ≡ e ∷ (es ++ quiet n ∷ [])
+    go : (b c d : Bool) → b || c ≡ false → d ≡ true → (c ≡ false → until_first (is_point n) (es ++ x ∷ []) ≡ es ++ x ∷ [])
+        → cond b (e ∷ []) (cond d (e ∷ until_first (is_point n) (es ++ x ∷ [])) []) ≡ e ∷ (es ++ x ∷ [])
     go true c d none on rest = absurd (true≢false none)
     go false true d none on rest = absurd (true≢false none)
     go false false d none on rest = λ i. cond (on i) (e ∷ rest refl i) []
@@ -67,27 +68,37 @@ until_new (e ∷ es) n off = go (is_point n e) (has (is_point n) es) (has (is_po
     or_true true c on = refl
     or_true false c on = on
 
-    last : has (is_point n) (es ++ quiet n ∷ []) ≡ true
-    last = has_append (is_point n) es (quiet n ∷ []) ∙ or_true (has (is_point n) es) (has (is_point n) (quiet n ∷ [])) (ap (λ t. t || false) (self_eq n))
+    last : has (is_point n) (es ++ x ∷ []) ≡ true
+    last = has_append (is_point n) es (x ∷ []) ∙ or_true (has (is_point n) es) (has (is_point n) (x ∷ [])) (ap (λ t. t || false) at)
 
-pub quiet_is_live : QuietIsLive
-quiet_is_live live next base counted n numbered le described sound =
-    let all = live ++ quiet n ∷ [] in
+-- a new point is live, with the content of now
+new_is_live : (live : List Event) (next : ℕ) (base : AllBlocks) (later : Stored) (n : ℕ) (x : Event) → is_point n x ≡ true → ((c : AllBlocks) → apply x c ≡ c) → Numbered live next → next ≤ n
+    → has is_described live ≡ true → Sound (from_control (live ++ x ∷ [])) base later → HasPoint (live ++ x ∷ []) later n (replay (from_control live) base)
+new_is_live live next base later n x at still numbered le described grown =
+    let all = live ++ x ∷ [] in
     let off = above_all live next n numbered le in
-    let cut : until_first (is_point n) all ≡ all = until_new live n off in
+    let cut : until_first (is_point n) all ≡ all = until_new live n x at off in
     let lives : IsLive all n = record {
-      found = ap (λ (l : List Event). has (is_point n) l) (sym cut) ∙ has_self (is_point n) all (has_append (is_point n) live (quiet n ∷ []) ∙ (λ i. has (is_point n) live || (self_eq n i || false)) ∙ or_end (has (is_point n) live));
-      described = ap (λ (l : List Event). has is_described l) cut ∙ has_append is_described live (quiet n ∷ []) ∙ true_or (has is_described live) false described;
+      found = ap (λ (l : List Event). has (is_point n) l) (sym cut) ∙ has_self (is_point n) all (has_append (is_point n) live (x ∷ []) ∙ (λ i. has (is_point n) live || (at i || false)) ∙ or_end (has (is_point n) live));
+      described = ap (λ (l : List Event). has is_described l) cut ∙ has_append is_described live (x ∷ []) ∙ true_or (has is_described live) (has is_described (x ∷ [])) described;
     } in
     let found : has is_control live ≡ true = described_control live described in
-    let split : from_control all ≡ from_control live ++ quiet n ∷ [] = (opening_append live (quiet n ∷ []) found).1 in
-    let grown : Sound (from_control all) base counted = subst (λ (l : List Event). Sound l base counted) (sym split) (quiets (from_control live) base counted n sound) in
-    let whole : until_first (is_point n) (from_control all) ≡ from_control all = sym (from_until (is_point n) all (ap (λ (l : List Event). has is_control l) cut ∙ has_append is_control live (quiet n ∷ []) ∙ true_or (has is_control live) false found)) ∙ ap (λ (l : List Event). from_control l) cut in
-    record { lives = lives; same = at_point all base counted n grown lives ∙ ap (λ (l : List Event). replay l base) (whole ∙ split) ∙ replay_append (from_control live) (quiet n ∷ []) base }
+    let split : from_control all ≡ from_control live ++ x ∷ [] = (opening_append live (x ∷ []) found).1 in
+    let whole : until_first (is_point n) (from_control all) ≡ from_control all = sym (from_until (is_point n) all (ap (λ (l : List Event). has is_control l) cut ∙ has_append is_control live (x ∷ []) ∙ true_or (has is_control live) (has is_control (x ∷ [])) found)) ∙ ap (λ (l : List Event). from_control l) cut in
+    record { lives = lives; same = at_point all base later n grown lives ∙ ap (λ (l : List Event). replay l base) (whole ∙ split) ∙ replay_append (from_control live) (x ∷ []) base ∙ still (replay (from_control live) base) }
   where
     or_end : (b : Bool) → b || (true || false) ≡ true
     or_end true = refl
     or_end false = refl
+
+pub quiet_is_live : QuietIsLive
+quiet_is_live live next base counted n numbered le described sound =
+    let split : from_control (live ++ quiet n ∷ []) ≡ from_control live ++ quiet n ∷ [] = (opening_append live (quiet n ∷ []) (described_control live described)).1 in
+    new_is_live live next base counted n (quiet n) (self_eq n) (λ c. refl) numbered le described (subst (λ (l : List Event). Sound l base counted) (sym split) (quiets (from_control live) base counted n sound))
+
+pub level_is_live : LevelIsLive
+level_is_live live next base later n after counts described numbered le described_before grown =
+    new_is_live live next base later n (control n after counts described) (self_eq n) (λ c. refl) numbered le described_before grown
 
 -- ---- behind a Control
 

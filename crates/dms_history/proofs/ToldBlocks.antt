@@ -5,8 +5,8 @@ use Rattle.std.proofs.lemmas.Bool.{cases_lt, true≢false}
 use Rattle.std.proofs.lemmas.Bool.Decides.{nat_tests}
 use Rattle.std.proofs.lemmas.List.{get_or_past}
 use Rattle.std.proofs.lemmas.Option.{none-some}
-use Rattle.dms_history.specs.Events.{BlockBytes, Stored, Event}
-use Rattle.dms_history.specs.Lists.{has, until_first, after_first, after_last}
+use Rattle.dms_history.specs.Events.{BlockBytes, Stored}
+use Rattle.dms_history.specs.Lists.{until_first, after_first, after_last}
 use Rattle.dms_history.specs.Places.{is_control, is_point}
 use Rattle.dms_history.specs.History.{Pending}
 use Rattle.dms_history.specs.Images.{or_else, last_after, first_before, value, choice}
@@ -15,7 +15,6 @@ use Rattle.dms_history.specs.Here.{here_by, here, outcome}
 use Rattle.dms_history.specs.Restores.{is_none, has_no_before, is_unlogged, takes_stored}
 use Rattle.dms_history.specs.Told.{undone_to, told_block, EachTold, counts_stored, EachFromFile}
 use Rattle.dms_history.proofs.Picks.{some_is}
-use Rattle.dms_history.proofs.Cuts.{until_none, after_none}
 use Rattle.dms_history.proofs.Stops.{log_same, log_takes, restore_same, takes_is, outcome_block, outcome_length}
 
 told_value : (o : Option BlockBytes) (first : Option (Option BlockBytes)) (st x : BlockBytes) → or_else o (undone_to first) ≡ Some x → value o first st ≡ x

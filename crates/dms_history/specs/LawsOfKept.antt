@@ -64,6 +64,14 @@ KeptControl = (first : Bool) (entries : List Entry) (dumps : Dumps) (base : AllB
     → ((f b : ℕ) → b < length (content_told entries base f) → written f b ≡ block_in (content_told entries base) f b)
     → KeptTelling first (entries ++ control_point n next counts ∷ []) dumps base written (content_told entries base)
 
+-- All blocks stand in the files as the content is, and a Control with a number that is free is sealed: it makes a point.
+abbrev pub KeptLevel : Type 0
+KeptLevel = (first : Bool) (entries : List Entry) (dumps : Dumps) (base : AllBlocks) (stored written : Stored) (n next : ℕ) (counts : List FileCount) → Kept first entries dumps base stored
+    → IsIdle entries → next_of entries ≤ n → n < next → n < 2 ^ 64 - 1
+    → ((f : ℕ) → counts_in counts f ≡ length (content_told entries base f))
+    → ((f b : ℕ) → b < length (content_told entries base f) → written f b ≡ block_in (content_told entries base) f b)
+    → KeptTelling first (entries ++ control_point n next counts ∷ []) dumps base written (content_told entries base)
+
 -- A Begin: what counted is kept, and what is there now may be anything where the restore's rule doesn't look. The dumps may be others by now.
 abbrev pub KeptBegin : Type 0
 KeptBegin = (first : Bool) (entries : List Entry) (dumps others : Dumps) (base : AllBlocks) (right stored : Stored) (m : ℕ) (kind : Kind) → Kept first entries dumps base right

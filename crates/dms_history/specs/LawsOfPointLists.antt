@@ -49,6 +49,13 @@ ListsControl = (live : List Event) (next : ℕ) (base : AllBlocks) (counted late
     → has (is_point n) live ≡ true → Sound (from_control live) base counted → Sound (from_control (live ++ control n after counts described ∷ [])) base later
     → ListsPoints live counted points → ListsPoints (live ++ control n after counts described ∷ []) later points
 
+-- a Control with a number that is free: its point is added, with the content of now; by now the blocks were written
+abbrev pub ListsLevel : Type 0
+ListsLevel = (live : List Event) (next : ℕ) (base : AllBlocks) (counted later : Stored) (points : List LivePoint) (n after : ℕ) (counts : Counts) (described : Bool) → Numbered live next
+    → next ≤ n → has is_described live ≡ true → Sound (from_control live) base counted → Sound (from_control (live ++ control n after counts described ∷ [])) base later
+    → ListsPoints live counted points
+    → ListsPoints (live ++ control n after counts described ∷ []) later (points ++ record { number = n; blocks = replay (from_control live) base } ∷ [])
+
 -- a Begin: the points up to its own stay
 abbrev pub ListsBegin : Type 0
 ListsBegin = (how : How) (dumps : Dumps) (h : History) (next : ℕ) (base : AllBlocks) (counted stored : Stored) (points : List LivePoint) (m : ℕ) → Numbered h.live next

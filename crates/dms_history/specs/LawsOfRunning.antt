@@ -67,6 +67,12 @@ QuietIsLive = (live : List Event) (next : ℕ) (base : AllBlocks) (counted : Sto
     → has is_described live ≡ true → Sound (from_control live) base counted
     → HasPoint (live ++ quiet n ∷ []) counted n (replay (from_control live) base)
 
+-- A Control with a number that is free makes a point, which is live with the content of now.
+abbrev pub LevelIsLive : Type 0
+LevelIsLive = (live : List Event) (next : ℕ) (base : AllBlocks) (later : Stored) (n after : ℕ) (counts : Counts) (described : Bool) → Numbered live next → next ≤ n
+    → has is_described live ≡ true → Sound (from_control (live ++ control n after counts described ∷ [])) base later
+    → HasPoint (live ++ control n after counts described ∷ []) later n (replay (from_control live) base)
+
 -- Behind a Control the files hold the content.
 abbrev pub ControlStands : Type 0
 ControlStands = (live : List Event) (base : AllBlocks) (stored : Stored) (n next : ℕ) (counts : Counts) (described : Bool)

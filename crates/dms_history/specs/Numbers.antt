@@ -67,6 +67,11 @@ NumbersControl = (entries : List Event) (h : History) (m next : ℕ) (counts : C
     → last_point h ≡ Some m → has (is_point m) h.live ≡ true → next_number entries ≤ next
     → Numbered (h.live ++ control m next counts described ∷ []) (next_number (entries ++ control m next counts described ∷ []))
 
+-- a Control that makes a point: its number is free, and its next number is above it
+abbrev pub NumbersLevel : Type 0
+NumbersLevel = (entries live : List Event) (n next : ℕ) (counts : Counts) (described : Bool) → Numbered live (next_number entries) → next_number entries ≤ n → n < next → n < 2 ^ 64 - 1
+    → Numbered (live ++ control n next counts described ∷ []) (next_number (entries ++ control n next counts described ∷ []))
+
 -- the first Control of all
 abbrev pub NumbersFirst : Type 0
 NumbersFirst = (counts : Counts) (described : Bool) → Numbered (control 0 1 counts described ∷ []) (next_number (control 0 1 counts described ∷ []))

@@ -25,9 +25,11 @@ unfoldable pub pick : List Event → ℕ → Stored → Stored
 pick live n stored =
     choice (after_last is_control (until_first (is_point n) live)) (after_first (is_point n) live) stored
 
--- a dump: its point, and all blocks of all files
+-- A dump: its point, its end, and all blocks of all files. One that is made at once ends at its point; one that is copied while programs run has
+-- each block as it was at some point from the one to the other.
 pub record Dump : Type 0 where
   pub point : ℕ
+  pub end : ℕ
   pub blocks : AllBlocks
 
 -- a dump for each number; of one that isn't present nothing is said

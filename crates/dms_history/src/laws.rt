@@ -1,19 +1,19 @@
 //! Laws of the definitions. Each stands on a function with an empty body, so that the check proves it.
 
-ghost use Rattle.dms_history.specs.Copied.{CopiedDumpServes};
+ghost use Rattle.dms_history.specs.Copied.{CopiedDumpServes, TrueDumpIsCopied};
 ghost use Rattle.dms_history.specs.LawsOfPoints.{ChoiceGivesContent, EachPoint, EachLivePoint, OpeningNeverCounts};
 ghost use Rattle.dms_history.specs.LawsOfBase.{AgreesHasBase, AgreesLeadsToBase, BaseAgrees, AgreesIsSteady, SteadyAgrees, OpeningStays, PrefixGoes};
-ghost use Rattle.dms_history.specs.LawsOfRunning.{ChangesBlock, Quiets, WritesEarly, Controls, RunsSteady, SealsRun, PointsGoOn, QuietIsLive, ControlStands};
+ghost use Rattle.dms_history.specs.LawsOfRunning.{ChangesBlock, Quiets, WritesEarly, Controls, RunsSteady, SealsRun, PointsGoOn, QuietIsLive, LevelIsLive, ControlStands};
 ghost use Rattle.dms_history.specs.Sizes.{SizedReplay, SizedBase};
 ghost use Rattle.dms_history.specs.Told.{EachTold, EachFromFile};
-ghost use Rattle.dms_history.specs.LawsOfPointLists.{PointsListed, OneList, PointsPrefix, PointsStay, ListsChange, ListsQuiet, ListsControl, ListsBegin, LastKeepsAll};
+ghost use Rattle.dms_history.specs.LawsOfPointLists.{PointsListed, OneList, PointsPrefix, PointsStay, ListsChange, ListsQuiet, ListsControl, ListsLevel, ListsBegin, LastKeepsAll};
 ghost use Rattle.dms_history.specs.LawsOfSchemas.{EachSchema, SchemaStays, SchemaOfNew, LiveHasSchema};
 ghost use Rattle.dms_history.specs.Judge.{EachJudged};
 ghost use Rattle.dms_history.specs.LawsOfRestores.{RestoreBegins, RestoreWrites, RestoreEnds, EndsFirst, PendingWritesFirst, NoDumpCounts, PendingCuts, HereFixed};
 ghost use Rattle.dms_history.specs.Often.{HoweverOften, FromAnything};
-ghost use Rattle.dms_history.specs.Numbers.{RollsBack, EachLast, LastLives, NextStays, EachNext, UsedOnce, NumbersChange, NumbersQuiet, NumbersBegin, NumbersControl, NumbersFirst, TrueDumpServes};
+ghost use Rattle.dms_history.specs.Numbers.{RollsBack, EachLast, LastLives, NextStays, EachNext, UsedOnce, NumbersChange, NumbersQuiet, NumbersBegin, NumbersControl, NumbersLevel, NumbersFirst, TrueDumpServes};
 ghost use Rattle.dms_history.specs.LawsOfEntries.{WholeSchemas, LiveOfEntries, RowsOfBlocks, SchemaSealed, ImageSealed, RangeSealed, QuietSealed, ControlSealed, BeginSealed, OneMoreEvent, PartsSayNothing, SchemaInParts, HistoryAppends, EntriesAlone};
-ghost use Rattle.dms_history.specs.LawsOfKept.{KeptFirst, KeptImage, KeptRange, KeptQuiet, KeptSchema, KeptControl, KeptBegin, KeptEnds, KeptWrites, KeptRestores, KeptAgrees, AgreesKept, KeptInParts, FirstAgrees};
+ghost use Rattle.dms_history.specs.LawsOfKept.{KeptFirst, KeptImage, KeptRange, KeptQuiet, KeptSchema, KeptControl, KeptLevel, KeptBegin, KeptEnds, KeptWrites, KeptRestores, KeptAgrees, AgreesKept, KeptInParts, FirstAgrees};
 ghost use Rattle.dms_history.specs.LawsOfRanges.{NoRanges, LiveOfRanges, LeftOut, RangeChanges, RangesSteady, RangesSplit, ImagesGoOn, RangeFits};
 
 /// Each live point has exactly the content that the entries up to its place give: changes before it are redone, changes after it undone.
@@ -55,6 +55,7 @@ pub fn running_keeps()
 pub fn points_go_on()
     ensures points { PointsGoOn }
     ensures quiet { QuietIsLive }
+    ensures level { LevelIsLive }
     ensures control { ControlStands }
 {}
 
@@ -76,6 +77,7 @@ pub fn points_are_listed()
     ensures change { ListsChange }
     ensures quiet { ListsQuiet }
     ensures control { ListsControl }
+    ensures level { ListsLevel }
     ensures begin { ListsBegin }
     ensures last { LastKeepsAll }
 {}
@@ -124,9 +126,11 @@ pub fn keeps_numbers()
     ensures quiet { NumbersQuiet }
     ensures begin { NumbersBegin }
     ensures control { NumbersControl }
+    ensures level { NumbersLevel }
     ensures first { NumbersFirst }
     ensures dump { TrueDumpServes }
     ensures copied { CopiedDumpServes }
+    ensures true_is_copied { TrueDumpIsCopied }
 {}
 
 /// Entries with Ranges are a list of changes with whole images.
@@ -172,6 +176,7 @@ pub fn kept_goes_on()
     ensures quiet { KeptQuiet }
     ensures schema { KeptSchema }
     ensures control { KeptControl }
+    ensures level { KeptLevel }
     ensures begin { KeptBegin }
     ensures ends { KeptEnds }
     ensures writes { KeptWrites }

@@ -91,8 +91,8 @@ module _ (first : Bool) (es : List Entry) (d : Dumps) (base : AllBlocks) (st : S
   pub whole_is : history_of (es ++ plan) ≡ after_event (history_of es) last
   whole_is = ap history (control_sealed es one rest n next counts) ∙ one_more_event (events es) last
 
-  module _ (s : Stands first es d base st) (kept : Kept first (es ++ plan) d base st) (placed : has (is_point n) (live_of es) ≡ true) (carried : next_of es ≤ next) where
-    live_is : live_of (es ++ plan) ≡ live_of es ++ last ∷ []
+  module _ (s : Stands first es d base st) (kept : Kept first (es ++ plan) d base st) where
+    pub live_is : live_of (es ++ plan) ≡ live_of es ++ last ∷ []
     live_is = ap (λ (h : History). h.live) whole_is
 
     from_is : from_control (live_of (es ++ plan)) ≡ from_control (live_of es) ++ last ∷ []
@@ -109,8 +109,8 @@ module _ (first : Bool) (es : List Entry) (d : Dumps) (base : AllBlocks) (st : S
     pub whole_may : MayRun first (es ++ plan) d base st
     whole_may = record { stands = whole_stands; none = ap (λ (h : History). h.pending) whole_is }
 
-    pub whole_points : points_told d (es ++ plan) st ≡ points_told d es st
-    whole_points =
+    pub whole_points : has (is_point n) (live_of es) ≡ true → points_told d (es ++ plan) st ≡ points_told d es st
+    whole_points placed =
         let counted = here d (history_of es) st in
         let later = here d (history_of (es ++ plan)) st in
         let old = live_points (live_of es) counted in
@@ -144,14 +144,18 @@ module _ (first : Bool) (es : List Entry) (d : Dumps) (base : AllBlocks) (st : S
         | inr all ↦ subst (λ (l : List Entry). Stands first (es ++ l) d base st) (sym all) whole_stands
       ]
 
-      pub part_points : points_told d (es ++ take k plan) st ≡ points_told d es st
-      part_points = elim (schema_in_parts k one rest (control_point n next counts)) [
-        | inl parts ↦
-            let counted = here d (history_of es) st in
-            let old = live_points (live_of es) counted in
-            ap (λ (h : History). map (described_in (es ++ take k plan)) (live_points h.live (here d h st))) (part_history parts)
-            ∙ described_on es (take k plan) (parts_on (take k plan) parts) old (all_placed es counted old (points_listed (live_of es) (next_of es) counted s.kept.numbered).lives)
-        | inr all ↦ ap (λ (l : List Entry). points_told d (es ++ l) st) all ∙ whole_points
+      -- a part of the Schema alone has the points of before
+      pub schema_points : AllSchemaParts (take k plan) → points_told d (es ++ take k plan) st ≡ points_told d es st
+      schema_points parts =
+          let counted = here d (history_of es) st in
+          let old = live_points (live_of es) counted in
+          ap (λ (h : History). map (described_in (es ++ take k plan)) (live_points h.live (here d h st))) (part_history parts)
+          ∙ described_on es (take k plan) (parts_on (take k plan) parts) old (all_placed es counted old (points_listed (live_of es) (next_of es) counted s.kept.numbered).lives)
+
+      pub part_points : has (is_point n) (live_of es) ≡ true → points_told d (es ++ take k plan) st ≡ points_told d es st
+      part_points placed = elim (schema_in_parts k one rest (control_point n next counts)) [
+        | inl parts ↦ schema_points parts
+        | inr all ↦ ap (λ (l : List Entry). points_told d (es ++ l) st) all ∙ whole_points placed
       ]
 
       pub part_order : (found : ℕ → Type 0) (e : Dumps) → DumpsInOrder found e (history_of es).pending → DumpsInOrder found e (history_of (es ++ take k plan)).pending
@@ -219,15 +223,15 @@ module _ (t : Telling) (telling : IsTelling t) (a : State) (r : IsRunning t a) (
 
   keeps : KeepsAll t es a.files base
   keeps = subst (λ (l : List Entry). KeepsAll t l a.files base) (sym c.is) (record {
-    points = part_points t.first (t.entries a.files) (t.dumps a.files) base (stored_of a.files) n (next_in t a.files) c.first c.rest counts m.stands kept placed (omega arith);
-    next = λ k. part_next t.first (t.entries a.files) (t.dumps a.files) base (stored_of a.files) n (next_in t a.files) c.first c.rest counts m.stands kept placed (omega arith) k refl;
-    stands = part_stands t.first (t.entries a.files) (t.dumps a.files) base (stored_of a.files) n (next_in t a.files) c.first c.rest counts m.stands kept placed (omega arith);
-    order = λ k. part_order t.first (t.entries a.files) (t.dumps a.files) base (stored_of a.files) n (next_in t a.files) c.first c.rest counts m.stands kept placed (omega arith) k (t.dump_found a.files) (t.dumps a.files) (none_order (t.dump_found a.files) (t.dumps a.files) (history_of (t.entries a.files)).pending m.none);
+    points = λ k. part_points t.first (t.entries a.files) (t.dumps a.files) base (stored_of a.files) n (next_in t a.files) c.first c.rest counts m.stands kept k placed;
+    next = λ k. part_next t.first (t.entries a.files) (t.dumps a.files) base (stored_of a.files) n (next_in t a.files) c.first c.rest counts m.stands kept k refl;
+    stands = part_stands t.first (t.entries a.files) (t.dumps a.files) base (stored_of a.files) n (next_in t a.files) c.first c.rest counts m.stands kept;
+    order = λ k. part_order t.first (t.entries a.files) (t.dumps a.files) base (stored_of a.files) n (next_in t a.files) c.first c.rest counts m.stands kept k (t.dump_found a.files) (t.dumps a.files) (none_order (t.dump_found a.files) (t.dumps a.files) (history_of (t.entries a.files)).pending m.none);
   })
 
   whole : MayRun t.first (t.entries a.files ++ es) (t.dumps a.files) base (stored_of a.files)
   whole = subst (λ (l : List Entry). MayRun t.first (t.entries a.files ++ l) (t.dumps a.files) base (stored_of a.files)) (sym c.is)
-      (whole_may t.first (t.entries a.files) (t.dumps a.files) base (stored_of a.files) n (next_in t a.files) c.first c.rest counts m.stands kept placed (omega arith))
+      (whole_may t.first (t.entries a.files) (t.dumps a.files) base (stored_of a.files) n (next_in t a.files) c.first c.rest counts m.stands kept)
 
   pub control_leaves : (later : Clock Left) → Runs a.clock later (Planned t es a.files) → LeavesAll t a later
   control_leaves later runs = plan_leaves t telling es a base keeps (subst t.found read.2 (r.found read.0 read.1)) only later runs
@@ -255,5 +259,5 @@ module _ (t : Telling) (telling : IsTelling t) (a : State) (r : IsRunning t a) (
     control_points =
         (λ i. points_told (telling.dumps_between b.files a.files (λ g up below. above g up) i) (now_is i) (blocks_same b.files a.files above i))
         ∙ ap (λ (l : List Entry). points_told (t.dumps a.files) (t.entries a.files ++ l) (stored_of a.files)) c.is
-        ∙ whole_points t.first (t.entries a.files) (t.dumps a.files) base (stored_of a.files) n (next_in t a.files) c.first c.rest counts m.stands kept placed (omega arith)
+        ∙ whole_points t.first (t.entries a.files) (t.dumps a.files) base (stored_of a.files) n (next_in t a.files) c.first c.rest counts m.stands kept placed
         ∙ ap (λ (l : List Entry). points_told (t.dumps a.files) l (stored_of a.files)) (sym old_is)

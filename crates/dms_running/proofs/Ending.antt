@@ -69,16 +69,16 @@ module _ (t : Telling) (telling : IsTelling t) (p : Pending) (a : State) (r : Is
 
   keeps : KeepsAll t es a.files base
   keeps = subst (λ (l : List Entry). KeepsAll t l a.files base) (sym c.is) (record {
-    points = part_points t.first old (t.dumps a.files) base (stored_of a.files) p.point (next_in t a.files) c.first c.rest counts s kept placed (omega arith);
-    next = λ k. part_next t.first old (t.dumps a.files) base (stored_of a.files) p.point (next_in t a.files) c.first c.rest counts s kept placed (omega arith) k (λ i. next_in t a.files);
-    stands = part_stands t.first old (t.dumps a.files) base (stored_of a.files) p.point (next_in t a.files) c.first c.rest counts s kept placed (omega arith);
-    order = λ k. part_order t.first old (t.dumps a.files) base (stored_of a.files) p.point (next_in t a.files) c.first c.rest counts s kept placed (omega arith) k (t.dump_found a.files) (t.dumps a.files)
+    points = λ k. part_points t.first old (t.dumps a.files) base (stored_of a.files) p.point (next_in t a.files) c.first c.rest counts s kept k placed;
+    next = λ k. part_next t.first old (t.dumps a.files) base (stored_of a.files) p.point (next_in t a.files) c.first c.rest counts s kept k (λ i. next_in t a.files);
+    stands = part_stands t.first old (t.dumps a.files) base (stored_of a.files) p.point (next_in t a.files) c.first c.rest counts s kept;
+    order = λ k. part_order t.first old (t.dumps a.files) base (stored_of a.files) p.point (next_in t a.files) c.first c.rest counts s kept k (t.dump_found a.files) (t.dumps a.files)
         (subst (λ (q : Option Pending). DumpsInOrder (t.dump_found a.files) (t.dumps a.files) q) (sym r.pending) (subst (λ (l : Files). DumpsInOrder (t.dump_found l) (t.dumps l) (Some p)) read.2 (r.order read.0 read.1)));
   })
 
   whole : MayRun t.first (old ++ es) (t.dumps a.files) base (stored_of a.files)
   whole = subst (λ (l : List Entry). MayRun t.first (old ++ l) (t.dumps a.files) base (stored_of a.files)) (sym c.is)
-      (whole_may t.first old (t.dumps a.files) base (stored_of a.files) p.point (next_in t a.files) c.first c.rest counts s kept placed (omega arith))
+      (whole_may t.first old (t.dumps a.files) base (stored_of a.files) p.point (next_in t a.files) c.first c.rest counts s kept)
 
   pub end_leaves : (later : Clock Left) → Runs a.clock later (Planned t es a.files) → LeavesAll t a later
   end_leaves later runs = plan_leaves t telling es a base keeps (subst t.found read.2 (r.found read.0 read.1)) only later runs
@@ -107,4 +107,4 @@ module _ (t : Telling) (telling : IsTelling t) (p : Pending) (a : State) (r : Is
     end_points =
         (λ i. points_told (telling.dumps_between b.files a.files (λ g up below. above g up) i) (now_is i) (blocks_same b.files a.files above i))
         ∙ ap (λ (l : List Entry). points_told (t.dumps a.files) (old ++ l) (stored_of a.files)) c.is
-        ∙ whole_points t.first old (t.dumps a.files) base (stored_of a.files) p.point (next_in t a.files) c.first c.rest counts s kept placed (omega arith)
+        ∙ whole_points t.first old (t.dumps a.files) base (stored_of a.files) p.point (next_in t a.files) c.first c.rest counts s kept placed

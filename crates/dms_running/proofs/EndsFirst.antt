@@ -56,8 +56,8 @@ any_ends_first first es d base p named dump right y next one rest counts is s la
     (λ f. count f ∙ sym (outcome_length p.how d p.entries p.point f right)) (λ f b low off. stand f b (omega (arith, low, count f)) off) in
     let live : live_of (es ++ first_plan p next one rest counts) ≡ (history_of es).live ++ control p.point next (counts_in counts) true ∷ [] = ap (λ (h : History). h.live) (whole_is first es d base n p.point next one rest counts) in
     record {
-      stands = λ k. part_stands first es d base n p.point next one rest counts later.stands kept placed carried k;
-      points = λ k. part_points first es d base n p.point next one rest counts later.stands kept placed carried k ∙ later.points;
+      stands = λ k. part_stands first es d base n p.point next one rest counts later.stands kept k;
+      points = λ k. part_points first es d base n p.point next one rest counts later.stands kept k placed ∙ later.points;
       ready = subst (λ (l : List Event). Ready (reconstruct dump named) d l base n (stored_of y) p.point) (sym live) done.ready;
     }
   where

@@ -29,12 +29,16 @@ order_by x y a b p roll_back goes same order = tt
 order_by x y a b p (rebuild k) goes same order = record {
   is_found = goes k order.is_found;
   point_lives = subst (λ (d : Dumps). IsLive p.entries (d k).point) (sym same) order.point_lives;
-  not_later = subst (λ (d : Dumps). (d k).point ≤ p.point) (sym same) order.not_later;
+  end_lives = subst (λ (d : Dumps). IsLive p.entries (d k).end) (sym same) order.end_lives;
+  point_low = subst (λ (d : Dumps). (d k).point ≤ p.point) (sym same) order.point_low;
+  end_low = subst (λ (d : Dumps). (d k).end ≤ p.point) (sym same) order.end_low;
 }
 order_by x y a b p (reconstruct k named) goes same order = record {
   is_found = goes k order.is_found;
   point_lives = subst (λ (d : Dumps). IsLive p.entries (d k).point) (sym same) order.point_lives;
-  not_later = subst (λ (d : Dumps). (d k).point ≤ p.point) (sym same) order.not_later;
+  end_lives = subst (λ (d : Dumps). IsLive p.entries (d k).end) (sym same) order.end_lives;
+  point_low = subst (λ (d : Dumps). (d k).point ≤ p.point) (sym same) order.point_low;
+  end_low = subst (λ (d : Dumps). (d k).end ≤ p.point) (sym same) order.end_low;
 }
 
 order_on : (x y : ℕ → Type 0) (a b : Dumps) (q : Option Pending) → ((k : ℕ) → x k → y k) → b ≡ a → DumpsInOrder x a q → DumpsInOrder y b q

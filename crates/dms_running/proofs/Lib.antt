@@ -8,6 +8,7 @@ pub mod Early
 pub mod Framed
 pub mod Planned
 pub mod Controlled
+pub mod Levelled
 pub mod Beginning
 pub mod Rewriting
 pub mod Restored
@@ -22,3 +23,5 @@ pub mod EndsFirst
 pub mod SizedContent
 pub mod AnyBegin
 pub mod NewDumps
+pub mod Beside
+pub mod CopiedAtPoints

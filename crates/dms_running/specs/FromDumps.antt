@@ -5,11 +5,14 @@ use Rattle.dms_history.specs.Places.{IsLive}
 use Rattle.dms_history.specs.History.{Pending}
 use Rattle.dms_history.specs.Pick.{Dumps}
 
--- Dump d can serve a restore: it is found, its point is live among the entries before the Begin, and isn't above the restore's.
+-- Dump d can serve a restore: it is found, its point and its end are live among the entries before the Begin, and neither is above the restore's
+-- point.
 pub record DumpInOrder (found : ℕ → Type 0) (dumps : Dumps) (p : Pending) (d : ℕ) : Type 0 where
   pub is_found : found d
   pub point_lives : IsLive p.entries (dumps d).point
-  pub not_later : (dumps d).point ≤ p.point
+  pub end_lives : IsLive p.entries (dumps d).end
+  pub point_low : (dumps d).point ≤ p.point
+  pub end_low : (dumps d).end ≤ p.point
 
 abbrev pub OrderBy : (ℕ → Type 0) → Dumps → Pending → How → Type 0
 OrderBy found dumps p halt_load = Unit {0}

@@ -7,9 +7,12 @@ pub mod Running
 pub mod Frames
 pub mod Restoring
 pub mod Begun
+pub mod Levels
 pub mod Plans
 pub mod Laws
 pub mod ByHow
 pub mod AnyLaws
 pub mod FirstLaws
 pub mod AnyBegun
+pub mod Beside
+pub mod CopiedAtPoints

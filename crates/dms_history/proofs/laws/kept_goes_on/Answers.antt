@@ -1,4 +1,4 @@
-use Rattle.dms_history.proofs.Keeping.{kept_first, kept_image, kept_range, kept_quiet, kept_schema, kept_control, kept_begin, kept_ends, kept_writes, kept_restores, kept_agrees, agrees_kept, kept_in_parts, first_agrees}
+use Rattle.dms_history.proofs.Keeping.{kept_first, kept_image, kept_range, kept_quiet, kept_schema, kept_control, kept_level, kept_begin, kept_ends, kept_writes, kept_restores, kept_agrees, agrees_kept, kept_in_parts, first_agrees}
 use Rattle.dms_history.proofs.laws.kept_goes_on.Goals as goal
 
 pub returns : goal.returns
@@ -9,6 +9,7 @@ returns c = record {
   quiet = kept_quiet;
   schema = kept_schema;
   control = kept_control;
+  level = kept_level;
   begin = kept_begin;
   ends = kept_ends;
   writes = kept_writes;

@@ -1,5 +1,5 @@
 use Rattle.dms_history.proofs.Listed.{points_listed, one_list, points_front, points_stay}
-use Rattle.dms_history.proofs.ListSteps.{lists_change, lists_quiet, lists_control, lists_begin, last_keeps_all}
+use Rattle.dms_history.proofs.ListSteps.{lists_change, lists_quiet, lists_control, lists_level, lists_begin, last_keeps_all}
 use Rattle.dms_history.proofs.laws.points_are_listed.Goals as goal
 
 pub returns : goal.returns
@@ -11,6 +11,7 @@ returns c = record {
   change = lists_change;
   quiet = lists_quiet;
   control = lists_control;
+  level = lists_level;
   begin = lists_begin;
   last = last_keeps_all;
 }

@@ -1,0 +1,4 @@
+pub mod Firsts
+pub mod Rules
+pub mod Numbered
+pub mod Entries
