@@ -12,7 +12,7 @@ use Rattle.dms_history.specs.Events.{Stored}
 use Rattle.dms_history.specs.Pick.{content_of}
 use Rattle.dms_history.specs.Entries.{counts_in}
 use Rattle.dms_history.specs.declared.event.FileCount.{FileCount}
-use Rattle.dms_dump.specs.Head.{Head, IsHead, head_bytes, head_first, head_size, all_blocks, whole_head, head_in}
+use Rattle.dms_dump.specs.Head.{Head, IsHead, end_of, head_bytes, head_first, head_size, all_blocks, whole_head, head_in}
 use Rattle.dms_dump.specs.Body.{file_bytes, body_bytes, dump_file, blocks_before, dumped_block, dump_by_head, dump_of, AllStored}
 use Rattle.dms_dump.specs.Laws.{DumpIsRead}
 use Rattle.dms_audrec.specs.Spelling.{counts_rise}
@@ -78,10 +78,10 @@ pub body_size : (stored : Stored) (cs : List FileCount) → EachWhole stored cs 
 body_size stored [] whole = refl
 body_size stored (c ∷ cs) whole = omega (arith, length-append (file_bytes stored c.file c.blocks) (body_bytes stored cs), file_size stored c.file c.blocks whole.0, body_size stored cs whole.1)
 
-cond_same : {A : Type 0} (b : Bool) (x y : A) → b ≡ true → cond b x y ≡ x
+pub cond_same : {A : Type 0} (b : Bool) (x y : A) → b ≡ true → cond b x y ≡ x
 cond_same b x y e = ap (λ c. cond c x y) e
 
-cond_other : {A : Type 0} (b : Bool) (x y : A) → b ≡ false → cond b x y ≡ y
+pub cond_other : {A : Type 0} (b : Bool) (x y : A) → b ≡ false → cond b x y ≡ y
 cond_other b x y e = ap (λ c. cond c x y) e
 
 -- and each stands where the dump says
@@ -136,7 +136,7 @@ each_whole stored low (c ∷ cs) rises whole =
 
 -- ---- the whole file
 
-take_behind : (n : ℕ) (xs ys : List ℕ) → length xs ≤ n → take n (xs ++ ys) ≡ xs ++ take (n - length xs) ys
+pub take_behind : (n : ℕ) (xs ys : List ℕ) → length xs ≤ n → take n (xs ++ ys) ≡ xs ++ take (n - length xs) ys
 take_behind n xs ys few = let e : n ≡ length xs + (n - length xs) = omega (arith, few) in ap (λ k. take k (xs ++ ys)) e ∙ take-append-add xs ys (n - length xs)
 
 pub written_size : (gate : ℕ) (h : Head) (stored : Stored) → EachWhole stored h.counts → length (dump_file gate h stored) ≡ 1 + head_size h + 1024 * all_blocks h.counts
@@ -182,5 +182,5 @@ dump_is_read gate h stored is all =
     λ f. map_same (counts_in h.counts f) (dumped_block h file f) (stored f) (λ b low. block_is gate h stored f b whole low) in
     record {
       head = found;
-      dump = ap (λ (o : Option Head). dump_by_head o file) found ∙ (λ i. record { point = h.point; blocks = λ f. blocks f i });
+      dump = ap (λ (o : Option Head). dump_by_head o file) found ∙ (λ i. record { point = h.point; end = end_of h; blocks = λ f. blocks f i });
     }

@@ -9,7 +9,7 @@ use Rattle.dms_fields.specs.PrefixLaws.{wide16, wide32, wide64, number_again, by
 use Rattle.dms_history.specs.declared.event.FileCount.{FileCount}
 use Rattle.dms_audrec.specs.Spelling.{pair_bytes, count_file, count_blocks, counts_rise, ArePairsSmall}
 use Rattle.dms_audrec.specs.PairLaws.{counts_length, counts_again}
-use Rattle.dms_dump.specs.Head.{Head, IsHead, mark_bytes, head_bytes, head_size, other_tag, tag_behind, tag_first, counts_first, head_first}
+use Rattle.dms_dump.specs.Head.{Head, IsHead, end_or, mark_bytes, end_bytes, head_bytes, front_size, head_size, other_tag, plain_mark, copied_mark, mark_behind, mark_first, end_first, counts_first, head_first}
 
 pub both : (a b : Bool) → a && b ≡ true → (a ≡ true) × (b ≡ true)
 both true b e = (refl, e)
@@ -29,23 +29,33 @@ rise_small low (c ∷ cs) e =
     let blocks : c.blocks ≤ 2097152 = le_of c.blocks 2097152 three.0 in
     (omega (arith, file), omega (arith, blocks), rise_small (c.file + 1) cs three.1)
 
--- the tag is read again
-after_mark : (mark rest : List ℕ) → length mark ≡ 4 → tag_first (mark ++ rest) ≡ tag_behind mark rest
-after_mark mark rest size = ap (λ (o : Option (List ℕ × List ℕ)). o >>= (λ m. tag_behind m.0 m.1)) (bytes_again 4 mark rest size)
+-- the mark is read again
+after_mark : (mark rest : List ℕ) → length mark ≡ 4 → mark_first (mark ++ rest) ≡ mark_behind mark rest
+after_mark mark rest size = ap (λ (o : Option (List ℕ × List ℕ)). o >>= (λ m. mark_behind m.0 m.1)) (bytes_again 4 mark rest size)
 
-tag_again : (tag : ℕ) (rest : List ℕ) → tag < 2 ^ 64 → tag_first (mark_bytes tag ++ rest) ≡ Some (tag, rest)
-tag_again tag rest small = elim (cases_eq tag 0) [
+abbrev is_copied : Option ℕ → Bool
+is_copied None = false
+is_copied (Some end) = true
+
+mark_again : (end : Option ℕ) (tag : ℕ) (rest : List ℕ) → tag < 2 ^ 64 → mark_first (mark_bytes end tag ++ rest) ≡ Some ((tag, is_copied end), rest)
+mark_again (Some end) tag rest small =
+    after_mark (68 ∷ 77 ∷ 83 ∷ 79 ∷ []) (to_be_bytes w64 tag ++ rest) refl ∙ ap (λ (o : Option (ℕ × List ℕ)). o >>= copied_mark) (number_again w64 (2 ^ 64) wide64 tag rest small)
+mark_again None tag rest small = elim (cases_eq tag 0) [
   | inl none ↦
-      ap (λ k. tag_first (mark_bytes k ++ rest)) none ∙ after_mark (68 ∷ 77 ∷ 83 ∷ 68 ∷ []) rest refl ∙ ap (λ k. Some (k, rest)) (sym none)
+      ap (λ k. mark_first (mark_bytes None k ++ rest)) none ∙ after_mark (68 ∷ 77 ∷ 83 ∷ 68 ∷ []) rest refl ∙ ap (λ k. Some ((k, false), rest)) (sym none)
   | inr some ↦
       let off : (tag == 0) ≡ false = grind (arith, nat_tests, some) in
       let n = number_again w64 (2 ^ 64) wide64 tag rest small in
-      let mark : mark_bytes tag ≡ 68 ∷ 77 ∷ 83 ∷ 69 ∷ to_be_bytes w64 tag = ap (λ b. cond b (68 ∷ 77 ∷ 83 ∷ 68 ∷ []) (68 ∷ 77 ∷ 83 ∷ 69 ∷ to_be_bytes w64 tag)) off in
-      ap (λ (l : List ℕ). tag_first (l ++ rest)) mark
+      let mark : mark_bytes None tag ≡ 68 ∷ 77 ∷ 83 ∷ 69 ∷ to_be_bytes w64 tag = ap (λ b. cond b (68 ∷ 77 ∷ 83 ∷ 68 ∷ []) (68 ∷ 77 ∷ 83 ∷ 69 ∷ to_be_bytes w64 tag)) off in
+      ap (λ (l : List ℕ). mark_first (l ++ rest)) mark
       ∙ after_mark (68 ∷ 77 ∷ 83 ∷ 69 ∷ []) (to_be_bytes w64 tag ++ rest) refl
-      ∙ ap (λ (o : Option (ℕ × List ℕ)). o >>= other_tag) n
-      ∙ ap (λ b. let x : Option (ℕ × List ℕ) = cond b None (Some (tag, rest)) in x) off
+      ∙ ap (λ (o : Option (ℕ × List ℕ)). (o >>= other_tag) >>= plain_mark) n
+      ∙ ap (λ b. let x : Option (ℕ × List ℕ) = cond b None (Some (tag, rest)) in x >>= plain_mark) off
 ]
+
+end_again : (end : Option ℕ) (point : ℕ) (rest : List ℕ) → end_or end point < 2 ^ 64 → end_first (is_copied end) (end_bytes end ++ rest) ≡ Some (end, rest)
+end_again None point rest small = refl
+end_again (Some end) point rest small = ap (λ (o : Option (ℕ × List ℕ)). o >>= (λ e. Some (Some e.0, e.1))) (number_again w64 (2 ^ 64) wide64 end rest small)
 
 counts_again_first : (cs : List FileCount) (rest : List ℕ) → counts_rise 30001 cs ≡ true → counts_first (length cs) (pair_bytes count_file count_blocks cs ++ rest) ≡ Some (cs, rest)
 counts_again_first cs rest rises =
@@ -55,26 +65,28 @@ counts_again_first cs rest rises =
 pub head_again : (h : Head) (rest : List ℕ) → IsHead h → head_first (head_bytes h ++ rest) ≡ Some (h, rest)
 unfolding head_first head_bytes
 head_again h rest is =
-    let m = mark_bytes h.tag in
+    let m = mark_bytes h.end h.tag in
     let p = to_be_bytes w64 h.point in
+    let n = end_bytes h.end in
     let q = to_be_bytes w32 h.audit in
     let r = to_be_bytes w16 (length h.counts) in
     let l = pair_bytes count_file count_blocks h.counts in
     let few : length h.counts < 2 ^ 16 = omega (arith, is.few) in
-    let e : (m ++ (p ++ (q ++ (r ++ l)))) ++ rest ≡ m ++ (p ++ (q ++ (r ++ (l ++ rest)))) =
-    append_assoc m (p ++ (q ++ (r ++ l))) rest ∙ ap (λ (t : List ℕ). m ++ t) (append_assoc p (q ++ (r ++ l)) rest ∙ ap (λ (t : List ℕ). p ++ t) (append_assoc q (r ++ l) rest ∙ ap (λ (t : List ℕ). q ++ t) (append_assoc r l rest))) in
+    let e : (m ++ (p ++ (n ++ (q ++ (r ++ l))))) ++ rest ≡ m ++ (p ++ (n ++ (q ++ (r ++ (l ++ rest))))) =
+    append_assoc m (p ++ (n ++ (q ++ (r ++ l)))) rest ∙ ap (λ (t : List ℕ). m ++ t) (append_assoc p (n ++ (q ++ (r ++ l))) rest ∙ ap (λ (t : List ℕ). p ++ t) (append_assoc n (q ++ (r ++ l)) rest ∙ ap (λ (t : List ℕ). n ++ t) (append_assoc q (r ++ l) rest ∙ ap (λ (t : List ℕ). q ++ t) (append_assoc r l rest)))) in
     ap head_first e ∙
     rw (
-      tag_again h.tag (p ++ (q ++ (r ++ (l ++ rest)))) is.tag,
-      number_again w64 (2 ^ 64) wide64 h.point (q ++ (r ++ (l ++ rest))) is.point,
+      mark_again h.end h.tag (p ++ (n ++ (q ++ (r ++ (l ++ rest))))) is.tag,
+      number_again w64 (2 ^ 64) wide64 h.point (n ++ (q ++ (r ++ (l ++ rest)))) is.point,
+      end_again h.end h.point (q ++ (r ++ (l ++ rest))) is.end,
       number_again w32 (2 ^ 32) wide32 h.audit (r ++ (l ++ rest)) is.audit,
       number_again w16 (2 ^ 16) wide16 (length h.counts) (l ++ rest) few,
       counts_again_first h.counts rest is.rising,
-    ) (λ i. Some (record { tag = h.tag; point = h.point; audit = h.audit; counts = h.counts; end = sym is.ends i }, rest))
+    ) refl
 
-mark_size : (tag : ℕ) → length (mark_bytes tag) ≡ (if tag == 0 then 4 else 12)
+mark_size : (tag : ℕ) → length (mark_bytes None tag) ≡ (if tag == 0 then 4 else 12)
 mark_size tag = elim (cases_eq tag 0) [
-  | inl none ↦ ap (λ k. length (mark_bytes k)) none ∙ (let e : length (mark_bytes 0) ≡ 4 = refl in e) ∙ ap (λ k. if k == 0 then 4 else 12) (sym none)
+  | inl none ↦ ap (λ k. length (mark_bytes None k)) none ∙ (let e : length (mark_bytes None 0) ≡ 4 = refl in e) ∙ ap (λ k. if k == 0 then 4 else 12) (sym none)
   | inr some ↦
       let off : (tag == 0) ≡ false = grind (arith, nat_tests, some) in
       ap (λ b. length (cond b (68 ∷ 77 ∷ 83 ∷ 68 ∷ []) (68 ∷ 77 ∷ 83 ∷ 69 ∷ to_be_bytes w64 tag))) off ∙ ap (λ b. cond b 4 12) (sym off)
@@ -84,32 +96,42 @@ size_more : (b : Bool) → cond b 4 12 + 14 ≡ cond b 18 26
 size_more true = refl
 size_more false = refl
 
+-- mark and end, with the fields of 14 bytes between them
+front_is : (end : Option ℕ) (tag : ℕ) → length (mark_bytes end tag) + length (end_bytes end) + 14 ≡ front_size end tag
+front_is None tag = omega (arith, mark_size tag, size_more (tag == 0))
+front_is (Some end) tag = omega (arith, wide64.len tag, wide64.len end)
+
 -- a head takes so many bytes, at most 1,634
 pub size_is : (h : Head) → length (head_bytes h) ≡ head_size h
 unfolding head_bytes
 size_is h =
-    let m = mark_bytes h.tag in
+    let m = mark_bytes h.end h.tag in
     let p = to_be_bytes w64 h.point in
+    let n = end_bytes h.end in
     let q = to_be_bytes w32 h.audit in
     let r = to_be_bytes w16 (length h.counts) in
     let l = pair_bytes count_file count_blocks h.counts in
     omega (
       arith,
-      length-append m (p ++ (q ++ (r ++ l))),
-      length-append p (q ++ (r ++ l)),
+      length-append m (p ++ (n ++ (q ++ (r ++ l)))),
+      length-append p (n ++ (q ++ (r ++ l))),
+      length-append n (q ++ (r ++ l)),
       length-append q (r ++ l),
       length-append r l,
       wide64.len h.point,
       wide32.len h.audit,
       wide16.len (length h.counts),
       counts_length h.counts,
-      mark_size h.tag,
-      size_more (h.tag == 0),
+      front_is h.end h.tag,
     )
 
 size_few : (b : Bool) → cond b 18 26 ≤ 26
 size_few true = omega arith
 size_few false = omega arith
 
+pub front_few : (end : Option ℕ) (tag : ℕ) → front_size end tag ≤ 34
+front_few None tag = omega (arith, size_few (tag == 0))
+front_few (Some end) tag = omega arith
+
 pub size_bound : (h : Head) → IsHead h → head_size h ≤ 1634
-size_bound h is = omega (arith, is.few, size_few (h.tag == 0))
+size_bound h is = omega (arith, is.few, front_few h.end h.tag)

@@ -6,7 +6,7 @@ use Rattle.dms_history.specs.Events.{BlockBytes, Stored}
 use Rattle.dms_history.specs.Pick.{Dump}
 use Rattle.dms_history.specs.Entries.{counts_in}
 use Rattle.dms_history.specs.declared.event.FileCount.{FileCount}
-use Rattle.dms_dump.specs.Head.{Head, head_size, head_bytes, head_in}
+use Rattle.dms_dump.specs.Head.{Head, end_of, head_size, head_bytes, head_in}
 
 -- the first n blocks of a structure file, one after another
 unfoldable pub file_bytes : Stored → ℕ → ℕ → List ℕ
@@ -24,7 +24,7 @@ dump_file gate h stored = gate ∷ (head_bytes h ++ body_bytes stored h.counts)
 
 -- the file of a dump that is made of these files
 abbrev pub dump_made : ℕ → ℕ → ℕ → ℕ → List FileCount → Files → List ℕ
-dump_made gate tag point audit counts files = dump_file gate (record { tag = tag; point = point; audit = audit; counts = counts; end = point }) (stored_of files)
+dump_made gate tag point audit counts files = dump_file gate (record { tag = tag; point = point; audit = audit; counts = counts; end = None }) (stored_of files)
 
 -- how many blocks of other files stand before the first one of a file
 abbrev pub blocks_before : ℕ → List FileCount → ℕ
@@ -39,12 +39,13 @@ dumped_block h file f b = range (1 + head_size h + 1024 * (blocks_before f h.cou
 abbrev pub dump_with : Head → List ℕ → Dump
 dump_with h file = record {
   point = h.point;
+  end = end_of h;
   blocks = λ f. map (dumped_block h file f) (range_with_len 0 (counts_in h.counts f));
 }
 
 -- a file that is none holds no dump
 abbrev pub no_dump : Dump
-no_dump = record { point = 0; blocks = λ f. [] }
+no_dump = record { point = 0; end = 0; blocks = λ f. [] }
 
 abbrev pub dump_by_head : Option Head → List ℕ → Dump
 dump_by_head None file = no_dump

@@ -11,6 +11,7 @@ mod spelling;
 mod writing;
 
 pub use fault::DumpFault;
-pub use gate::is_dump_open;
-pub use reading::{DumpHead, read_dump};
+pub use gate::{is_dump_open, open_gate, shut};
+pub use reading::{DumpHead, front_size, read_dump};
+pub use spelling::spell_head;
 pub use writing::write_dump;

@@ -39,7 +39,7 @@ fn fill<S: Site>(
     ensures say_faults { S.say_faults site.new ≡ S.say_faults site.old }
 {
     let mut head = [0u8; 1634];
-    let used = spell_head(&mut head, tag, point, audit, counts);
+    let used = spell_head(&mut head, tag, point, None, audit, counts);
     match site.write_at(file, 1, &head[..used]) {
         Ok(()) => {}
         Err(_) => return Err(DumpFault::Disk),

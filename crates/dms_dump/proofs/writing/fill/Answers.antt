@@ -1,4 +1,4 @@
-use Rattle.std.proofs.Common.{inl, inr, arith}
+use Rattle.std.proofs.Common.{None, inl, inr, arith}
 use Rattle.std.proofs.lemmas.Result.{on_ok_weaker}
 use Rattle.dms_dump.specs.Head.{Head}
 use Rattle.dms_dump.proofs.Copied.{filled, all_kept, short_kept, torn_steps, gate_on}
@@ -10,7 +10,7 @@ returns-in-Err-clause-moments g c = torn_steps c.args.file 1 _ (omega arith) c.w
 
 pub returns-clause-filled : goal.returns-clause-filled
 returns-clause-filled g c =
-    let h : Head = record { tag = c.args.tag; point = c.args.point; audit = c.args.audit; counts = c.args.counts.now; end = c.args.point } in
+    let h : Head = record { tag = c.args.tag; point = c.args.point; audit = c.args.audit; counts = c.args.counts.now; end = None } in
     on_ok_weaker c.copy_all.result (λ copied tells start.
     filled (g.S.Site.files c.args.site.now) (g.S.Site.files c.write_at.new.self) (g.S.Site.files c.copy_all.new.site) c.args.file c.spell_head-used.result h _ c.requires.no_structure c.spell_head-used.ensures.end c.spell_head-used.ensures.head (c.in-Ok.ensures.written tells) (copied tells) start) c.copy_all.ensures.copied
 

@@ -1,4 +1,4 @@
-use Rattle.std.proofs.Common.{ℕ, ◌++◌, ◌∙◌, inl, inr, List, subst}
+use Rattle.std.proofs.Common.{None, ℕ, ◌++◌, ◌∙◌, inl, inr, List, subst}
 use Rattle.dms_moments.specs.Moments.{Steps}
 use Rattle.dms_site.specs.Files.{OnDisk, stored_of}
 use Rattle.dms_dump.specs.Head.{Head, head_bytes}
@@ -22,7 +22,7 @@ returns-in-Err-fill_synced-clause-only g c = elim c.in-Err-fill_synced.ensures.o
 
 pub returns-in-Ok-open_gate-clause-written : goal.returns-in-Ok-open_gate-clause-written
 returns-in-Ok-open_gate-clause-written g c tells =
-    let h : Head = record { tag = c.args.tag; point = c.args.point; audit = c.args.audit; counts = c.args.counts.now; end = c.args.point } in
+    let h : Head = record { tag = c.args.tag; point = c.args.point; audit = c.args.audit; counts = c.args.counts.now; end = None } in
     let mid = g.S.Site.files c.shut.new.site in
     c.in-Ok-open_gate.ensures.opened (head_bytes h ++ body_bytes (stored_of mid) h.counts) tells (c.in-Ok-fill_synced.ensures.filled tells ∙ dump_shut h (stored_of mid))
     ∙ dump_kept (g.S.Site.files c.args.site.now) mid c.args.file h c.requires.no_structure (c.shut.ensures.others tells)
@@ -33,7 +33,7 @@ returns-in-Ok-open_gate-clause-whole g c tells =
 
 pub returns-in-Ok-open_gate-clause-moments : goal.returns-in-Ok-open_gate-clause-moments
 returns-in-Ok-open_gate-clause-moments g c tells =
-    let h : Head = record { tag = c.args.tag; point = c.args.point; audit = c.args.audit; counts = c.args.counts.now; end = c.args.point } in
+    let h : Head = record { tag = c.args.tag; point = c.args.point; audit = c.args.audit; counts = c.args.counts.now; end = None } in
     let mid = g.S.Site.files c.shut.new.site in
     becomes_on c.args.file _ (becomes_on c.args.file _ (c.shut.ensures.moments _ tells) (c.fill_synced.ensures.moments _ tells))
     (subst (λ (l : List ℕ). Steps (OnDisk c.args.file (BecomesDump l)) (g.S.Site.clock c.fill_synced.new.site) (g.S.Site.clock c.open_gate.new.site))
@@ -42,7 +42,7 @@ returns-in-Ok-open_gate-clause-moments g c tells =
 
 pub returns-in-Err-open_gate-clause-moments : goal.returns-in-Err-open_gate-clause-moments
 returns-in-Err-open_gate-clause-moments g c tells =
-    let h : Head = record { tag = c.args.tag; point = c.args.point; audit = c.args.audit; counts = c.args.counts.now; end = c.args.point } in
+    let h : Head = record { tag = c.args.tag; point = c.args.point; audit = c.args.audit; counts = c.args.counts.now; end = None } in
     let mid = g.S.Site.files c.shut.new.site in
     becomes_on c.args.file _ (becomes_on c.args.file _ (c.shut.ensures.moments _ tells) (c.fill_synced.ensures.moments _ tells))
     (subst (λ (l : List ℕ). Steps (OnDisk c.args.file (BecomesDump l)) (g.S.Site.clock c.fill_synced.new.site) (g.S.Site.clock c.open_gate.new.site))
