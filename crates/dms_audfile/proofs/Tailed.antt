@@ -1,18 +1,15 @@
 -- What is read from a block of a trail on are the last of its entries.
-use Rattle.std.proofs.Common.{ℕ, zero, suc, ◌+◌, ◌-◌, ◌<◌, ◌≤◌, ◌≡◌, ◌==◌, inl, inr, Bool, true, false, cond, List, [], ◌++◌, map, refl, sym, ◌∙◌, ap, subst, arith, append_assoc}
+use Rattle.std.proofs.Common.{ℕ, zero, suc, ◌+◌, ◌-◌, ◌≤◌, ◌≡◌, ◌==◌, inl, inr, Bool, true, false, cond, List, [], ◌++◌, refl, sym, ◌∙◌, ap, subst, arith, append_assoc}
 use Rattle.std.proofs.lemmas.Bool.Decides.{nat_tests}
 use Rattle.std.proofs.lemmas.Bool.{cases_eq}
 use Rattle.dms_site.specs.Files.{Files}
 use Rattle.dms_audfile.specs.Blocks.{block_entries}
 use Rattle.dms_audfile.specs.Gates.{block_at, count_open, is_full}
 use Rattle.dms_audfile.specs.Sealing.{IsWrittenUpTo}
-use Rattle.dms_audfile.specs.Trail.{trail_from}
-use Rattle.dms_audfile.specs.TrailLaws.{read_trail}
-use Rattle.dms_audfile.specs.Scanning.{Placed, place_in, TrailRead, broken, whole, then_read, places_of, blocks_read, file_read, files_read, found}
-use Rattle.dms_audfile.specs.AuditTrail.{IsScanned}
+use Rattle.dms_audfile.specs.Scanning.{Placed, TrailRead, broken, whole, then_read, places_of, blocks_read, file_read, files_read}
 use Rattle.dms_audfile.specs.Gathering.{Known, nothing_seen, reached, gather}
 use Rattle.dms_audfile.specs.Reads.{NotRead}
-use Rattle.dms_audfile.specs.Tails.{sealed_in, tail_read, ReadsPlaces, ReadsLast, TailIsFound}
+use Rattle.dms_audfile.specs.Tails.{sealed_in, ReadsPlaces, TailIsFound}
 use Rattle.dms_audfile.specs.declared.fault.AudFault.{AudFault}
 use Rattle.dms_audfile.proofs.Again.{ends_there, trail_is_read}
 use Rattle.dms_audfile.proofs.Followed.{then_then, then_none, full_opened, files_follow}

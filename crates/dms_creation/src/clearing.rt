@@ -50,7 +50,7 @@ fn clear_range<S: Site>(site: &mut S, low: u32, high: u32) -> Result<(), Failed>
 }
 
 /// Cuts each present audit file, dump and structure file to nothing.
-pub(crate) fn clear_old<S: Site>(site: &mut S) -> Result<(), Failed>
+pub fn clear_old<S: Site>(site: &mut S) -> Result<(), Failed>
     ensures clear { OnOk result (IsTrue S.tells → IsClear (S.files site.new)) }
     ensures apart { OnOk result (IsTrue S.tells → ApartStay (S.files site.old) (S.files site.new)) }
     ensures moments { Steps KeepsApart (S.clock site.old) (S.clock site.new) }

@@ -8,5 +8,6 @@ pub mod laws;
 mod laying;
 mod planning;
 
+pub use clearing::clear_old;
 pub use creating::initialize;
 pub use fault::CreationFault;

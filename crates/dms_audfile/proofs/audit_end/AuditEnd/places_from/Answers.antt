@@ -1,10 +1,9 @@
-use Rattle.std.proofs.Common.{ℕ, ◌≡◌, ◌+◌, ◌-◌, ◌∙◌, ap, subst, refl, arith}
+use Rattle.std.proofs.Common.{◌≡◌, ◌+◌, ◌-◌, ◌∙◌, ap, subst, refl, arith}
 use Rattle.dms_site.specs.Files.{Files}
 use Rattle.dms_audfile.specs.Counting.{not_counted}
-use Rattle.dms_audfile.specs.Gathering.{Known, known_of, nothing_seen, reached, gather}
+use Rattle.dms_audfile.specs.Gathering.{known_of, nothing_seen, gather}
 use Rattle.dms_audfile.specs.Reads.{NotRead}
 use Rattle.dms_audfile.specs.Scanning.{blocks_read, files_read}
-use Rattle.dms_audfile.specs.Tails.{sealed_in}
 use Rattle.dms_audfile.specs.declared.fault.AudFault.TheVariants.{Disk}
 use Rattle.dms_audfile.proofs.Reading.{reads_on}
 use Rattle.dms_audfile.proofs.Spans.{counted_as, no_error}

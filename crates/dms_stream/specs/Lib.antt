@@ -1,0 +1,3 @@
+pub mod Stream
+pub mod Taking
+pub mod Whole
