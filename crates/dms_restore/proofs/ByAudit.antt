@@ -68,6 +68,7 @@ plan_by_audit p by_audit files table is = record {
       (sym (is.tells f b) ∙ takes_is p.how by_audit p.entries p.point f b (and_second (nat_lt b (count_at p.entries p.point f)) (takes_stored p.how p.entries p.point f b) kept)));
   whole = is.whole;
   all = λ f b x low told size. sym (is.tells f b) ∙ sym (told_is p.how by_audit (dumps_of files) p.entries p.point f b) ∙ told;
+  only = λ f b x last. told_is p.how by_audit (dumps_of files) p.entries p.point f b ∙ is.tells f b ∙ last;
 }
 
 -- a table over the blocks that stand is a plan over them

@@ -61,6 +61,22 @@ module _ (live : List Event) (m : ℕ) (files : Files) (runs : List Run) (table 
 never : false ≡ true → ⊥
 never e = cc
 
+-- what is told last is the table's, else that of the runs
+last_from : (runs table : Option BlockBytes) (x : BlockBytes) → or_else table runs ≡ Some x → (table ≡ Some x) ⊎ ((table ≡ None) × (runs ≡ Some x))
+last_from runs None x is = inr (refl, is)
+last_from runs (Some y) x is = inl is
+
+-- so a block that goes by the dump is what the dump gives
+picked_by : (live : List Event) (m : ℕ) (files : Files) (runs : List Run) (table : List Told) (among : (f b : ℕ) → IsAmong f b table → last_of files f b table ≡ None → ⊥) (dump : Dump) (f b : ℕ) (x : BlockBytes)
+    → last_of files f b table ≡ last_after f b (between dump.point m live) → (last_of files f b (all_in runs) ≡ Some x → block_in dump.blocks f b ≡ x)
+    → last_of files f b (all_in runs ++ table) ≡ Some x → dump_pick live dump m f b ≡ x
+unfolding dump_pick
+picked_by live m files runs table among dump f b x tells there is =
+    elim (last_from (last_of files f b (all_in runs)) (last_of files f b table) x (sym (last_on files f b (all_in runs) table (among f b)) ∙ is)) [
+      | inl told ↦ ap (λ (o : Option BlockBytes). value o None (block_in dump.blocks f b)) (sym tells ∙ told)
+      | inr (none, run) ↦ ap (λ (o : Option BlockBytes). value o None (block_in dump.blocks f b)) (sym tells ∙ none) ∙ there run
+    ]
+
 pub rebuild_plans : RebuildPlans
 unfolding told_by
 rebuild_plans d dumps live m files runs table p = record {
@@ -69,6 +85,7 @@ rebuild_plans d dumps live m files runs table p = record {
   free = free_all (Kept (keeps_by (rebuild d) live m)) table (λ f b k. never (and_second (nat_lt b (count_at live m f)) false k));
   whole = p.whole;
   all = λ f b x low told size. by_dump live m files runs table p.among (dumps d) f b x size (some_is (dump_pick live (dumps d) m f b) x told) (p.tells f b) (p.runs_all f b low refl);
+  only = λ f b x last. ap (λ (k : BlockBytes). Some k) (picked_by live m files runs table p.among (dumps d) f b x (p.tells f b) (λ run. (p.runs_only f b x run).1) last);
 }
 
 module _ (d : ℕ) (named : ℕ → ℕ → Bool) (dumps : Dumps) (live : List Event) (m : ℕ) (files : Files) (runs : List Run) (table : List Told) (p : PlansByDump (reconstruct d named) (dumps d) live m files runs table) where
@@ -97,6 +114,22 @@ module _ (d : ℕ) (named : ℕ → ℕ → Bool) (dumps : Dumps) (live : List E
           (p.tells f b ∙ ap (λ t. cond t (last_after f b (between (dumps d).point m live)) (told_block live m f b)) is
           ∙ (sym (ap (λ t. cond t (Some (dump_pick live (dumps d) m f b)) (told_block live m f b)) is) ∙ told)) refl
 
+  only_told : (f b : ℕ) (x : BlockBytes) → last_of files f b (all_in runs ++ table) ≡ Some x → told_by (reconstruct d named) dumps live m f b ≡ Some x
+  unfolding told_by
+  only_told f b x last = go (named f b) refl
+    where
+      go : (n : Bool) → named f b ≡ n → cond (named f b) (Some (dump_pick live (dumps d) m f b)) (told_block live m f b) ≡ Some x
+      go true is =
+          ap (λ t. cond t (Some (dump_pick live (dumps d) m f b)) (told_block live m f b)) is
+          ∙ ap (λ (k : BlockBytes). Some k) (picked_by live m files runs table p.among (dumps d) f b x
+          (p.tells f b ∙ ap (λ t. cond t (last_after f b (between (dumps d).point m live)) (told_block live m f b)) is) (λ run. (p.runs_only f b x run).1) last)
+      go false is =
+          ap (λ t. cond t (Some (dump_pick live (dumps d) m f b)) (told_block live m f b)) is
+          ∙ elim (last_from (last_of files f b (all_in runs)) (last_of files f b table) x (sym (last_on files f b (all_in runs) table (p.among f b)) ∙ last)) [
+            | inl told ↦ sym (p.tells f b ∙ ap (λ t. cond t (last_after f b (between (dumps d).point m live)) (told_block live m f b)) is) ∙ told
+            | inr (none, run) ↦ absurd (never (sym is ∙ (p.runs_only f b x run).0))
+          ]
+
   plans : IsPlanOf (reconstruct d named) dumps live m files runs table
   plans = record {
     runs_free = free_by (Kept (keeps_by (reconstruct d named) live m)) (λ f b. named f b ≡ false) (all_in runs) (λ f b k. (kept_is f b k).0) p.runs_by;
@@ -104,6 +137,7 @@ module _ (d : ℕ) (named : ℕ → ℕ → Bool) (dumps : Dumps) (live : List E
     free = free_among (Kept (keeps_by (reconstruct d named) live m)) table (λ f b among kept. p.among f b among (untold f b kept));
     whole = p.whole;
     all = all_told;
+    only = only_told;
   }
 
 pub reconstruct_plans : ReconstructPlans

@@ -1,17 +1,20 @@
 -- Runs of a dump and a table are what a restore by it writes.
-use Rattle.std.proofs.Common.{ℕ, ◌+◌, ◌<◌, ◌≡◌, ◌⊎◌, inl, inr, true, false, cond, List, [], length, drop, Option, Some, None, sym, ◌∙◌, ap, subst}
+use Rattle.std.proofs.Common.{ℕ, ◌+◌, ◌<◌, ◌≡◌, ◌⊎◌, inl, inr, Bool, true, false, cond, eqb, List, [], ◌∷◌, length, drop, Option, Some, None, refl, sym, ◌∙◌, ap, subst, arith}
+use Rattle.std.proofs.lemmas.Bool.{and_parts}
+use Rattle.std.proofs.lemmas.Bool.Decides.{nat_tests}
 use Rattle.dms_site.specs.Files.{Files}
-use Rattle.dms_history.specs.Events.{How, rebuild, reconstruct, Event, block_in}
+use Rattle.dms_history.specs.Events.{BlockBytes, How, rebuild, reconstruct, Event, block_in}
 use Rattle.dms_history.specs.History.{Pending}
 use Rattle.dms_history.specs.Lists.{after_first}
 use Rattle.dms_history.specs.Ranges.{Logged, all_changes, is_point_logged}
-use Rattle.dms_history.specs.Images.{last_after}
+use Rattle.dms_history.specs.Images.{is_at, last_after}
 use Rattle.dms_history.specs.Pick.{Dump, between, count_at, content_of}
 use Rattle.dms_history.specs.Told.{told_block}
 use Rattle.dms_history.specs.Entries.{counts_in, named_by}
 use Rattle.dms_history.specs.Restores.{may_hold_anything}
 use Rattle.dms_history.specs.declared.event.Row.{Row}
 use Rattle.dms_history.proofs.Base.{content_length}
+use Rattle.dms_history.proofs.Picks.{some_is}
 use Rattle.dms_running.specs.Begun.{ByAudit}
 use Rattle.dms_dump.specs.Head.{head_in}
 use Rattle.dms_dump.specs.Body.{dumped_block, dump_with}
@@ -27,7 +30,7 @@ use Rattle.dms_restore.specs.Counts.{count_of}
 use Rattle.dms_restore.specs.Dumped.{dumps_of}
 use Rattle.dms_restore.specs.LiveEntries.{logged_live}
 use Rattle.dms_restore.specs.Named.{IsTableOf, TellsByRows, TellsBetween}
-use Rattle.dms_restore.specs.Table.{AreWhole, IsAmong, last_of, all_in, IsPlanOf, Writes}
+use Rattle.dms_restore.specs.Table.{AreWhole, IsAmong, laid_on, last_of, all_in, told_on, IsPlanOf, Writes}
 use Rattle.dms_restore.specs.Tracing.{MatchesHow}
 use Rattle.dms_restore.specs.ByDump.{PlansByDump}
 use Rattle.dms_restore.specs.Planned.{HasHead, IsHeadFor, AreRunsOf, IsInRuns, CutsAt, PlansDump, PlansCut}
@@ -39,6 +42,25 @@ use Rattle.dms_restore.proofs.RunBlocks.{among_runs, runs_are_whole, run_tells}
 
 true_not_false : true ≡ false → ⊥
 true_not_false e = absurd cc
+
+at_parts : (f b g k : ℕ) → is_at f b g k ≡ true → (g ≡ f) × (k ≡ b)
+at_parts f b g k at = let both = and_parts (eqb g f) (eqb k b) at in (grind (arith, nat_tests, both.0), grind (arith, nat_tests, both.1))
+
+none_some : (x : BlockBytes) → None ≡ Some x → ⊥
+none_some x e = absurd (cc (e))
+
+-- a block that is told is among them
+among_from : (files : Files) (f b : ℕ) (ts : List Told) (o : Option BlockBytes) (x : BlockBytes) → told_on files f b o ts ≡ Some x → (o ≡ Some x) ⊎ IsAmong f b ts
+among_from files f b [] o x is = inl is
+among_from files f b (t ∷ ts) o x is = by (is_at f b t.file t.block) refl (among_from files f b ts _ x is)
+  where
+    by : (n : Bool) → is_at f b t.file t.block ≡ n → (cond n (laid_on files t o) o ≡ Some x) ⊎ IsAmong f b ts → (o ≡ Some x) ⊎ (((t.file ≡ f) × (t.block ≡ b)) ⊎ IsAmong f b ts)
+    by n at (inr more) = inr (inr more)
+    by true at (inl here) = inr (inl (at_parts f b t.file t.block at))
+    by false at (inl here) = inl here
+
+among_told : (files : Files) (f b : ℕ) (ts : List Told) (x : BlockBytes) → last_of files f b ts ≡ Some x → IsAmong f b ts
+among_told files f b ts x is = elim (among_from files f b ts None x is) [ inl none ↦ absurd (none_some x none) | inr among ↦ among ]
 
 module _ (files : Files) (logged : List Logged) (m : ℕ) (front behind : List LiveEntry) (cut : CutsAt files logged m front behind) where
   abbrev live : List Event
@@ -65,6 +87,12 @@ module _ (files : Files) (logged : List Logged) (m : ℕ) (front behind : List L
     all_runs f b covered low within =
         run_tells files d (head_seen head) has.0 has.1 there counts runs f b are (covered (subst (λ n. b < n) (dump_length f) within) (subst (λ n. b < n) (sym (counted f)) low))
 
+    -- the runs tell blocks of the dump alone
+    runs_told : (f b : ℕ) (x : BlockBytes) → last_of files f b (all_in runs) ≡ Some x → IsInRuns f b runs × (block_in dump.blocks f b ≡ x)
+    runs_told f b x last =
+        let among = among_runs f b runs (among_told files f b (all_in runs) x last) in
+        (among, some_is (block_in dump.blocks f b) x (sym (run_tells files d (head_seen head) has.0 has.1 there counts runs f b are among) ∙ last))
+
     pub rebuilt : (told : List Told) (from : ℕ) → after_first (is_point_logged head.point) (logged_live files front) ≡ logged_live files (drop from front)
         → ((f b : ℕ) → b < counts_in head.counts.items f → b < count_of counts f → IsInRuns f b runs)
         → AreWhole files told → TellsBetween front from told → ((f b : ℕ) → IsAmong f b told → last_of files f b told ≡ None → ⊥) → PlansByDump (rebuild d) dump live m files runs told
@@ -72,6 +100,7 @@ module _ (files : Files) (logged : List Logged) (m : ℕ) (front behind : List L
       runs_by = free_among (λ f b. may_hold_anything (rebuild d) f b ≡ false) (all_in runs) (λ f b among no. true_not_false no);
       runs_whole = whole_runs;
       runs_all = λ f b low any within. all_runs f b (covered f b) low within;
+      runs_only = λ f b x last. (refl, (runs_told f b x last).1);
       whole = whole;
       tells = λ f b. tells files logged m head.point cut.until cut.front_whole is f b ∙ ap (λ (k : Dump). last_after f b (between k.point m live)) (sym is_dump);
       among = some;
@@ -84,6 +113,7 @@ module _ (files : Files) (logged : List Logged) (m : ℕ) (front behind : List L
       runs_by = free_among (λ f b. may_hold_anything (reconstruct d (named_by rows)) f b ≡ false) (all_in runs) (λ f b among no. true_not_false (sym (only f b (among_runs f b runs among)) ∙ no));
       runs_whole = whole_runs;
       runs_all = λ f b low any within. all_runs f b (covered f b any) low within;
+      runs_only = λ f b x last. let r = runs_told f b x last in (only f b r.0, r.1);
       whole = whole;
       tells = λ f b.
           tells files logged m head.point cut.until cut.after cut.front_whole cut.behind_whole is f b

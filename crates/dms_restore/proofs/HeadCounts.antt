@@ -10,6 +10,7 @@ use Rattle.dms_history.specs.declared.event.FileCount.{FileCount}
 use Rattle.dms_history.proofs.Order.{eq_of}
 use Rattle.dms_history.proofs.Picks.{some_is}
 use Rattle.dms_audrec.specs.Spelling.{counts_rise}
+use Rattle.dms_dump.proofs.HeadRead.{front_few}
 use Rattle.dms_dump.specs.Head.{Head, head_size, all_blocks, head_first, whole_head, head_in}
 use Rattle.dms_dump.specs.Body.{blocks_before}
 use Rattle.dms_dump.specs.HeadSeen.{head_seen}
@@ -59,10 +60,7 @@ all_most low (c ∷ cs) rises =
     omega (arith, le_of c.blocks 2097152 three.0, all_most (c.file + 1) cs three.1)
 
 size_most : (h : Head) → length h.counts ≤ 200 → head_size h ≤ 1634
-size_most h few = elim (cases_Bool (h.tag == 0)) [
-  | inl on ↦ let size : head_size h ≡ 18 + 8 * length h.counts = ap (λ t. cond t 18 26 + 8 * length h.counts) on in omega (arith, few, size)
-  | inr off ↦ let size : head_size h ≡ 26 + 8 * length h.counts = ap (λ t. cond t 18 26 + 8 * length h.counts) off in omega (arith, few, size)
-]
+size_most h few = omega (arith, few, front_few h.end h.tag)
 
 run_fits : (h : DumpHead) (d : ℕ) (counts : List ℕ) (r : Run) → IsFitHead h → AllAtMost counts → d ≤ 9999 → IsRunOf (head_seen h) d counts r → IsRun r
 run_fits h d counts r fit small number is =

@@ -24,6 +24,7 @@ pub record PlansByDump (how : How) (dump : Dump) (live : List Event) (m : ℕ) (
   pub runs_by : AreFree (λ f b. may_hold_anything how f b ≡ false) (all_in runs)
   pub runs_whole : AreWhole files (all_in runs)
   pub runs_all : (f b : ℕ) → b < count_at live m f → may_hold_anything how f b ≡ true → b < length (dump.blocks f) → last_of files f b (all_in runs) ≡ Some (block_in dump.blocks f b)
+  pub runs_only : (f b : ℕ) (x : BlockBytes) → last_of files f b (all_in runs) ≡ Some x → (may_hold_anything how f b ≡ true) × (block_in dump.blocks f b ≡ x)
   pub whole : AreWhole files table
   pub tells : (f b : ℕ) → last_of files f b table ≡ table_tells how dump live m f b
   pub among : (f b : ℕ) → IsAmong f b table → last_of files f b table ≡ None → ⊥

@@ -10,7 +10,7 @@ ghost use Rattle.dms_restore.specs.Counts.{AllAtMost};
 ghost use Rattle.dms_restore.specs.Planned.{IsFitHead, IsRunOf, AreRunsOf, IsInRun, IsInRuns};
 
 use crate::Run;
-use dms_dump::DumpHead;
+use dms_dump::{DumpHead, front_size};
 use dms_history::{FileCount, Row};
 use std::alloc::{AllocError, Global};
 
@@ -60,8 +60,7 @@ fn head_size(head: &DumpHead) -> u64
     ensures is { result ≡ head_size_of.head_size (head_seen head.now) }
     ensures small { result ≤ 1634 }
 {
-    let front = if head.tag == 0 { 18 } else { 26 };
-    front + 8 * head.counts.len() as u64
+    front_size(head.tag, head.end) + 8 * head.counts.len() as u64
 }
 
 /// The blocks from `from` to before `end` of a structure file before which so many others stand in a dump.
