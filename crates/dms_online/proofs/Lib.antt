@@ -1,0 +1,16 @@
+pub mod Trails
+pub mod Logs
+pub mod Usable
+pub mod Progress
+pub mod Tears
+pub mod Onward
+pub mod Somewhat
+pub mod Besides
+pub mod Sounds
+pub mod Looked
+pub mod Gates
+pub mod Copied
+pub mod Keeps
+pub mod Listed
+pub mod Planned
+pub mod Finished
