@@ -16,7 +16,7 @@ use Rattle.dms_fields.specs.Fields.{number_at}
 use Rattle.dms_key.specs.KeyBytes.{field_bytes, shift_up}
 use Rattle.dms_key.specs.KeyOrder.{fits_length}
 use Rattle.dms_layout.specs.declared.slot.Slot.{Slot}
-use Rattle.dms_layout.specs.Slots.{record_bytes, may_own, or_zero, shift_down, value_in, value_at, values_at, slot_in, is_free, is_spelled, slot_by, slot_of, reads_bad, reads_free}
+use Rattle.dms_layout.specs.Slots.{are_raw_fields, head_bytes, is_raw, is_raw_field, is_raw_slot, raw_of, record_bytes, may_own, or_zero, shift_down, value_in, value_at, values_at, slot_in, is_free, is_spelled, slot_by, slot_of, reads_bad, reads_free}
 
 -- these bytes spell the value that is read of them, and it fits
 abbrev pub is_value : ItemKind → List ℕ → Bool
@@ -29,10 +29,6 @@ is_field k field = bytes_eq field (field_bytes k (value_at k field)) && fits k (
 abbrev pub are_fields : List Item → List ℕ → Bool
 are_fields [] bytes = bytes_eq bytes []
 are_fields (i ∷ is) bytes = is_field i.kind (take (item_width i.kind) bytes) && are_fields is (drop (item_width i.kind) bytes)
-
--- what stands before them, spelled again
-abbrev pub head_bytes : List ℕ → List ℕ
-head_bytes bytes = 1 ∷ to_be_bytes w32 (or_zero (number_at w32 bytes 1)) ++ (to_be_bytes w32 (or_zero (number_at w32 bytes 5)) ++ to_be_bytes w32 (or_zero (number_at w32 bytes 9)))
 
 -- ---- laws
 
@@ -145,3 +141,65 @@ free_read s bytes = by (is_free s.items bytes) (is_spelled s bytes (slot_in s.it
     by true b = refl
     by false true = refl
     by false false = refl
+
+-- ---- ranges aside
+
+both_parts : (a f b g : Bool) → ((a && f) && (b && g)) ≡ ((a && b) && (f && g))
+both_parts true true b g = refl
+both_parts true false true g = refl
+both_parts true false false g = refl
+both_parts false f b g = refl
+
+-- the fields of a record are in the format, and their values fit
+raw_fields : (is : List Item) (bytes : List ℕ) → are_fields is bytes ≡ (are_raw_fields is bytes && values_fit is (values_at is bytes))
+raw_fields [] bytes = sym (and_true (bytes_eq bytes []))
+raw_fields (i ∷ is) bytes =
+    let w = item_width i.kind in
+    let field = take w bytes in
+    ap (λ b. is_field i.kind field && b) (raw_fields is (drop w bytes))
+    ∙ both_parts (is_raw_field i.kind field) (fits i.kind (value_at i.kind field)) (are_raw_fields is (drop w bytes)) (values_fit is (values_at is (drop w bytes)))
+
+apart : (free h o r f : Bool) → not (free || (h && (o && (r && f)))) ≡ not ((free || (h && (o && r))) && (free || f))
+apart true h o r f = refl
+apart false true true true f = refl
+apart false true true false f = refl
+apart false true false r f = refl
+apart false false o r f = refl
+
+-- A slot is bad where it isn't in the format, or a value of it doesn't fit.
+pub bad_parts : (s : Shape) (bytes : List ℕ) → reads_bad (slot_of s bytes) ≡ not (is_raw_slot s bytes && (is_free s.items bytes || values_fit s.items (values_at s.items (drop 13 bytes))))
+unfolding is_raw
+bad_parts s bytes =
+    let free = is_free s.items bytes in
+    let h = bytes_eq (take 13 bytes) (head_bytes bytes) in
+    let o = may_own s (or_zero (number_at w32 bytes 1)) in
+    sym (bad_read s bytes)
+    ∙ ap (λ t. not (free || t)) (sym (parts_spelled s bytes))
+    ∙ ap (λ t. not (free || (h && (o && t)))) (raw_fields s.items (drop 13 bytes))
+    ∙ apart free h o (are_raw_fields s.items (drop 13 bytes)) (values_fit s.items (values_at s.items (drop 13 bytes)))
+
+three : (h o r f : Bool) → (h && (o && (r && f))) ≡ ((h && (o && r)) && f)
+three true true r f = refl
+three true false r f = refl
+three false o r f = refl
+
+-- a slot is spelled where it is in the format and its values fit
+raw_fits : (s : Shape) (bytes : List ℕ) → is_spelled s bytes (slot_in s.items bytes) ≡ (is_raw s bytes && values_fit s.items (values_at s.items (drop 13 bytes)))
+unfolding is_raw
+raw_fits s bytes =
+    let h = bytes_eq (take 13 bytes) (head_bytes bytes) in
+    let o = may_own s (or_zero (number_at w32 bytes 1)) in
+    sym (parts_spelled s bytes) ∙ ap (λ t. h && (o && t)) (raw_fields s.items (drop 13 bytes)) ∙ three h o (are_raw_fields s.items (drop 13 bytes)) (values_fit s.items (values_at s.items (drop 13 bytes)))
+
+same_by : (free raw spelled fit : Bool) (slot : Slot) → spelled ≡ (raw && fit) → reads_bad (slot_by free spelled slot) ≡ false → slot_by free raw slot ≡ slot_by free spelled slot
+same_by true raw spelled fit slot is good = refl
+same_by false true true fit slot is good = refl
+same_by false true false fit slot is good = absurd (cc (good))
+same_by false false true fit slot is good = absurd (cc (is))
+same_by false false false fit slot is good = refl
+
+-- Where a slot isn't bad it says the same, ranges or not.
+pub raw_read : (s : Shape) (bytes : List ℕ) → reads_bad (slot_of s bytes) ≡ false → raw_of s bytes ≡ slot_of s bytes
+unfolding slot_of raw_of
+raw_read s bytes good =
+    same_by (is_free s.items bytes) (is_raw s bytes) (is_spelled s bytes (slot_in s.items bytes)) (values_fit s.items (values_at s.items (drop 13 bytes))) (slot_in s.items bytes) (raw_fits s bytes) good

@@ -115,6 +115,32 @@ slot_by false false slot = Bad
 unfoldable pub slot_of : Shape → List ℕ → SlotRead
 slot_of s bytes = slot_by (is_free s.items bytes) (is_spelled s bytes (slot_in s.items bytes)) (slot_in s.items bytes)
 
+-- ---- what is spelled, whatever its range
+
+-- these bytes spell the value that is read of them: a number or a field of bits may be out of its range
+abbrev pub is_raw_field : ItemKind → List ℕ → Bool
+is_raw_field k field = bytes_eq field (field_bytes k (value_at k field))
+
+abbrev pub are_raw_fields : List Item → List ℕ → Bool
+are_raw_fields [] bytes = bytes_eq bytes []
+are_raw_fields (i ∷ is) bytes = is_raw_field i.kind (take (item_width i.kind) bytes) && are_raw_fields is (drop (item_width i.kind) bytes)
+
+-- what stands before the fields, spelled again
+abbrev pub head_bytes : List ℕ → List ℕ
+head_bytes bytes = 1 ∷ to_be_bytes w32 (or_zero (number_at w32 bytes 1)) ++ (to_be_bytes w32 (or_zero (number_at w32 bytes 5)) ++ to_be_bytes w32 (or_zero (number_at w32 bytes 9)))
+
+-- the spelling of the slot that is read, whatever the ranges of its values
+unfoldable pub is_raw : Shape → List ℕ → Bool
+is_raw s bytes = bytes_eq (take 13 bytes) (head_bytes bytes) && (may_own s (or_zero (number_at w32 bytes 1)) && are_raw_fields s.items (drop 13 bytes))
+
+-- a slot in the format
+abbrev pub is_raw_slot : Shape → List ℕ → Bool
+is_raw_slot s bytes = is_free s.items bytes || is_raw s bytes
+
+-- what a slot's bytes say, whatever the ranges of its values
+unfoldable pub raw_of : Shape → List ℕ → SlotRead
+raw_of s bytes = slot_by (is_free s.items bytes) (is_raw s bytes) (slot_in s.items bytes)
+
 -- what was read is bad, or free
 abbrev pub reads_bad : SlotRead → Bool
 reads_bad Free = false

@@ -5,8 +5,8 @@ ghost use Rattle.dms_base.specs.declared.value.Value.TheVariants.{Null};
 ghost use Rattle.dms_desc.specs.Shape.{shape_of};
 ghost use Rattle.dms_key.specs.KeyBytes.{field_bytes};
 ghost use Rattle.dms_base.specs.declared.kind.ItemKind.TheVariants.{Alpha, Number, Field, Link, Bool as OneBit};
-ghost use Rattle.dms_layout.specs.Judging.{is_value, is_field, are_fields, head_bytes};
-ghost use Rattle.dms_layout.specs.Slots.{is_spelled, slot_in, slot_of, reads_bad, reads_free};
+ghost use Rattle.dms_layout.specs.Judging.{is_value, is_field, are_fields};
+ghost use Rattle.dms_layout.specs.Slots.{are_raw_fields, head_bytes, is_raw, is_raw_field, is_raw_slot, is_spelled, slot_in, slot_of, reads_bad, reads_free, value_in};
 
 use crate::reading::{is_free, may_own, record_in, shift_down};
 use dms_base::{ItemKind, TEXT_BYTES, Value, fits, has_printable, trim_spaces};
@@ -186,6 +186,89 @@ pub fn is_used(desc: &Structure, bytes: &[u8]) -> bool
     is_head(bytes)
         && may_own(desc, u64::from(take_u32(bytes, 1).unwrap_or(0)))
         && are_fields(desc.items.as_slice(), record_in(bytes))
+}
+
+// Whether a field of a text spells what is read of it, whatever its length.
+#[tactic(auto, unfolding(dms_base::specs::Text::text_of))]
+fn is_raw_text(width: u8, field: &[u8]) -> bool
+    ensures { result ≡ bytes_eq field.now (field_bytes (Alpha width) (value_in (Alpha width) field.now)) }
+{
+    let rest = behind(field, 1);
+    if !has_printable(rest) {
+        return is_null(ItemKind::Alpha(width), field);
+    }
+    let text = trim_spaces(rest);
+    if text.len() > TEXT_BYTES {
+        return is_null(ItemKind::Alpha(width), field);
+    }
+    is_spaced(width, field, text)
+}
+
+// Whether a field of a number spells what is read of it, whatever its range.
+#[tactic(auto, using(crate::specs::Judging::shifted))]
+fn is_raw_number(kind: ItemKind, field: &[u8], digits: u8, decimals: u8, signed: bool) -> bool
+    requires { kind ≡ Number digits decimals signed }
+    ensures { result ≡ bytes_eq field.now (field_bytes kind (value_in kind field.now)) }
+{
+    is_marked(field, &take_u64(field, 1).unwrap_or(0).to_be_bytes())
+}
+
+// Whether a field spells what is read of it behind the byte for its presence, whatever its range.
+fn is_raw_value(kind: ItemKind, field: &[u8]) -> bool
+    ensures { result ≡ bytes_eq field.now (field_bytes kind (value_in kind field.now)) }
+{
+    match kind {
+        ItemKind::Alpha(width) => is_raw_text(width, field),
+        ItemKind::Number(digits, decimals, signed) => {
+            is_raw_number(kind, field, digits, decimals, signed)
+        }
+        ItemKind::Bool => is_marked(field, &[u8::from(field.len() > 1 && field[1] == 1)]),
+        ItemKind::Field(_) => is_marked(field, &take_u64(field, 1).unwrap_or(0).to_be_bytes()),
+        ItemKind::Link(_, _) => is_marked(field, &take_u32(field, 1).unwrap_or(0).to_be_bytes()),
+    }
+}
+
+// Whether a field spells what is read of it, whatever its range.
+fn is_raw_field(kind: ItemKind, field: &[u8]) -> bool
+    ensures { result ≡ is_raw_field kind field.now }
+{
+    if !field.is_empty() && field[0] == 255 {
+        return is_null(kind, field);
+    }
+    is_raw_value(kind, field)
+}
+
+// Whether bytes are the fields of a record, whatever the ranges of its values.
+fn are_raw_fields(items: &[Item], bytes: &[u8]) -> bool
+    ensures { result ≡ are_raw_fields items.now bytes.now }
+{
+    let mut rest = bytes;
+    for item in items {
+        let width = item_width(item.kind) as usize;
+        if !is_raw_field(item.kind, ahead(rest, width)) {
+            return false;
+        }
+        rest = behind(rest, width);
+    }
+    rest.is_empty()
+}
+
+// Whether bytes are the spelling of the slot that is read of them, whatever the ranges of its values.
+#[tactic(auto, unfolding(crate::specs::Slots::is_raw))]
+pub fn is_raw(desc: &Structure, bytes: &[u8]) -> bool
+    ensures { result ≡ is_raw (shape_of desc.now) bytes.now }
+{
+    is_head(bytes)
+        && may_own(desc, u64::from(take_u32(bytes, 1).unwrap_or(0)))
+        && are_raw_fields(desc.items.as_slice(), record_in(bytes))
+}
+
+/// Whether the bytes of a slot are in the format, whatever the ranges of its values: zeros alone, or the spelling of the slot that is
+/// read of them.
+pub fn is_raw_slot(desc: &Structure, bytes: &[u8]) -> bool
+    ensures { result ≡ is_raw_slot (shape_of desc.now) bytes.now }
+{
+    is_free(desc.items.as_slice(), bytes) || is_raw(desc, bytes)
 }
 
 /// Whether the bytes of a slot are bad, as `from_slot` says, without the record.

@@ -9,8 +9,8 @@ mod slot;
 mod tests;
 mod writing;
 
-pub use judging::{is_bad_slot, is_free_slot};
-pub use laws::{reading_law, spelling_law};
-pub use reading::from_slot;
+pub use judging::{is_bad_slot, is_free_slot, is_raw_slot};
+pub use laws::{range_law, reading_law, spelling_law};
+pub use reading::{from_slot, raw_slot};
 pub use slot::{Slot, SlotRead};
 pub use writing::{slot_width, to_slot};

@@ -1,10 +1,10 @@
 ghost use Rattle.std.specs.Prelude.{◌≡◌, ◌==◌, IfOk, length, drop};
 ghost use Rattle.std.specs.List.{list_all};
 ghost use Rattle.dms_desc.specs.Shape.{shape_of};
-ghost use Rattle.dms_layout.specs.Slots.{shift_down, text_or_null, value_in, value_at, values_at, slot_in, is_zero, is_free, may_own, slot_of, slot_width};
+ghost use Rattle.dms_layout.specs.Slots.{shift_down, text_or_null, value_in, value_at, values_at, slot_in, is_zero, is_free, may_own, raw_of, slot_of, slot_width};
 ghost use Rattle.dms_base.specs.Text.{text_of};
 
-use crate::judging::is_used;
+use crate::judging::{is_raw, is_used};
 use crate::{Slot, SlotRead};
 use dms_base::{ItemKind, Memory, Text, Value};
 use dms_desc::{Item, Record, Structure, Values, item_width};
@@ -142,6 +142,22 @@ pub fn from_slot(alloc: Global, desc: &Structure, bytes: &[u8]) -> Result<SlotRe
         return Ok(SlotRead::Free);
     }
     if !is_used(desc, bytes) {
+        return Ok(SlotRead::Bad);
+    }
+    Ok(SlotRead::Used(slot_in(alloc, items, bytes)?))
+}
+
+/// What the bytes of a slot say, whatever the ranges of its values: as `from_slot`, but `Used` also where a number or a field of bits doesn't
+/// fit its item. Answers Err where memory is refused.
+#[tactic(auto, unfolding(crate::specs::Slots::raw_of))]
+pub fn raw_slot(alloc: Global, desc: &Structure, bytes: &[u8]) -> Result<SlotRead, Memory>
+    ensures { IfOk result (λ r. r ≡ raw_of (shape_of desc.now) bytes.now) }
+{
+    let items = desc.items.as_slice();
+    if is_free(items, bytes) {
+        return Ok(SlotRead::Free);
+    }
+    if !is_raw(desc, bytes) {
         return Ok(SlotRead::Bad);
     }
     Ok(SlotRead::Used(slot_in(alloc, items, bytes)?))

@@ -30,12 +30,12 @@ free_get zero p = refl
 free_get (suc k) zero = refl
 free_get (suc k) (suc p) = free_get k p
 
-set_here : (l : List SlotRead) (p : ℕ) (r : SlotRead) → p < length l → slice_get (set l p r) p ≡ Some r
+pub set_here : (l : List SlotRead) (p : ℕ) (r : SlotRead) → p < length l → slice_get (set l p r) p ≡ Some r
 set_here [] p r low = absurd (omega arith)
 set_here (x ∷ l) zero r low = refl
 set_here (x ∷ l) (suc p) r low = set_here l p r (omega arith)
 
-set_other : (l : List SlotRead) (p k : ℕ) (r : SlotRead) → k ≢ p → slice_get (set l p r) k ≡ slice_get l k
+pub set_other : (l : List SlotRead) (p k : ℕ) (r : SlotRead) → k ≢ p → slice_get (set l p r) k ≡ slice_get l k
 set_other [] p k r other = refl
 set_other (x ∷ l) zero zero r other = absurd (other refl)
 set_other (x ∷ l) zero (suc k) r other = refl
@@ -77,11 +77,11 @@ zeros_slots s (suc k) n low =
     let rest : k * w ≤ n - w = omega (arith, low, nat.suc-mul k w) in
     (λ i. zeros_first s n first i ∷ (ap (slot_chunks s k) (drop-replicate w n 0) ∙ zeros_slots s k (n - w) rest) i)
 
-zeros_block : (s : Shape) → is_block s (replicate 1024 0) ≡ true
+pub zeros_block : (s : Shape) → is_block s (replicate 1024 0) ≡ true
 unfolding is_block
 zeros_block s = and_from _ _ (ap (λ n. n == 1024) (length-replicate {A = ℕ} 1024 0)) (zeros_good s (per_block s.items) 1024 (room s))
 
-zeros_in : (s : Shape) (p : ℕ) → or_free (slice_get (slots_in s (replicate 1024 0)) p) ≡ Free
+pub zeros_in : (s : Shape) (p : ℕ) → or_free (slice_get (slots_in s (replicate 1024 0)) p) ≡ Free
 unfolding slots_in
 zeros_in s p =
     ap (λ b. or_free (slice_get (slots_by b s (replicate 1024 0)) p)) (zeros_block s)
@@ -104,7 +104,7 @@ slot_size s x Bad is good = absurd (cc (good))
 -- ---- a file
 
 -- the slot of a number in its block, also where the file has no such block yet
-slot_is : (s : Shape) (bs : List (List ℕ)) (number : ℕ) → 0 < per_block s.items
+pub slot_is : (s : Shape) (bs : List (List ℕ)) (number : ℕ) → 0 < per_block s.items
     → slot_at s bs number ≡ or_free (slice_get (slots_in s (block_at bs (block_of s.items number))) (place_of s.items number))
 slot_is s bs number some = elim (cases_lt (block_of s.items number) (length bs)) [
   | inl low ↦

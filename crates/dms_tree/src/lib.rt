@@ -24,4 +24,6 @@ mod tracing;
 
 pub use erasing::remove;
 pub use finding::{first_from, last_to};
+pub use inner::inner_of;
 pub use inserting::insert;
+pub use node::{InnerBlock, TreeHead, root_of};

@@ -1,0 +1,4 @@
+pub mod Alone
+pub mod AloneLaws
+pub mod RowLaws
+pub mod Rows

@@ -1,0 +1,12 @@
+use Rattle.std.proofs.Common.{◌≡◌, length, slice_get}
+use Rattle.std.specs.Prelude.{IsTrue}
+use Rattle.dms_shapes.specs.Walks.{WalkedLeaves}
+use Rattle.dms_view.specs.Looked.{LooksOn}
+use Rattle.dms_shapes.proofs.leaves.leaves_from.Given as goal
+
+abbrev pub invariant-loop-met : goal.invariant-loop-met
+invariant-loop-met g l = record {
+  walked : IsTrue g.V.View.tells → length l.fn.seen ≡ length (g.V.View.content l.fn.view l.fn.file) → WalkedLeaves l.fn.width (slice_get (g.V.View.content l.fn.view l.fn.file)) l.fn.first l.fn.seen l.seen l.met l.at l.last;
+  looks : LooksOn g.V.View l.fn.view l.view;
+  long : length l.seen ≡ length l.fn.seen;
+}

@@ -1,0 +1,12 @@
+pub mod Blocks
+pub mod BlockLaws
+pub mod Walks
+pub mod WalkLaws
+pub mod ListShapes
+pub mod Formed
+pub mod Marks
+pub mod Levels
+pub mod Leafage
+pub mod Trees
+pub mod TreeShapes
+pub mod TreeFormed
