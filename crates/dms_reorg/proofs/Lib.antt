@@ -1,0 +1,17 @@
+pub mod OneReason
+pub mod Growing
+pub mod Following
+pub mod Reasons
+pub mod Same
+pub mod Extended
+pub mod Widened
+pub mod Laying
+pub mod Seen
+pub mod Capped
+pub mod InPlace
+pub mod OneFile
+pub mod Filing
+pub mod Damage
+pub mod Filled
+pub mod Handing
+pub mod Records

@@ -1,0 +1,12 @@
+pub mod Extends
+pub mod Extended
+pub mod Laws
+pub mod Widened
+pub mod InPlace
+pub mod Refusals
+pub mod RefusalLaws
+pub mod Damage
+pub mod OneFile
+pub mod Filled
+pub mod Filling
+pub mod Records
