@@ -1,5 +1,5 @@
 -- Files that hold a database are opened.
-use Rattle.std.specs.Prelude.{◌&&◌, nat_lt, nat_le}
+use Rattle.std.specs.Prelude.{◌&&◌, max, nat_lt, nat_le}
 use Rattle.std.proofs.Common.{ℕ, ◌+◌, ◌<◌, ◌≤◌, ◌≡◌, ◌==◌, inl, inr, Bool, true, false, cond, List, [], ◌∷◌, Option, Some, None, length, refl, sym, ◌∙◌, ap, subst, arith}
 use Rattle.std.proofs.lemmas.Bool.{cases_lt, true≢false}
 use Rattle.std.proofs.lemmas.Bool.Decides.{nat_tests}
@@ -22,8 +22,9 @@ use Rattle.dms_history.proofs.LastPending.{pending_cuts}
 use Rattle.dms_history.proofs.Running.{above_all}
 use Rattle.dms_audfile.specs.Header.{tag_said}
 use Rattle.dms_audfile.specs.TrailEntries.{trail_entries}
-use Rattle.dms_dump.specs.Head.{Head, head_in}
-use Rattle.dms_dump.specs.Body.{dump_of, dump_by_head, no_dump}
+use Rattle.dms_history.specs.Pick.{Dump, Dumps}
+use Rattle.dms_dump.specs.Head.{Head, end_of, head_in}
+use Rattle.dms_dump.specs.Body.{dump_of, dump_by_head, dump_with, no_dump}
 use Rattle.dms_dump.specs.Judged.{dump_read, read_head, missing, unsealed, damaged, sealed}
 use Rattle.dms_running.specs.FromDumps.{DumpInOrder, OrderBy, DumpsInOrder, dump_by}
 use Rattle.dms_running.specs.Standing.{IsWhole}
@@ -84,17 +85,24 @@ unfolding dump_read
 head_read [] h is = absurd (not_missing h is)
 head_read (gate ∷ rest) h is = by_gate (gate == 1) (head_in (gate ∷ rest)) h is
 
--- its point is the one in the file
-pub dump_point : (files : Files) (d : ℕ) (h : Head) → 1 ≤ d → d ≤ 9999 → dump_read (files (20000 + d)) ≡ sealed h → (dumps_of files d).point ≡ h.point
-unfolding dump_of
-dump_point files d h some few is =
-    (λ i. (cond (low i && high i) (dump_of (files (20000 + d))) no_dump).point) ∙ ap (λ (o : Option Head). (dump_by_head o (files (20000 + d))).point) (head_read (files (20000 + d)) h is)
-  where
-    low : nat_lt 0 d ≡ true
-    low = grind (arith, nat_tests)
+-- its point and its end are those in the file
+module _ (files : Files) (d : ℕ) (h : Head) (some : 1 ≤ d) (few : d ≤ 9999) (is : dump_read (files (20000 + d)) ≡ sealed h) where
+  low : nat_lt 0 d ≡ true
+  low = grind (arith, nat_tests)
 
-    high : nat_le d 10000 ≡ true
-    high = grind (arith, nat_tests)
+  high : nat_le d 10000 ≡ true
+  high = grind (arith, nat_tests)
+
+  dump_in_file : dumps_of files d ≡ dump_with h (files (20000 + d))
+  unfolding dump_of
+  dump_in_file =
+      (λ i. cond (low i && high i) (dump_of (files (20000 + d))) no_dump) ∙ ap (λ (o : Option Head). dump_by_head o (files (20000 + d))) (head_read (files (20000 + d)) h is)
+
+  pub dump_point : (dumps_of files d).point ≡ h.point
+  dump_point = ap (λ (x : Dump). x.point) dump_in_file
+
+  pub dump_end : (dumps_of files d).end ≡ end_of h
+  dump_end = ap (λ (x : Dump). x.end) dump_in_file
 
 dump_judged : (first next d : ℕ) (files : Files) (p : Pending) → judge_point p.entries next p.point ≡ None → p.point < next → DumpInOrder (IsDumpFound first files) (dumps_of files) p d
     → judge_by_dump first next d (look_of (tag_said (files first)) (dump_at files d)) p.entries p.point ≡ None
@@ -102,13 +110,18 @@ dump_judged first next d files p none below o =
     let f = o.is_found in
     let h : Head = f.head in
     let same : (dumps_of files d).point ≡ h.point = dump_point files d h f.some f.few f.read in
-    let low : h.point ≤ p.point = omega (arith, o.not_later, same) in
+    let ends : (dumps_of files d).end ≡ end_of h = dump_end files d h f.some f.few f.read in
+    let low : h.point ≤ p.point = omega (arith, o.point_low, same) in
+    let end_low : end_of h ≤ p.point = omega (arith, o.end_low, ends) in
+    let both_low : max h.point (end_of h) ≤ p.point = omega (arith, low, end_low) in
     let lives : IsLive p.entries h.point = subst (λ n. IsLive p.entries n) same o.point_lives in
-    let file : judge_file first d (Sealed h.point h.audit) ≡ None = ap (λ b. cond b (Some audit_before) None) (not_less (10000 + h.audit) first f.within) in
+    let end_lives : IsLive p.entries (end_of h) = subst (λ n. IsLive p.entries n) ends o.end_lives in
+    let file : judge_file first d (Sealed h.point (end_of h) h.audit) ≡ None = ap (λ b. cond b (Some audit_before) None) (not_less (10000 + h.audit) first f.within) in
     let point : judge_point p.entries next h.point ≡ None = (each_judged p.entries next h.point).lives.1 (omega (arith, low, below), lives) in
-    let later : is_later d h.point p.point ≡ None = ap (λ b. cond b (Some (dump_later d h.point)) None) (not_less p.point h.point low) in
+    let end : judge_point p.entries next (end_of h) ≡ None = (each_judged p.entries next (end_of h)).lives.1 (omega (arith, end_low, below), end_lives) in
+    let later : is_later d (max h.point (end_of h)) p.point ≡ None = ap (λ b. cond b (Some (dump_later d (max h.point (end_of h)))) None) (not_less p.point (max h.point (end_of h)) both_low) in
     ap (λ (l : DumpLook). judge_by_dump first next d l p.entries p.point) (ap (look_of (tag_said (files first))) (at_read files d f.some f.few ∙ f.read) ∙ own_look (tag_said (files first)) h f.tag_is)
-    ∙ (λ i. or_next (file i) (or_next (refused_at p.point (none i)) (or_next (refused_at h.point (point i)) (later i))))
+    ∙ (λ i. or_next (file i) (or_next (refused_at p.point (none i)) (or_next (refused_at h.point (point i)) (or_next (refused_at (end_of h) (end i)) (later i)))))
 
 restore_judged : (first next : ℕ) (files : Files) (p : Pending) (how : How) → judge_point p.entries next p.point ≡ None → p.point < next → OrderBy (IsDumpFound first files) (dumps_of files) p how
     → judge_restore first next how (look_of (tag_said (files first)) (dump_numbered files (dump_by how))) p.entries p.point ≡ None

@@ -10,7 +10,7 @@ use Rattle.dms_history.specs.History.{Pending}
 use Rattle.dms_audfile.specs.Counting.{CountedAt}
 use Rattle.dms_audfile.specs.declared.fault.AudFault.{AudFault}
 use Rattle.dms_dump.specs.Copying.{CountsAt}
-use Rattle.dms_dump.specs.Head.{Head}
+use Rattle.dms_dump.specs.Head.{Head, end_of}
 use Rattle.dms_dump.specs.HeadSeen.{head_seen}
 use Rattle.dms_dump.specs.Judged.{DumpRead, missing, unsealed, damaged, sealed, dump_read, RefusesDump}
 use Rattle.dms_dump.specs.declared.fault.DumpFault.{DumpFault}
@@ -49,11 +49,11 @@ tag_of_test : (a b : ℕ) → a == b ≡ true → a ≡ b
 tag_of_test a b on = grind (arith, nat_tests)
 
 -- one that has the tag of the trail is looked at
-pub own_look : (tag : ℕ) (h : Head) → h.tag ≡ tag → look_of tag (sealed h) ≡ looks.Sealed h.point h.audit
-own_look tag h is = ap (λ b. cond b (looks.Sealed h.point h.audit) looks.Foreign) (same_tag h.tag tag is)
+pub own_look : (tag : ℕ) (h : Head) → h.tag ≡ tag → look_of tag (sealed h) ≡ looks.Sealed h.point (end_of h) h.audit
+own_look tag h is = ap (λ b. cond b (looks.Sealed h.point (end_of h) h.audit) looks.Foreign) (same_tag h.tag tag is)
 
 pub foreign_look : (tag : ℕ) (h : Head) (file : DumpRead) → h.tag == tag ≡ false → file ≡ sealed h → look_of tag file ≡ looks.Foreign
-foreign_look tag h file off is = ap (look_of tag) is ∙ ap (λ b. cond b (looks.Sealed h.point h.audit) looks.Foreign) off
+foreign_look tag h file off is = ap (look_of tag) is ∙ ap (λ b. cond b (looks.Sealed h.point (end_of h) h.audit) looks.Foreign) off
 
 -- so has one that isn't refused
 pub own_tag : (first d tag : ℕ) (h : Head) → judge_file first d (look_of tag (sealed h)) ≡ None → h.tag ≡ tag

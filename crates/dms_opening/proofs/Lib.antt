@@ -29,3 +29,7 @@ pub mod AskedFor
 pub mod DumpLooks
 pub mod Behinds
 pub mod Overs
+pub mod Lacks
+pub mod Going
+pub mod NoneShort
+pub mod Reading

@@ -1,5 +1,5 @@
 -- The first refusal of what is asked of a database, before anything is written.
-use Rattle.std.specs.Prelude.{ℕ, ◌+◌, nat_lt, if◌then◌else◌, List, Option, Some, None}
+use Rattle.std.specs.Prelude.{ℕ, ◌+◌, max, nat_lt, if◌then◌else◌, List, Option, Some, None}
 use Rattle.dms_history.specs.Events.{Event, How, halt_load, back_out, roll_back, rebuild, reconstruct}
 use Rattle.dms_history.specs.History.{Pending, History, last_point}
 use Rattle.dms_history.specs.Judge.{PointRefusal, audit_missing, judge_point}
@@ -12,7 +12,7 @@ use Rattle.dms_opening.specs.declared.asked.Refusal.TheVariants as answered
 use Rattle.dms_opening.specs.Judged.{refusal_of}
 
 -- point n can't be had; dump d isn't present, isn't sealed, isn't in its grammar, or has another tag than the trail; the audit file of a dump stands
--- before the trail; the point p of dump d is above the chosen one
+-- before the trail; the end p of dump d, or its point where that is above its end, is above the chosen one
 pub data Refused : Type 0 where
   at_point : ℕ → PointRefusal → Refused
   dump_missing : ℕ → Refused
@@ -39,18 +39,18 @@ judge_file first d Missing = Some (dump_missing d)
 judge_file first d Unsealed = Some (dump_unsealed d)
 judge_file first d Damaged = Some (dump_damaged d)
 judge_file first d Foreign = Some (dump_foreign d)
-judge_file first d (Sealed point audit) = if nat_lt (10000 + audit) first then Some audit_before else None
+judge_file first d (Sealed point end audit) = if nat_lt (10000 + audit) first then Some audit_before else None
 
 abbrev pub is_later : ℕ → ℕ → ℕ → Option Refused
 is_later d point m = if nat_lt m point then Some (dump_later d point) else None
 
--- That of its point: it can't be had, or it is above the chosen point m.
+-- That of its point and of its end: one of them can't be had, or is above the chosen point m.
 abbrev pub judge_dump_point : List Event → ℕ → ℕ → DumpLook → ℕ → Option Refused
 judge_dump_point live next d Missing m = None
 judge_dump_point live next d Unsealed m = None
 judge_dump_point live next d Damaged m = None
 judge_dump_point live next d Foreign m = None
-judge_dump_point live next d (Sealed point audit) m = or_next (refused_at point (judge_point live next point)) (is_later d point m)
+judge_dump_point live next d (Sealed point end audit) m = or_next (refused_at point (judge_point live next point)) (or_next (refused_at end (judge_point live next end)) (is_later d (max point end) m))
 
 abbrev pub judge_dump : ℕ → List Event → ℕ → ℕ → DumpLook → ℕ → Option Refused
 judge_dump first live next d look m = or_next (judge_file first d look) (judge_dump_point live next d look m)

@@ -5,6 +5,7 @@ use Rattle.std.specs.declared.result.Result.TheVariants.{Ok, Err}
 use Rattle.dms_site.specs.Files.{Files}
 use Rattle.dms_history.specs.Events.{How}
 use Rattle.dms_history.specs.History.{Pending}
+use Rattle.dms_dump.specs.Head.{end_of, end_or}
 use Rattle.dms_dump.specs.HeadSeen.{head_seen}
 use Rattle.dms_dump.specs.Judged.{DumpRead, missing, unsealed, damaged, sealed, dump_read, RefusesDump}
 use Rattle.dms_dump.specs.declared.fault.DumpFault.{DumpFault}
@@ -23,7 +24,7 @@ abbrev pub look_of : ℕ → DumpRead → DumpLook
 look_of tag missing = looks.Missing
 look_of tag unsealed = looks.Unsealed
 look_of tag damaged = looks.Damaged
-look_of tag (sealed h) = if h.tag == tag then looks.Sealed h.point h.audit else looks.Foreign
+look_of tag (sealed h) = if h.tag == tag then looks.Sealed h.point (end_of h) h.audit else looks.Foreign
 
 -- ---- with the head of the dump
 
@@ -46,7 +47,7 @@ look_seen Missing = looks.Missing
 look_seen Unsealed = looks.Unsealed
 look_seen Damaged = looks.Damaged
 look_seen Foreign = looks.Foreign
-look_seen (Sealed head) = looks.Sealed head.point head.audit
+look_seen (Sealed head) = looks.Sealed head.point (end_or head.end head.point) head.audit
 
 -- the head that was read
 abbrev pub head_found : DumpFound → Option DumpHead

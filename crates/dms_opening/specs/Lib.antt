@@ -12,3 +12,5 @@ pub mod PointCounts
 pub mod Starts
 pub mod Behind
 pub mod Claims
+pub mod Short
+pub mod Whole

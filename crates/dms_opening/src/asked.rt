@@ -25,8 +25,8 @@ pub enum DumpLook {
     Damaged,
     /// It has another tag than the trail.
     Foreign,
-    /// The point of a dump, and the number of its audit file.
-    Sealed(u64, u32),
+    /// The point of a dump, its end, and the number of its audit file.
+    Sealed(u64, u64, u32),
 }
 
 /// What is asked of a database.
@@ -50,7 +50,7 @@ pub enum Refusal {
     DumpForeign(u16),
     /// The audit file of the dump stands before the trail.
     AuditBefore,
-    /// The point of this dump is above the chosen one.
+    /// The end of this dump, or its point where that is above its end, is above the chosen one.
     DumpLater(u16, u64),
 }
 
@@ -83,7 +83,7 @@ fn judge_file(first: u32, dump: u16, look: DumpLook) -> Option<Refusal>
         DumpLook::Unsealed => Some(Refusal::DumpUnsealed(dump)),
         DumpLook::Damaged => Some(Refusal::DumpDamaged(dump)),
         DumpLook::Foreign => Some(Refusal::DumpForeign(dump)),
-        DumpLook::Sealed(_, audit) => {
+        DumpLook::Sealed(_, _, audit) => {
             if 10_000 + u64::from(audit) < u64::from(first) {
                 Some(Refusal::AuditBefore)
             } else {
@@ -93,7 +93,7 @@ fn judge_file(first: u32, dump: u16, look: DumpLook) -> Option<Refusal>
     }
 }
 
-/// That of a dump's point that is above the chosen one.
+/// That of a dump whose end is above the chosen point.
 fn refuse_later(dump: u16, point: u64, chosen: u64) -> Option<Refusal>
     ensures { refused_seen result ≡ is_later dump point chosen }
 {
@@ -104,7 +104,7 @@ fn refuse_later(dump: u16, point: u64, chosen: u64) -> Option<Refusal>
     }
 }
 
-/// The refusal of the point of a dump.
+/// The refusal of the point and of the end of a dump.
 fn judge_dump_point(
     live: &[LiveEntry],
     next: u64,
@@ -119,9 +119,12 @@ fn judge_dump_point(
         DumpLook::Unsealed => None,
         DumpLook::Damaged => None,
         DumpLook::Foreign => None,
-        DumpLook::Sealed(point, _) => or_next(
+        DumpLook::Sealed(point, end, _) => or_next(
             refuse_point(live, next, point),
-            refuse_later(dump, point, chosen),
+            or_next(
+                refuse_point(live, next, end),
+                refuse_later(dump, point.max(end), chosen),
+            ),
         ),
     }
 }

@@ -8,6 +8,7 @@ ghost use Rattle.dms_history.specs.Events.{How};
 ghost use Rattle.dms_history.specs.declared.event.Row as row;
 ghost use Rattle.dms_audfile.specs.Counting.{CountedAt};
 ghost use Rattle.dms_audfile.specs.Reads.{ReadsAlone};
+ghost use Rattle.dms_dump.specs.Head.{end_or};
 ghost use Rattle.dms_dump.specs.HeadSeen.{head_seen};
 ghost use Rattle.dms_dump.specs.Judged.{DumpRead, sealed};
 ghost use Rattle.dms_running.specs.FromDumps.{dump_by, dump_in};
@@ -32,6 +33,16 @@ pub enum DumpFound {
     Sealed(DumpHead),
 }
 
+/// The end of a dump: its point, where it has none of its own.
+fn end_of(point: u64, end: Option<u64>) -> u64
+    ensures { result ≡ end_or end point }
+{
+    match end {
+        None => point,
+        Some(end) => end,
+    }
+}
+
 impl DumpFound {
     /// The same without the counts.
     pub fn look(&self) -> DumpLook
@@ -42,7 +53,11 @@ impl DumpFound {
             DumpFound::Unsealed => DumpLook::Unsealed,
             DumpFound::Damaged => DumpLook::Damaged,
             DumpFound::Foreign => DumpLook::Foreign,
-            DumpFound::Sealed(head) => DumpLook::Sealed(head.point, head.audit),
+            DumpFound::Sealed(head) => DumpLook::Sealed(
+                head.point,
+                end_of(head.point, head.end),
+                head.audit,
+            ),
         }
     }
 

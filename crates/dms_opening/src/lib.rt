@@ -18,7 +18,9 @@ mod plan;
 mod point_counts;
 mod preparing;
 mod scanning;
+mod short;
 mod starting;
+mod whole;
 
 pub use asked::{Asked, DumpLook, Refusal, judge};
 pub use behind::prepare_behind;
@@ -31,3 +33,5 @@ pub use numbers::last_point;
 pub use opened::{Opened, open};
 pub use plan::{OpeningPlan, prepare, prepare_asked};
 pub use scanning::{Found, Scanned};
+pub use short::{ShortBlock, first_short};
+pub use whole::OpenRefusal;
