@@ -14,15 +14,17 @@ use Rattle.dms_opening.specs.declared.choosing.OpenFault.{OpenFault}
 use Rattle.dms_opening.specs.declared.choosing.OpenFault.TheVariants.{Audit}
 use Rattle.dms_opening.specs.Openings.{IsTrailFound, IsNoRefusal, IsOpenable, OpeningGrows, Reopens, ReopensSince, SealsFew, text_of}
 use Rattle.dms_opening.proofs.Complete.{refuses_none}
+use Rattle.dms_opening.proofs.NoneShort.{whole_has_no_short}
 use Rattle.dms_runtop.specs.Faults.{open_status}
-use Rattle.dms_runtop.specs.Full.{HasNoRoom}
-use Rattle.dms_runtop.proofs.Fulls.{full_opening}
+use Rattle.dms_dumping.specs.Filling.{FillsTrail}
+use Rattle.dms_dumping.proofs.Fills.{fills_opening}
 use Rattle.dms_status.specs.declared.status.Status.{Status}
 use Rattle.dms_status.specs.declared.status.Status.TheVariants.{DiskFault}
 use Rattle.dms_dumping.specs.declared.looking.DumpRefusal.{DumpRefusal}
 use Rattle.dms_dumping.specs.declared.looking.DumpRefusal.TheVariants.{Open, Exists, Short}
 use Rattle.dms_dumping.specs.Preparing.{NeverRefusesDump}
-use Rattle.dms_dumping.specs.Refusing.{RefusesDump, StaysRead, refusal_status}
+use Rattle.dms_opening.specs.Whole.{StaysRead}
+use Rattle.dms_dumping.specs.Refusing.{RefusesDump, refusal_status}
 use Rattle.dms_dumping.specs.Statuses.{IsDumpRefusal}
 
 module _ {S : Type 0} (g : Ghosts S) where
@@ -45,8 +47,8 @@ module _ {S : Type 0} (g : Ghosts S) where
             (r.few total first (subst (λ (f : Files). IsTrailFound total first f) (sym same) trail) (subst (λ (f : Files). IsWhole (telling_of total first) f) (sym same) whole));
       }
 
-  pub full_refused : (old new : S) (refusal : DumpRefusal) (status : Status) (d : ℕ) → status ≡ refusal_status refusal → (IsTrue g.tells → RefusesDump d (g.files old) refusal) → (IsTrue g.tells → refusal ≡ Open (Audit (aud.Full 9999)) → ⊥) → HasNoRoom g old new status
-  full_refused old new (Open fault) status d is refused room = full_opening g old new fault status is refused (λ tells full. absurd (room tells (ap Open full)))
+  pub full_refused : (old new : S) (refusal : DumpRefusal) (status : Status) (d : ℕ) → status ≡ refusal_status refusal → (IsTrue g.tells → RefusesDump d (g.files old) refusal) → (IsTrue g.tells → refusal ≡ Open (Audit (aud.Full 9999)) → ⊥) → FillsTrail g old new status
+  full_refused old new (Open fault) status d is refused room = fills_opening g old new fault status is refused (λ tells full. absurd (room tells (ap Open full)))
   full_refused old new Exists status d is refused room = λ k at tells. absurd (cc)
   full_refused old new (Short f b) status d is refused room = λ k at tells. absurd (cc)
 
@@ -56,12 +58,12 @@ no_refusal fault (inl (inr memory)) is = subst (λ (f : OpenFault). IsDumpRefusa
 no_refusal fault (inr full) is = subst (λ (f : OpenFault). IsDumpRefusal (open_status f)) full is
 
 never : (d : ℕ) (files : Files) (refusal : DumpRefusal) → RefusesDump d files refusal → NeverRefusesDump d files (refusal_status refusal)
-never d files (Open fault) r total first o shut none is = no_refusal fault (refuses_none total first files fault o r) is
-never d files Exists r total first o shut none is = shut r.1
-never d files (Short f b) r total first o shut none is = none r.1.0 f b r.1.1.is
+never d files (Open fault) r total first o shut is = no_refusal fault (refuses_none total first files fault o r) is
+never d files Exists r total first o shut is = shut r.1
+never d files (Short f b) r total first o shut is = whole_has_no_short total first files o.trail o.whole r.1.0 f b r.1.1.is
 
 pub never_refused : (d : ℕ) (files : Files) (refusal : DumpRefusal) (status : Status) → status ≡ refusal_status refusal → RefusesDump d files refusal → NeverRefusesDump d files status
-never_refused d files refusal status is r total first o shut none at = never d files refusal r total first o shut none (subst IsDumpRefusal is at)
+never_refused d files refusal status is r total first o shut at = never d files refusal r total first o shut (subst IsDumpRefusal is at)
 
 pub counted_back : (s t : Status) (a b c : ℕ) → s ≡ t → b ≡ a → CountedAt (t ≡ DiskFault) b c → CountedAt (s ≡ DiskFault) a c
 counted_back s t a b c is same counted = subst (λ (x : Status). CountedAt (x ≡ DiskFault) a c) (sym is) (subst (λ n. CountedAt (t ≡ DiskFault) n c) same counted)

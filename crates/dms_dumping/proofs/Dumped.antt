@@ -1,20 +1,20 @@
 -- What is left where a database was opened for its dump and the dump's file alone was written.
 use Rattle.std.specs.Prelude.{◌≢◌}
-use Rattle.std.proofs.Common.{ℕ, ◌+◌, ◌-◌, ◌≤◌, ◌≡◌, ◌∙◌, inl, inr, List, [], map, IsTrue, Some, append-nil, refl, sym, ap, subst, arith}
-use Rattle.dms_moments.specs.Moments.{Now, Runs, Steps}
+use Rattle.std.proofs.Common.{ℕ, ◌+◌, ◌-◌, ◌≤◌, ◌≡◌, ◌∙◌, inl, inr, Bool, cond, List, [], length, map, IsTrue, None, Some, append-nil, refl, sym, ap, subst, arith}
+use Rattle.dms_moments.specs.Moments.{Clock, Now, Runs, Steps}
 use Rattle.dms_moments.specs.MomentLaws.{runs_step, runs_weaken, steps_on, steps_weaken}
 use Rattle.dms_site.specs.declared.site.Site.{Ghosts}
-use Rattle.dms_site.specs.Files.{Files, Left, Only, stored_of}
-use Rattle.dms_site.specs.StoredLaws.{stored_same}
-use Rattle.dms_history.specs.Events.{Stored}
-use Rattle.dms_history.specs.Entries.{counts_in}
+use Rattle.dms_site.specs.Files.{Files, Left, OnDisk, Only, PrintsPartOf}
+use Rattle.dms_history.specs.Entries.{Entry, counts_in}
 use Rattle.dms_history.specs.declared.event.FileCount.{FileCount}
+use Rattle.dms_audfile.proofs.Ended.{entries_settled}
 use Rattle.dms_audfile.proofs.Gates.{stands_full}
 use Rattle.dms_audfile.proofs.Several.{trail_same}
 use Rattle.dms_audfile.specs.Header.{tag_said}
 use Rattle.dms_audfile.specs.Scanning.{place_in}
 use Rattle.dms_audfile.specs.Trail.{trail_from}
-use Rattle.dms_dump.specs.Body.{AllStored, dump_file, dump_made}
+use Rattle.dms_audfile.specs.TrailEntries.{trail_entries}
+use Rattle.dms_dump.specs.Body.{dump_made}
 use Rattle.dms_dump.specs.Stops.{BecomesDump}
 use Rattle.dms_running.specs.Points.{DescribedPoint, points_of}
 use Rattle.dms_restore.proofs.CountBytes.{counts_say}
@@ -25,23 +25,65 @@ use Rattle.dms_restore.specs.Logging.{LeavesTrail, TrailKept, telling, telling_o
 use Rattle.dms_restore.specs.Views.{view_of}
 use Rattle.dms_wal.specs.Marks.{last_number}
 use Rattle.dms_opening.specs.declared.opened.Opened.{Opened}
-use Rattle.dms_opening.specs.Openings.{IsTrailFound, OpeningGrows, OpensAt, ReopensSince, RunsFrom, RunsWhere}
+use Rattle.dms_opening.specs.Openings.{IsTrailFound, OpeningGrows, OpensAt, ReopensSince, RunsFrom, RunsWhere, SealsFew, text_of}
 use Rattle.dms_opening.proofs.Callers.{trail_is_one}
+use Rattle.dms_desc.specs.Shape.{Described}
+use Rattle.dms_model.specs.Db.{Db}
 use Rattle.dms_run.specs.State.{StateOf}
 use Rattle.dms_run.specs.States.{LivesEndWith}
-use Rattle.dms_statelaws.specs.SiteLaws.{KeepsOthers, OpensOver}
+use Rattle.dms_statelaws.specs.Dumps.{HasDumpAt}
+use Rattle.dms_statelaws.specs.SiteLaws.{HasDumped, KeepsOthers, OpensOver}
 use Rattle.dms_statelaws.specs.Statements.{DumpEnds, DumpStands}
 use Rattle.dms_statelaws.proofs.Ends.{log_whole}
 use Rattle.dms_statelaws.proofs.Kept.{is_whole}
+use Rattle.dms_statelaws.proofs.Statements as states
 use Rattle.dms_statelaws.proofs.Statements.{dump_law}
 use Rattle.dms_statelaws.proofs.Trails.{WritesWithin, writes_within}
-use Rattle.dms_runtop.specs.Command.{DatabaseState, HoldsState, KeepsTrail, StatesHold}
+use Rattle.dms_runtop.specs.Command.{DatabaseState, HoldsState, StatesHold}
 use Rattle.dms_runtop.specs.Guard.{IsBeside, StaysBeside, StaysBut}
 use Rattle.dms_runtop.specs.GuardLaws.{all_structures}
 use Rattle.dms_runtop.proofs.Grows.{keeps_entered}
 use Rattle.dms_runtop.proofs.Since.{last_is}
 use Rattle.dms_dumping.specs.DumpDoes.{AsLeft, LeavesDump, StaysBesideDump}
 use Rattle.dms_dumping.specs.Writing.{IsHeadOf, WritesDump}
+
+-- ---- what a call leaves
+
+-- both of two facts on what a stop leaves
+both_runs : {a b : Clock Left} {P Q R : Left → Type 0} → Runs a b P → Runs a b Q → ((x : Left) → P x → Q x → R x) → Runs a b R
+both_runs one two both = record {
+  later = one.later;
+  only = λ t x le left. elim (one.only t x le left) [
+    | inl was ↦ inl was
+    | inr p ↦ elim (two.only t x le left) [ inl was ↦ inl was | inr q ↦ inr (both x p q) ]
+  ];
+  keeps = one.keeps;
+}
+
+text_told : {S : Type 0} (g : Ghosts S) (a : S) → IsTrue g.tells_said → text_of g a ≡ Some (g.said a)
+text_told g a told = ap (λ (b : Bool). cond b (Some (g.said a)) None) told
+
+writes_as : (f : ℕ) (made : List ℕ) (x y : Left) → OnDisk f (BecomesDump made) x y → WritesDump f made x y
+writes_as f made x y one = record {
+  here = elim one.files.here [
+    | inl same ↦ inl (inl same, one.said)
+    | inr rest ↦ elim rest [ inl shut ↦ inl (inr shut, one.said) | inr written ↦ inr written ]
+  ];
+  others = one.files.others;
+}
+
+-- while the dump is written
+pub writes_alone : (f : ℕ) (made : List ℕ) (a b : Clock Left) → Steps (OnDisk f (BecomesDump made)) a b → Steps (WritesDump f made) a b
+writes_alone f made a b steps = steps_weaken steps (λ x y now one. writes_as f made x y one)
+
+-- and then while that is said
+pub writes_said : (f : ℕ) (made line : List ℕ) (files : Files) (a b c : Clock Left) → files f ≡ made → Only files b → Steps (OnDisk f (BecomesDump made)) a b → Steps (PrintsPartOf line) b c → Steps (WritesDump f made) a c
+writes_said f made line files a b c written only steps says = steps_on steps says
+    (λ x y z nx ny one two. record {
+      here = inr (ap (λ (k : Files). k f) two.files ∙ ap (λ (k : Files). k f) (only y ny) ∙ written);
+      others = λ i not. ap (λ (k : Files). k i) two.files ∙ one.files.others i not;
+    })
+    (λ x y nx one. writes_as f made x y one)
 
 module _ {S : Type 0} (g : Ghosts S) (d : ℕ) (some : 1 ≤ d) (few : d ≤ 9999) where
   is_beside : IsBeside 200 (20000 + d)
@@ -64,8 +106,13 @@ module _ {S : Type 0} (g : Ghosts S) (d : ℕ) (some : 1 ≤ d) (few : d ≤ 999
   as_left : (a b : S) → StaysBeside g a b → Runs (g.clock a) (g.clock b) (AsLeft (g.clock a) (20000 + d))
   as_left a b stays = runs_weaken (stays_all a b stays).left.runs (λ x after. (after.0, after.1, after.2 (20000 + d) is_beside))
 
-  pub dump_alone : (a b : S) (n : ℕ) (blocks : Left → Files) → StaysBeside g a b → Runs (g.clock a) (g.clock b) (λ x. LeavesDump d n (g.clock a) (blocks x) x)
-  dump_alone a b n blocks stays = runs_weaken (as_left a b stays) (λ x p. inl p)
+  -- the dump as it was, and no more text
+  pub dump_alone : (a b : S) → StaysBeside g a b → ReopensSince g a b → (s : DatabaseState) → StateOf (g.files a) s.point s.desc s.db → Runs (g.clock a) (g.clock b) (LeavesDump g d s.point a)
+  dump_alone a b stays since s is =
+      let files = g.files a in
+      let at = is.at_point in
+      let silent = since (states.total files s.point s.desc s.db at) (states.first files s.point s.desc s.db at) (states.state_trail files s.point s.desc s.db at) (states.state_whole files s.point s.desc s.db at) in
+      both_runs (as_left a b stays) silent (λ x p q. inl (inl p, λ told. q.text (g.said a) (text_told g a told)))
 
   -- ---- behind an opening
 
@@ -93,36 +140,11 @@ module _ {S : Type 0} (g : Ghosts S) (d : ℕ) (some : 1 ≤ d) (few : d ≤ 999
           left = λ tells. steps_on these.left (keeps_others (writes tells)) (λ x y z nx ny p q f is not. q f not ∙ p f is) (λ x y nx p f is not. p f is);
         }
 
-    same_blocks : (then now : Files) → Others then now → stored_of now ≡ stored_of then
-    same_blocks then now others = stored_same now then (λ f up. others f (λ is. omega (arith, is, up, few)))
-
-    -- the dump that is written, of the same blocks
-    becomes : (y x : Left) (blocks : Files) → StaysBeside g old mid → Now (g.clock mid) y → stored_of blocks ≡ stored_of (g.files mid) → BecomesDump made (y.files (20000 + d)) (x.files (20000 + d)) → LeavesDump d o.point (g.clock old) blocks x
-    becomes y x blocks stays now same (inl is) = let z = (stays_all old mid stays).left.follows y now in inl (z.0, z.1, is ∙ z.2 (20000 + d) is_beside)
-    becomes y x blocks stays now same (inr (inl shut)) = inr (inl shut)
-    becomes y x blocks stays now same (inr (inr is)) = inr (inr (record {
-      tag = o.log.end.tag;
-      audit = o.audit;
-      counts = counts;
-      is = is ∙ ap (λ (st : Stored). dump_file 1 (record { tag = o.log.end.tag; point = o.point; audit = o.audit; counts = counts; end = o.point }) st) (sym same);
-    }))
-
-    left_on : (blocks : Left → Files) → ((y x : Left) → Now (g.clock mid) y → Others y.files x.files → stored_of (blocks x) ≡ stored_of (g.files mid)) → StaysBeside g old mid → Writes → Runs (g.clock old) (g.clock new) (λ x. LeavesDump d o.point (g.clock old) (blocks x) x)
-    left_on blocks same stays writes = runs_step (dump_alone old mid o.point blocks stays) writes (λ y x now w. becomes y x (blocks x) stays now (same y x now w.others) w.here)
-
-    pub dump_on : StaysBeside g old mid → Others (g.files mid) (g.files new) → Writes → Runs (g.clock old) (g.clock new) (LeavesDump d o.point (g.clock old) (g.files new))
-    dump_on stays others writes = left_on (λ x. g.files new) (λ y x now same. same_blocks (g.files mid) (g.files new) others) stays writes
-
     -- ---- of a database
 
     module _ (opens : OpensAt o.log.end.total o.log.first (g.files old) o.point o.next o.schema.items o.counts.items) (runs : RunsWhere g (g.files old) o) where
       runs_from : (s : DatabaseState) → StateOf (g.files old) s.point s.desc s.db → RunsFrom (g.files old) o.point o.next o.schema.items o.counts.items (view_of g o.log)
       runs_from s is = runs (is_whole o.log.end.total o.log.first (g.files old) s.point s.desc s.db opens.trail is.at_point)
-
-      pub dump_with_it : (s : DatabaseState) → StateOf (g.files old) s.point s.desc s.db → StaysBeside g old mid → Writes → Runs (g.clock old) (g.clock new) (λ x. LeavesDump d o.point (g.clock old) x.files x)
-      dump_with_it s is stays writes =
-          let only = (runs_from s is).only in
-          left_on (λ x. x.files) (λ y x now others. same_blocks (g.files mid) x.files (λ i not. others i not ∙ ap (λ (f : Files). f i) (only y now))) stays writes
 
       -- the number of its last point
       pub point_is : StatesHold → (s : DatabaseState) → StateOf (g.files old) s.point s.desc s.db → o.point ≡ s.point
@@ -177,8 +199,25 @@ module _ {S : Type 0} (g : Ghosts S) (d : ℕ) (some : 1 ≤ d) (few : d ≤ 999
               below = λ i above upto. others i (λ at. omega (arith, at, upto, t.writes.order, t.high, some));
             }
 
-        pub keeps_on : IsTrue g.tells → OpeningGrows g old mid → Others (g.files mid) (g.files new) → Writes → KeepsTrail g old new
-        keeps_on tells grows others writes = keeps_entered g old new o opens.trail grows (λ told. record { kept = kept_there (g.files new) others; left = steps_weaken writes (λ y x now w. leaves_there y x now w.others) }) tells
+        -- its entries are those of the opening
+        entries_there : (now : Files) → Others (g.files mid) now → trail_entries total first now ≡ trail_entries total first (g.files mid)
+        entries_there now others =
+            let t : WritesWithin total first (g.files mid) = there in
+            entries_settled total t.tag first t.file t.count (g.files mid) now t.low t.high t.writes (λ i from upto. others i (λ at. omega (arith, at, upto, t.high, some)))
+
+        pub grows_on : IsTrue g.tells → OpeningGrows g old mid → Others (g.files mid) (g.files new) → Writes → OpeningGrows g old new
+        grows_on tells grows others writes =
+            let keeps = keeps_entered g old new o opens.trail grows (λ told. record { kept = kept_there (g.files new) others; left = steps_weaken writes (λ y x now w. leaves_there y x now w.others) }) tells in
+            record {
+              kept = keeps.kept;
+              left = keeps.left;
+              few = λ total' first' found whole.
+                  let one = trail_is_one total first total' first' (g.files old) opens.trail found in
+                  let few : SealsFew total' first' (g.files old) (g.files mid) = grows.few total' first' found whole in
+                  subst (λ n. n ≤ length (trail_entries total' first' (g.files old)) + 19)
+                  (ap (λ (l : List Entry). length l) (sym (subst (λ k. trail_entries total' k (g.files new) ≡ trail_entries total' k (g.files mid)) one.1
+                  (subst (λ k. trail_entries k first (g.files new) ≡ trail_entries k first (g.files mid)) one.0 (entries_there (g.files new) others))))) few;
+            }
 
       -- ---- its states
 
@@ -189,14 +228,37 @@ module _ {S : Type 0} (g : Ghosts S) (d : ℕ) (some : 1 ≤ d) (few : d ≤ 999
         pub stands_on : Writes → DumpStands g old new
         stands_on writes = (dump_law g old o new read).stands d some few over (keeps_others writes)
 
-        pub ends_on : IsHeadOf o.log.end.tag o.point o.audit counts → counts ≡ file_counts 30001 o.counts.items → AllStored (stored_of (g.files mid)) counts → g.files new (20000 + d) ≡ made → Others (g.files mid) (g.files new) → Only (g.files new) (g.clock new)
-            → DumpEnds g old new d
-        ends_on head are stored written others only = (dump_law g old o new read).ends d o.log.end.tag o.audit counts some few over (record {
+        has_dumped : IsHeadOf o.log.end.tag o.point o.audit counts → counts ≡ file_counts 30001 o.counts.items → (files : Files) → files (20000 + d) ≡ made → Others (g.files mid) files → HasDumped g o files d o.log.end.tag o.audit counts
+        has_dumped head are files written others = record {
           head = head;
           tag_is = refl;
           counted = λ f. ap (λ (l : List FileCount). counts_in l f) are ∙ counts_say o.counts.items f;
-          stored = stored;
           written = written;
           others = others;
-          only = only;
-        })
+        }
+
+        -- a dump that stands whole is true
+        dump_there : IsHeadOf o.log.end.tag o.point o.audit counts → counts ≡ file_counts 30001 o.counts.items → (files : Files) → files (20000 + d) ≡ made → Others (g.files mid) files
+            → (n : ℕ) (desc : Described) (db : Db) → StateOf (g.files old) n desc db → HasDumpAt files d n
+        dump_there head are files written others n desc db s = (dump_law g old o new read).ends files d o.log.end.tag o.audit counts some few over (has_dumped head are files written others) n desc db s
+
+        module _ (head : IsHeadOf o.log.end.tag o.point o.audit counts) (are : counts ≡ file_counts 30001 o.counts.items) (now_said : (x : Left) → IsTrue g.tells_said → Now (g.clock mid) x → x.said ≡ g.said mid) (said : g.said mid ≡ g.said old)
+            (stays : StaysBeside g old mid) (s : DatabaseState) (is : StateOf (g.files old) s.point s.desc s.db) where
+          becomes : (y x : Left) → Now (g.clock mid) y → WritesDump (20000 + d) made y x → LeavesDump g d s.point old x
+          becomes y x now w = elim w.here [
+            | inl before ↦ inl (
+              elim before.0 [
+                | inl same ↦ (let z = (stays_all old mid stays).left.follows y now in inl (z.0, z.1, same ∙ z.2 (20000 + d) is_beside))
+                | inr shut ↦ inr shut
+              ],
+              λ told. before.1 ∙ now_said y told now ∙ said,
+            )
+            | inr written ↦ inr (dump_there head are x.files written (λ i not. w.others i not ∙ ap (λ (f : Files). f i) ((runs_from s is).only y now)) s.point s.desc s.db is)
+          ]
+
+          pub dump_on : Writes → Runs (g.clock old) (g.clock new) (LeavesDump g d s.point old)
+          dump_on writes = runs_step (dump_alone old mid stays since s is) writes becomes
+
+        pub ends_on : IsHeadOf o.log.end.tag o.point o.audit counts → counts ≡ file_counts 30001 o.counts.items → g.files new (20000 + d) ≡ made → Others (g.files mid) (g.files new) → Only (g.files new) (g.clock new)
+            → DumpEnds g old new d
+        ends_on head are written others only n desc db s = (dump_there head are (g.files new) written others n desc db s, only)

@@ -17,7 +17,8 @@ use Rattle.dms_opening.specs.Openings.{IsTrailFound, RefusesFiles}
 use Rattle.dms_opening.specs.Plans.{IsPlainFault, Plans}
 use Rattle.dms_dumping.specs.declared.looking.DumpRefusal.{DumpRefusal}
 use Rattle.dms_dumping.specs.declared.looking.DumpRefusal.TheVariants.{Open, Exists, Short}
-use Rattle.dms_dumping.specs.Refusing.{JudgesDump, RefusesDump, StaysRead}
+use Rattle.dms_opening.specs.Whole.{StaysRead}
+use Rattle.dms_dumping.specs.Refusing.{JudgesDump, RefusesDump}
 
 pub looks_on : (a b c : Clock Left) → Steps Same a b → Steps Same b c → Steps Same a c
 looks_on a b c one two = steps_on one two (λ x y z nx ny p q. q ∙ p) (λ x y nx p. p)

@@ -7,12 +7,12 @@ use Rattle.dms_audfile.specs.declared.fault.AudFault.TheVariants as aud
 use Rattle.dms_opening.specs.declared.choosing.OpenFault.{OpenFault}
 use Rattle.dms_opening.specs.declared.choosing.OpenFault.TheVariants.{Audit}
 use Rattle.dms_opening.specs.declared.plan.OpeningPlan.{OpeningPlan}
-use Rattle.dms_opening.specs.Openings.{IsTrailFound, RefusesFiles}
-use Rattle.dms_opening.specs.Plans.{IsPlainFault, Plans}
+use Rattle.dms_opening.specs.Openings.{RefusesFiles}
+use Rattle.dms_opening.specs.Plans.{IsPlainFault}
 use Rattle.dms_status.specs.declared.status.Status.{Status}
 use Rattle.dms_status.specs.declared.status.Status.TheVariants as status
 use Rattle.dms_runtop.specs.Faults.{open_status}
-use Rattle.dms_dumping.specs.Short.{IsFirstShort, NoneShort}
+use Rattle.dms_opening.specs.Short.{IsFirstShort, IsPlannable, IsShortOf, NoneShort}
 use Rattle.dms_dumping.specs.declared.looking.DumpRefusal.{DumpRefusal}
 use Rattle.dms_dumping.specs.declared.looking.DumpRefusal.TheVariants.{Open, Exists, Short}
 
@@ -25,14 +25,6 @@ refusal_status (Open fault) = open_status fault
 refusal_status Exists = status.Exists
 refusal_status (Short f b) = status.Damaged f b
 
--- Nothing is refused of an opening of these files, and this is what it does.
-pub record IsPlannable (files : Files) : Type 0 where
-  pub total : ℕ
-  pub first : ℕ
-  pub trail : IsTrailFound total first files
-  pub plan : OpeningPlan
-  pub plans : Plans total first files plan
-
 -- what is judged behind the opening that is planned
 abbrev pub JudgesDump : ℕ → Files → OpeningPlan → DumpRefusal → Type 0
 JudgesDump d files plan (Open fault) = IsPlainFault fault
@@ -44,17 +36,10 @@ JudgesDump d files plan (Short f b) = (IsOpenDump d files → ⊥) × IsFirstSho
 abbrev pub RefusesDump : ℕ → Files → DumpRefusal → Type 0
 RefusesDump d files (Open fault) = RefusesFiles files fault
 RefusesDump d files Exists = IsPlannable files × IsOpenDump d files
-RefusesDump d files (Short f b) = (IsOpenDump d files → ⊥) × ((p : IsPlannable files) × IsFirstShort files p.plan.counts.items p.plan.table f b)
+RefusesDump d files (Short f b) = (IsOpenDump d files → ⊥) × IsShortOf files f b
 
--- whatever an opening of these files does, no block is short of it
-abbrev pub HasNoShort : Files → Type 0
-HasNoShort files = (p : IsPlannable files) → NoneShort files p.plan.counts.items p.plan.table
-
-module _ {S : Type 0} (g : Ghosts S) where
-  -- Only reads were made: the files, the text and what a stop leaves are the same, and no printing failed.
-  pub record StaysRead (a b : S) : Type 0 where
-    pub files : IsTrue g.tells → g.files b ≡ g.files a
-    pub moments : Steps Same (g.clock a) (g.clock b)
-    pub said : g.said b ≡ g.said a
-    pub say_faults : g.say_faults b ≡ g.say_faults a
-    pub same : g.same_site a b
+-- Nothing of dump d is refused: the database can be opened, the gate of the dump isn't open, and no block is short of the opening.
+pub record CanDump (d : ℕ) (files : Files) : Type 0 where
+  pub opens : IsPlannable files
+  pub shut : IsOpenDump d files → ⊥
+  pub none : NoneShort files opens.plan.counts.items opens.plan.table

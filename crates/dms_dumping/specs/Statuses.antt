@@ -3,7 +3,7 @@ use Rattle.std.specs.Prelude.{◌≤◌, ◌≡◌, ⊤}
 use Rattle.dms_status.specs.declared.status.LimitKind.{LimitKind}
 use Rattle.dms_status.specs.declared.status.LimitKind.TheVariants.{AuditFile, Lines, Bytes, Held}
 use Rattle.dms_status.specs.declared.status.Status.{Status}
-use Rattle.dms_status.specs.declared.status.Status.TheVariants.{Ok, BadWords, SchemaRefused, NoDatabase, Needed, InputFault, Memory, Limit, Damaged, SayFault, DiskFault, Exists, BadStatement}
+use Rattle.dms_status.specs.declared.status.Status.TheVariants.{Ok, BadWords, SchemaRefused, NoDatabase, Needed, InputFault, Memory, Limit, Damaged, SayFault, DiskFault, Exists, BadStatement, Reorganization, BadStream, Diverged, Flaw}
 use Rattle.dms_runtop.specs.Statuses.{IsOfOpening}
 
 -- a limit of the audit
@@ -28,6 +28,10 @@ IsDumpRefusal SayFault = ⊥
 IsDumpRefusal DiskFault = ⊥
 IsDumpRefusal Exists = ⊤
 IsDumpRefusal (BadStatement p) = ⊥
+IsDumpRefusal (Reorganization why) = ⊥
+IsDumpRefusal (BadStream place) = ⊥
+IsDumpRefusal (Diverged file block) = ⊥
+IsDumpRefusal (Flaw flaw) = ⊥
 
 -- what keeps a dump from being written
 abbrev pub IsOfPreparing : Status → Type 0
@@ -44,6 +48,10 @@ IsOfPreparing SayFault = ⊥
 IsOfPreparing DiskFault = ⊤
 IsOfPreparing Exists = ⊤
 IsOfPreparing (BadStatement p) = ⊥
+IsOfPreparing (Reorganization why) = ⊥
+IsOfPreparing (BadStream place) = ⊥
+IsOfPreparing (Diverged file block) = ⊥
+IsOfPreparing (Flaw flaw) = ⊥
 
 -- the statuses of DUMP
 abbrev pub IsOfDump : Status → Type 0
@@ -60,6 +68,10 @@ IsOfDump SayFault = ⊤
 IsOfDump DiskFault = ⊤
 IsOfDump Exists = ⊤
 IsOfDump (BadStatement p) = ⊥
+IsOfDump (Reorganization why) = ⊥
+IsOfDump (BadStream place) = ⊥
+IsOfDump (Diverged file block) = ⊥
+IsOfDump (Flaw flaw) = ⊥
 
 -- what writing a dump ends with
 abbrev pub IsOfWriting : Status → Type 0
@@ -76,22 +88,10 @@ IsOfWriting SayFault = ⊥
 IsOfWriting DiskFault = ⊤
 IsOfWriting Exists = ⊥
 IsOfWriting (BadStatement p) = ⊥
-
--- the statuses with which the dump is made: its line was said, or a part of it
-abbrev pub IsMade : Status → Type 0
-IsMade Ok = ⊤
-IsMade BadWords = ⊥
-IsMade (SchemaRefused f) = ⊥
-IsMade NoDatabase = ⊥
-IsMade (Needed n) = ⊥
-IsMade InputFault = ⊥
-IsMade Memory = ⊥
-IsMade (Limit k) = ⊥
-IsMade (Damaged f b) = ⊥
-IsMade SayFault = ⊤
-IsMade DiskFault = ⊥
-IsMade Exists = ⊥
-IsMade (BadStatement p) = ⊥
+IsOfWriting (Reorganization why) = ⊥
+IsOfWriting (BadStream place) = ⊥
+IsOfWriting (Diverged file block) = ⊥
+IsOfWriting (Flaw flaw) = ⊥
 
 -- what writing and saying end with
 abbrev pub IsOfReady : Status → Type 0
@@ -108,6 +108,10 @@ IsOfReady SayFault = ⊤
 IsOfReady DiskFault = ⊤
 IsOfReady Exists = ⊥
 IsOfReady (BadStatement p) = ⊥
+IsOfReady (Reorganization why) = ⊥
+IsOfReady (BadStream place) = ⊥
+IsOfReady (Diverged file block) = ⊥
+IsOfReady (Flaw flaw) = ⊥
 
 -- the statuses that come before a call on the site is made
 abbrev pub IsOfReading : Status → Type 0
@@ -124,3 +128,7 @@ IsOfReading SayFault = ⊥
 IsOfReading DiskFault = ⊥
 IsOfReading Exists = ⊥
 IsOfReading (BadStatement p) = ⊤
+IsOfReading (Reorganization why) = ⊥
+IsOfReading (BadStream place) = ⊥
+IsOfReading (Diverged file block) = ⊥
+IsOfReading (Flaw flaw) = ⊥

@@ -6,7 +6,6 @@ mod listing;
 mod looking;
 mod preparing;
 mod saying;
-mod short;
 mod writing;
 
 pub use dumping::dump_over;

@@ -8,14 +8,15 @@ ghost use Rattle.dms_opening.specs.Looking.{IsLookedAt};
 ghost use Rattle.dms_opening.specs.Openings.{NamesStructures};
 ghost use Rattle.dms_opening.specs.Plans.{Plans};
 ghost use Rattle.dms_restore.specs.Counts.{file_counts};
-ghost use Rattle.dms_dumping.specs.Refusing.{JudgesDump, RefusesDump, StaysRead, refusal_status};
+ghost use Rattle.dms_opening.specs.Short.{NoneShort};
+ghost use Rattle.dms_opening.specs.Whole.{StaysRead};
+ghost use Rattle.dms_dumping.specs.Refusing.{CanDump, JudgesDump, RefusesDump, refusal_status};
 
 use crate::listing::list_counts;
-use crate::short::{ShortBlock, first_short};
 use dms_audfile::AudFault;
 use dms_dump::is_dump_open;
 use dms_history::FileCount;
-use dms_opening::{Found, OpenFault, OpeningPlan, PlannedOpening, look};
+use dms_opening::{Found, OpenFault, OpeningPlan, PlannedOpening, first_short, look};
 use dms_restore::Log;
 use dms_runtop::status_of_open;
 use dms_site::Site;
@@ -61,6 +62,7 @@ fn judge_dump<S: Site>(
     requires { IsFitPlan plan.now }
     ensures counts { IfOk result (λ v. v.items ≡ file_counts 30001 plan.now.counts.items) }
     ensures shut { IfOk result (λ v. IsTrue S.tells → slice_index (S.files site.old (20000 + dump)) 0 ≢ 1) }
+    ensures none { IfOk result (λ v. IsTrue S.tells → NoneShort (S.files site.old) plan.now.counts.items plan.now.table) }
     ensures refused { IfErr result (λ e. IsTrue S.tells → JudgesDump dump (S.files site.old) plan.now e) }
     ensures reads { ReadsAlone S.Site site.old site.new }
     ensures same_site { S.same_site site.old site.new }
@@ -95,6 +97,7 @@ pub(crate) fn look_to_dump<S: Site>(
     ensures named { IfOk result (λ p. NamesStructures p.planned.plan.schema.items p.planned.plan.counts.items) }
     ensures limit { IfOk result (λ p. p.planned.log.end.limit ≡ 9999) }
     ensures counts { IfOk result (λ p. p.counts.items ≡ file_counts 30001 p.planned.plan.counts.items) }
+    ensures can { IfOk result (λ p. IsTrue S.tells → CanDump dump (S.files site)) }
     ensures refused { IfErr result (λ e. IsTrue S.tells → RefusesDump dump (S.files site) e.0) }
     ensures room { IfErr result (λ e. IsTrue S.tells → e.0 ≡ DumpRefusal.Open (OpenFault.Audit (AudFault.Full 9999)) → ⊥) }
     ensures stays { IfOk result (λ p. StaysRead S.Site site p.planned.log.site) }

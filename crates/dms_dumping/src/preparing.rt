@@ -1,14 +1,16 @@
 //! A database is opened to be dumped. All that is refused is refused before the first write, and all memory is taken before it.
 
-ghost use Rattle.std.specs.Prelude.{◌≡◌, ◌≤◌, ◌+◌, ℕ, IfOk, IfErr, IsTrue};
+ghost use Rattle.std.specs.Prelude.{◌≡◌, ◌≤◌, ◌+◌, ◌⊎◌, ℕ, IfOk, IfErr, IsTrue};
 ghost use Rattle.dms_audfile.specs.Counting.{CountedAt};
 ghost use Rattle.dms_opening.specs.Openings.{OpensAt, RunsWhere, ReopensSince, OpeningGrows};
 ghost use Rattle.dms_restore.specs.Counts.{file_counts};
-ghost use Rattle.dms_runtop.specs.Full.{HasNoRoom};
+ghost use Rattle.dms_dumping.specs.Filling.{FillsTrail};
 ghost use Rattle.dms_runtop.specs.Guard.{StaysBeside};
 ghost use Rattle.dms_dumping.specs.Writing.{dumped_text};
 ghost use Rattle.dms_dumping.specs.Statuses.{IsDumpRefusal, IsOfPreparing};
 ghost use Rattle.dms_dumping.specs.Preparing.{IsDumpRefused, NeverRefusesDump};
+ghost use Rattle.dms_dumping.specs.Refusing.{CanDump};
+ghost use Rattle.dms_opening.specs.Whole.{StaysRead};
 ghost use Rattle.dms_wal.specs.Lifting.{AreCounts};
 
 use crate::looking::{DumpPlan, look_to_dump, status_of_refusal};
@@ -44,8 +46,10 @@ fn open_to_dump<S: Site>(alloc: Global, site: S, dump: u16) -> Result<ReadyDump<
     ensures grows { IfOk result (λ r. IsTrue S.tells → OpeningGrows S.Site site r.opened.log.site) }
     ensures grows_then { IfErr result (λ e. IsTrue S.tells → OpeningGrows S.Site site e.1) }
     ensures refused { IfErr result (λ e. IsDumpRefusal e.0 → IsTrue S.tells → IsDumpRefused S.Site dump site e.1 e.0) }
+    ensures can { IfOk result (λ r. IsTrue S.tells → CanDump dump (S.files site)) }
+    ensures can_then { IfErr result (λ e. IsTrue S.tells → CanDump dump (S.files site) ⊎ StaysRead S.Site site e.1) }
     ensures complete { IfErr result (λ e. IsTrue S.tells → NeverRefusesDump dump (S.files site) e.0) }
-    ensures full { IfErr result (λ e. HasNoRoom S.Site site e.1 e.0) }
+    ensures full { IfErr result (λ e. FillsTrail S.Site site e.1 e.0) }
     ensures statuses { IfErr result (λ e. IsOfPreparing e.0) }
     ensures same { IfOk result (λ r. S.same_site site r.opened.log.site) }
     ensures same_then { IfErr result (λ e. S.same_site site e.1) }
@@ -134,8 +138,10 @@ pub(crate) fn prepare_dump<S: Site>(
     ensures grows { IfOk result (λ r. IsTrue S.tells → OpeningGrows S.Site site r.opened.log.site) }
     ensures grows_then { IfErr result (λ e. IsTrue S.tells → OpeningGrows S.Site site e.1) }
     ensures refused { IfErr result (λ e. IsDumpRefusal e.0 → IsTrue S.tells → IsDumpRefused S.Site dump site e.1 e.0) }
+    ensures can { IfOk result (λ r. IsTrue S.tells → CanDump dump (S.files site)) }
+    ensures can_then { IfErr result (λ e. IsTrue S.tells → CanDump dump (S.files site) ⊎ StaysRead S.Site site e.1) }
     ensures complete { IfErr result (λ e. IsTrue S.tells → NeverRefusesDump dump (S.files site) e.0) }
-    ensures full { IfErr result (λ e. HasNoRoom S.Site site e.1 e.0) }
+    ensures full { IfErr result (λ e. FillsTrail S.Site site e.1 e.0) }
     ensures statuses { IfErr result (λ e. IsOfPreparing e.0) }
     ensures same { IfOk result (λ r. S.same_site site r.opened.log.site) }
     ensures same_then { IfErr result (λ e. S.same_site site e.1) }

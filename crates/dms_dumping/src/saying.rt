@@ -4,8 +4,8 @@ ghost use Rattle.std.specs.Prelude.{◌≡◌, ◌++◌, ◌∷◌, [], IfOk, Is
 ghost use Rattle.dms_moments.specs.Moments.{Steps};
 ghost use Rattle.dms_site.specs.Files.{PrintsPartOf};
 ghost use Rattle.dms_audfile.specs.Counting.{CountedAt};
-ghost use Rattle.dms_dumping.specs.Statuses.{IsMade};
-ghost use Rattle.dms_dumping.specs.Writing.{SaysDone, dumped_text, point_line};
+ghost use Rattle.dms_status.specs.Saying.{IsSpoken, SaysLine};
+ghost use Rattle.dms_dumping.specs.Writing.{dumped_text, point_line};
 
 use dms_base::{Bytes, Memory};
 use dms_runtop::Ended;
@@ -38,8 +38,8 @@ pub(crate) fn dumped_text(alloc: Global, dump: u16, point: u64) -> Result<Bytes,
 
 /// Says a line. Answers Ok or SayFault.
 pub fn say_done<S: Site>(mut site: S, line: &[u8]) -> Ended<S>
-    ensures says { IsTrue S.tells_said → SaysDone result.status line.now (S.said site) (S.said result.site) }
-    ensures statuses { IsMade result.status }
+    ensures says { IsTrue S.tells_said → SaysLine result.status line.now (S.said site) (S.said result.site) }
+    ensures statuses { IsSpoken result.status }
     ensures files { IsTrue S.tells → S.files result.site ≡ S.files site }
     ensures moments { Steps (PrintsPartOf line.now) (S.clock site) (S.clock result.site) }
     ensures same { S.same_site site result.site }

@@ -2,14 +2,15 @@
 
 ghost use Rattle.std.specs.Prelude.{◌≡◌, ◌≢◌, ◌≤◌, ◌+◌, ℕ, true, length, IsTrue};
 ghost use Rattle.dms_moments.specs.Moments.{Steps};
-ghost use Rattle.dms_site.specs.Files.{OnDisk, Only, PrintsPartOf, stored_of};
+ghost use Rattle.dms_site.specs.Files.{OnDisk, Only, PrintsPartOf};
 ghost use Rattle.dms_restore.specs.Counts.{file_counts};
 ghost use Rattle.dms_audrec.specs.Spelling.{counts_rise};
 ghost use Rattle.dms_audfile.specs.Counting.{CountedAt};
-ghost use Rattle.dms_dump.specs.Body.{AllStored, dump_made};
+ghost use Rattle.dms_dump.specs.Body.{dump_made};
 ghost use Rattle.dms_dump.specs.Stops.{BecomesDump};
-ghost use Rattle.dms_dumping.specs.Statuses.{IsOfWriting, IsOfReady, IsMade};
-ghost use Rattle.dms_dumping.specs.Writing.{IsHeadOf, SaysDone, WritesDump};
+ghost use Rattle.dms_dumping.specs.Statuses.{IsOfWriting, IsOfReady};
+ghost use Rattle.dms_status.specs.Saying.{IsSpoken, SaysLine};
+ghost use Rattle.dms_dumping.specs.Writing.{IsHeadOf, WritesDump};
 ghost use Rattle.dms_wal.specs.Lifting.{AreCounts};
 
 use crate::preparing::ReadyDump;
@@ -31,7 +32,6 @@ pub(crate) fn write_opened<S: Site>(opened: Opened<S>, counts: &[FileCount], dum
     ensures head { IsHeadOf opened.log.end.tag opened.point opened.audit counts.now }
     ensures written { result.status ≡ Status.Ok → IsTrue S.tells
         → S.files result.site (20000 + dump) ≡ dump_made 1 opened.log.end.tag opened.point opened.audit counts.now (S.files opened.log.site) }
-    ensures whole { result.status ≡ Status.Ok → IsTrue S.tells → AllStored (stored_of (S.files opened.log.site)) counts.now }
     ensures durable { result.status ≡ Status.Ok → IsTrue S.tells → Only (S.files result.site) (S.clock result.site) }
     ensures others { IsTrue S.tells → (g : ℕ) → g ≢ 20000 + dump → S.files result.site g ≡ S.files opened.log.site g }
     ensures moments { IsTrue S.tells
@@ -79,15 +79,14 @@ pub(crate) fn write_ready<S: Site>(ready: ReadyDump<S>, dump: u16) -> Ended<S>
     requires table { AreCounts ready.opened.counts.items }
     requires counts { ready.counts.items ≡ file_counts 30001 ready.opened.counts.items }
     ensures head { IsHeadOf ready.opened.log.end.tag ready.opened.point ready.opened.audit ready.counts.items }
-    ensures written { IsMade result.status → IsTrue S.tells
+    ensures written { IsSpoken result.status → IsTrue S.tells
         → S.files result.site (20000 + dump) ≡ dump_made 1 ready.opened.log.end.tag ready.opened.point ready.opened.audit ready.counts.items (S.files ready.opened.log.site) }
-    ensures whole { IsMade result.status → IsTrue S.tells → AllStored (stored_of (S.files ready.opened.log.site)) ready.counts.items }
-    ensures durable { IsMade result.status → IsTrue S.tells → Only (S.files result.site) (S.clock result.site) }
+    ensures durable { IsSpoken result.status → IsTrue S.tells → Only (S.files result.site) (S.clock result.site) }
     ensures others { IsTrue S.tells → (g : ℕ) → g ≢ 20000 + dump → S.files result.site g ≡ S.files ready.opened.log.site g }
     ensures moments { IsTrue S.tells → let o = ready.opened in
         Steps (WritesDump (20000 + dump) (dump_made 1 o.log.end.tag o.point o.audit ready.counts.items (S.files o.log.site))) (S.clock o.log.site) (S.clock result.site) }
     ensures statuses { IsOfReady result.status }
-    ensures says { IsTrue S.tells_said → SaysDone result.status ready.line (S.said ready.opened.log.site) (S.said result.site) }
+    ensures says { IsTrue S.tells_said → SaysLine result.status ready.line (S.said ready.opened.log.site) (S.said result.site) }
     ensures same { S.same_site ready.opened.log.site result.site }
     ensures disk { CountedAt (result.status ≡ Status.DiskFault) (S.disk_faults ready.opened.log.site) (S.disk_faults result.site) }
     ensures say { CountedAt (result.status ≡ Status.SayFault) (S.say_faults ready.opened.log.site) (S.say_faults result.site) }

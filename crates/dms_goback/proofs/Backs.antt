@@ -1,5 +1,5 @@
 -- What ROLLBACK and REBUILD do.
-use Rattle.std.proofs.Common.{ℕ, ◌≡◌, ◌∙◌, IsTrue, Option, refl, sym, ap, subst}
+use Rattle.std.proofs.Common.{ℕ, ◌≡◌, ◌⊎◌, ◌∙◌, inl, inr, IsTrue, Option, arith, refl, sym, ap, subst}
 use Rattle.dms_moments.specs.Moments.{Steps}
 use Rattle.dms_moments.specs.MomentLaws.{runs_none, steps_on}
 use Rattle.dms_site.specs.declared.site.Site.{Ghosts}
@@ -9,8 +9,8 @@ use Rattle.dms_restore.specs.GrowLaws.{kept_none, left_none}
 use Rattle.dms_restore.specs.Logging.{LeavesTrail, TrailKept}
 use Rattle.dms_recovery.specs.Wanting.{chosen_point}
 use Rattle.dms_recovery.specs.declared.wanted.Wanted.TheVariants.{Rollback, Rebuild}
-use Rattle.dms_runtop.specs.Command.{KeepsTrail}
-use Rattle.dms_runtop.specs.Full.{HasNoRoom}
+use Rattle.dms_recovery.specs.Refusing.{MayBeDone, RecoveryGrows, SealsFewTwice, StaysUndone}
+use Rattle.dms_dumping.specs.Filling.{FillsTrail}
 use Rattle.dms_runtop.specs.Guard.{StaysBeside}
 use Rattle.dms_statelaws.specs.SiteLaws.{RollsSince, RollsEnd, RebuildsSince, RebuildsEnd, SameFiles}
 use Rattle.dms_statelaws.proofs.Statements.{rollback_law, rebuild_law}
@@ -18,14 +18,15 @@ use Rattle.dms_status.specs.declared.status.Status.{Status}
 use Rattle.dms_goback.specs.RebuildDoes.{RebuildDoes}
 use Rattle.dms_goback.specs.Restores.{IsOfRestored, IsOfRestoring, IsRestoreRefused, NeverRefusesRestore, rolled_text, rebuilt_text}
 use Rattle.dms_goback.specs.RollbackDoes.{RollbackDoes}
-use Rattle.dms_dumping.specs.Writing.{SaysDone}
+use Rattle.dms_dumping.specs.Preparing.{IsUndone}
+use Rattle.dms_status.specs.Saying.{IsSpoken, SaysLine}
 use Rattle.dms_goback.proofs.RestoreStatuses.{stopped_of, not_made, says_nothing, restored_of, restored_no_refusal, restored_room, said_back}
 
 -- ---- nothing was done
 
 module _ {S : Type 0} (g : Ghosts S) (site : S) where
-  pub trail_none : KeepsTrail g site site
-  trail_none = record { kept = λ total first found. kept_none total first (g.files site); left = λ total first found. left_none total first (g.clock site) }
+  pub trail_none : RecoveryGrows g site site
+  trail_none = record { kept = λ total first found. kept_none total first (g.files site); left = λ total first found. left_none total first (g.clock site); few = λ total first found. omega arith }
 
   pub beside_none : StaysBeside g site site
   beside_none s has = record { read = λ tells f is. refl; left = record { follows = λ x now. (x, now, λ f is. refl); runs = runs_none (g.clock site) _ } }
@@ -56,20 +57,31 @@ module _ {S : Type 0} (g : Ghosts S) (old mid new : S) (steps : Steps SameFiles 
         left = steps_on these.left steps (λ x y z nx ny one same f is. ap (λ (k : Files). k f) same ∙ one f is) (λ x y nx one. one);
       }
 
-  pub trail_behind : g.files new ≡ g.files mid → KeepsTrail g old mid → KeepsTrail g old new
+  pub trail_behind : g.files new ≡ g.files mid → RecoveryGrows g old mid → RecoveryGrows g old new
   trail_behind files k = record {
     kept = λ total first found. subst (λ (f : Files). TrailKept total first (g.files old) f) (sym files) (k.kept total first found);
     left = λ total first found. steps_on (k.left total first found) steps (λ x y z nx ny one same. trail_goes total first x y z one same) (λ x y nx one. one);
+    few = λ total first found. subst (λ (f : Files). SealsFewTwice total first (g.files old) f) (sym files) (k.few total first found);
   }
+
+-- ---- what can't be done isn't begun
+
+pub undone : {S : Type 0} {g : Ghosts S} {old new : S} {status : Status} {May : Type 0} → (IsSpoken status → ⊥) → May ⊎ StaysUndone g old new → May ⊎ IsUndone g old new status
+undone unmade (inl may) = inl may
+undone unmade (inr r) = inr (record { unmade = unmade; files = r.files; moments = r.moments })
+
+pub undone_none : {S : Type 0} (g : Ghosts S) (site : S) → StaysUndone g site site
+undone_none g site = record { files = refl; moments = record { follows = λ x now. (x, now, refl); runs = runs_none (g.clock site) _ } }
 
 -- ---- ROLLBACK
 
 module _ {S : Type 0} (g : Ghosts S) (n : ℕ) (old : S) where
-  pub rollback_stopped : (new : S) (status : Status) → IsOfRestoring status → (IsTrue g.tells → IsRestoreRefused g (Rollback n) old new status) → (IsTrue g.tells → NeverRefusesRestore (Rollback n) (g.files old) status) → HasNoRoom g old new status
-      → (IsTrue g.tells → KeepsTrail g old new) → StaysBeside g old new → g.said new ≡ g.said old → (IsTrue g.tells → RollsSince g old new n) → RollbackDoes g n old new status
-  rollback_stopped new status of refused complete full trail beside said since = record {
+  pub rollback_stopped : (new : S) (status : Status) → IsOfRestoring status → (IsTrue g.tells → IsRestoreRefused g (Rollback n) old new status) → (IsTrue g.tells → NeverRefusesRestore (Rollback n) (g.files old) status) → (IsTrue g.tells → MayBeDone (g.files old) (Rollback n) ⊎ StaysUndone g old new) → FillsTrail g old new status
+      → (IsTrue g.tells → RecoveryGrows g old new) → StaysBeside g old new → g.said new ≡ g.said old → (IsTrue g.tells → RollsSince g old new n) → RollbackDoes g n old new status
+  rollback_stopped new status of refused complete may full trail beside said since = record {
     statuses = stopped_of status of;
     refused = refused;
+    opens = λ tells. undone (not_made status of) (may tells);
     complete = complete;
     full = full;
     trail = trail;
@@ -79,11 +91,12 @@ module _ {S : Type 0} (g : Ghosts S) (n : ℕ) (old : S) where
     at_ok = λ made. absurd (not_made status of made);
   }
 
-  pub rollback_done : (mid new : S) (status : Status) → IsOfRestored status → (IsTrue g.tells → KeepsTrail g old mid) → StaysBeside g old mid → g.said mid ≡ g.said old → (IsTrue g.tells → RollsSince g old mid n) → (IsTrue g.tells → RollsEnd g old mid n)
-      → (IsTrue g.tells_said → SaysDone status (rolled_text n) (g.said mid) (g.said new)) → (IsTrue g.tells → g.files new ≡ g.files mid) → Steps SameFiles (g.clock mid) (g.clock new) → RollbackDoes g n old new status
-  rollback_done mid new status of trail beside said since ends says files steps = record {
+  pub rollback_done : (mid new : S) (status : Status) → IsOfRestored status → (IsTrue g.tells → MayBeDone (g.files old) (Rollback n)) → (IsTrue g.tells → RecoveryGrows g old mid) → StaysBeside g old mid → g.said mid ≡ g.said old → (IsTrue g.tells → RollsSince g old mid n) → (IsTrue g.tells → RollsEnd g old mid n)
+      → (IsTrue g.tells_said → SaysLine status (rolled_text n) (g.said mid) (g.said new)) → (IsTrue g.tells → g.files new ≡ g.files mid) → Steps SameFiles (g.clock mid) (g.clock new) → RollbackDoes g n old new status
+  rollback_done mid new status of may trail beside said since ends says files steps = record {
     statuses = restored_of status of;
     refused = λ tells is. absurd (restored_no_refusal status of is);
+    opens = λ tells. inl (may tells);
     complete = λ tells total first can is. restored_no_refusal status of is;
     full = restored_room g old new status of;
     trail = λ tells. trail_behind g old mid new steps (files tells) (trail tells);
@@ -99,11 +112,12 @@ module _ {S : Type 0} (g : Ghosts S) (n : ℕ) (old : S) where
 -- ---- REBUILD
 
 module _ {S : Type 0} (g : Ghosts S) (d : ℕ) (chosen : Option ℕ) (old : S) where
-  pub rebuild_stopped : (new : S) (status : Status) → IsOfRestoring status → (IsTrue g.tells → IsRestoreRefused g (Rebuild d chosen) old new status) → (IsTrue g.tells → NeverRefusesRestore (Rebuild d chosen) (g.files old) status) → HasNoRoom g old new status
-      → (IsTrue g.tells → KeepsTrail g old new) → StaysBeside g old new → g.said new ≡ g.said old → (IsTrue g.tells → RebuildsSince g old new d chosen) → RebuildDoes g d chosen old new status
-  rebuild_stopped new status of refused complete full trail beside said since = record {
+  pub rebuild_stopped : (new : S) (status : Status) → IsOfRestoring status → (IsTrue g.tells → IsRestoreRefused g (Rebuild d chosen) old new status) → (IsTrue g.tells → NeverRefusesRestore (Rebuild d chosen) (g.files old) status) → (IsTrue g.tells → MayBeDone (g.files old) (Rebuild d chosen) ⊎ StaysUndone g old new) → FillsTrail g old new status
+      → (IsTrue g.tells → RecoveryGrows g old new) → StaysBeside g old new → g.said new ≡ g.said old → (IsTrue g.tells → RebuildsSince g old new d chosen) → RebuildDoes g d chosen old new status
+  rebuild_stopped new status of refused complete may full trail beside said since = record {
     statuses = stopped_of status of;
     refused = refused;
+    opens = λ tells. undone (not_made status of) (may tells);
     complete = complete;
     full = full;
     trail = trail;
@@ -117,12 +131,13 @@ module _ {S : Type 0} (g : Ghosts S) (d : ℕ) (chosen : Option ℕ) (old : S) w
     at_ok = λ made. absurd (not_made status of made);
   }
 
-  pub rebuild_done : (mid new : S) (status : Status) (point : ℕ) → IsOfRestored status → (IsTrue g.tells → KeepsTrail g old mid) → StaysBeside g old mid → g.said mid ≡ g.said old → (IsTrue g.tells → RebuildsSince g old mid d chosen) → (IsTrue g.tells → RebuildsEnd g old mid d chosen)
+  pub rebuild_done : (mid new : S) (status : Status) (point : ℕ) → IsOfRestored status → (IsTrue g.tells → MayBeDone (g.files old) (Rebuild d chosen)) → (IsTrue g.tells → RecoveryGrows g old mid) → StaysBeside g old mid → g.said mid ≡ g.said old → (IsTrue g.tells → RebuildsSince g old mid d chosen) → (IsTrue g.tells → RebuildsEnd g old mid d chosen)
       → (IsTrue g.tells → (total first : ℕ) → IsTrailFound total first (g.files old) → point ≡ chosen_point total first (g.files old) chosen)
-      → (IsTrue g.tells_said → SaysDone status (rebuilt_text point) (g.said mid) (g.said new)) → (IsTrue g.tells → g.files new ≡ g.files mid) → Steps SameFiles (g.clock mid) (g.clock new) → RebuildDoes g d chosen old new status
-  rebuild_done mid new status point of trail beside said since ends is says files steps = record {
+      → (IsTrue g.tells_said → SaysLine status (rebuilt_text point) (g.said mid) (g.said new)) → (IsTrue g.tells → g.files new ≡ g.files mid) → Steps SameFiles (g.clock mid) (g.clock new) → RebuildDoes g d chosen old new status
+  rebuild_done mid new status point of may trail beside said since ends is says files steps = record {
     statuses = restored_of status of;
     refused = λ tells is. absurd (restored_no_refusal status of is);
+    opens = λ tells. inl (may tells);
     complete = λ tells total first can is. restored_no_refusal status of is;
     full = restored_room g old new status of;
     trail = λ tells. trail_behind g old mid new steps (files tells) (trail tells);

@@ -1,5 +1,5 @@
 -- What a reconstruction of rows leaves, in the words of its statement.
-use Rattle.std.proofs.Common.{ℕ, ◌≡◌, ◌∙◌, inl, inr, Bool, IsTrue, List, Some, refl, sym, ap, subst}
+use Rattle.std.proofs.Common.{ℕ, ◌≡◌, ◌⊎◌, ◌∙◌, inl, inr, Bool, IsTrue, List, Some, refl, sym, ap, subst}
 use Rattle.dms_moments.specs.Moments.{Runs, Steps}
 use Rattle.dms_moments.specs.MomentLaws.{runs_weaken}
 use Rattle.dms_site.specs.declared.site.Site.{Ghosts}
@@ -14,15 +14,15 @@ use Rattle.dms_running.specs.Telling.{Telling}
 use Rattle.dms_restore.specs.Logging.{telling_of}
 use Rattle.dms_statements.specs.declared.statement.NamedRow.{NamedRow}
 use Rattle.dms_recovery.specs.Leaving as left
-use Rattle.dms_recovery.specs.Reconstructing.{CanReconstruct, IsOpenFault, MayReconstruct, RefusesReconstruct}
+use Rattle.dms_recovery.specs.Reconstructing.{CanReconstruct, IsOpenFault, MayMend, MayReconstruct, RefusesReconstruct}
 use Rattle.dms_recovery.specs.Rows.{named_blocks}
 use Rattle.dms_recovery.specs.Wanting.{last_of}
 use Rattle.dms_recovery.specs.declared.naming.ReconstructFault.{ReconstructFault}
 use Rattle.dms_recovery.specs.declared.naming.ReconstructFault.TheVariants.{Open, NoSuchRow}
 use Rattle.dms_recovery.specs.declared.wanted.Wanted.TheVariants.{Reconstruct}
-use Rattle.dms_runtop.specs.Command.{KeepsTrail}
+use Rattle.dms_recovery.specs.Refusing.{RecoveryGrows, StaysUndone}
 use Rattle.dms_runtop.specs.Faults.{open_status}
-use Rattle.dms_runtop.specs.Full.{HasNoRoom}
+use Rattle.dms_dumping.specs.Filling.{FillsTrail}
 use Rattle.dms_runtop.specs.Guard.{StaysBeside}
 use Rattle.dms_runtop.specs.Statuses.{IsRefusal}
 use Rattle.dms_runtop.proofs.Refused.{counts_open, no_refusal, not_written}
@@ -33,23 +33,18 @@ use Rattle.dms_status.specs.declared.status.LimitKind.{LimitKind}
 use Rattle.dms_status.specs.declared.status.NeedFault.{NeedFault}
 use Rattle.dms_status.specs.declared.status.Status.{Status}
 use Rattle.dms_status.specs.declared.status.Status.TheVariants.{DiskFault, Limit, Needed, SayFault}
-use Rattle.dms_dumping.specs.Statuses.{IsMade, IsOfReading}
-use Rattle.dms_dumping.specs.Writing.{SaysDone}
+use Rattle.dms_dumping.specs.Statuses.{IsOfReading}
+use Rattle.dms_status.specs.Saying.{IsSpoken, SaysLine}
 use Rattle.dms_goback.specs.ReconstructDoes.{AreRowsRefused, IsNoRow, IsOfMending, IsOfReconstruct, NeverRefusesRows, ReconstructDoes, reconstruct_status, reconstructed_text}
 use Rattle.dms_goback.specs.Restores.{IsOfRestored}
-use Rattle.dms_goback.proofs.Backs.{beside_behind, trail_behind}
-use Rattle.dms_goback.proofs.Restored.{full_restore, rebuilt_from, restores_to, up_to}
+use Rattle.dms_goback.proofs.Backs.{beside_behind, trail_behind, undone}
+use Rattle.dms_goback.proofs.Restored.{full_restore, restores_to}
 use Rattle.dms_goback.proofs.RestoreStatuses.{counted_stopped, not_made, of_restoring, restore_unread, restored_no_refusal, restored_of, restored_room, said_back, says_nothing, stopped_of}
 
 -- ---- the points that are left
 
 may_reconstruct : (files u : Files) (d : ℕ) (rows : List NamedRow) (total first n : ℕ) (desc : Described) → MendsFrom files u d rows total first n desc → MayReconstruct total first files u d rows n desc
-may_reconstruct files u d rows total first n desc m = record {
-  trail = m.trail;
-  last = m.last;
-  described = m.described;
-  mended = record { rebuilt = rebuilt_from total first files u d m.mended.rebuilt; beside = m.mended.beside };
-}
+may_reconstruct files u d rows total first n desc m = record { trail = m.trail; last = m.last; described = m.described; mended = m.mended }
 
 mends_to : (t : Telling) (files u : Files) (named : ℕ → ℕ → Bool) (m : ℕ) (x : Left) → left.MendsTo t files u named m x → law.MendsTo t files u named m x
 mends_to t files u named m x (inl r) = inl (restores_to t files u m x r)
@@ -66,8 +61,7 @@ module _ {S : Type 0} (g : Ghosts S) (old new : S) (d : ℕ) (rows : List NamedR
   pub mends_end : ((u : Files) (total first n : ℕ) (desc : Described) → IsTrue g.tells → MayReconstruct total first (g.files old) u d rows n desc
       → left.HoldsUpTo (telling_of total first) u n (g.files new) × Only (g.files new) (g.clock new))
       → IsTrue g.tells → MendsEnd g old new d rows
-  mends_end ends tells u total first n desc from =
-      let e = ends u total first n desc tells (may_reconstruct (g.files old) u d rows total first n desc from) in (up_to (telling_of total first) u n (g.files new) e.0, e.1)
+  mends_end ends tells u total first n desc from = ends u total first n desc tells (may_reconstruct (g.files old) u d rows total first n desc from)
 
 -- ---- of a fault
 
@@ -110,7 +104,7 @@ none_refuses (NoSuchRow r) none = absurd none
 
 module _ {S : Type 0} (g : Ghosts S) (d : ℕ) (rows : List NamedRow) (old new : S) where
   pub full_rows : (fault : ReconstructFault) (status : Status) → status ≡ reconstruct_status fault → (IsTrue g.tells → RefusesReconstruct (g.files old) d rows fault)
-      → (IsTrue g.tells → IsOpenFault fault IsFullFault → HasFullTrail (g.files old) (g.files new)) → HasNoRoom g old new status
+      → (IsTrue g.tells → IsOpenFault fault IsFullFault → HasFullTrail (g.files old) (g.files new)) → FillsTrail g old new status
   full_rows (Open e) status is refused full = full_restore g (Reconstruct d) old new e status is refused full
   full_rows (NoSuchRow r) status is refused full = λ k at tells. absurd (no_limit _ _ (sym is ∙ at))
 
@@ -131,13 +125,13 @@ stopped_rows : (s : Status) → IsOfMending s → IsOfReconstruct s
 stopped_rows s (inl of) = inl (stopped_of s of)
 stopped_rows s (inr none) = inr none
 
-unmade_rows : (s : Status) → IsOfMending s → IsMade s → ⊥
+unmade_rows : (s : Status) → IsOfMending s → IsSpoken s → ⊥
 unmade_rows s (inl of) made = not_made s of made
-unmade_rows s (inr none) made = subst IsMade none.is made
+unmade_rows s (inr none) made = subst IsSpoken none.is made
 
-silent_rows : (s : Status) (line old new : List ℕ) → IsOfMending s → new ≡ old → SaysDone s line old new
+silent_rows : (s : Status) (line old new : List ℕ) → IsOfMending s → new ≡ old → SaysLine s line old new
 silent_rows s line old new (inl of) same = says_nothing s line old new of same
-silent_rows s line old new (inr none) same = subst (λ (x : Status). SaysDone x line old new) (sym none.is) same
+silent_rows s line old new (inr none) same = subst (λ (x : Status). SaysLine x line old new) (sym none.is) same
 
 pub unsaid_rows : (s : Status) (a b : ℕ) → IsOfMending s → b ≡ a → CountedAt (s ≡ SayFault) a b
 unsaid_rows s a b (inl of) same = counted_stopped s a b of same
@@ -150,11 +144,12 @@ unread_rows s (inr none) read = subst IsOfReading none.is read
 -- ---- RECONSTRUCT
 
 module _ {S : Type 0} (g : Ghosts S) (d : ℕ) (rows : List NamedRow) (old : S) where
-  pub reconstruct_stopped : (new : S) (status : Status) → IsOfMending status → (IsTrue g.tells → AreRowsRefused g d rows old new status) → (IsTrue g.tells → NeverRefusesRows d rows (g.files old) status) → HasNoRoom g old new status
-      → (IsTrue g.tells → KeepsTrail g old new) → StaysBeside g old new → g.said new ≡ g.said old → (IsTrue g.tells → MendsSince g old new d rows) → ReconstructDoes g d rows old new status
-  reconstruct_stopped new status of refused complete full trail beside said since = record {
+  pub reconstruct_stopped : (new : S) (status : Status) → IsOfMending status → (IsTrue g.tells → AreRowsRefused g d rows old new status) → (IsTrue g.tells → NeverRefusesRows d rows (g.files old) status) → (IsTrue g.tells → MayMend (g.files old) d rows ⊎ StaysUndone g old new) → FillsTrail g old new status
+      → (IsTrue g.tells → RecoveryGrows g old new) → StaysBeside g old new → g.said new ≡ g.said old → (IsTrue g.tells → MendsSince g old new d rows) → ReconstructDoes g d rows old new status
+  reconstruct_stopped new status of refused complete may full trail beside said since = record {
     statuses = stopped_rows status of;
     refused = refused;
+    opens = λ tells. undone (unmade_rows status of) (may tells);
     complete = complete;
     full = full;
     trail = trail;
@@ -168,12 +163,13 @@ module _ {S : Type 0} (g : Ghosts S) (d : ℕ) (rows : List NamedRow) (old : S) 
     at_ok = λ made. absurd (unmade_rows status of made);
   }
 
-  pub reconstruct_done : (mid new : S) (status : Status) (point : ℕ) → IsOfRestored status → (IsTrue g.tells → KeepsTrail g old mid) → StaysBeside g old mid → g.said mid ≡ g.said old → (IsTrue g.tells → MendsSince g old mid d rows) → (IsTrue g.tells → MendsEnd g old mid d rows)
+  pub reconstruct_done : (mid new : S) (status : Status) (point : ℕ) → IsOfRestored status → (IsTrue g.tells → MayMend (g.files old) d rows) → (IsTrue g.tells → RecoveryGrows g old mid) → StaysBeside g old mid → g.said mid ≡ g.said old → (IsTrue g.tells → MendsSince g old mid d rows) → (IsTrue g.tells → MendsEnd g old mid d rows)
       → (IsTrue g.tells → (total first n : ℕ) → IsTrailFound total first (g.files old) → last_of total first (g.files old) ≡ Some n → point ≡ n)
-      → (IsTrue g.tells_said → SaysDone status (reconstructed_text point) (g.said mid) (g.said new)) → (IsTrue g.tells → g.files new ≡ g.files mid) → Steps SameFiles (g.clock mid) (g.clock new) → ReconstructDoes g d rows old new status
-  reconstruct_done mid new status point of trail beside said since ends is says files steps = record {
+      → (IsTrue g.tells_said → SaysLine status (reconstructed_text point) (g.said mid) (g.said new)) → (IsTrue g.tells → g.files new ≡ g.files mid) → Steps SameFiles (g.clock mid) (g.clock new) → ReconstructDoes g d rows old new status
+  reconstruct_done mid new status point of may trail beside said since ends is says files steps = record {
     statuses = inl (restored_of status of);
     refused = λ tells is. absurd (restored_no_refusal status of is);
+    opens = λ tells. inl (may tells);
     complete = λ tells total first can is. restored_no_refusal status of is;
     full = restored_room g old new status of;
     trail = λ tells. trail_behind g old mid new steps (files tells) (trail tells);

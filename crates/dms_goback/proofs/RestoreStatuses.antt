@@ -8,13 +8,13 @@ use Rattle.dms_opening.specs.declared.choosing.OpenFault.{OpenFault}
 use Rattle.dms_opening.specs.declared.choosing.OpenFault.TheVariants.{Audit, NoSuchPoint, Voided, DumpMissing, DumpUnsealed, DumpDamaged, DumpForeign, DumpLater}
 use Rattle.dms_site.specs.declared.site.Site.{Ghosts}
 use Rattle.dms_status.specs.declared.status.Status.{Status}
-use Rattle.dms_status.specs.declared.status.Status.TheVariants.{Ok, BadWords, SchemaRefused, NoDatabase, Needed, InputFault, Memory, Limit, Damaged, SayFault, DiskFault, Exists, BadStatement}
+use Rattle.dms_status.specs.declared.status.Status.TheVariants.{Ok, BadWords, SchemaRefused, NoDatabase, Needed, InputFault, Memory, Limit, Damaged, SayFault, DiskFault, Exists, BadStatement, Reorganization, BadStream, Diverged, Flaw}
 use Rattle.dms_runtop.specs.Faults.{open_status}
-use Rattle.dms_runtop.specs.Full.{HasNoRoom}
+use Rattle.dms_dumping.specs.Filling.{FillsTrail}
 use Rattle.dms_runtop.specs.Statuses.{IsRefusal}
 use Rattle.dms_goback.specs.Restores.{IsOfRestore, IsOfRestored, IsOfRestoring}
-use Rattle.dms_dumping.specs.Statuses.{IsMade, IsOfReading}
-use Rattle.dms_dumping.specs.Writing.{SaysDone}
+use Rattle.dms_dumping.specs.Statuses.{IsOfReading}
+use Rattle.dms_status.specs.Saying.{IsSpoken, SaysLine}
 
 -- ---- of a fault
 
@@ -61,8 +61,12 @@ stopped_of SayFault of = absurd of
 stopped_of DiskFault of = tt
 stopped_of Exists of = of
 stopped_of (BadStatement p) of = of
+stopped_of (Reorganization why) of = of
+stopped_of (BadStream place) of = of
+stopped_of (Diverged file block) of = of
+stopped_of (Flaw flaw) of = of
 
-pub not_made : (s : Status) → IsOfRestoring s → IsMade s → ⊥
+pub not_made : (s : Status) → IsOfRestoring s → IsSpoken s → ⊥
 not_made Ok of is = of
 not_made BadWords of is = of
 not_made (SchemaRefused f) of is = of
@@ -76,8 +80,12 @@ not_made SayFault of is = of
 not_made DiskFault of is = is
 not_made Exists of is = is
 not_made (BadStatement p) of is = is
+not_made (Reorganization why) of is = is
+not_made (BadStream place) of is = is
+not_made (Diverged file block) of is = is
+not_made (Flaw flaw) of is = is
 
-pub says_nothing : (s : Status) (line old new : List ℕ) → IsOfRestoring s → new ≡ old → SaysDone s line old new
+pub says_nothing : (s : Status) (line old new : List ℕ) → IsOfRestoring s → new ≡ old → SaysLine s line old new
 says_nothing Ok line old new of same = absurd of
 says_nothing BadWords line old new of same = same
 says_nothing (SchemaRefused f) line old new of same = same
@@ -91,10 +99,14 @@ says_nothing SayFault line old new of same = absurd of
 says_nothing DiskFault line old new of same = same
 says_nothing Exists line old new of same = same
 says_nothing (BadStatement p) line old new of same = same
+says_nothing (Reorganization why) line old new of same = same
+says_nothing (BadStream place) line old new of same = same
+says_nothing (Diverged file block) line old new of same = same
+says_nothing (Flaw flaw) line old new of same = same
 
 -- ---- where it was
 
-pub made_of : (s : Status) → IsMade s → IsOfRestored s
+pub made_of : (s : Status) → IsSpoken s → IsOfRestored s
 made_of Ok of = tt
 made_of BadWords of = of
 made_of (SchemaRefused f) of = of
@@ -108,6 +120,10 @@ made_of SayFault of = tt
 made_of DiskFault of = of
 made_of Exists of = of
 made_of (BadStatement p) of = of
+made_of (Reorganization why) of = of
+made_of (BadStream place) of = of
+made_of (Diverged file block) of = of
+made_of (Flaw flaw) of = of
 
 pub restored_of : (s : Status) → IsOfRestored s → IsOfRestore s
 restored_of Ok of = tt
@@ -123,6 +139,10 @@ restored_of SayFault of = tt
 restored_of DiskFault of = absurd of
 restored_of Exists of = of
 restored_of (BadStatement p) of = of
+restored_of (Reorganization why) of = of
+restored_of (BadStream place) of = of
+restored_of (Diverged file block) of = of
+restored_of (Flaw flaw) of = of
 
 pub restored_no_refusal : (s : Status) → IsOfRestored s → IsRefusal s → ⊥
 restored_no_refusal Ok of is = is
@@ -138,15 +158,19 @@ restored_no_refusal SayFault of is = is
 restored_no_refusal DiskFault of is = is
 restored_no_refusal Exists of is = is
 restored_no_refusal (BadStatement p) of is = is
+restored_no_refusal (Reorganization why) of is = is
+restored_no_refusal (BadStream place) of is = is
+restored_no_refusal (Diverged file block) of is = is
+restored_no_refusal (Flaw flaw) of is = is
 
-pub restored_room : {S : Type 0} (g : Ghosts S) (old new : S) (s : Status) → IsOfRestored s → HasNoRoom g old new s
+pub restored_room : {S : Type 0} (g : Ghosts S) (old new : S) (s : Status) → IsOfRestored s → FillsTrail g old new s
 restored_room g old new s of k is tells = absurd (subst IsOfRestored is of)
 
 pub restored_disk : (s : Status) → IsOfRestored s → s ≡ DiskFault → ⊥
 restored_disk s of is = subst IsOfRestored is of
 
-pub said_back : (s : Status) (line old mid new : List ℕ) → mid ≡ old → SaysDone s line mid new → SaysDone s line old new
-said_back s line old mid new same says = subst (λ (l : List ℕ). SaysDone s line l new) same says
+pub said_back : (s : Status) (line old mid new : List ℕ) → mid ≡ old → SaysLine s line mid new → SaysLine s line old new
+said_back s line old mid new same says = subst (λ (l : List ℕ). SaysLine s line l new) same says
 
 -- the input was read before
 pub restore_unread : (s : Status) → IsOfRestoring s ⊎ IsOfRestored s → IsOfReading s → ⊥
@@ -164,7 +188,15 @@ restore_unread SayFault of r = r
 restore_unread DiskFault of r = r
 restore_unread Exists of r = r
 restore_unread (BadStatement p) (inl of) r = of
+restore_unread (Reorganization why) (inl of) r = of
+restore_unread (BadStream place) (inl of) r = of
+restore_unread (Diverged file block) (inl of) r = of
+restore_unread (Flaw flaw) (inl of) r = of
 restore_unread (BadStatement p) (inr of) r = of
+restore_unread (Reorganization why) (inr of) r = of
+restore_unread (BadStream place) (inr of) r = of
+restore_unread (Diverged file block) (inr of) r = of
+restore_unread (Flaw flaw) (inr of) r = of
 
 -- ---- how often calls failed
 
@@ -183,5 +215,5 @@ said_not s of is = subst IsOfRestoring is of
 pub counted_stopped : (s : Status) (a b : ℕ) → IsOfRestoring s → b ≡ a → CountedAt (s ≡ SayFault) a b
 counted_stopped s a b of same = not_counted (s ≡ SayFault) a b (said_not s of) same
 
-pub said_line : (s : Status) (line text old new : List ℕ) → line ≡ text → SaysDone s line old new → SaysDone s text old new
-said_line s line text old new is says = subst (λ (l : List ℕ). SaysDone s l old new) is says
+pub said_line : (s : Status) (line text old new : List ℕ) → line ≡ text → SaysLine s line old new → SaysLine s text old new
+said_line s line text old new is says = subst (λ (l : List ℕ). SaysLine s l old new) is says

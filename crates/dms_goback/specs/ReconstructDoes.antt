@@ -4,13 +4,13 @@ use Rattle.dms_moments.specs.Moments.{Steps}
 use Rattle.dms_site.specs.declared.site.Site.{Ghosts}
 use Rattle.dms_site.specs.Files.{Files, Same}
 use Rattle.dms_opening.specs.Openings.{IsTrailFound}
-use Rattle.dms_recovery.specs.Reconstructing.{CanReconstruct, RefusesReconstruct}
+use Rattle.dms_recovery.specs.Reconstructing.{CanReconstruct, MayMend, RefusesReconstruct}
 use Rattle.dms_recovery.specs.Wanting.{last_of}
 use Rattle.dms_recovery.specs.declared.naming.ReconstructFault.{ReconstructFault}
 use Rattle.dms_recovery.specs.declared.naming.ReconstructFault.TheVariants as fault
-use Rattle.dms_runtop.specs.Command.{KeepsTrail}
+use Rattle.dms_recovery.specs.Refusing.{RecoveryGrows}
 use Rattle.dms_runtop.specs.Faults.{open_status}
-use Rattle.dms_runtop.specs.Full.{HasNoRoom}
+use Rattle.dms_dumping.specs.Filling.{FillsTrail}
 use Rattle.dms_runtop.specs.Guard.{StaysBeside}
 use Rattle.dms_runtop.specs.Statuses.{IsRefusal}
 use Rattle.dms_statelaws.specs.Statements.{ReconstructEnds, ReconstructStands}
@@ -19,8 +19,9 @@ use Rattle.dms_status.specs.declared.status.NeedFault.TheVariants.{NoSuchRow}
 use Rattle.dms_status.specs.declared.status.Status.{Status}
 use Rattle.dms_status.specs.declared.status.Status.TheVariants.{Needed}
 use Rattle.dms_goback.specs.Restores.{IsOfRestore, IsOfRestoring}
-use Rattle.dms_dumping.specs.Statuses.{IsMade}
-use Rattle.dms_dumping.specs.Writing.{SaysDone, point_line}
+use Rattle.dms_dumping.specs.Preparing.{IsUndone}
+use Rattle.dms_status.specs.Saying.{IsSpoken, SaysLine}
+use Rattle.dms_dumping.specs.Writing.{point_line}
 
 abbrev pub reconstructed_text : ℕ → List ℕ
 reconstructed_text n = point_line (codes "RECONSTRUCTED AT POINT ") n
@@ -64,8 +65,8 @@ module _ {S : Type 0} (g : Ghosts S) where
   -- What was said: at status 0 the line, at 10 a prefix of it, else nothing. Its point is the last one.
   pub record SaysReconstructed (old new : S) (status : Status) : Type 0 where
     pub point : ℕ
-    pub line : IsTrue g.tells_said → SaysDone status (reconstructed_text point) (g.said old) (g.said new)
-    pub is : IsMade status → IsTrue g.tells → (total first n : ℕ) → IsTrailFound total first (g.files old) → last_of total first (g.files old) ≡ Some n → point ≡ n
+    pub line : IsTrue g.tells_said → SaysLine status (reconstructed_text point) (g.said old) (g.said new)
+    pub is : IsSpoken status → IsTrue g.tells → (total first n : ℕ) → IsTrailFound total first (g.files old) → last_of total first (g.files old) ≡ Some n → point ≡ n
 
   -- What `RECONSTRUCT name ROW r, .. FROM d` promises of a site before and after it, and of the status.
   pub record ReconstructDoes (d : ℕ) (rows : List NamedRow) (old new : S) (status : Status) : Type 0 where
@@ -74,12 +75,15 @@ module _ {S : Type 0} (g : Ghosts S) where
     -- 3, 4 and 9 are the first refusal of the files: that of the trail, of a restore that is pending, of the last point, or of the dump, or the first row
     -- that isn't there. No file has changed, and a stop leaves what it could leave before
     pub refused : IsTrue g.tells → AreRowsRefused d rows old new status
+    -- where one of them is there nothing was done: no file has changed, and a stop leaves what it could leave before
+    pub opens : IsTrue g.tells → MayMend (g.files old) d rows ⊎ IsUndone g old new status
     -- they don't come where none of them is there
     pub complete : IsTrue g.tells → NeverRefusesRows d rows (g.files old) status
-    -- 8 comes only where the trail goes on after that audit file: it begins after it, or all gates of that file are open
-    pub full : HasNoRoom g old new status
-    -- at every moment a stop leaves the trail, with the same tag, and blocks after it that hold an entry; the audit files before it stay
-    pub trail : IsTrue g.tells → KeepsTrail g old new
+    -- 8 comes only of audit file 9,999, where each file of the trail up to it is full
+    pub full : FillsTrail g old new status
+    -- at every moment a stop leaves the trail, with the same tag, and blocks after it that hold an entry; the audit files before it stay. At most 38
+    -- entries were added
+    pub trail : IsTrue g.tells → RecoveryGrows g old new
     -- no file but audit files and the files of structures changes, at any moment: where the files are told, of no more structures than the description
     -- file names at entry
     pub beside : StaysBeside g old new
@@ -89,4 +93,4 @@ module _ {S : Type 0} (g : Ghosts S) where
     -- being ended, or was ended, and the files stand for that state with the named rows as they count
     pub every_moment : IsTrue g.tells → ReconstructStands g old new d rows
     -- at 0 and 10 they stand for that, and a stop leaves no other files
-    pub at_ok : IsMade status → IsTrue g.tells → ReconstructEnds g old new d rows
+    pub at_ok : IsSpoken status → IsTrue g.tells → ReconstructEnds g old new d rows

@@ -7,7 +7,7 @@ use Rattle.dms_opening.specs.declared.choosing.OpenFault.{OpenFault}
 use Rattle.dms_recovery.specs.Refusing.{CanBeDone, RefusesWanted}
 use Rattle.dms_recovery.specs.declared.wanted.Wanted.{Wanted}
 use Rattle.dms_status.specs.declared.status.Status.{Status}
-use Rattle.dms_status.specs.declared.status.Status.TheVariants.{Ok, BadWords, SchemaRefused, NoDatabase, Needed, InputFault, Memory, Limit, Damaged, SayFault, DiskFault, Exists, BadStatement}
+use Rattle.dms_status.specs.declared.status.Status.TheVariants.{Ok, BadWords, SchemaRefused, NoDatabase, Needed, InputFault, Memory, Limit, Damaged, SayFault, DiskFault, Exists, BadStatement, Reorganization, BadStream, Diverged, Flaw}
 use Rattle.dms_runtop.specs.Faults.{open_status}
 use Rattle.dms_runtop.specs.Statuses.{IsOfOpening, IsRefusal}
 use Rattle.dms_dumping.specs.Statuses.{IsOfAudit}
@@ -35,6 +35,10 @@ IsOfRestoring SayFault = ⊥
 IsOfRestoring DiskFault = ⊤
 IsOfRestoring Exists = ⊥
 IsOfRestoring (BadStatement p) = ⊥
+IsOfRestoring (Reorganization why) = ⊥
+IsOfRestoring (BadStream place) = ⊥
+IsOfRestoring (Diverged file block) = ⊥
+IsOfRestoring (Flaw flaw) = ⊥
 
 -- what is left of a restore that was carried out: that is said, or not
 abbrev pub IsOfRestored : Status → Type 0
@@ -51,6 +55,10 @@ IsOfRestored SayFault = ⊤
 IsOfRestored DiskFault = ⊥
 IsOfRestored Exists = ⊥
 IsOfRestored (BadStatement p) = ⊥
+IsOfRestored (Reorganization why) = ⊥
+IsOfRestored (BadStream place) = ⊥
+IsOfRestored (Diverged file block) = ⊥
+IsOfRestored (Flaw flaw) = ⊥
 
 -- the statuses of ROLLBACK and REBUILD
 abbrev pub IsOfRestore : Status → Type 0
@@ -67,6 +75,10 @@ IsOfRestore SayFault = ⊤
 IsOfRestore DiskFault = ⊤
 IsOfRestore Exists = ⊥
 IsOfRestore (BadStatement p) = ⊥
+IsOfRestore (Reorganization why) = ⊥
+IsOfRestore (BadStream place) = ⊥
+IsOfRestore (Diverged file block) = ⊥
+IsOfRestore (Flaw flaw) = ⊥
 
 -- What can be done of these files is refused by nothing: their trail is found, neither the point nor the dump is refused, and the Schema at each point
 -- that is gone to is a description.

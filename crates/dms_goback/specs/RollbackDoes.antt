@@ -1,15 +1,15 @@
 -- What ROLLBACK does: a field for each promise.
-use Rattle.std.specs.Prelude.{ℕ, IsTrue}
+use Rattle.std.specs.Prelude.{ℕ, ◌⊎◌, IsTrue}
 use Rattle.dms_site.specs.declared.site.Site.{Ghosts}
 use Rattle.dms_recovery.specs.declared.wanted.Wanted.TheVariants.{Rollback}
-use Rattle.dms_runtop.specs.Command.{KeepsTrail}
-use Rattle.dms_runtop.specs.Full.{HasNoRoom}
+use Rattle.dms_recovery.specs.Refusing.{MayBeDone, RecoveryGrows}
+use Rattle.dms_dumping.specs.Filling.{FillsTrail}
 use Rattle.dms_runtop.specs.Guard.{StaysBeside}
 use Rattle.dms_statelaws.specs.Statements.{RollbackEnds, RollbackStands}
 use Rattle.dms_status.specs.declared.status.Status.{Status}
 use Rattle.dms_goback.specs.Restores.{IsOfRestore, IsRestoreRefused, NeverRefusesRestore, rolled_text}
-use Rattle.dms_dumping.specs.Statuses.{IsMade}
-use Rattle.dms_dumping.specs.Writing.{SaysDone}
+use Rattle.dms_dumping.specs.Preparing.{IsUndone}
+use Rattle.dms_status.specs.Saying.{IsSpoken, SaysLine}
 
 module _ {S : Type 0} (g : Ghosts S) where
   -- What `ROLLBACK TO n` promises of a site before and after it, and of the status.
@@ -19,18 +19,21 @@ module _ {S : Type 0} (g : Ghosts S) where
     -- 3, 4 and 9 are the first refusal of the files: that of the trail, of a restore that is pending, or of the point. No file has changed, and a stop
     -- leaves what it could leave before
     pub refused : IsTrue g.tells → IsRestoreRefused g (Rollback n) old new status
+    -- where one of them is there nothing was done: no file has changed, and a stop leaves what it could leave before
+    pub opens : IsTrue g.tells → MayBeDone (g.files old) (Rollback n) ⊎ IsUndone g old new status
     -- they don't come where none of them is there
     pub complete : IsTrue g.tells → NeverRefusesRestore (Rollback n) (g.files old) status
-    -- 8 comes only where the trail goes on after that audit file: it begins after it, or all gates of that file are open
-    pub full : HasNoRoom g old new status
-    -- at every moment a stop leaves the trail, with the same tag, and blocks after it that hold an entry; the audit files before it stay
-    pub trail : IsTrue g.tells → KeepsTrail g old new
+    -- 8 comes only of audit file 9,999, where each file of the trail up to it is full
+    pub full : FillsTrail g old new status
+    -- at every moment a stop leaves the trail, with the same tag, and blocks after it that hold an entry; the audit files before it stay. At most 38
+    -- entries were added
+    pub trail : IsTrue g.tells → RecoveryGrows g old new
     -- no file but audit files and the files of structures changes, at any moment: where the files are told, of no more structures than the description
     -- file names at entry
     pub beside : StaysBeside g old new
     -- at status 0 the line is said, at 10 a prefix of it, else nothing
-    pub says : IsTrue g.tells_said → SaysDone status (rolled_text n) (g.said old) (g.said new)
+    pub says : IsTrue g.tells_said → SaysLine status (rolled_text n) (g.said old) (g.said new)
     -- at every moment the files stand for the state that they stood for, or for that of point n
     pub every_moment : IsTrue g.tells → RollbackStands g old new n
     -- at 0 and 10 they stand for that of point n, and a stop leaves no other files
-    pub at_ok : IsMade status → IsTrue g.tells → RollbackEnds g old new n
+    pub at_ok : IsSpoken status → IsTrue g.tells → RollbackEnds g old new n

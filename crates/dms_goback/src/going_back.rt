@@ -6,7 +6,8 @@ ghost use Rattle.dms_moments.specs.Moments.{Steps};
 ghost use Rattle.dms_site.specs.Files.{PrintsPartOf};
 ghost use Rattle.dms_statelaws.specs.SiteLaws.{SameFiles};
 ghost use Rattle.dms_dumping.specs.Statuses.{IsOfReading};
-ghost use Rattle.dms_dumping.specs.Writing.{SaysDone, point_line};
+ghost use Rattle.dms_status.specs.Saying.{SaysLine};
+ghost use Rattle.dms_dumping.specs.Writing.{point_line};
 ghost use Rattle.dms_goback.specs.RebuildDoes.{RebuildDoes};
 ghost use Rattle.dms_goback.specs.Restores.{IsOfRestored};
 ghost use Rattle.dms_goback.specs.RollbackDoes.{RollbackDoes};
@@ -51,7 +52,7 @@ pub(crate) fn say_restored<S: Site>(
     words: &[u8],
     recovered: Recovered<S>,
 ) -> Ended<S>
-    ensures says { IsTrue S.tells_said → SaysDone result.status (point_line words.now recovered.point) (S.said recovered.site) (S.said result.site) }
+    ensures says { IsTrue S.tells_said → SaysLine result.status (point_line words.now recovered.point) (S.said recovered.site) (S.said result.site) }
     ensures statuses { IsOfRestored result.status }
     ensures files { IsTrue S.tells → S.files result.site ≡ S.files recovered.site }
     ensures moments { Steps SameFiles (S.clock recovered.site) (S.clock result.site) }

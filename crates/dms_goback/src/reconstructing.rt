@@ -1,11 +1,12 @@
 //! RECONSTRUCT: rows are made again from a dump, over a site of which no other file than the audit's and the structures' is written meanwhile, and that is said.
 
-ghost use Rattle.std.specs.Prelude.{◌≡◌, ◌≤◌, ℕ, Some, length, IfOk, IfErr, IsTrue};
+ghost use Rattle.std.specs.Prelude.{◌≡◌, ◌≤◌, ◌⊎◌, ℕ, Some, length, IfOk, IfErr, IsTrue};
 ghost use Rattle.dms_audfile.specs.Counting.{CountedAt};
 ghost use Rattle.dms_opening.specs.Openings.{IsTrailFound};
 ghost use Rattle.dms_recovery.specs.Wanting.{last_of};
-ghost use Rattle.dms_runtop.specs.Command.{KeepsTrail};
-ghost use Rattle.dms_runtop.specs.Full.{HasNoRoom};
+ghost use Rattle.dms_recovery.specs.Reconstructing.{MayMend};
+ghost use Rattle.dms_recovery.specs.Refusing.{RecoveryGrows, StaysUndone};
+ghost use Rattle.dms_dumping.specs.Filling.{FillsTrail};
 ghost use Rattle.dms_runtop.specs.Guard.{StaysBeside};
 ghost use Rattle.dms_statelaws.specs.SiteLaws.{MendsSince, MendsEnd};
 ghost use Rattle.dms_dumping.specs.Statuses.{IsOfReading};
@@ -46,11 +47,13 @@ fn reconstruct_within<S: Site>(
     ensures stopped { IfErr result (λ e. IsTrue S.tells → MendsSince S.Site site e.1 dump rows.now) }
     ensures ends { IfOk result (λ r. IsTrue S.tells → MendsEnd S.Site site r.site dump rows.now) }
     ensures point { IfOk result (λ r. IsTrue S.tells → (total first n : ℕ) → IsTrailFound total first (S.files site) → last_of total first (S.files site) ≡ Some n → r.point ≡ n) }
-    ensures trail { IfOk result (λ r. IsTrue S.tells → KeepsTrail S.Site site r.site) }
-    ensures trail_then { IfErr result (λ e. IsTrue S.tells → KeepsTrail S.Site site e.1) }
+    ensures trail { IfOk result (λ r. IsTrue S.tells → RecoveryGrows S.Site site r.site) }
+    ensures trail_then { IfErr result (λ e. IsTrue S.tells → RecoveryGrows S.Site site e.1) }
     ensures refused { IfErr result (λ e. IsTrue S.tells → AreRowsRefused S.Site dump rows.now site e.1 e.0) }
     ensures complete { IfErr result (λ e. IsTrue S.tells → NeverRefusesRows dump rows.now (S.files site) e.0) }
-    ensures full { IfErr result (λ e. HasNoRoom S.Site site e.1 e.0) }
+    ensures may { IfOk result (λ r. IsTrue S.tells → MayMend (S.files site) dump rows.now) }
+    ensures may_then { IfErr result (λ e. IsTrue S.tells → MayMend (S.files site) dump rows.now ⊎ StaysUndone S.Site site e.1) }
+    ensures full { IfErr result (λ e. FillsTrail S.Site site e.1 e.0) }
     ensures statuses { IfErr result (λ e. IsOfMending e.0) }
     ensures same { IfOk result (λ r. S.same_site site r.site) }
     ensures same_then { IfErr result (λ e. S.same_site site e.1) }
@@ -80,13 +83,15 @@ fn reconstruct_guarded<S: Site>(
     ensures stopped { IfErr result (λ e. IsTrue S.tells → MendsSince S.Site site e.1 dump rows.now) }
     ensures ends { IfOk result (λ r. IsTrue S.tells → MendsEnd S.Site site r.site dump rows.now) }
     ensures point { IfOk result (λ r. IsTrue S.tells → (total first n : ℕ) → IsTrailFound total first (S.files site) → last_of total first (S.files site) ≡ Some n → r.point ≡ n) }
-    ensures trail { IfOk result (λ r. IsTrue S.tells → KeepsTrail S.Site site r.site) }
-    ensures trail_then { IfErr result (λ e. IsTrue S.tells → KeepsTrail S.Site site e.1) }
+    ensures trail { IfOk result (λ r. IsTrue S.tells → RecoveryGrows S.Site site r.site) }
+    ensures trail_then { IfErr result (λ e. IsTrue S.tells → RecoveryGrows S.Site site e.1) }
     ensures beside { IfOk result (λ r. StaysBeside S.Site site r.site) }
     ensures beside_then { IfErr result (λ e. StaysBeside S.Site site e.1) }
     ensures refused { IfErr result (λ e. IsTrue S.tells → AreRowsRefused S.Site dump rows.now site e.1 e.0) }
     ensures complete { IfErr result (λ e. IsTrue S.tells → NeverRefusesRows dump rows.now (S.files site) e.0) }
-    ensures full { IfErr result (λ e. HasNoRoom S.Site site e.1 e.0) }
+    ensures may { IfOk result (λ r. IsTrue S.tells → MayMend (S.files site) dump rows.now) }
+    ensures may_then { IfErr result (λ e. IsTrue S.tells → MayMend (S.files site) dump rows.now ⊎ StaysUndone S.Site site e.1) }
+    ensures full { IfErr result (λ e. FillsTrail S.Site site e.1 e.0) }
     ensures statuses { IfErr result (λ e. IsOfMending e.0) }
     ensures same { IfOk result (λ r. S.same_site site r.site) }
     ensures same_then { IfErr result (λ e. S.same_site site e.1) }

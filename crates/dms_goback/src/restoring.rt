@@ -1,11 +1,11 @@
 //! A database is restored, over a site of which no other file than the audit's and the structures' is written meanwhile.
 
-ghost use Rattle.std.specs.Prelude.{◌≡◌, ◌≤◌, ℕ, IfOk, IfErr, IsTrue};
+ghost use Rattle.std.specs.Prelude.{◌≡◌, ◌≤◌, ◌⊎◌, ℕ, IfOk, IfErr, IsTrue};
 ghost use Rattle.dms_audfile.specs.Counting.{CountedAt};
 ghost use Rattle.dms_opening.specs.Openings.{IsTrailFound};
 ghost use Rattle.dms_recovery.specs.Wanting.{chosen_point};
-ghost use Rattle.dms_runtop.specs.Command.{KeepsTrail};
-ghost use Rattle.dms_runtop.specs.Full.{HasNoRoom};
+ghost use Rattle.dms_recovery.specs.Refusing.{MayBeDone, RecoveryGrows, StaysUndone};
+ghost use Rattle.dms_dumping.specs.Filling.{FillsTrail};
 ghost use Rattle.dms_runtop.specs.Guard.{StaysBeside};
 ghost use Rattle.dms_statelaws.specs.SiteLaws.{RollsSince, RollsEnd, RebuildsSince, RebuildsEnd};
 ghost use Rattle.dms_goback.specs.Restores.{IsOfRestoring, IsRestoreRefused, NeverRefusesRestore};
@@ -23,11 +23,13 @@ fn roll_within<S: Site>(alloc: Global, site: S, point: u64) -> Result<Recovered<
     ensures moments { IfOk result (λ r. IsTrue S.tells → RollsSince S.Site site r.site point) }
     ensures stopped { IfErr result (λ e. IsTrue S.tells → RollsSince S.Site site e.1 point) }
     ensures ends { IfOk result (λ r. IsTrue S.tells → RollsEnd S.Site site r.site point) }
-    ensures trail { IfOk result (λ r. IsTrue S.tells → KeepsTrail S.Site site r.site) }
-    ensures trail_then { IfErr result (λ e. IsTrue S.tells → KeepsTrail S.Site site e.1) }
+    ensures trail { IfOk result (λ r. IsTrue S.tells → RecoveryGrows S.Site site r.site) }
+    ensures trail_then { IfErr result (λ e. IsTrue S.tells → RecoveryGrows S.Site site e.1) }
     ensures refused { IfErr result (λ e. IsTrue S.tells → IsRestoreRefused S.Site (Wanted.Rollback point) site e.1 e.0) }
     ensures complete { IfErr result (λ e. IsTrue S.tells → NeverRefusesRestore (Wanted.Rollback point) (S.files site) e.0) }
-    ensures full { IfErr result (λ e. HasNoRoom S.Site site e.1 e.0) }
+    ensures may { IfOk result (λ r. IsTrue S.tells → MayBeDone (S.files site) (Wanted.Rollback point)) }
+    ensures may_then { IfErr result (λ e. IsTrue S.tells → MayBeDone (S.files site) (Wanted.Rollback point) ⊎ StaysUndone S.Site site e.1) }
+    ensures full { IfErr result (λ e. FillsTrail S.Site site e.1 e.0) }
     ensures statuses { IfErr result (λ e. IsOfRestoring e.0) }
     ensures same { IfOk result (λ r. S.same_site site r.site) }
     ensures same_then { IfErr result (λ e. S.same_site site e.1) }
@@ -56,11 +58,13 @@ fn rebuild_within<S: Site>(
     ensures stopped { IfErr result (λ e. IsTrue S.tells → RebuildsSince S.Site site e.1 dump point) }
     ensures ends { IfOk result (λ r. IsTrue S.tells → RebuildsEnd S.Site site r.site dump point) }
     ensures point { IfOk result (λ r. IsTrue S.tells → (total first : ℕ) → IsTrailFound total first (S.files site) → r.point ≡ chosen_point total first (S.files site) point) }
-    ensures trail { IfOk result (λ r. IsTrue S.tells → KeepsTrail S.Site site r.site) }
-    ensures trail_then { IfErr result (λ e. IsTrue S.tells → KeepsTrail S.Site site e.1) }
+    ensures trail { IfOk result (λ r. IsTrue S.tells → RecoveryGrows S.Site site r.site) }
+    ensures trail_then { IfErr result (λ e. IsTrue S.tells → RecoveryGrows S.Site site e.1) }
     ensures refused { IfErr result (λ e. IsTrue S.tells → IsRestoreRefused S.Site (Wanted.Rebuild dump point) site e.1 e.0) }
     ensures complete { IfErr result (λ e. IsTrue S.tells → NeverRefusesRestore (Wanted.Rebuild dump point) (S.files site) e.0) }
-    ensures full { IfErr result (λ e. HasNoRoom S.Site site e.1 e.0) }
+    ensures may { IfOk result (λ r. IsTrue S.tells → MayBeDone (S.files site) (Wanted.Rebuild dump point)) }
+    ensures may_then { IfErr result (λ e. IsTrue S.tells → MayBeDone (S.files site) (Wanted.Rebuild dump point) ⊎ StaysUndone S.Site site e.1) }
+    ensures full { IfErr result (λ e. FillsTrail S.Site site e.1 e.0) }
     ensures statuses { IfErr result (λ e. IsOfRestoring e.0) }
     ensures same { IfOk result (λ r. S.same_site site r.site) }
     ensures same_then { IfErr result (λ e. S.same_site site e.1) }
@@ -100,13 +104,15 @@ pub(crate) fn roll_guarded<S: Site>(
     ensures moments { IfOk result (λ r. IsTrue S.tells → RollsSince S.Site site r.site point) }
     ensures stopped { IfErr result (λ e. IsTrue S.tells → RollsSince S.Site site e.1 point) }
     ensures ends { IfOk result (λ r. IsTrue S.tells → RollsEnd S.Site site r.site point) }
-    ensures trail { IfOk result (λ r. IsTrue S.tells → KeepsTrail S.Site site r.site) }
-    ensures trail_then { IfErr result (λ e. IsTrue S.tells → KeepsTrail S.Site site e.1) }
+    ensures trail { IfOk result (λ r. IsTrue S.tells → RecoveryGrows S.Site site r.site) }
+    ensures trail_then { IfErr result (λ e. IsTrue S.tells → RecoveryGrows S.Site site e.1) }
     ensures beside { IfOk result (λ r. StaysBeside S.Site site r.site) }
     ensures beside_then { IfErr result (λ e. StaysBeside S.Site site e.1) }
     ensures refused { IfErr result (λ e. IsTrue S.tells → IsRestoreRefused S.Site (Wanted.Rollback point) site e.1 e.0) }
     ensures complete { IfErr result (λ e. IsTrue S.tells → NeverRefusesRestore (Wanted.Rollback point) (S.files site) e.0) }
-    ensures full { IfErr result (λ e. HasNoRoom S.Site site e.1 e.0) }
+    ensures may { IfOk result (λ r. IsTrue S.tells → MayBeDone (S.files site) (Wanted.Rollback point)) }
+    ensures may_then { IfErr result (λ e. IsTrue S.tells → MayBeDone (S.files site) (Wanted.Rollback point) ⊎ StaysUndone S.Site site e.1) }
+    ensures full { IfErr result (λ e. FillsTrail S.Site site e.1 e.0) }
     ensures statuses { IfErr result (λ e. IsOfRestoring e.0) }
     ensures same { IfOk result (λ r. S.same_site site r.site) }
     ensures same_then { IfErr result (λ e. S.same_site site e.1) }
@@ -155,13 +161,15 @@ pub(crate) fn rebuild_guarded<S: Site>(
     ensures stopped { IfErr result (λ e. IsTrue S.tells → RebuildsSince S.Site site e.1 dump point) }
     ensures ends { IfOk result (λ r. IsTrue S.tells → RebuildsEnd S.Site site r.site dump point) }
     ensures point { IfOk result (λ r. IsTrue S.tells → (total first : ℕ) → IsTrailFound total first (S.files site) → r.point ≡ chosen_point total first (S.files site) point) }
-    ensures trail { IfOk result (λ r. IsTrue S.tells → KeepsTrail S.Site site r.site) }
-    ensures trail_then { IfErr result (λ e. IsTrue S.tells → KeepsTrail S.Site site e.1) }
+    ensures trail { IfOk result (λ r. IsTrue S.tells → RecoveryGrows S.Site site r.site) }
+    ensures trail_then { IfErr result (λ e. IsTrue S.tells → RecoveryGrows S.Site site e.1) }
     ensures beside { IfOk result (λ r. StaysBeside S.Site site r.site) }
     ensures beside_then { IfErr result (λ e. StaysBeside S.Site site e.1) }
     ensures refused { IfErr result (λ e. IsTrue S.tells → IsRestoreRefused S.Site (Wanted.Rebuild dump point) site e.1 e.0) }
     ensures complete { IfErr result (λ e. IsTrue S.tells → NeverRefusesRestore (Wanted.Rebuild dump point) (S.files site) e.0) }
-    ensures full { IfErr result (λ e. HasNoRoom S.Site site e.1 e.0) }
+    ensures may { IfOk result (λ r. IsTrue S.tells → MayBeDone (S.files site) (Wanted.Rebuild dump point)) }
+    ensures may_then { IfErr result (λ e. IsTrue S.tells → MayBeDone (S.files site) (Wanted.Rebuild dump point) ⊎ StaysUndone S.Site site e.1) }
+    ensures full { IfErr result (λ e. FillsTrail S.Site site e.1 e.0) }
     ensures statuses { IfErr result (λ e. IsOfRestoring e.0) }
     ensures same { IfOk result (λ r. S.same_site site r.site) }
     ensures same_then { IfErr result (λ e. S.same_site site e.1) }

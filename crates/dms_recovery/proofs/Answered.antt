@@ -8,13 +8,13 @@ use Rattle.dms_opening.specs.declared.choosing.OpenFault.{OpenFault}
 use Rattle.dms_opening.specs.declared.plan.OpeningPlan.{OpeningPlan}
 use Rattle.dms_opening.specs.declared.asked.Asked.{Asked}
 use Rattle.dms_opening.specs.Doing.{point_asked}
-use Rattle.dms_opening.specs.Openings.{MayHaveWritten, IsNoRefusal}
+use Rattle.dms_opening.specs.Openings.{IsTrailFound, MayHaveWritten, IsNoRefusal}
 use Rattle.dms_opening.specs.Plans.{RefusesFor}
 use Rattle.dms_opening.proofs.Complete.{scans}
 use Rattle.dms_opening.proofs.OneTrail.{one_first, one_total}
 use Rattle.dms_recovery.specs.declared.wanted.Wanted.{Wanted}
 use Rattle.dms_recovery.specs.Planned.{PlansAll, RefusesAll}
-use Rattle.dms_recovery.specs.Refusing.{RefusesWanted, CanBeDone}
+use Rattle.dms_recovery.specs.Refusing.{RefusesWanted, CanBeDone, MayBeDone}
 use Rattle.dms_recovery.specs.Wanting.{asked_for, last_of}
 
 -- a call of the site failed, or the audit had no room
@@ -26,6 +26,11 @@ written_refuses files wanted e (inr full) = inr (inr full)
 pub own_point : (total first : ℕ) (files : Files) (asked : Asked) (rows : List Row) (before : Option OpeningPlan) (own : OpeningPlan) → PlansAll total first files asked rows before own → point_asked asked (last_of total first files) ≡ Some own.choice.point
 own_point total first files asked rows None own plans = (plans.plan.chooses.is.new plans.begins).1
 own_point total first files asked rows (Some before) own plans = plans.own_plan.point_is
+
+-- what is planned is refused by nothing
+pub may_be_done : (total first : ℕ) (files : Files) (wanted : Wanted) (rows : List Row) (before : Option OpeningPlan) (own : OpeningPlan) → IsTrailFound total first files → PlansAll total first files (asked_for total first files wanted) rows before own → MayBeDone files wanted
+may_be_done total first files wanted rows None own trail plans = record { total = total; first = first; trail = trail; none = plans.plan.chooses.none }
+may_be_done total first files wanted rows (Some before) own trail plans = record { total = total; first = first; trail = trail; none = plans.first_plan.chooses.none }
 
 -- where nothing is refused, nothing but a failed call, want of memory or of room keeps it from being done
 module _ (total first : ℕ) (files : Files) (wanted : Wanted) (can : CanBeDone total first files wanted) (e : OpenFault) where

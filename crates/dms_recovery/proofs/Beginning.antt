@@ -7,7 +7,8 @@ use Rattle.dms_history.specs.Here.{here}
 use Rattle.dms_history.specs.Pick.{Dumps}
 use Rattle.dms_history.specs.Places.{IsLive}
 use Rattle.dms_history.specs.Points.{LivePoint, live_points, up_to}
-use Rattle.dms_history.specs.Restores.{HasDump, IsTrueDump, may_hold_anything}
+use Rattle.dms_history.specs.Copied.{IsCopiedDump}
+use Rattle.dms_history.specs.Restores.{HasDump, may_hold_anything}
 use Rattle.dms_history.specs.Entries.{Entry, Kind, how_of}
 use Rattle.dms_history.specs.EntryEvents.{history_of, live_of, next_of}
 use Rattle.dms_running.specs.AnyBegun.{BeginLeaves, points_to}
@@ -55,13 +56,13 @@ module _ (v : LogView) (u : Files) (start : LogStarts v) (same : (g : ℕ) → g
   pub counted_is : here ((telling v).dumps v.files) (history_of ((telling v).entries v.files)) (stored_of u) ≡ here ((telling v).dumps u) (history_of ((telling v).entries u)) (stored_of u)
   counted_is = λ i. here (dumps_is i) (history_of (entries_is i)) (stored_of u)
 
-  -- a true dump of it is one of what these files tell
-  pub true_dump : (d : ℕ) → IsTrueDump ((telling v).dumps u d) (live_of ((telling v).entries u)) (here ((telling v).dumps u) (history_of ((telling v).entries u)) (stored_of u))
-      → IsTrueDump ((telling v).dumps v.files d) (live_of ((telling v).entries v.files)) (here ((telling v).dumps v.files) (history_of ((telling v).entries v.files)) (stored_of u))
-  true_dump d is =
-      subst (λ (x : Dumps). IsTrueDump (x d) (live_of (t.entries v.files)) counted) (sym dumps_is)
-      (subst (λ (l : List Entry). IsTrueDump (t.dumps u d) (live_of l) counted) (sym entries_is)
-      (subst (λ (c : Stored). IsTrueDump (t.dumps u d) (live_of (t.entries u)) c) (sym counted_is) is))
+  -- a dump that was copied from it was copied from what these files tell
+  pub copied_dump : (d : ℕ) → IsCopiedDump ((telling v).dumps u d) (live_of ((telling v).entries u)) (here ((telling v).dumps u) (history_of ((telling v).entries u)) (stored_of u))
+      → IsCopiedDump ((telling v).dumps v.files d) (live_of ((telling v).entries v.files)) (here ((telling v).dumps v.files) (history_of ((telling v).entries v.files)) (stored_of u))
+  copied_dump d is =
+      subst (λ (x : Dumps). IsCopiedDump (x d) (live_of (t.entries v.files)) counted) (sym dumps_is)
+      (subst (λ (l : List Entry). IsCopiedDump (t.dumps u d) (live_of l) counted) (sym entries_is)
+      (subst (λ (c : Stored). IsCopiedDump (t.dumps u d) (live_of (t.entries u)) c) (sym counted_is) is))
 
   -- its points up to one of them
   pub points_is : (m : ℕ) → points_to (telling v) (state v) (stored_of u) m ≡ described_to m (points_of (telling v) u)

@@ -130,6 +130,7 @@ module _ (live : List Event) (m k next : ℕ) (counts : Counts) (described : Boo
     free = subst (λ (keeps : ℕ → ℕ → Bool). AreFree (Kept keeps) t.told.items) (sym (keeps_same how)) p.free;
     whole = p.whole;
     all = λ f b x low told size. p.all f b x (subst (λ n. b < n) (count_same f) low) (sym (told_same how _ f b) ∙ told) size;
+    only = λ f b x last. told_same how _ f b ∙ p.only f b x last;
   }
 
 -- ---- the restore that is pending

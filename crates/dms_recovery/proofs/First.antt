@@ -68,7 +68,7 @@ use Rattle.dms_opening.proofs.Chosen.{own_none}
 use Rattle.dms_opening.proofs.Prepared.{first_pending}
 use Rattle.dms_recovery.specs.Leaving.{described_to, HoldsCounted, HoldsUpTo, MendsTo}
 use Rattle.dms_recovery.specs.Mending.{MendsBehind}
-use Rattle.dms_recovery.proofs.Beginning.{dumps_is, entries_is, map_to, stands_here, tells_it, true_dump}
+use Rattle.dms_recovery.proofs.Beginning.{dumps_is, entries_is, map_to, stands_here, tells_it, copied_dump}
 use Rattle.dms_recovery.proofs.Behind.{count_same, plan_more}
 use Rattle.dms_recovery.proofs.Ended.{holds_points}
 use Rattle.dms_recovery.proofs.Orders.{dump_serves, order_asked}
@@ -160,7 +160,7 @@ module _ (v : LogView) (u : Files) (d : ℕ) (rows : List Row) (before own : Ope
   serves : DumpServes (dumps d) (live_of es) (here dumps (history_of es) right) p.point
   serves = subst (λ n. DumpServes (dumps d) (live_of es) (here dumps (history_of es) right) n) same_point
       (dump_serves (reconstruct d named) (IsDumpFound v.first v.files) dumps (live_of es) whole.base (here dumps (history_of es) right) (next_of es) m (any_to v m kind) refl stands.kept.steady.sound stands.kept.numbered r.plans.own_plan.lives
-      (true_dump v u r.start same whole d r.mended.rebuilt.true_dump) own_order)
+      (copied_dump v u r.start same whole d r.mended.rebuilt.copied_dump) own_order)
 
   -- ---- blocks are written
 
@@ -272,8 +272,8 @@ module _ (v : LogView) (u : Files) (d : ℕ) (rows : List Row) (before own : Ope
         let e = ended y w in
         counted_then x y k (es ++ take k plan) (sealed ∙ ap (λ (l : List Entry). l ++ take k (ends_of before)) mid_is) (sealed ∙ (λ i. mid_is i ++ take k (plan_is i))) (λ g up below. above g up ∙ w.written.others g below) (blocks_same x y above)
         (finds (it_tells.found_low y v.files w.written.others found)) (λ j dump. goes j (it_tells.dump_found_low y v.files j w.written.others dump)) (e.stands k) (e.points k)
-        (part_order t.first es dumps whole.base n p.point before.next bodied.0 bodied.1 counts over (whole_stands y w).kept placed (omega (arith, next_is)) k (t.dump_found v.files) dumps order)
-        (part_next t.first es dumps whole.base n p.point before.next bodied.0 bodied.1 counts over (whole_stands y w).kept placed (omega (arith, next_is)) k (sym next_is))
+        (part_order t.first es dumps whole.base n p.point before.next bodied.0 bodied.1 counts over (whole_stands y w).kept k (t.dump_found v.files) dumps order)
+        (part_next t.first es dumps whole.base n p.point before.next bodied.0 bodied.1 counts over (whole_stands y w).kept k (sym next_is))
 
   -- with the named blocks as they count the database is held
   leaves_counted : (x : Left) → LeavesOver p v (ends_of before) x → HoldsCounted t v.files u named x.files
@@ -326,7 +326,7 @@ module _ (v : LogView) (u : Files) (d : ℕ) (rows : List Row) (before own : Ope
     live_behind = ap (λ (h : History). h.live) (history_is ∙ whole_is t.first es dumps whole.base right_counted p.point before.next bodied.0 bodied.1 counts)
 
     next_same : next_of (es ++ plan) ≡ next_of es
-    next_same = whole_next t.first es dumps whole.base right_counted p.point before.next bodied.0 bodied.1 counts (counted_over over.mid over.writes.written).stands (whole_stands over.mid over.writes).kept placed (omega (arith, next_is)) (sym next_is)
+    next_same = whole_next t.first es dumps whole.base right_counted p.point before.next bodied.0 bodied.1 counts (counted_over over.mid over.writes.written).stands (whole_stands over.mid over.writes).kept (sym next_is)
 
     next_behind : next_of bs ≡ next_of es
     next_behind = ap (λ (l : List Entry). next_of l) ends_are ∙ next_same
@@ -369,7 +369,10 @@ module _ (v : LogView) (u : Files) (d : ℕ) (rows : List Row) (before own : Ope
       is_found = subst (λ n. IsDumpFound n w.files d) (sym first) (dump_now d own_order.is_found);
       point_lives = subst (λ (e : Dumps). IsLive (live_of bs) (e d).point) (sym dumps_now)
           (subst (λ (l : List Event). IsLive l (dumps d).point) (sym live_behind) (live_more (live_of es) (control p.point before.next (counts_in counts) true ∷ []) (dumps d).point own_order.point_lives));
-      not_later = subst (λ (e : Dumps). (e d).point ≤ m) (sym dumps_now) own_order.not_later;
+      end_lives = subst (λ (e : Dumps). IsLive (live_of bs) (e d).end) (sym dumps_now)
+          (subst (λ (l : List Event). IsLive l (dumps d).end) (sym live_behind) (live_more (live_of es) (control p.point before.next (counts_in counts) true ∷ []) (dumps d).end own_order.end_lives));
+      point_low = subst (λ (e : Dumps). (e d).point ≤ m) (sym dumps_now) own_order.point_low;
+      end_low = subst (λ (e : Dumps). (e d).end ≤ m) (sym dumps_now) own_order.end_low;
     }
 
     begins_any : BeginsAny w right_counted m kind

@@ -37,7 +37,7 @@ use Rattle.dms_opening.specs.declared.plan.OpeningPlan.{OpeningPlan}
 use Rattle.dms_opening.proofs.OneTrail.{one_first, one_total}
 use Rattle.dms_recovery.specs.Leaving.{IsMendedFrom, MendsTo}
 use Rattle.dms_recovery.specs.Planned.{AreFit, PlansAll}
-use Rattle.dms_recovery.specs.Reconstructing.{AreStructuresOf, CanReconstruct, FindsRows, IsAtLast, IsDescribedBy, IsOpenFault, LacksRow, MayReconstruct, MissesRow, NamesRows, RefusesReconstruct, fault_of_row}
+use Rattle.dms_recovery.specs.Reconstructing.{AreStructuresOf, CanReconstruct, FindsRows, HasEach, IsAtLast, IsDescribedBy, IsOpenFault, LacksRow, MayMend, MayReconstruct, MissesRow, NamesRows, RefusesReconstruct, fault_of_row}
 use Rattle.dms_recovery.specs.Refusing.{RecoveryGrows, RefusesWanted, SealsFewTwice}
 use Rattle.dms_recovery.specs.Rows.{AreRowsOf, first_missing, named_blocks}
 use Rattle.dms_recovery.specs.Wanting.{asked_for, last_of}
@@ -77,6 +77,13 @@ lacks_described schema counts desc ss named r law found same missing = record { 
 
 pub finds_nothing : (schema : List ℕ) (named : List NamedRow) (rows : List Row) → Decodes schema None → AreRowsOf [] named rows → FindsRows schema named rows
 finds_nothing schema named rows none are = record { structures = []; are = none_are schema none; rows_are = are }
+
+pub has_described : (schema counts : List ℕ) (desc : Description) (ss : List Structure) (named : List NamedRow) → ((d e : Described) → IsWellFormed d → IsWellFormed e → spelling d ≡ spelling e → d ≡ e) → Decodes schema (Some desc)
+    → ss ≡ desc.structures → first_missing (map shape_of ss) counts named ≡ None → HasEach schema counts named
+has_described schema counts desc ss named law found same each = record { structures = map shape_of ss; are = structures_are schema desc ss law found same; each = each }
+
+pub has_nothing : (schema counts : List ℕ) (named : List NamedRow) → Decodes schema None → first_missing [] counts named ≡ None → HasEach schema counts named
+has_nothing schema counts named none each = record { structures = []; are = none_are schema none; each = each }
 
 pub lacks_nothing : (schema counts : List ℕ) (named : List NamedRow) (r : NamedRow) → Decodes schema None → first_missing [] counts named ≡ Some r → LacksRow schema counts named r
 lacks_nothing schema counts named r none missing = record { structures = []; are = none_are schema none; missing = missing }
@@ -138,6 +145,16 @@ misses_row t f files d named r before own schema counts found plans one two lack
   counts = own.counts.items;
   at_last = at_last t f files d before own plans;
   lacks = subst (λ (l : List ℕ). LacksRow own.schema.items l named r) two (subst (λ (l : List ℕ). LacksRow l counts named r) one lacks);
+}
+
+pub may_mend : (t f : ℕ) (files : Files) (d : ℕ) (named : List NamedRow) (before : Option OpeningPlan) (own : OpeningPlan) (schema counts : List ℕ) → IsTrailFound t f files
+    → PlansAll t f files (asked_for t f files (Reconstruct d)) [] before own → schema ≡ own.schema.items → counts ≡ own.counts.items → HasEach schema counts named → MayMend files d named
+may_mend t f files d named before own schema counts found plans one two there = record {
+  may = record { total = t; first = f; trail = found; none = none_refused t f files d before own plans };
+  schema = own.schema.items;
+  counts = own.counts.items;
+  at_last = at_last t f files d before own plans;
+  there = subst (λ (l : List ℕ). HasEach own.schema.items l named) two (subst (λ (l : List ℕ). HasEach l counts named) one there);
 }
 
 -- where each row is there, none is missed

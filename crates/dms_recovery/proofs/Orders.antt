@@ -1,5 +1,5 @@
 -- The dump of what is asked is in order where nothing is refused, and it serves where it is a true one.
-use Rattle.std.specs.Prelude.{nat_lt}
+use Rattle.std.specs.Prelude.{max, nat_lt}
 use Rattle.std.proofs.Common.{ℕ, ◌+◌, ◌≤◌, ◌≡◌, Bool, true, false, cond, List, Option, Some, None, refl, sym, subst, arith}
 use Rattle.std.proofs.lemmas.Bool.Decides.{nat_tests}
 use Rattle.dms_site.specs.Files.{Files}
@@ -10,13 +10,14 @@ use Rattle.dms_history.specs.History.{Pending}
 use Rattle.dms_history.specs.Pick.{Dumps}
 use Rattle.dms_history.specs.Places.{IsLive}
 use Rattle.dms_history.specs.Judge.{judge_point}
-use Rattle.dms_history.specs.Restores.{HasDump, IsTrueDump}
+use Rattle.dms_history.specs.Copied.{IsCopiedDump}
+use Rattle.dms_history.specs.Restores.{HasDump}
 use Rattle.dms_history.specs.Entries.{how_of}
 use Rattle.dms_history.specs.declared.event.Row.{Row}
 use Rattle.dms_history.proofs.Judging.{each_judged}
-use Rattle.dms_history.proofs.Order.{true_dump_serves}
+use Rattle.dms_history.proofs.Copied.{copied_dump_serves}
 use Rattle.dms_audfile.specs.Header.{tag_said}
-use Rattle.dms_dump.specs.Head.{Head}
+use Rattle.dms_dump.specs.Head.{Head, end_of}
 use Rattle.dms_dump.specs.Judged.{DumpRead, missing, unsealed, damaged, sealed}
 use Rattle.dms_running.specs.FromDumps.{DumpInOrder, OrderBy}
 use Rattle.dms_restore.specs.Dumped.{IsDumpFound, dumps_of}
@@ -24,11 +25,11 @@ use Rattle.dms_opening.specs.declared.asked.Asked.{Asked}
 use Rattle.dms_opening.specs.declared.asked.Asked.TheVariants.{HaltLoad, Rollback, Rebuild, Reconstruct}
 use Rattle.dms_opening.specs.declared.asked.DumpLook.{DumpLook}
 use Rattle.dms_opening.specs.declared.asked.DumpLook.TheVariants.{Sealed}
-use Rattle.dms_opening.specs.Asked.{Refused, audit_before, dump_later, refused_at, judge_file, judge_dump, judge_dump_point, judge_last_point, judge_own, is_later, number_or}
+use Rattle.dms_opening.specs.Asked.{Refused, audit_before, dump_later, or_next, refused_at, judge_file, judge_dump, judge_dump_point, judge_last_point, judge_own, is_later, number_or}
 use Rattle.dms_opening.specs.Doing.{kind_asked, point_asked}
 use Rattle.dms_opening.specs.DumpLooks.{look_of, dump_at, dump_asked}
 use Rattle.dms_opening.proofs.Chosen.{or_none, at_none}
-use Rattle.dms_opening.proofs.Completed.{dump_point}
+use Rattle.dms_opening.proofs.Completed.{dump_end, dump_point}
 use Rattle.dms_opening.proofs.DumpLooks.{own_look, own_tag, sealed_at}
 
 no_refusal : (b : Bool) (r : Refused) → cond b (Some r) None ≡ None → b ≡ false
@@ -47,18 +48,24 @@ module _ (first next d m : ℕ) (files : Files) (live : List Event) (how : How) 
   tag = tag_said (files first)
 
   -- it can be read, and has the tag of the trail
-  order_read : (h : Head) → dump_at files d ≡ sealed h → h.tag ≡ tag → judge_file first d (Sealed h.point h.audit) ≡ None → judge_dump_point live next d (Sealed h.point h.audit) m ≡ None → DumpInOrder (IsDumpFound first files) (dumps_of files) p d
+  order_read : (h : Head) → dump_at files d ≡ sealed h → h.tag ≡ tag → judge_file first d (Sealed h.point (end_of h) h.audit) ≡ None → judge_dump_point live next d (Sealed h.point (end_of h) h.audit) m ≡ None → DumpInOrder (IsDumpFound first files) (dumps_of files) p d
   order_read h is own file point =
       let s = sealed_at files d h is in
       let within : first ≤ 10000 + h.audit = not_less (10000 + h.audit) first (no_refusal (nat_lt (10000 + h.audit) first) audit_before file) in
-      let parts = or_none (refused_at h.point (judge_point live next h.point)) (is_later d h.point m) point in
+      let top = max h.point (end_of h) in
+      let parts = or_none (refused_at h.point (judge_point live next h.point)) (or_next (refused_at (end_of h) (judge_point live next (end_of h))) (is_later d top m)) point in
+      let rest = or_none (refused_at (end_of h) (judge_point live next (end_of h))) (is_later d top m) parts.1 in
       let lives : IsLive live h.point = ((each_judged live next h.point).lives.0 (at_none h.point (judge_point live next h.point) parts.0)).1 in
-      let low : h.point ≤ m = not_less m h.point (no_refusal (nat_lt m h.point) (dump_later d h.point) parts.1) in
+      let end_lives : IsLive live (end_of h) = ((each_judged live next (end_of h)).lives.0 (at_none (end_of h) (judge_point live next (end_of h)) rest.0)).1 in
+      let low : top ≤ m = not_less m top (no_refusal (nat_lt m top) (dump_later d top) rest.1) in
       let same : (dumps_of files d).point ≡ h.point = dump_point files d h s.some s.few s.read in
+      let ends : (dumps_of files d).end ≡ end_of h = dump_end files d h s.some s.few s.read in
       record {
         is_found = record { some = s.some; few = s.few; head = h; read = s.read; tag_is = own; within = within };
         point_lives = subst (λ n. IsLive live n) (sym same) lives;
-        not_later = omega (arith, same, low);
+        end_lives = subst (λ n. IsLive live n) (sym ends) end_lives;
+        point_low = omega (arith, same, low);
+        end_low = omega (arith, ends, low);
       }
 
   by_read : (r : DumpRead) → dump_at files d ≡ r → judge_file first d (look_of tag r) ≡ None → judge_dump_point live next d (look_of tag r) m ≡ None → DumpInOrder (IsDumpFound first files) (dumps_of files) p d
@@ -89,19 +96,19 @@ order_asked first next m files live last (Reconstruct d) rows none at =
     (subst (λ (k : Option ℕ). judge_dump first live next d (look_of (tag_said (files first)) (dump_at files d)) (number_or k) ≡ None) at
     (or_none (judge_last_point next live last) (judge_dump first live next d (look_of (tag_said (files first)) (dump_at files d)) (number_or last)) none).1)
 
--- a true dump for each restore that goes by one
-abbrev pub TrueFor : Dumps → List Event → Stored → How → Type 0
-TrueFor dumps live counted halt_load = Unit {0}
-TrueFor dumps live counted back_out = Unit {0}
-TrueFor dumps live counted roll_back = Unit {0}
-TrueFor dumps live counted (rebuild d) = IsTrueDump (dumps d) live counted
-TrueFor dumps live counted (reconstruct d named) = IsTrueDump (dumps d) live counted
+-- a dump that was copied from the database, for each restore that goes by one
+abbrev pub CopiedFor : Dumps → List Event → Stored → How → Type 0
+CopiedFor dumps live counted halt_load = Unit {0}
+CopiedFor dumps live counted back_out = Unit {0}
+CopiedFor dumps live counted roll_back = Unit {0}
+CopiedFor dumps live counted (rebuild d) = IsCopiedDump (dumps d) live counted
+CopiedFor dumps live counted (reconstruct d named) = IsCopiedDump (dumps d) live counted
 
 -- it serves
 pub dump_serves : (how : How) (found : ℕ → Type 0) (dumps : Dumps) (live : List Event) (base : AllBlocks) (counted : Stored) (next m : ℕ) (p : Pending) → p.point ≡ m → Sound (from_control live) base counted → Numbered live next → IsLive live m
-    → TrueFor dumps live counted how → OrderBy found dumps p how → HasDump how dumps live counted m
+    → CopiedFor dumps live counted how → OrderBy found dumps p how → HasDump how dumps live counted m
 dump_serves halt_load found dumps live base counted next m p at sound numbered lives is order = tt
 dump_serves back_out found dumps live base counted next m p at sound numbered lives is order = tt
 dump_serves roll_back found dumps live base counted next m p at sound numbered lives is order = tt
-dump_serves (rebuild d) found dumps live base counted next m p at sound numbered lives is order = true_dump_serves live base next m (dumps d) counted sound numbered lives is (omega (arith, at, order.not_later))
-dump_serves (reconstruct d named) found dumps live base counted next m p at sound numbered lives is order = true_dump_serves live base next m (dumps d) counted sound numbered lives is (omega (arith, at, order.not_later))
+dump_serves (rebuild d) found dumps live base counted next m p at sound numbered lives is order = copied_dump_serves live base next m (dumps d) counted sound numbered lives is (omega (arith, at, order.end_low))
+dump_serves (reconstruct d named) found dumps live base counted next m p at sound numbered lives is order = copied_dump_serves live base next m (dumps d) counted sound numbered lives is (omega (arith, at, order.end_low))

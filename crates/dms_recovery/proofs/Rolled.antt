@@ -52,7 +52,7 @@ may_rebuild total first d point files u trail is = record {
   same = is.same;
   whole = is.whole;
   blocks = λ f b off. absurd (true≢false off);
-  dump = is.true_dump;
+  dump = is.copied_dump;
 }
 
 -- the first file of a trail
@@ -71,7 +71,7 @@ may_mend total first d rows files u trail none is =
       whole = is.rebuilt.whole;
       blocks = λ f b off. is.beside f b off
           ∙ ap (λ (s : Stored). s f b) (sym (counts_stored (dumps_of u) (trail_entries total first u) (stored_of u) (ap (λ (l : List Entry). (history_of l).pending) (sym same) ∙ none)));
-      dump = is.rebuilt.true_dump;
+      dump = is.rebuilt.copied_dump;
     }
 
 -- what was left untouched holds the database

@@ -35,8 +35,8 @@ use Rattle.dms_recovery.specs.Planned.{PlansAlone, PlansAll}
 use Rattle.dms_recovery.specs.Ready.{AreReady}
 use Rattle.dms_recovery.specs.Restoring.{HasDumpFor, MayRestore}
 use Rattle.dms_recovery.specs.Wanting.{asked_for}
-use Rattle.dms_recovery.proofs.Beginning.{true_dump, stands_here, begins_any}
-use Rattle.dms_recovery.proofs.Orders.{TrueFor, order_asked, dump_serves}
+use Rattle.dms_recovery.proofs.Beginning.{copied_dump, stands_here, begins_any}
+use Rattle.dms_recovery.proofs.Orders.{CopiedFor, order_asked, dump_serves}
 
 -- where none goes first, what is asked begins alone
 pub before_none : (total first : ℕ) (files : Files) (asked : Asked) (rows : List Row) (before : Option OpeningPlan) (own : OpeningPlan) → PlansAll total first files asked rows before own
@@ -105,12 +105,12 @@ module _ (v : LogView) (u : Files) (start : LogStarts v) (wanted : Wanted) (rows
   abbrev counted : Stored
   counted = here (dumps_of v.files) (history_of es) (stored_of u)
 
-  true_here : (how : How) → HasDumpFor v.end.total v.first u how → TrueFor (dumps_of v.files) (live_of es) counted how
-  true_here halt_load is = tt
-  true_here back_out is = tt
-  true_here roll_back is = tt
-  true_here (rebuild d) is = true_dump v u start may.same may.whole d is
-  true_here (reconstruct d named) is = true_dump v u start may.same may.whole d is
+  copied_here : (how : How) → HasDumpFor v.end.total v.first u how → CopiedFor (dumps_of v.files) (live_of es) counted how
+  copied_here halt_load is = tt
+  copied_here back_out is = tt
+  copied_here roll_back is = tt
+  copied_here (rebuild d) is = copied_dump v u start may.same may.whole d is
+  copied_here (reconstruct d named) is = copied_dump v u start may.same may.whole d is
 
   pub may_begin : MayBegin v (stored_of u) (kind_asked (asked_for v.end.total v.first v.files wanted) rows) own
   may_begin = record {
@@ -119,5 +119,5 @@ module _ (v : LogView) (u : Files) (start : LogStarts v) (wanted : Wanted) (rows
     counts_are = λ f. plans.plan.counts_are f ∙ ap (λ (q : Pending). count_at q.entries q.point f) restore_is;
     next_is = plans.plan.next_is;
     from = begins_any v u start may.same may.whole m kind lives may.blocks
-        (dump_serves (how_of kind) (IsDumpFound v.first v.files) (dumps_of v.files) (live_of es) may.whole.base counted (next_of es) m p refl stands.kept.steady.sound stands.kept.numbered lives (true_here (how_of kind) may.dump) order) order;
+        (dump_serves (how_of kind) (IsDumpFound v.first v.files) (dumps_of v.files) (live_of es) may.whole.base counted (next_of es) m p refl stands.kept.steady.sound stands.kept.numbered lives (copied_here (how_of kind) may.dump) order) order;
   }

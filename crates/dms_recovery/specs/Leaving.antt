@@ -4,7 +4,7 @@ use Rattle.dms_site.specs.Files.{Files, Left, stored_of}
 use Rattle.dms_history.specs.Events.{AllBlocks}
 use Rattle.dms_history.specs.Here.{here}
 use Rattle.dms_history.specs.History.{Pending}
-use Rattle.dms_history.specs.Restores.{IsTrueDump}
+use Rattle.dms_history.specs.Copied.{IsCopiedDump}
 use Rattle.dms_history.specs.EntryEvents.{history_of, live_of}
 use Rattle.dms_audfile.specs.TrailEntries.{trail_entries}
 use Rattle.dms_running.specs.AnyBegun.{IsUntouched}
@@ -59,18 +59,18 @@ pub record HoldsCounted (t : Telling) (files u : Files) (named : ℕ → ℕ →
 abbrev pub MendsTo : Telling → Files → Files → (ℕ → ℕ → Bool) → ℕ → Left → Type 0
 MendsTo t files u named m x = RestoresTo t files u m x ⊎ HoldsCounted t files u named x.files
 
--- dump d is a true one of a database with these files
-abbrev pub HasTrueDump : ℕ → ℕ → Files → ℕ → Type 0
-HasTrueDump total first u d =
-    let es = trail_entries total first u in IsTrueDump (dumps_of u d) (live_of es) (here (dumps_of u) (history_of es) (stored_of u))
+-- dump d was copied from a database with these files
+abbrev pub HasCopiedDump : ℕ → ℕ → Files → ℕ → Type 0
+HasCopiedDump total first u d =
+    let es = trail_entries total first u in IsCopiedDump (dumps_of u d) (live_of es) (here (dumps_of u) (history_of es) (stored_of u))
 
--- These files are those of a database but for structure files, which may hold anything, and dump d of it is a true one.
+-- These files are those of a database but for structure files, which may hold anything, and dump d was copied from it.
 pub record IsRebuiltFrom (total first : ℕ) (files u : Files) (d : ℕ) : Type 0 where
   pub same : (g : ℕ) → g ≤ 30000 → files g ≡ u g
   pub whole : IsWhole (telling_of total first) u
-  pub true_dump : HasTrueDump total first u d
+  pub copied_dump : HasCopiedDump total first u d
 
--- These files are those of a database but for the blocks of some rows, which may hold anything, and dump d of it is a true one.
+-- These files are those of a database but for the blocks of some rows, which may hold anything, and dump d was copied from it.
 pub record IsMendedFrom (total first : ℕ) (files u : Files) (d : ℕ) (named : ℕ → ℕ → Bool) : Type 0 where
   pub rebuilt : IsRebuiltFrom total first files u d
   pub beside : (f b : ℕ) → named f b ≡ false → stored_of files f b ≡ stored_of u f b

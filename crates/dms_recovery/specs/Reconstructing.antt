@@ -23,7 +23,7 @@ use Rattle.dms_recovery.specs.declared.naming.ReconstructFault.{ReconstructFault
 use Rattle.dms_recovery.specs.declared.naming.ReconstructFault.TheVariants.{Open, NoSuchRow}
 use Rattle.dms_recovery.specs.declared.wanted.Wanted.TheVariants.{Reconstruct}
 use Rattle.dms_recovery.specs.Leaving.{IsMendedFrom}
-use Rattle.dms_recovery.specs.Refusing.{CanBeDone, RefusesWanted}
+use Rattle.dms_recovery.specs.Refusing.{CanBeDone, MayBeDone, RefusesWanted}
 use Rattle.dms_recovery.specs.Rows.{AreRowsOf, first_missing, named_blocks}
 use Rattle.dms_recovery.specs.Wanting.{asked_for, last_of}
 
@@ -48,6 +48,12 @@ pub record LacksRow (schema counts : List ℕ) (named : List NamedRow) (r : Name
   pub structures : List Shape
   pub are : AreStructuresOf schema structures
   pub missing : first_missing structures counts named ≡ Some r
+
+-- Each of them is there, by these counts of blocks.
+pub record HasEach (schema counts : List ℕ) (named : List NamedRow) : Type 0 where
+  pub structures : List Shape
+  pub are : AreStructuresOf schema structures
+  pub each : first_missing structures counts named ≡ None
 
 -- These are the bytes of the Schema that a database has at its last point, and so many blocks has each file there.
 pub record IsAtLast (total first : ℕ) (files : Files) (schema counts : List ℕ) : Type 0 where
@@ -84,6 +90,14 @@ RefusesReconstruct files d named (NoSuchRow r) = MissesRow files d named r
 pub record CanReconstruct (total first : ℕ) (files : Files) (d : ℕ) (named : List NamedRow) : Type 0 where
   pub can : CanBeDone total first files (Reconstruct d)
   pub there : (schema counts : List ℕ) (r : NamedRow) → IsAtLast total first files schema counts → LacksRow schema counts named r → ⊥
+
+-- Scanning refuses nothing in these files, nor is the restore refused, and each row is there at the last point.
+pub record MayMend (files : Files) (d : ℕ) (named : List NamedRow) : Type 0 where
+  pub may : MayBeDone files (Reconstruct d)
+  pub schema : List ℕ
+  pub counts : List ℕ
+  pub at_last : IsAtLast may.total may.first files schema counts
+  pub there : HasEach schema counts named
 
 -- why rows that are named aren't found
 abbrev pub fault_of_row : RowFault → ReconstructFault

@@ -2,7 +2,7 @@
 use Rattle.std.specs.Prelude.{ℕ, ◌+◌, ◌≤◌, ◌≡◌, ◌⊎◌, length, None}
 use Rattle.dms_moments.specs.Moments.{Steps}
 use Rattle.dms_site.specs.declared.site.Site.{Ghosts}
-use Rattle.dms_site.specs.Files.{Files}
+use Rattle.dms_site.specs.Files.{Files, Same}
 use Rattle.dms_audfile.specs.Reads.{Refuses}
 use Rattle.dms_audfile.specs.TrailEntries.{trail_entries}
 use Rattle.dms_audfile.specs.declared.fault.AudFault.{AudFault}
@@ -36,11 +36,23 @@ pub record CanBeDone (total first : ℕ) (files : Files) (wanted : Wanted) : Typ
   pub described : HasNoDescription total first files (asked_for total first files wanted) → ⊥
   pub described_own : HasNoDescriptionAsked total first files (asked_for total first files wanted) → ⊥
 
+-- Scanning refuses nothing in these files, nor is what is wanted of them refused.
+pub record MayBeDone (files : Files) (wanted : Wanted) : Type 0 where
+  pub total : ℕ
+  pub first : ℕ
+  pub trail : IsTrailFound total first files
+  pub none : judge_files total first files (asked_for total first files wanted) ≡ None
+
 -- at most 38 entries were sealed behind those that there were: a Begin, 17 parts of a Schema and a Control, twice
 abbrev pub SealsFewTwice : ℕ → ℕ → Files → Files → Type 0
 SealsFewTwice total first old new = length (trail_entries total first new) ≤ length (trail_entries total first old) + 38
 
 module _ {S : Type 0} (g : Ghosts S) where
+  -- Nothing was done: the files are the same, and a stop leaves what it could leave before.
+  pub record StaysUndone (old new : S) : Type 0 where
+    pub files : g.files new ≡ g.files old
+    pub moments : Steps Same (g.clock old) (g.clock new)
+
   -- What a statement does to the trail of the files of a site, whatever it answers: the trail is the old one and blocks behind it, each of which is in
   -- its grammar and holds an entry, now and at each stop. At most 38 entries were sealed.
   pub record RecoveryGrows (old new : S) : Type 0 where

@@ -14,7 +14,7 @@ use Rattle.dms_restore.specs.Logging.{telling_of}
 use Rattle.dms_opening.specs.Doing.{goes_first, kind_asked}
 use Rattle.dms_opening.specs.Openings.{IsTrailFound}
 use Rattle.dms_recovery.specs.declared.wanted.Wanted.{Wanted}
-use Rattle.dms_recovery.specs.Leaving.{HasTrueDump}
+use Rattle.dms_recovery.specs.Leaving.{HasCopiedDump}
 use Rattle.dms_recovery.specs.Wanting.{asked_for}
 
 -- a restore by a dump has a true one
@@ -22,8 +22,8 @@ abbrev pub HasDumpFor : ℕ → ℕ → Files → How → Type 0
 HasDumpFor total first u halt_load = Unit {0}
 HasDumpFor total first u back_out = Unit {0}
 HasDumpFor total first u roll_back = Unit {0}
-HasDumpFor total first u (rebuild d) = HasTrueDump total first u d
-HasDumpFor total first u (reconstruct d named) = HasTrueDump total first u d
+HasDumpFor total first u (rebuild d) = HasCopiedDump total first u d
+HasDumpFor total first u (reconstruct d named) = HasCopiedDump total first u d
 
 -- how what is wanted goes
 abbrev pub how_wanted : ℕ → ℕ → Files → Wanted → List Row → How

@@ -6,7 +6,7 @@ ghost use Rattle.dms_site.specs.Files.{Same};
 ghost use Rattle.dms_audrec.specs.Spelling.{AreRows, pair_bytes, row_file, row_number};
 ghost use Rattle.dms_audfile.specs.Counting.{CountedAt};
 ghost use Rattle.dms_opening.specs.Openings.{IsFullFault};
-ghost use Rattle.dms_recovery.specs.Reconstructing.{fault_of_row, FindsRows, IsOpenFault, LacksRow, NamesRows, RefusesReconstruct};
+ghost use Rattle.dms_recovery.specs.Reconstructing.{fault_of_row, FindsRows, HasEach, IsOpenFault, LacksRow, MayMend, NamesRows, RefusesReconstruct};
 ghost use Rattle.dms_statements.specs.declared.statement.NamedRow as meant;
 
 use crate::Wanted;
@@ -50,6 +50,7 @@ fn rows_described(
     requires few { length counts.now ≤ 200 }
     requires hundred { length named.now ≤ 100 }
     ensures finds { IfOk result (λ rows. FindsRows schema.now named.now rows.items) }
+    ensures there { IfOk result (λ rows. HasEach schema.now counts.now named.now) }
     ensures lacks { IfErr result (λ e. (r : meant.NamedRow) → e ≡ RowFault.Missing r → LacksRow schema.now counts.now named.now r) }
 {
     spelling_law();
@@ -82,6 +83,7 @@ pub(crate) fn look_for_rows<S: Site>(
     ensures few { IfOk result (λ f. length f.rows.items ≤ 100) }
     ensures list { IfOk result (λ f. f.list ≡ pair_bytes row_file row_number f.rows.items) }
     ensures names { IfOk result (λ f. IsTrue S.tells → NamesRows (S.files found.site) named.now f.rows.items) }
+    ensures may { IfOk result (λ f. IsTrue S.tells → MayMend (S.files found.site) dump named.now) }
     ensures refused { IfErr result (λ e. IsTrue S.tells → RefusesReconstruct (S.files found.site) dump named.now e.0) }
     ensures room { IfErr result (λ e. IsTrue S.tells → IsOpenFault e.0 IsFullFault → ⊥) }
     ensures files { IfOk result (λ f. IsTrue S.tells → S.files f.site ≡ S.files found.site) }

@@ -1,6 +1,6 @@
 //! Reconstruction of rows.
 
-ghost use Rattle.std.specs.Prelude.{◌≡◌, ◌≤◌, ◌/◌, ℕ, Some, length, IfOk, IfErr, IsTrue};
+ghost use Rattle.std.specs.Prelude.{◌≡◌, ◌≤◌, ◌⊎◌, ◌/◌, ℕ, Some, length, IfOk, IfErr, IsTrue};
 ghost use Rattle.dms_moments.specs.Moments.{Steps};
 ghost use Rattle.dms_site.specs.Files.{Same};
 ghost use Rattle.dms_audrec.specs.Reading.{rows_at};
@@ -8,8 +8,8 @@ ghost use Rattle.dms_audrec.specs.Spelling.{AreRows};
 ghost use Rattle.dms_audfile.specs.Counting.{CountedAt};
 ghost use Rattle.dms_opening.specs.Openings.{IsTrailFound, IsFullFault, HasFullTrail, MayHaveWritten, IsNoRefusal};
 ghost use Rattle.dms_recovery.specs.Claims.{MendingReaches, MendingLeaves, ReconstructReaches, ReconstructLeaves};
-ghost use Rattle.dms_recovery.specs.Reconstructing.{CanReconstruct, IsOpenFault, RefusesReconstruct};
-ghost use Rattle.dms_recovery.specs.Refusing.{RefusesWanted, CanBeDone, RecoveryGrows};
+ghost use Rattle.dms_recovery.specs.Reconstructing.{CanReconstruct, IsOpenFault, MayMend, RefusesReconstruct};
+ghost use Rattle.dms_recovery.specs.Refusing.{RefusesWanted, CanBeDone, StaysUndone, RecoveryGrows};
 ghost use Rattle.dms_recovery.specs.Wanting.{last_of};
 
 use crate::naming::{FoundRows, ReconstructFault, look_for_rows};
@@ -88,6 +88,8 @@ pub fn reconstruct<S: Site>(
     ensures point { IfOk result (λ r. IsTrue S.tells → (total first n : ℕ) → IsTrailFound total first (S.files found.site) → last_of total first (S.files found.site) ≡ Some n → r.point ≡ n) }
     ensures refused { IfErr result (λ e. IsTrue S.tells → RefusesReconstruct (S.files found.site) dump named.now e.0) }
     ensures complete { IfErr result (λ e. IsTrue S.tells → (total first : ℕ) → CanReconstruct total first (S.files found.site) dump named.now → IsOpenFault e.0 IsNoRefusal) }
+    ensures may { IfOk result (λ r. IsTrue S.tells → MayMend (S.files found.site) dump named.now) }
+    ensures may_then { IfErr result (λ e. IsTrue S.tells → MayMend (S.files found.site) dump named.now ⊎ StaysUndone S.Site found.site e.1) }
     ensures full { IfErr result (λ e. IsTrue S.tells → IsOpenFault e.0 IsFullFault → HasFullTrail (S.files found.site) (S.files e.1)) }
     ensures grows { IfOk result (λ r. IsTrue S.tells → RecoveryGrows S.Site found.site r.site) }
     ensures grows_then { IfErr result (λ e. IsTrue S.tells → RecoveryGrows S.Site found.site e.1) }

@@ -1,6 +1,6 @@
 //! What is wanted of a database is judged, planned and carried out.
 
-ghost use Rattle.std.specs.Prelude.{◌≡◌, ◌≤◌, ℕ, Option, [], length, IfOk, IfErr, IsTrue};
+ghost use Rattle.std.specs.Prelude.{◌≡◌, ◌≤◌, ◌⊎◌, ℕ, Option, [], length, IfOk, IfErr, IsTrue};
 ghost use Rattle.dms_moments.specs.Moments.{Steps};
 ghost use Rattle.dms_site.specs.Files.{Same};
 ghost use Rattle.dms_audrec.specs.Seen.{how_seen};
@@ -9,7 +9,7 @@ ghost use Rattle.dms_audfile.specs.Counting.{CountedAt};
 ghost use Rattle.dms_opening.specs.Doing.{kind_asked};
 ghost use Rattle.dms_opening.specs.Openings.{IsTrailFound, IsFullFault, HasFullTrail, MayHaveWritten, IsNoRefusal};
 ghost use Rattle.dms_recovery.specs.Claims.{IsPointWanted, RestoreReaches, RestoreLeaves, RollbackBehindReaches, RollbackBehindLeaves, MendingBehindReaches, MendingBehindLeaves};
-ghost use Rattle.dms_recovery.specs.Refusing.{RefusesWanted, CanBeDone, RecoveryGrows};
+ghost use Rattle.dms_recovery.specs.Refusing.{RefusesWanted, CanBeDone, MayBeDone, StaysUndone, RecoveryGrows};
 ghost use Rattle.dms_recovery.specs.Wanting.{asked_with};
 
 use crate::carrying::carry;
@@ -66,6 +66,8 @@ pub(crate) fn recover<S: Site>(
     ensures mends_then { IfErr result (λ e. MendingBehindLeaves S.Site found.site e.1 wanted rows.now) }
     ensures refused { IfErr result (λ e. IsTrue S.tells → RefusesWanted (S.files found.site) wanted e.0) }
     ensures complete { IfErr result (λ e. IsTrue S.tells → (total first : ℕ) → CanBeDone total first (S.files found.site) wanted → IsNoRefusal e.0) }
+    ensures may { IfOk result (λ r. IsTrue S.tells → MayBeDone (S.files found.site) wanted) }
+    ensures may_then { IfErr result (λ e. IsTrue S.tells → MayBeDone (S.files found.site) wanted ⊎ StaysUndone S.Site found.site e.1) }
     ensures full { IfErr result (λ e. IsTrue S.tells → IsFullFault e.0 → HasFullTrail (S.files found.site) (S.files e.1)) }
     ensures grows { IfOk result (λ r. IsTrue S.tells → RecoveryGrows S.Site found.site r.site) }
     ensures grows_then { IfErr result (λ e. IsTrue S.tells → RecoveryGrows S.Site found.site e.1) }

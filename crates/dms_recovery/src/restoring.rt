@@ -1,12 +1,12 @@
 //! Rollback and rebuild.
 
-ghost use Rattle.std.specs.Prelude.{◌≡◌, ◌≤◌, ℕ, IfOk, IfErr, IsTrue};
+ghost use Rattle.std.specs.Prelude.{◌≡◌, ◌≤◌, ◌⊎◌, ℕ, IfOk, IfErr, IsTrue};
 ghost use Rattle.dms_moments.specs.Moments.{Steps};
 ghost use Rattle.dms_site.specs.Files.{Same};
 ghost use Rattle.dms_audfile.specs.Counting.{CountedAt};
 ghost use Rattle.dms_opening.specs.Openings.{IsTrailFound, IsFullFault, HasFullTrail, MayHaveWritten, IsNoRefusal};
 ghost use Rattle.dms_recovery.specs.Claims.{RollbackReaches, RollbackLeaves, RebuildReaches, RebuildLeaves};
-ghost use Rattle.dms_recovery.specs.Refusing.{RefusesWanted, CanBeDone, RecoveryGrows};
+ghost use Rattle.dms_recovery.specs.Refusing.{RefusesWanted, CanBeDone, MayBeDone, StaysUndone, RecoveryGrows};
 ghost use Rattle.dms_recovery.specs.Wanting.{chosen_point};
 
 use crate::Wanted;
@@ -38,6 +38,8 @@ pub fn roll_back<S: Site>(
     ensures point { IfOk result (λ r. IsTrue S.tells → (total first : ℕ) → IsTrailFound total first (S.files found.site) → r.point ≡ point) }
     ensures refused { IfErr result (λ e. IsTrue S.tells → RefusesWanted (S.files found.site) (Wanted.Rollback point) e.0) }
     ensures complete { IfErr result (λ e. IsTrue S.tells → (total first : ℕ) → CanBeDone total first (S.files found.site) (Wanted.Rollback point) → IsNoRefusal e.0) }
+    ensures may { IfOk result (λ r. IsTrue S.tells → MayBeDone (S.files found.site) (Wanted.Rollback point)) }
+    ensures may_then { IfErr result (λ e. IsTrue S.tells → MayBeDone (S.files found.site) (Wanted.Rollback point) ⊎ StaysUndone S.Site found.site e.1) }
     ensures full { IfErr result (λ e. IsTrue S.tells → IsFullFault e.0 → HasFullTrail (S.files found.site) (S.files e.1)) }
     ensures grows { IfOk result (λ r. IsTrue S.tells → RecoveryGrows S.Site found.site r.site) }
     ensures grows_then { IfErr result (λ e. IsTrue S.tells → RecoveryGrows S.Site found.site e.1) }
@@ -79,6 +81,8 @@ pub fn rebuild<S: Site>(
     ensures point { IfOk result (λ r. IsTrue S.tells → (total first : ℕ) → IsTrailFound total first (S.files found.site) → r.point ≡ chosen_point total first (S.files found.site) point) }
     ensures refused { IfErr result (λ e. IsTrue S.tells → RefusesWanted (S.files found.site) (Wanted.Rebuild dump point) e.0) }
     ensures complete { IfErr result (λ e. IsTrue S.tells → (total first : ℕ) → CanBeDone total first (S.files found.site) (Wanted.Rebuild dump point) → IsNoRefusal e.0) }
+    ensures may { IfOk result (λ r. IsTrue S.tells → MayBeDone (S.files found.site) (Wanted.Rebuild dump point)) }
+    ensures may_then { IfErr result (λ e. IsTrue S.tells → MayBeDone (S.files found.site) (Wanted.Rebuild dump point) ⊎ StaysUndone S.Site found.site e.1) }
     ensures full { IfErr result (λ e. IsTrue S.tells → IsFullFault e.0 → HasFullTrail (S.files found.site) (S.files e.1)) }
     ensures grows { IfOk result (λ r. IsTrue S.tells → RecoveryGrows S.Site found.site r.site) }
     ensures grows_then { IfErr result (λ e. IsTrue S.tells → RecoveryGrows S.Site found.site e.1) }

@@ -23,6 +23,7 @@ use Rattle.dms_restore.specs.Counts.{count_of}
 use Rattle.dms_restore.proofs.Logs.{ReadsNow}
 use Rattle.dms_wal.specs.Lifting.{last_blocks}
 use Rattle.dms_wal.specs.Marks.{IsMarkOf}
+use Rattle.dms_wal.proofs.Backs.{all_sized}
 use Rattle.dms_wal.proofs.Pointing as pointing
 use Rattle.dms_statelaws.proofs.Ends.{sealed_all}
 
@@ -85,3 +86,9 @@ module _ (v : LogView) (r : LogRuns v) (read : ReadsNow v) (nothing : waits v.en
   pub dumped : (counted : Counts) → ((f : ℕ) → counted f ≡ count_of counts f) → content_of counted (stored_of v.files) ≡ blocks_at (live_of es) (stored_of v.files) n
   dumped counted same = content_stands (live_of es) n counted (stored_of v.files) last content_there (λ f. same f ∙ mark.counted f)
       (λ f b low. stand f b (omega (arith, low, ap (λ (c : AllBlocks). length (c f)) is)) ∙ ap (λ (c : AllBlocks). block_in c f b) is)
+
+  -- and each of them is whole
+  pub all_stored : (counted : Counts) → ((f : ℕ) → counted f ≡ count_of counts f) → (f b : ℕ) → b < counted f → length (stored_of v.files f b) ≡ 1024
+  all_stored counted same f b low =
+      let below : b < length (content v f) = omega (arith, low, same f, mark.counted f, ap (λ (c : AllBlocks). length (c f)) is) in
+      ap (λ (l : List ℕ). length l) (stand f b below) ∙ all_sized v r read f b below

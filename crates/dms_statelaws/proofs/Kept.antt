@@ -22,20 +22,20 @@ use Rattle.dms_audfile.specs.Header.{blocks_said}
 use Rattle.dms_audfile.specs.TrailEntries.{trail_entries}
 use Rattle.dms_audfile.specs.TrailLaws.{IsWritersTrail}
 use Rattle.dms_audfile.proofs.Followed.{fits_says}
-use Rattle.dms_running.specs.Points.{DescribedPoint, points_of, next_in}
+use Rattle.dms_running.specs.Points.{DescribedPoint, points_of}
 use Rattle.dms_running.specs.Standing.{IsWhole}
 use Rattle.dms_restore.specs.Dumped.{dumps_of}
 use Rattle.dms_restore.specs.Logging.{telling_of}
 use Rattle.dms_opening.specs.Openings.{IsTrailFound}
 use Rattle.dms_audfile.proofs.There.{span_first}
-use Rattle.dms_run.specs.State.{StateAt, StateOf}
+use Rattle.dms_run.specs.State.{StateAt, StateOf, HasNext}
 use Rattle.dms_run.specs.States.{HasLive, LivesEndWith}
 use Rattle.dms_run.proofs.Held as held
 use Rattle.dms_run.proofs.Lives.{one_found, next_is_one, state_lives, ends_with}
 use Rattle.dms_run.proofs.Standing.{stands}
 use Rattle.dms_statelaws.specs.Standing.{NoneLater, StandsFrom}
 use Rattle.dms_running.specs.AnyLaws.{HoldsSame}
-use Rattle.dms_statelaws.specs.Stopping.{described_to, HoldsUpTo}
+use Rattle.dms_recovery.specs.Leaving.{described_to, HoldsUpTo}
 use Rattle.dms_statelaws.proofs.UpTo.{numbers, numbers_described, cut_there, has_up_to, front_taken}
 
 -- ---- files that stand for a state hold a database, along the trail that is found in them
@@ -121,7 +121,7 @@ module _ (total first : ℕ) (old : Files) (w : IsWhole (telling_of total first)
     none_later = none_later total first new h.whole m desc db state;
     keeps = λ d j then le s. stands.at total first new d (j, then) s.well_formed h.whole
         (subst (λ (l : List DescribedPoint). HasLive d l (j, then)) (sym h.points_are) (has_up_to d m points (j, then) (points_rise total first old w) le (state_lives total first old w j d then s)));
-    next = λ next has. record { left = next_in (telling_of total first) new; has_next = stands.next total first new h.whole; not_fallen = omega (arith, next_is_one total first next old w has, h.next_same) };
+    next = λ next has. subst (HasNext new) (h.next_same ∙ next_is_one total first next old w has) (stands.next total first new h.whole);
   }
 
 -- ---- all points

@@ -6,7 +6,7 @@ use Rattle.dms_moments.specs.Moments.{Clock, Runs}
 use Rattle.dms_moments.specs.MomentLaws.{runs_weaken}
 use Rattle.dms_site.specs.Files.{Files, Left, stored_of}
 use Rattle.dms_history.specs.Here.{here}
-use Rattle.dms_history.specs.Restores.{IsTrueDump}
+use Rattle.dms_history.specs.Copied.{IsCopiedDump}
 use Rattle.dms_history.specs.Entries.{Entry}
 use Rattle.dms_history.specs.EntryEvents.{history_of, live_of}
 use Rattle.dms_running.specs.Standing.{IsWhole}
@@ -17,9 +17,10 @@ use Rattle.dms_restore.specs.Logging.{telling_of}
 use Rattle.dms_opening.specs.Openings.{IsTrailFound}
 use Rattle.dms_run.specs.State.{StateAt, StateOf}
 use Rattle.dms_run.proofs.Lives.{one_found}
-use Rattle.dms_statelaws.specs.Dumps.{SameBesideBlocks, HasTrueDump}
+use Rattle.dms_statelaws.specs.Dumps.{SameBesideBlocks, HasCopiedDump}
 use Rattle.dms_statelaws.specs.Laws.{StatesAreWhole, PointsStand, UntouchedStays, StatesAreRebuilt}
-use Rattle.dms_statelaws.specs.Stopping.{RollsTo, RestoresTo, IsRebuiltFrom}
+use Rattle.dms_recovery.specs.Leaving.{RollsTo, IsRebuiltFrom}
+use Rattle.dms_statelaws.specs.Stopping.{RestoresTo}
 use Rattle.dms_statelaws.specs.Statements.{LeavesEither, LeavesRestored}
 use Rattle.dms_statelaws.proofs.Stays.{untouched_still}
 use Rattle.dms_statelaws.proofs.Kept.{is_whole, up_to_stands, all_stands}
@@ -39,7 +40,7 @@ untouched_stays = untouched_still
 
 -- ---- a database that may be rebuilt
 
-module _ (total first : ℕ) (files u : Files) (d n : ℕ) (desc : Described) (db : Db) (trail : IsTrailFound total first files) (same : SameBesideBlocks files u) (has : HasTrueDump u d) (at : StateAt u n desc db) where
+module _ (total first : ℕ) (files u : Files) (d n : ℕ) (desc : Described) (db : Db) (trail : IsTrailFound total first files) (same : SameBesideBlocks files u) (has : HasCopiedDump u d) (at : StateAt u n desc db) where
   pub whole_there : IsWhole (telling_of total first) u
   whole_there = is_whole total first u n desc db (trail_same_files total first files u trail (λ g low. sym (same g (omega (arith, low))))) at
 
@@ -47,7 +48,7 @@ module _ (total first : ℕ) (files u : Files) (d n : ℕ) (desc : Described) (d
   rebuilt = record {
     same = same;
     whole = whole_there;
-    true_dump = subst (λ (l : List Entry). IsTrueDump (dumps_of u d) (live_of l) (here (dumps_of u) (history_of l) (stored_of u))) (one_found u has.entries (trail_entries total first u) has.finds whole_there.found.finds) has.is_true;
+    copied_dump = subst (λ (l : List Entry). IsCopiedDump (dumps_of u d) (live_of l) (here (dumps_of u) (history_of l) (stored_of u))) (one_found u has.entries (trail_entries total first u) has.finds whole_there.found.finds) has.is_copied;
   }
 
 pub states_are_rebuilt : StatesAreRebuilt

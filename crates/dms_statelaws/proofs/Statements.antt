@@ -18,11 +18,12 @@ use Rattle.dms_history.specs.Entries.{Entry, counts_in}
 use Rattle.dms_history.specs.EntryEvents.{history_of, live_of}
 use Rattle.dms_history.specs.SchemaAt.{schema_at}
 use Rattle.dms_history.specs.declared.event.FileCount.{FileCount}
+use Rattle.dms_history.proofs.Copied.{true_dump_is_copied}
 use Rattle.dms_audfile.specs.Scanning.{place_in}
 use Rattle.dms_audfile.specs.Header.{tag_said}
 use Rattle.dms_audfile.specs.TrailEntries.{trail_entries}
 use Rattle.dms_audfile.proofs.Ended.{entries_settled}
-use Rattle.dms_dump.specs.Body.{dump_of}
+use Rattle.dms_dump.specs.Body.{AllStored, dump_of}
 use Rattle.dms_dump.specs.Judged.{dump_read}
 use Rattle.dms_dump.proofs.Bodies.{dump_is_read}
 use Rattle.dms_running.specs.AnyLaws.{HoldsSame}
@@ -42,7 +43,9 @@ use Rattle.dms_run.proofs.Held as held
 use Rattle.dms_run.proofs.Lives.{one_found}
 use Rattle.dms_statelaws.specs.Dumps.{SameBesideBlocks, HasDumpAt}
 use Rattle.dms_statelaws.specs.Standing.{StandsFrom}
-use Rattle.dms_statelaws.specs.Stopping.{RollsTo, HoldsUpTo, RestoresTo, MendsTo, IsRebuiltFrom, chosen_point, chosen as number_chosen, last_of}
+use Rattle.dms_recovery.specs.Leaving.{RollsTo, HoldsUpTo, IsRebuiltFrom}
+use Rattle.dms_recovery.specs.Wanting.{chosen_point, chosen as number_chosen, last_of}
+use Rattle.dms_statelaws.specs.Stopping.{RestoresTo, MendsTo}
 use Rattle.dms_statelaws.specs.Statements.{HasLast, IsChosen, RebuiltState, MendedState, LeavesRestored, LeavesMended, EndsAs, DumpStands}
 use Rattle.dms_statelaws.specs.SiteLaws.{SameFiles, SaysBehind, RollbackLaw, RebuildLaw, RebuildsSince, RebuildsEnd, ReconstructLaw, MendsFrom, MendsSince, MendsEnd, OpensOver, WritesDump, HasDumped, DumpLaw}
 use Rattle.dms_statelaws.proofs.Trails.{writes_within, trail_same_files}
@@ -298,12 +301,12 @@ module _ {S : Type 0} (g : Ghosts S) (old : S) (o : Opened S) (opens : OpensOver
         (runs_weaken (opens.moments j k opens.opens.trail whole_then) (λ x r. all_stands j k (g.files old) whole_then n desc db s x.files (reopened_holds j k (g.files old) _ x r)))
         steps (λ y x now others. dumped_stands x.files (λ i not. others i not ∙ ap (λ (l : Files). l i) (runs_then.only y now)))
 
-    module _ (new : S) (tag audit : ℕ) (counts : List FileCount) (h : HasDumped g o new d tag audit counts) where
+    module _ (there : Files) (tag audit : ℕ) (counts : List FileCount) (h : HasDumped g o there d tag audit counts) where
       abbrev es : List Entry
       es = trail_entries j k v.files
 
-      abbrev there : Files
-      there = g.files new
+      stored : AllStored (stored_of v.files) counts
+      stored = dumping.all_stored v runs_then.runs read runs_then.nothing o.point o.counts.items runs_then.last runs_then.content_is runs_then.written (counts_in counts) h.counted
 
       held_then : HoldsSame (telling_of j k) v.files there
       held_then = dumped_same there h.others
@@ -317,10 +320,10 @@ module _ {S : Type 0} (g : Ghosts S) (old : S) (o : Opened S) (opens : OpensOver
       blocks_then = stored_same there v.files (λ i up. h.others i (λ is. omega (arith, is, up, few)))
 
       abbrev made : Dump
-      made = record { point = o.point; blocks = content_of (counts_in counts) (stored_of v.files) }
+      made = record { point = o.point; end = o.point; blocks = content_of (counts_in counts) (stored_of v.files) }
 
       dump_is : dumps_of there d ≡ made
-      dump_is = dumping.dump_there there d some few ∙ ap dump_of h.written ∙ (dump_is_read 1 (record { tag = tag; point = o.point; audit = audit; counts = counts; end = o.point }) (stored_of v.files) h.head h.stored).dump
+      dump_is = dumping.dump_there there d some few ∙ ap dump_of h.written ∙ (dump_is_read 1 (record { tag = tag; point = o.point; audit = audit; counts = counts; end = None }) (stored_of v.files) h.head stored).dump
 
       true_made : IsTrueDump made (live_of es) (stored_of v.files)
       true_made = record {
@@ -340,13 +343,18 @@ module _ {S : Type 0} (g : Ghosts S) (old : S) (o : Opened S) (opens : OpensOver
           ∙ ap (λ (l : List Entry). last_point (history_of l)) (sym same) ∙ st.last
           )
 
+      true_there : IsTrueDump (dumps_of there d) (live_of (trail_entries j k there)) (here (dumps_of there) (history_of (trail_entries j k there)) (stored_of there))
+      true_there =
+          subst (λ (l : List Entry). IsTrueDump (dumps_of there d) (live_of l) (here (dumps_of there) (history_of l) (stored_of there))) (sym entries_then)
+          (subst (λ (c : Stored). IsTrueDump (dumps_of there d) (live_of es) c) (sym counted_then) (subst (λ (q : Dump). IsTrueDump q (live_of es) (stored_of v.files)) (sym dump_is) true_made))
+
       pub dump_at : HasDumpAt there d n
       dump_at = record {
         has = record {
           some = some;
           few = few;
-          head = record { tag = tag; point = o.point; audit = audit; counts = counts; end = o.point };
-          read = ap dump_read h.written ∙ dumping.dump_reads 1 (record { tag = tag; point = o.point; audit = audit; counts = counts; end = o.point }) (stored_of v.files) refl h.head h.stored;
+          head = record { tag = tag; point = o.point; audit = audit; counts = counts; end = None };
+          read = ap dump_read h.written ∙ dumping.dump_reads 1 (record { tag = tag; point = o.point; audit = audit; counts = counts; end = None }) (stored_of v.files) refl h.head stored;
           entries = trail_entries j k there;
           finds = held_then.whole.found.finds;
           tag_is =
@@ -354,10 +362,11 @@ module _ {S : Type 0} (g : Ghosts S) (old : S) (o : Opened S) (opens : OpensOver
               let high = writes_within j k v.files opened_trail in
               h.tag_is ∙ sym (w.tags k (omega arith) w.order) ∙ ap tag_said (sym (h.others k (λ is. omega (arith, is, high.writes.order, high.high, some))))
               ∙ ap (λ i. tag_said (there i)) (sym held_then.whole.found.first_is);
-          is_true =
-              subst (λ (l : List Entry). IsTrueDump (dumps_of there d) (live_of l) (here (dumps_of there) (history_of l) (stored_of there))) (sym entries_then)
-              (subst (λ (c : Stored). IsTrueDump (dumps_of there d) (live_of es) c) (sym counted_then) (subst (λ (q : Dump). IsTrueDump q (live_of es) (stored_of v.files)) (sym dump_is) true_made));
+          is_copied =
+              true_dump_is_copied (live_of (trail_entries j k there)) (dumps_of there d) (here (dumps_of there) (history_of (trail_entries j k there)) (stored_of there))
+              (ap (λ (q : Dump). q.end) dump_is ∙ sym (ap (λ (q : Dump). q.point) dump_is)) true_there;
         };
+        is_true = true_there;
         point_is = ap (λ (q : Dump). q.point) dump_is ∙ point_is;
       }
 
@@ -365,5 +374,5 @@ pub dump_law : {S : Type 0} (g : Ghosts S) (old : S) (o : Opened S) (new : S) �
 dump_law g old o new read = record {
   stands = λ d some few opens steps n desc db s. dump_stands g old o opens read n desc db s d some few new steps;
   unopened = λ now since. reopens_stand g old now since;
-  ends = λ d tag audit counts some few opens h n desc db s. (dump_at g old o opens read n desc db s d some few new tag audit counts h, h.only);
+  ends = λ files d tag audit counts some few opens h n desc db s. dump_at g old o opens read n desc db s d some few files tag audit counts h;
 }

@@ -8,7 +8,7 @@ use Rattle.dms_history.specs.Points.{LivePoint, up_to, numbers_of, AllAbove, Ris
 use Rattle.dms_history.specs.Entries.{Entry}
 use Rattle.dms_running.specs.Points.{DescribedPoint, described_in}
 use Rattle.dms_run.specs.States.{HasLive}
-use Rattle.dms_statelaws.specs.Stopping.{described_to}
+use Rattle.dms_recovery.specs.Leaving.{described_to}
 
 abbrev pub numbers : List DescribedPoint → List ℕ
 numbers ps = map (λ (p : DescribedPoint). p.number) ps

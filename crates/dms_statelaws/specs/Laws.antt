@@ -10,9 +10,9 @@ use Rattle.dms_restore.specs.Finding.{IsFoundFrom}
 use Rattle.dms_restore.specs.Logging.{telling_of}
 use Rattle.dms_opening.specs.Openings.{IsTrailFound}
 use Rattle.dms_run.specs.State.{StateAt, StateOf}
-use Rattle.dms_statelaws.specs.Dumps.{SameBesideBlocks, SameBesideNamed, HasTrueDump}
+use Rattle.dms_statelaws.specs.Dumps.{SameBesideBlocks, SameBesideNamed, HasCopiedDump}
 use Rattle.dms_statelaws.specs.Standing.{StandsFrom, HoldsStill}
-use Rattle.dms_statelaws.specs.Stopping.{HoldsUpTo, IsRebuiltFrom, IsMendedFrom}
+use Rattle.dms_recovery.specs.Leaving.{HoldsUpTo, IsRebuiltFrom, IsMendedFrom}
 
 -- Files that stand for a state at a point hold a database, along the trail that is found in them.
 abbrev pub StatesAreWhole : Type 0
@@ -32,6 +32,6 @@ UntouchedStays = (total first : ℕ) (files : Files) (x : Left) → IsFoundFrom 
 -- A database with a state that differs from these files in structure files or in named blocks alone, and of which the dump is true, is one that may
 -- be rebuilt, or mended, from that dump.
 pub record StatesAreRebuilt : Type 0 where
-  pub rebuilt : (total first : ℕ) (files u : Files) (d n : ℕ) (desc : Described) (db : Db) → IsTrailFound total first files → SameBesideBlocks files u → HasTrueDump u d → StateAt u n desc db → IsRebuiltFrom total first files u d
-  pub mended : (total first : ℕ) (files u : Files) (d n : ℕ) (desc : Described) (db : Db) (named : ℕ → ℕ → Bool) → IsTrailFound total first files → SameBesideNamed named files u → HasTrueDump u d → StateAt u n desc db
+  pub rebuilt : (total first : ℕ) (files u : Files) (d n : ℕ) (desc : Described) (db : Db) → IsTrailFound total first files → SameBesideBlocks files u → HasCopiedDump u d → StateAt u n desc db → IsRebuiltFrom total first files u d
+  pub mended : (total first : ℕ) (files u : Files) (d n : ℕ) (desc : Described) (db : Db) (named : ℕ → ℕ → Bool) → IsTrailFound total first files → SameBesideNamed named files u → HasCopiedDump u d → StateAt u n desc db
       → IsMendedFrom total first files u d named

@@ -1,13 +1,14 @@
 -- Laws: what calls on a site leave, as states that its files stand for.
-use Rattle.std.specs.Prelude.{ℕ, ◌+◌, ◌≤◌, ◌≡◌, ◌≢◌, List, Option, Some}
+use Rattle.std.specs.Prelude.{ℕ, ◌+◌, ◌≤◌, ◌≡◌, ◌≢◌, List, Option, Some, None}
 use Rattle.dms_desc.specs.Shape.{Described}
+use Rattle.dms_model.specs.Db.{Db}
 use Rattle.dms_moments.specs.Moments.{Runs, Steps}
-use Rattle.dms_site.specs.Files.{Files, Left, Only, stored_of}
+use Rattle.dms_site.specs.Files.{Files, Left, Only}
 use Rattle.dms_site.specs.declared.site.Site.{Ghosts}
 use Rattle.dms_history.specs.Entries.{counts_in}
 use Rattle.dms_history.specs.declared.event.FileCount.{FileCount}
 use Rattle.dms_audfile.specs.TrailEntries.{trail_entries}
-use Rattle.dms_dump.specs.Body.{AllStored, dump_made}
+use Rattle.dms_dump.specs.Body.{dump_made}
 use Rattle.dms_dump.specs.Head.{IsHead}
 use Rattle.dms_running.specs.Standing.{IsWhole}
 use Rattle.dms_restore.specs.Counts.{count_of}
@@ -17,8 +18,12 @@ use Rattle.dms_opening.specs.declared.opened.Opened.{Opened}
 use Rattle.dms_statements.specs.declared.statement.NamedRow.{NamedRow}
 use Rattle.dms_recovery.specs.Reconstructing.{IsDescribedBy}
 use Rattle.dms_recovery.specs.Rows.{named_blocks}
-use Rattle.dms_statelaws.specs.Statements.{DumpStands, DumpEnds, RollbackStands, RollbackEnds, RebuildStands, RebuildEnds, ReconstructStands, ReconstructEnds}
-use Rattle.dms_statelaws.specs.Stopping.{HoldsUpTo, RollsTo, RestoresTo, MendsTo, IsRebuiltFrom, IsMendedFrom, last_of, chosen_point}
+use Rattle.dms_run.specs.State.{StateOf}
+use Rattle.dms_statelaws.specs.Dumps.{HasDumpAt}
+use Rattle.dms_statelaws.specs.Statements.{DumpStands, RollbackStands, RollbackEnds, RebuildStands, RebuildEnds, ReconstructStands, ReconstructEnds}
+use Rattle.dms_recovery.specs.Leaving.{HoldsUpTo, RollsTo, IsRebuiltFrom, IsMendedFrom}
+use Rattle.dms_recovery.specs.Wanting.{last_of, chosen_point}
+use Rattle.dms_statelaws.specs.Stopping.{RestoresTo, MendsTo}
 
 -- a stop leaves all files but this one as they were
 abbrev pub KeepsOthers : ℕ → Left → Left → Type 0
@@ -28,7 +33,7 @@ abbrev pub SameFiles : Left → Left → Type 0
 SameFiles old new = new.files ≡ old.files
 
 -- The trail of these files is found, and n is their last point, with this description. That database differs from them in the blocks of the named rows
--- alone, and dump d of it is a true one.
+-- alone, and dump d was copied from it.
 pub record MendsFrom (files u : Files) (d : ℕ) (rows : List NamedRow) (total first n : ℕ) (desc : Described) : Type 0 where
   pub trail : IsTrailFound total first files
   pub last : last_of total first files ≡ Some n
@@ -95,20 +100,19 @@ module _ {S : Type 0} (g : Ghosts S) where
   abbrev pub WritesDump : Opened S → S → ℕ → Type 0
   WritesDump o new d = Steps (KeepsOthers (20000 + d)) (g.clock o.log.site) (g.clock new)
 
-  -- It is the dump of what was opened, with the tag of its trail and these counts, and a stop leaves no other files.
-  pub record HasDumped (o : Opened S) (new : S) (d tag audit : ℕ) (counts : List FileCount) : Type 0 where
-    pub head : IsHead (record { tag = tag; point = o.point; audit = audit; counts = counts; end = o.point })
+  -- These files are those of what was opened, but for the file of dump d: it is its dump, with the tag of its trail and these counts.
+  pub record HasDumped (o : Opened S) (files : Files) (d tag audit : ℕ) (counts : List FileCount) : Type 0 where
+    pub head : IsHead (record { tag = tag; point = o.point; audit = audit; counts = counts; end = None })
     pub tag_is : tag ≡ o.log.end.tag
     pub counted : (f : ℕ) → counts_in counts f ≡ count_of o.counts.items f
-    pub stored : AllStored (stored_of (g.files o.log.site)) counts
-    pub written : g.files new (20000 + d) ≡ dump_made 1 tag o.point audit counts (g.files o.log.site)
-    pub others : (f : ℕ) → f ≢ 20000 + d → g.files new f ≡ g.files o.log.site f
-    pub only : Only (g.files new) (g.clock new)
+    pub written : files (20000 + d) ≡ dump_made 1 tag o.point audit counts (g.files o.log.site)
+    pub others : (f : ℕ) → f ≢ 20000 + d → files f ≡ g.files o.log.site f
 
   pub record DumpLaw (old : S) (o : Opened S) (new : S) : Type 0 where
     -- where it was opened and the dump's file alone was written, the files stand for the state of entry at every moment
     pub stands : (d : ℕ) → 1 ≤ d → d ≤ 9999 → OpensOver old o → WritesDump o new d → DumpStands g old new
     -- where the opening failed, too
     pub unopened : (now : S) → ReopensSince g old now → DumpStands g old now
-    -- and a dump that was written whole is true
-    pub ends : (d tag audit : ℕ) (counts : List FileCount) → 1 ≤ d → d ≤ 9999 → OpensOver old o → HasDumped o new d tag audit counts → DumpEnds g old new d
+    -- and in files in which the dump stands whole it is true
+    pub ends : (files : Files) (d tag audit : ℕ) (counts : List FileCount) → 1 ≤ d → d ≤ 9999 → OpensOver old o → HasDumped o files d tag audit counts
+        → (n : ℕ) (desc : Described) (db : Db) → StateOf (g.files old) n desc db → HasDumpAt files d n

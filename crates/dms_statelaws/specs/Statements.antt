@@ -12,7 +12,7 @@ use Rattle.dms_audfile.specs.ScanLaws.{IsFoundWith}
 use Rattle.dms_statements.specs.declared.statement.NamedRow.{NamedRow}
 use Rattle.dms_recovery.specs.Rows.{named_blocks}
 use Rattle.dms_run.specs.State.{StateAt, StateOf}
-use Rattle.dms_statelaws.specs.Dumps.{SameBesideBlocks, SameBesideNamed, HasTrueDump, HasDumpAt}
+use Rattle.dms_statelaws.specs.Dumps.{SameBesideBlocks, SameBesideNamed, HasCopiedDump, HasDumpAt}
 use Rattle.dms_statelaws.specs.Standing.{StandsFrom, HoldsStill}
 use Rattle.dms_statelaws.specs.Pending.{GoesFirst}
 
@@ -40,17 +40,17 @@ LeavesRestored files u m desc db x = HoldsStill files x.files ⊎ StandsFrom u m
 abbrev pub LeavesMended : (ℕ → ℕ → Bool) → Files → Files → ℕ → Described → Db → Left → Type 0
 LeavesMended named files u n desc db x = LeavesRestored files u n desc db x ⊎ GoesFirst named u n desc db x.files
 
--- A database with a state at the chosen point, of which dump d is true, and that differs from the files in structure files alone.
+-- A database with a state at the chosen point, from which dump d was copied, and that differs from the files in structure files alone.
 pub record RebuiltState (files u : Files) (d : ℕ) (chosen : Option ℕ) (m : ℕ) (desc : Described) (db : Db) : Type 0 where
   pub same : SameBesideBlocks files u
-  pub has : HasTrueDump u d
+  pub has : HasCopiedDump u d
   pub is_chosen : IsChosen u chosen m
   pub state : StateAt u m desc db
 
--- A database with a state, of which dump d is true, and that differs from the files in the blocks of the named rows alone; a restore may be pending over it.
+-- A database with a state, from which dump d was copied, and that differs from the files in the blocks of the named rows alone; a restore may be pending over it.
 pub record MendedState (files u : Files) (d : ℕ) (rows : List NamedRow) (n : ℕ) (desc : Described) (db : Db) : Type 0 where
   pub same : SameBesideNamed (named_blocks desc.structures rows) files u
-  pub has : HasTrueDump u d
+  pub has : HasCopiedDump u d
   pub state : StateOf u n desc db
 
 module _ {S : Type 0} (g : Ghosts S) where

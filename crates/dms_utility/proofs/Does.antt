@@ -1,5 +1,5 @@
 -- What `utility` does, from what reading its input and carrying out its statement do.
-use Rattle.std.proofs.Common.{ℕ, ◌≡◌, ◌∙◌, inl, inr, List, Option, Some, refl, sym, ap, subst}
+use Rattle.std.proofs.Common.{ℕ, ◌≡◌, ◌∙◌, inl, inr, List, Option, Some, arith, refl, sym, ap, subst}
 use Rattle.std.specs.declared.result.Result.{Result}
 use Rattle.std.specs.declared.result.Result.TheVariants as answer
 use Rattle.dms_moments.specs.MomentLaws.{runs_none}
@@ -15,12 +15,13 @@ use Rattle.dms_status.specs.declared.status.LimitKind.TheVariants.{AuditFile}
 use Rattle.dms_status.specs.declared.status.NeedFault.{NeedFault}
 use Rattle.dms_status.specs.declared.status.NeedFault.TheVariants.{NoDescription, AuditMissing, AuditUnsealed, AuditForeign, NoSuchPoint, Voided, DumpMissing, DumpUnsealed, DumpForeign, DumpLater, NoSuchRow}
 use Rattle.dms_status.specs.declared.status.Status.{Status}
-use Rattle.dms_status.specs.declared.status.Status.TheVariants.{Ok, BadWords, SchemaRefused, NoDatabase, Needed, InputFault, Memory, Limit, Damaged, SayFault, DiskFault, Exists, BadStatement}
-use Rattle.dms_runtop.specs.Full.{HasNoRoom}
+use Rattle.dms_status.specs.declared.status.Status.TheVariants.{Ok, BadWords, SchemaRefused, NoDatabase, Needed, InputFault, Memory, Limit, Damaged, SayFault, DiskFault, Exists, BadStatement, Reorganization, BadStream, Diverged, Flaw}
+use Rattle.dms_dumping.specs.Filling.{FillsTrail}
 use Rattle.dms_runtop.specs.Statuses.{IsOfOpening, IsRefusal}
 use Rattle.dms_dumping.specs.DumpDoes.{DumpDoes}
-use Rattle.dms_dumping.specs.Statuses.{IsDumpRefusal, IsMade, IsOfDump, IsOfReading}
-use Rattle.dms_dumping.specs.Writing.{SaysDone}
+use Rattle.dms_dumping.specs.Preparing.{IsUndone}
+use Rattle.dms_dumping.specs.Statuses.{IsDumpRefusal, IsOfDump, IsOfReading}
+use Rattle.dms_status.specs.Saying.{IsSpoken, SaysLine}
 use Rattle.dms_goback.specs.RebuildDoes.{RebuildDoes}
 use Rattle.dms_goback.specs.ReconstructDoes.{IsOfReconstruct, ReconstructDoes}
 use Rattle.dms_goback.specs.Restores.{IsOfRestore}
@@ -47,6 +48,10 @@ by_text P input memory bad SayFault p = absurd p
 by_text P input memory bad DiskFault p = absurd p
 by_text P input memory bad Exists p = absurd p
 by_text P input memory bad (BadStatement q) p = bad q
+by_text P input memory bad (Reorganization why) p = absurd p
+by_text P input memory bad (BadStream place) p = absurd p
+by_text P input memory bad (Diverged file block) p = absurd p
+by_text P input memory bad (Flaw flaw) p = absurd p
 
 -- no other one is one of them
 text_no : (s t : Status) → (IsOfText t → ⊥) → IsOfText s → s ≡ t → ⊥
@@ -61,14 +66,14 @@ text_no_disk s = text_no s DiskFault (λ q. q)
 pub text_no_say : (s : Status) → IsOfText s → s ≡ SayFault → ⊥
 text_no_say s = text_no s SayFault (λ q. q)
 
-text_room : {S : Type 0} (g : Ghosts S) (old new : S) (s : Status) → IsOfText s → HasNoRoom g old new s
+text_room : {S : Type 0} (g : Ghosts S) (old new : S) (s : Status) → IsOfText s → FillsTrail g old new s
 text_room g old new s p k is tells = absurd (text_no s (Limit (AuditFile k)) (λ q. q) p is)
 
-text_says : (line said : List ℕ) (s : Status) → IsOfText s → SaysDone s line said said
-text_says line said = by_text (λ s. SaysDone s line said said) refl refl (λ q. refl)
+text_says : (line said : List ℕ) (s : Status) → IsOfText s → SaysLine s line said said
+text_says line said = by_text (λ s. SaysLine s line said said) refl refl (λ q. refl)
 
-text_unmade : (s : Status) → IsOfText s → IsMade s → ⊥
-text_unmade = by_text (λ s. IsMade s → ⊥) (λ r. r) (λ r. r) (λ q r. r)
+text_unmade : (s : Status) → IsOfText s → IsSpoken s → ⊥
+text_unmade = by_text (λ s. IsSpoken s → ⊥) (λ r. r) (λ r. r) (λ q r. r)
 
 -- the statuses of a statement are those of `utility`
 
@@ -99,6 +104,10 @@ dump_of_utility SayFault p = tt
 dump_of_utility DiskFault p = tt
 dump_of_utility Exists p = tt
 dump_of_utility (BadStatement q) p = absurd p
+dump_of_utility (Reorganization why) p = absurd p
+dump_of_utility (BadStream place) p = absurd p
+dump_of_utility (Diverged file block) p = absurd p
+dump_of_utility (Flaw flaw) p = absurd p
 
 pub restore_of_utility : (s : Status) → IsOfRestore s → IsOfUtility s
 restore_of_utility Ok p = tt
@@ -114,6 +123,10 @@ restore_of_utility SayFault p = tt
 restore_of_utility DiskFault p = tt
 restore_of_utility Exists p = absurd p
 restore_of_utility (BadStatement q) p = absurd p
+restore_of_utility (Reorganization why) p = absurd p
+restore_of_utility (BadStream place) p = absurd p
+restore_of_utility (Diverged file block) p = absurd p
+restore_of_utility (Flaw flaw) p = absurd p
 
 pub rows_of_utility : (s : Status) → IsOfReconstruct s → IsOfUtility s
 rows_of_utility s (inl of) = restore_of_utility s of
@@ -152,18 +165,21 @@ module _ {S : Type 0} (g : Ghosts S) (old : S) (status : Status) (text : IsOfTex
   of_text : (P : Status → Type 0) → P InputFault → P Memory → P status
   of_text P input memory = by_text (λ s. ((p : ℕ) → s ≡ BadStatement p → ⊥) → P s) (λ n. input) (λ n. memory) (λ q n. absurd (n q refl)) status text not
 
+  none_done : IsUndone g old old status
+  none_done = record { unmade = text_unmade status text; files = refl; moments = record { follows = λ x now. (x, now, refl); runs = runs_none (g.clock old) _ } }
+
   no_dump : (d : ℕ) → DumpDoes g d old old status
   no_dump d = record {
     statuses = of_text IsOfDump tt tt;
     refused = λ is. absurd (of_text (λ s. IsDumpRefusal s → ⊥) (λ r. r) (λ r. r) is);
-    complete = λ tells total first openable shut none is. of_text (λ s. IsDumpRefusal s → ⊥) (λ r. r) (λ r. r) is;
+    opens = λ tells. inr none_done;
+    complete = λ tells total first openable shut is. of_text (λ s. IsDumpRefusal s → ⊥) (λ r. r) (λ r. r) is;
     full = text_room g old old status text;
-    trail = λ tells s is. record { kept = λ total first found. kept_none total first (g.files old); left = λ total first found. left_none total first (g.clock old) };
+    trail = λ tells s is. record { kept = λ total first found. kept_none total first (g.files old); left = λ total first found. left_none total first (g.clock old); few = λ total first found whole. omega arith };
     beside = λ structures has. record { read = λ tells f is not. refl; left = λ tells. record { follows = λ x now. (x, now, λ f is not. refl); runs = runs_none (g.clock old) _ } };
     says = record { point = 0; line = λ tells. text_says _ _ status text; is = λ made. absurd (text_unmade status text made) };
     every_moment = λ tells n desc db s. runs_none (g.clock old) _;
-    dump = λ tells. runs_none (g.clock old) _;
-    dump_there = λ tells s is. runs_none (g.clock old) _;
+    dump = λ tells s is. runs_none (g.clock old) _;
     at_ok = λ made. absurd (text_unmade status text made);
   }
 
@@ -171,6 +187,7 @@ module _ {S : Type 0} (g : Ghosts S) (old : S) (status : Status) (text : IsOfTex
   no_rollback n = record {
     statuses = of_text IsOfRestore tt tt;
     refused = λ tells is. absurd (of_text (λ s. IsRefusal s → ⊥) (λ r. r) (λ r. r) is);
+    opens = λ tells. inr none_done;
     complete = λ tells total first can is. of_text (λ s. IsRefusal s → ⊥) (λ r. r) (λ r. r) is;
     full = text_room g old old status text;
     trail = λ tells. trail_none g old;
@@ -184,6 +201,7 @@ module _ {S : Type 0} (g : Ghosts S) (old : S) (status : Status) (text : IsOfTex
   no_rebuild d chosen = record {
     statuses = of_text IsOfRestore tt tt;
     refused = λ tells is. absurd (of_text (λ s. IsRefusal s → ⊥) (λ r. r) (λ r. r) is);
+    opens = λ tells. inr none_done;
     complete = λ tells total first can is. of_text (λ s. IsRefusal s → ⊥) (λ r. r) (λ r. r) is;
     full = text_room g old old status text;
     trail = λ tells. trail_none g old;
@@ -197,6 +215,7 @@ module _ {S : Type 0} (g : Ghosts S) (old : S) (status : Status) (text : IsOfTex
   no_reconstruct d rows = record {
     statuses = inl (of_text IsOfRestore tt tt);
     refused = λ tells is. absurd (of_text (λ s. IsRefusal s → ⊥) (λ r. r) (λ r. r) is);
+    opens = λ tells. inr none_done;
     complete = λ tells total first can is. of_text (λ s. IsRefusal s → ⊥) (λ r. r) (λ r. r) is;
     full = text_room g old old status text;
     trail = λ tells. trail_none g old;

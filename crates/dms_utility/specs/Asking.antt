@@ -5,7 +5,7 @@ use Rattle.std.specs.declared.result.Result.TheVariants as answer
 use Rattle.dms_statements.specs.Statements.{statement_of}
 use Rattle.dms_statements.specs.declared.statement.Statement.{Statement}
 use Rattle.dms_status.specs.declared.status.Status.{Status}
-use Rattle.dms_status.specs.declared.status.Status.TheVariants.{Ok, BadWords, SchemaRefused, NoDatabase, Needed, InputFault, Memory, Limit, Damaged, SayFault, DiskFault, Exists, BadStatement}
+use Rattle.dms_status.specs.declared.status.Status.TheVariants.{Ok, BadWords, SchemaRefused, NoDatabase, Needed, InputFault, Memory, Limit, Damaged, SayFault, DiskFault, Exists, BadStatement, Reorganization, BadStream, Diverged, Flaw}
 
 abbrev pub bad_place : Result Statement ℕ → Option ℕ
 bad_place (answer.Ok s) = None
@@ -34,6 +34,10 @@ IsOfText SayFault = ⊥
 IsOfText DiskFault = ⊥
 IsOfText Exists = ⊥
 IsOfText (BadStatement p) = ⊤
+IsOfText (Reorganization why) = ⊥
+IsOfText (BadStream place) = ⊥
+IsOfText (Diverged file block) = ⊥
+IsOfText (Flaw flaw) = ⊥
 
 -- Status 12 comes only where the text is no statement, with its first bad place; what comes behind reading it, where it is one.
 pub record JudgesText (left : Option (List ℕ)) (status : Status) : Type 0 where

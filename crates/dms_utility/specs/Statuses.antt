@@ -3,7 +3,7 @@ use Rattle.std.specs.Prelude.{⊤}
 use Rattle.dms_status.specs.declared.status.NeedFault.{NeedFault}
 use Rattle.dms_status.specs.declared.status.NeedFault.TheVariants.{NoDescription, AuditMissing, AuditUnsealed, AuditForeign, NoSuchPoint, Voided, DumpMissing, DumpUnsealed, DumpForeign, DumpLater, NoSuchRow}
 use Rattle.dms_status.specs.declared.status.Status.{Status}
-use Rattle.dms_status.specs.declared.status.Status.TheVariants.{Ok, BadWords, SchemaRefused, NoDatabase, Needed, InputFault, Memory, Limit, Damaged, SayFault, DiskFault, Exists, BadStatement}
+use Rattle.dms_status.specs.declared.status.Status.TheVariants.{Ok, BadWords, SchemaRefused, NoDatabase, Needed, InputFault, Memory, Limit, Damaged, SayFault, DiskFault, Exists, BadStatement, Reorganization, BadStream, Diverged, Flaw}
 use Rattle.dms_dumping.specs.Statuses.{IsOfAudit}
 
 -- what a statement needs and doesn't find: what an opening needs, or a row
@@ -35,3 +35,7 @@ IsOfUtility SayFault = ⊤
 IsOfUtility DiskFault = ⊤
 IsOfUtility Exists = ⊤
 IsOfUtility (BadStatement p) = ⊤
+IsOfUtility (Reorganization why) = ⊥
+IsOfUtility (BadStream place) = ⊥
+IsOfUtility (Diverged file block) = ⊥
+IsOfUtility (Flaw flaw) = ⊥

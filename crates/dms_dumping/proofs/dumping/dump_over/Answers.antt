@@ -1,6 +1,6 @@
+use Rattle.std.proofs.Common.{inl, inr}
 use Rattle.dms_statelaws.proofs.Statements.{reopens_stand}
-use Rattle.dms_runtop.proofs.Grows.{keeps_opening}
-use Rattle.dms_dumping.proofs.Dumped.{beside_alone, beside_on, dump_alone, dump_on, dump_with_it, ends_on, keeps_on, point_is, stands_on}
+use Rattle.dms_dumping.proofs.Dumped.{beside_alone, beside_on, dump_alone, dump_on, ends_on, grows_on, point_is, stands_on}
 use Rattle.dms_dumping.proofs.Ended.{counted_from, of_preparing, of_ready, preparing_no_say, preparing_unmade, preparing_unread, ready_room, ready_unread, ready_unrefused, says_as, unmade_says}
 use Rattle.dms_dumping.proofs.dumping.dump_over.Goals as goal
 
@@ -19,9 +19,10 @@ returns-in-Ok-clause-does g c =
     record {
       statuses = of_ready status w.statuses;
       refused = λ is. absurd (ready_unrefused status w.statuses is);
-      complete = λ tells total first openable shut none is. ready_unrefused status w.statuses is;
+      opens = λ tells. inl (p.can tells);
+      complete = λ tells total first openable shut is. ready_unrefused status w.statuses is;
       full = ready_room g.S.Site old new status w.statuses;
-      trail = λ tells s is. keeps_on g.S.Site d some few old o counts new (p.opens tells) (p.runs tells) (g.met.S.Site.may_stay o.log.site tells) s is tells (p.grows tells) (w.others tells) (w.moments tells);
+      trail = λ tells s is. grows_on g.S.Site d some few old o counts new (p.opens tells) (p.runs tells) (g.met.S.Site.may_stay o.log.site tells) s is tells (p.grows tells) (w.others tells) (w.moments tells);
       beside = beside_on g.S.Site d some few old o counts new p.beside w.others w.moments;
       says = record {
         point = o.point;
@@ -29,10 +30,9 @@ returns-in-Ok-clause-does g c =
         is = λ made tells s is. point_is g.S.Site d some few old o counts new (p.opens tells) (p.runs tells) c.states_law.ensures s is;
       };
       every_moment = λ tells. stands_on g.S.Site d some few old o counts new (p.opens tells) (p.runs tells) (g.met.S.Site.may_stay o.log.site tells) (p.moments tells) (w.moments tells);
-      dump = λ tells. dump_on g.S.Site d some few old o counts new p.beside (w.others tells) (w.moments tells);
-      dump_there = λ tells s is. dump_with_it g.S.Site d some few old o counts new (p.opens tells) (p.runs tells) s is p.beside (w.moments tells);
+      dump = λ tells s is. dump_on g.S.Site d some few old o counts new (p.opens tells) (p.runs tells) (g.met.S.Site.may_stay o.log.site tells) (p.moments tells) w.head p.counts (g.met.S.Site.now_said o.log.site) p.said p.beside s is (w.moments tells);
       at_ok = λ made tells.
-          ends_on g.S.Site d some few old o counts new (p.opens tells) (p.runs tells) (g.met.S.Site.may_stay o.log.site tells) (p.moments tells) w.head p.counts (w.whole made tells) (w.written made tells) (w.others tells) (w.durable made tells);
+          ends_on g.S.Site d some few old o counts new (p.opens tells) (p.runs tells) (g.met.S.Site.may_stay o.log.site tells) (p.moments tells) w.head p.counts (w.written made tells) (w.others tells) (w.durable made tells);
     }
 
 pub returns-in-Err-clause-does : goal.returns-in-Err-clause-does
@@ -47,9 +47,13 @@ returns-in-Err-clause-does g c =
     record {
       statuses = of_preparing status p.statuses;
       refused = p.refused;
+      opens = λ tells. elim (p.can_then tells) [
+        | inl can ↦ inl can
+        | inr r ↦ inr (record { unmade = preparing_unmade status p.statuses; files = r.files tells; moments = r.moments })
+      ];
       complete = p.complete;
       full = p.full;
-      trail = λ tells s is. keeps_opening g.S.Site old new (p.grows_then tells);
+      trail = λ tells s is. p.grows_then tells;
       beside = beside_alone g.S.Site d some few old new p.beside_then;
       says = record {
         point = 0;
@@ -57,8 +61,7 @@ returns-in-Err-clause-does g c =
         is = λ made. absurd (preparing_unmade status p.statuses made);
       };
       every_moment = λ tells. reopens_stand g.S.Site old new (p.stopped tells);
-      dump = λ tells. dump_alone g.S.Site d some few old new 0 (λ x. g.S.Site.files new) p.beside_then;
-      dump_there = λ tells s is. dump_alone g.S.Site d some few old new 0 (λ x. x.files) p.beside_then;
+      dump = λ tells s is. dump_alone g.S.Site d some few old new p.beside_then (p.stopped tells) s is;
       at_ok = λ made. absurd (preparing_unmade status p.statuses made);
     }
 

@@ -2,7 +2,9 @@ use Rattle.std.proofs.Common.{◌≡◌, ◌∙◌, sym, subst}
 use Rattle.dms_site.specs.Files.{Files, Only}
 use Rattle.dms_opening.specs.Openings.{IsTrailFound}
 use Rattle.dms_opening.specs.Plans.{Plans}
-use Rattle.dms_dumping.specs.Refusing.{JudgesDump, StaysRead}
+use Rattle.dms_dumping.specs.Refusing.{IsOpenDump, JudgesDump}
+use Rattle.dms_opening.specs.Short.{NoneShort}
+use Rattle.dms_opening.specs.Whole.{StaysRead}
 use Rattle.dms_dumping.proofs.Looks.{looked_still, reads_stay, stays_on, judged_refuses, not_full, judged_room}
 use Rattle.dms_dumping.proofs.looking.look_to_dump.Goals as goal
 
@@ -35,3 +37,13 @@ returns-in-Err-clause-room g c = λ tells is. not_full c.in-Err.fault (c.in-Err.
 
 pub returns-in-Err-judge_dump-clause-room : goal.returns-in-Err-judge_dump-clause-room
 returns-in-Err-judge_dump-clause-room g c = λ tells is. judged_room c.args.dump (g.S.Site.files c.in-Ok.planned.log.site) c.in-Ok.planned.plan c.in-Err-judge_dump.refusal (c.in-Err-judge_dump.ensures.refused tells) is
+
+pub returns-in-Ok-judge_dump-clause-can : goal.returns-in-Ok-judge_dump-clause-can
+returns-in-Ok-judge_dump-clause-can g c = λ tells.
+    let l = c.in-Ok.ensures in
+    let p = c.in-Ok.planned in
+    record {
+      opens = record { total = p.log.end.total; first = p.log.first; trail = l.trail tells; plan = p.plan; plans = l.plans tells };
+      shut = subst (λ (x : Files). IsOpenDump c.args.dump x → ⊥) (l.files tells) (c.in-Ok-judge_dump.ensures.shut tells);
+      none = subst (λ (x : Files). NoneShort x p.plan.counts.items p.plan.table) (l.files tells) (c.in-Ok-judge_dump.ensures.none tells);
+    }

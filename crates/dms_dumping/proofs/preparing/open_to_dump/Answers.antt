@@ -1,9 +1,9 @@
-use Rattle.std.proofs.Common.{◌≡◌, ◌∙◌, sym, subst}
+use Rattle.std.proofs.Common.{◌≡◌, ◌∙◌, inl, inr, sym, subst}
 use Rattle.dms_site.specs.Files.{Files}
 use Rattle.dms_opening.specs.Openings.{HasFullTrail, OpeningGrows, ReopensSince}
 use Rattle.dms_opening.proofs.Growths.{grows_none}
 use Rattle.dms_opening.proofs.Opens.{may_refuse, since_none}
-use Rattle.dms_runtop.proofs.Fulls.{full_opening}
+use Rattle.dms_dumping.proofs.Fills.{fills_opening}
 use Rattle.dms_runtop.proofs.Refused.{counts_open}
 use Rattle.dms_dumping.proofs.Behind.{since_back, grows_back, full_refused, never_refused, counted_back}
 use Rattle.dms_dumping.proofs.preparing.open_to_dump.Goals as goal
@@ -46,9 +46,18 @@ returns-in-Err-open-clause-grows_then g c = λ tells.
 
 pub returns-in-Err-open-clause-full : goal.returns-in-Err-open-clause-full
 returns-in-Err-open-clause-full g c =
-    full_opening g.S.Site c.args.site c.in-Err-open.site c.in-Err-open.fault c.status_of_open.result c.status_of_open.ensures
+    fills_opening g.S.Site c.args.site c.in-Err-open.site c.in-Err-open.fault c.status_of_open.result c.status_of_open.ensures
     (λ tells. may_refuse (g.S.Site.files c.args.site) c.in-Err-open.fault (c.in-Err-open.ensures.only tells (c.in-Ok.ensures.looked tells)))
     (λ tells is. subst (λ (f : Files). HasFullTrail f (g.S.Site.files c.in-Err-open.site)) (c.in-Ok.ensures.stays.files tells) (c.in-Err-open.ensures.full tells (c.in-Ok.ensures.looked tells) is))
 
 pub returns-in-Err-open-clause-disk : goal.returns-in-Err-open-clause-disk
 returns-in-Err-open-clause-disk g c = counted_back _ _ _ _ _ c.status_of_open.ensures c.in-Ok.ensures.clean (counts_open c.in-Err-open.fault _ _ c.in-Err-open.ensures.disk)
+
+pub returns-in-Err-clause-can_then : goal.returns-in-Err-clause-can_then
+returns-in-Err-clause-can_then g c = λ tells. inr c.in-Err.ensures.stays_then
+
+pub returns-in-Err-dumped_text-clause-can_then : goal.returns-in-Err-dumped_text-clause-can_then
+returns-in-Err-dumped_text-clause-can_then g c = λ tells. inl (c.in-Ok.ensures.can tells)
+
+pub returns-in-Err-open-clause-can_then : goal.returns-in-Err-open-clause-can_then
+returns-in-Err-open-clause-can_then g c = λ tells. inl (c.in-Ok.ensures.can tells)

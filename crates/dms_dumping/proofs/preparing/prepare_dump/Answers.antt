@@ -1,4 +1,4 @@
-use Rattle.std.proofs.Common.{refl, sym, subst}
+use Rattle.std.proofs.Common.{inl, inr, refl, sym, subst}
 use Rattle.dms_opening.specs.Openings.{OpeningGrows}
 use Rattle.dms_runtop.specs.Guard.{StaysBeside}
 use Rattle.dms_runtop.specs.GuardLaws.{guarded_beside}
@@ -23,3 +23,15 @@ returns-then-refused-gt0-clause-beside_then g c = guarded_beside 0 c.args.site _
 
 pub returns-else-refused-gt0-clause-beside_then : goal.returns-else-refused-gt0-clause-beside_then
 returns-else-refused-gt0-clause-beside_then g c = guarded_beside 0 c.args.site _ _ refl c.in-Err.ensures.same_then
+
+pub returns-then-refused-gt0-clause-can_then : goal.returns-then-refused-gt0-clause-can_then
+returns-then-refused-gt0-clause-can_then g c = λ tells. elim (c.in-Err.ensures.can_then tells) [
+  | inl can ↦ inl can
+  | inr r ↦ inr (record { files = r.files; moments = r.moments; said = r.said; say_faults = r.say_faults; same = r.same.same })
+]
+
+pub returns-else-refused-gt0-clause-can_then : goal.returns-else-refused-gt0-clause-can_then
+returns-else-refused-gt0-clause-can_then g c = λ tells. elim (c.in-Err.ensures.can_then tells) [
+  | inl can ↦ inl can
+  | inr r ↦ inr (record { files = r.files; moments = r.moments; said = r.said; say_faults = r.say_faults; same = r.same.same })
+]

@@ -1,5 +1,4 @@
 use Rattle.dms_goback.proofs.Mending.{complete_rows, counts_rows, full_rows, mends_end, mends_since, of_mending, refused_rows}
-use Rattle.dms_goback.proofs.Restored.{keeps_trail}
 use Rattle.dms_goback.proofs.reconstructing.reconstruct_within.Goals as goal
 
 pub returns-in-Ok-clause-moments : goal.returns-in-Ok-clause-moments
@@ -9,13 +8,13 @@ pub returns-in-Ok-clause-ends : goal.returns-in-Ok-clause-ends
 returns-in-Ok-clause-ends g c = mends_end g.S.Site c.args.site c.in-Ok.recovered.site c.args.dump c.args.rows.now c.in-Ok.ensures.ends
 
 pub returns-in-Ok-clause-trail : goal.returns-in-Ok-clause-trail
-returns-in-Ok-clause-trail g c = λ tells. keeps_trail g.S.Site c.args.site c.in-Ok.recovered.site (c.in-Ok.ensures.grows tells)
+returns-in-Ok-clause-trail g c = λ tells. c.in-Ok.ensures.grows tells
 
 pub returns-in-Err-clause-stopped : goal.returns-in-Err-clause-stopped
 returns-in-Err-clause-stopped g c = mends_since g.S.Site c.args.site c.in-Err.site c.args.dump c.args.rows.now c.in-Err.ensures.stopped
 
 pub returns-in-Err-clause-trail_then : goal.returns-in-Err-clause-trail_then
-returns-in-Err-clause-trail_then g c = λ tells. keeps_trail g.S.Site c.args.site c.in-Err.site (c.in-Err.ensures.grows_then tells)
+returns-in-Err-clause-trail_then g c = λ tells. c.in-Err.ensures.grows_then tells
 
 pub returns-in-Err-clause-refused : goal.returns-in-Err-clause-refused
 returns-in-Err-clause-refused g c =

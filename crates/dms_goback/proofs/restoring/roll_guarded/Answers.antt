@@ -1,18 +1,18 @@
-use Rattle.std.proofs.Common.{IsTrue, refl, sym, subst}
-use Rattle.dms_runtop.specs.Command.{KeepsTrail}
+use Rattle.std.proofs.Common.{inl, inr, IsTrue, refl, sym, subst}
+use Rattle.dms_recovery.specs.Refusing.{RecoveryGrows}
 use Rattle.dms_statelaws.specs.SiteLaws.{RollsEnd}
 use Rattle.dms_runtop.specs.Guard.{StaysBeside}
 use Rattle.dms_runtop.specs.GuardLaws.{guarded_beside}
 use Rattle.dms_goback.proofs.restoring.roll_guarded.Goals as goal
 
 pub returns-in-Ok-clause-trail : goal.returns-in-Ok-clause-trail
-returns-in-Ok-clause-trail g c = λ tells. let r = c.in-Ok.ensures.trail tells in subst (λ x. KeepsTrail g.S.Site c.args.site x) (sym c.bared.ensures.site) (record { kept = r.kept; left = r.left })
+returns-in-Ok-clause-trail g c = λ tells. let r = c.in-Ok.ensures.trail tells in subst (λ x. RecoveryGrows g.S.Site c.args.site x) (sym c.bared.ensures.site) (record { kept = r.kept; left = r.left; few = r.few })
 
 pub returns-then-refused-gt0-clause-trail_then : goal.returns-then-refused-gt0-clause-trail_then
-returns-then-refused-gt0-clause-trail_then g c = λ tells. let r = c.in-Err.ensures.trail_then tells in record { kept = r.kept; left = r.left }
+returns-then-refused-gt0-clause-trail_then g c = λ tells. let r = c.in-Err.ensures.trail_then tells in record { kept = r.kept; left = r.left; few = r.few }
 
 pub returns-else-refused-gt0-clause-trail_then : goal.returns-else-refused-gt0-clause-trail_then
-returns-else-refused-gt0-clause-trail_then g c = λ tells. let r = c.in-Err.ensures.trail_then tells in record { kept = r.kept; left = r.left }
+returns-else-refused-gt0-clause-trail_then g c = λ tells. let r = c.in-Err.ensures.trail_then tells in record { kept = r.kept; left = r.left; few = r.few }
 
 pub returns-else-refused-gt0-clause-refused : goal.returns-else-refused-gt0-clause-refused
 returns-else-refused-gt0-clause-refused g c = λ tells refusal. let r = c.in-Err.ensures.refused tells refusal in record { fault = r.fault; is = r.is; why = r.why; files = r.files; moments = r.moments }
@@ -34,3 +34,9 @@ returns-then-refused-gt0-clause-beside_then g c = guarded_beside 0 c.args.site _
 
 pub returns-else-refused-gt0-clause-beside_then : goal.returns-else-refused-gt0-clause-beside_then
 returns-else-refused-gt0-clause-beside_then g c = guarded_beside 0 c.args.site _ _ refl c.in-Err.ensures.same_then
+
+pub returns-then-refused-gt0-clause-may_then : goal.returns-then-refused-gt0-clause-may_then
+returns-then-refused-gt0-clause-may_then g c = λ tells. elim (c.in-Err.ensures.may_then tells) [ inl may ↦ inl may | inr r ↦ inr (record { files = r.files; moments = r.moments }) ]
+
+pub returns-else-refused-gt0-clause-may_then : goal.returns-else-refused-gt0-clause-may_then
+returns-else-refused-gt0-clause-may_then g c = λ tells. elim (c.in-Err.ensures.may_then tells) [ inl may ↦ inl may | inr r ↦ inr (record { files = r.files; moments = r.moments }) ]

@@ -5,7 +5,7 @@ use Rattle.dms_audfile.specs.declared.fault.AudFault.TheVariants as aud
 use Rattle.dms_opening.specs.declared.choosing.OpenFault.TheVariants.{Audit}
 use Rattle.dms_recovery.specs.declared.naming.ReconstructFault.TheVariants.{Open}
 use Rattle.dms_recovery.specs.declared.rows.RowFault.TheVariants.{Memory}
-use Rattle.dms_recovery.proofs.Named.{counted_open, fit_own, memory_refuses, names_planned, row_counted, row_refused, row_room}
+use Rattle.dms_recovery.proofs.Named.{counted_open, fit_own, may_mend, memory_refuses, names_planned, row_counted, row_refused, row_room}
 use Rattle.dms_recovery.proofs.naming.look_for_rows.Goals as goal
 
 pub rows_described-requires-clause-few : goal.rows_described-requires-clause-few
@@ -64,3 +64,8 @@ returns-in-Ok-row_bytes-clause-moments g c = subst (λ s. Steps Same (g.S.Site.c
 
 pub returns-in-Ok-row_bytes-clause-same : goal.returns-in-Ok-row_bytes-clause-same
 returns-in-Ok-row_bytes-clause-same g c = subst (λ s. g.S.Site.same_site c.args.found.site s) (sym c.site_of-site.ensures) c.in-Ok.ensures.same
+
+pub returns-in-Ok-row_bytes-clause-may : goal.returns-in-Ok-row_bytes-clause-may
+returns-in-Ok-row_bytes-clause-may g c = λ tells.
+    let p = c.in-Ok.planned in
+    may_mend p.log.end.total p.log.first (g.S.Site.files c.args.found.site) c.args.dump c.args.named.now p.before p.own _ _ (c.in-Ok.ensures.trail tells) (c.in-Ok.ensures.plans tells) c.deref.ensures.value c.deref-2.ensures.value c.in-Ok-rows_described.ensures.there

@@ -1,5 +1,5 @@
 use Rattle.dms_restore.proofs.Results.{one_if_ok, one_if_err}
-use Rattle.dms_recovery.proofs.Named.{finds_described, finds_nothing, lacks_described, lacks_nothing}
+use Rattle.dms_recovery.proofs.Named.{finds_described, finds_nothing, has_described, has_nothing, lacks_described, lacks_nothing}
 use Rattle.dms_recovery.proofs.naming.rows_described.Goals as goal
 
 pub returns-in-Ok-Some-clause-finds : goal.returns-in-Ok-Some-clause-finds
@@ -21,3 +21,13 @@ pub returns-in-Ok-None-clause-lacks : goal.returns-in-Ok-None-clause-lacks
 returns-in-Ok-None-clause-lacks c =
     let none = rw c.in-Ok-None.field-0-is at c.in-Ok-None.ensures in
     one_if_err c.find_rows-in-Ok-None.result c.find_rows-in-Ok-None.ensures.missing (λ e missing r is. lacks_nothing c.args.schema.now c.args.counts.now c.args.named.now r none (missing r is))
+
+pub returns-in-Ok-Some-clause-there : goal.returns-in-Ok-Some-clause-there
+returns-in-Ok-Some-clause-there c =
+    let found = rw c.in-Ok-Some.field-0-is at c.in-Ok-Some.ensures in
+    one_if_ok c.find_rows.result c.find_rows.ensures.there (λ rows each. has_described c.args.schema.now c.args.counts.now c.in-Ok-Some.desc c.as_slice.result.now c.args.named.now c.spelling_law.ensures found c.as_slice.ensures each)
+
+pub returns-in-Ok-None-clause-there : goal.returns-in-Ok-None-clause-there
+returns-in-Ok-None-clause-there c =
+    let none = rw c.in-Ok-None.field-0-is at c.in-Ok-None.ensures in
+    one_if_ok c.find_rows-in-Ok-None.result c.find_rows-in-Ok-None.ensures.there (λ rows each. has_nothing c.args.schema.now c.args.counts.now c.args.named.now none each)

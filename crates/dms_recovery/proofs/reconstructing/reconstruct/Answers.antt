@@ -1,4 +1,4 @@
-use Rattle.std.proofs.Common.{◌∙◌, sym, subst}
+use Rattle.std.proofs.Common.{◌∙◌, inl, inr, sym, subst}
 use Rattle.dms_moments.specs.MomentLaws.{steps_on}
 use Rattle.dms_site.specs.Files.{Files}
 use Rattle.dms_opening.specs.Openings.{HasFullTrail}
@@ -88,3 +88,9 @@ returns-in-Err-clause-full g c tells full = absurd (c.in-Err.ensures.room tells 
 
 pub returns-in-Err-clause-grows_then : goal.returns-in-Err-clause-grows_then
 returns-in-Err-clause-grows_then g c tells = grows_nothing g.S.Site c.args.found.site _ (c.in-Err.ensures.files_then tells) c.in-Err.ensures.moments_then
+
+pub returns-clause-may_then : goal.returns-clause-may_then
+returns-clause-may_then g c tells = inl (c.in-Ok.ensures.may tells)
+
+pub returns-in-Err-clause-may_then : goal.returns-in-Err-clause-may_then
+returns-in-Err-clause-may_then g c tells = inr (record { files = c.in-Err.ensures.files_then tells; moments = c.in-Err.ensures.moments_then })

@@ -1,4 +1,4 @@
-use Rattle.std.proofs.Common.{◌∙◌, sym, subst}
+use Rattle.std.proofs.Common.{◌∙◌, inl, inr, sym, subst}
 use Rattle.dms_site.specs.Files.{Only, stored_of}
 use Rattle.dms_history.specs.Entries.{named_by}
 use Rattle.dms_restore.specs.Logging.{telling_of}
@@ -10,7 +10,7 @@ use Rattle.dms_recovery.specs.Wanting.{asked_with, last_of}
 use Rattle.dms_moments.specs.Moments.{Runs}
 use Rattle.dms_opening.proofs.OneTrail.{unchanged}
 use Rattle.dms_opening.proofs.Opens.{counted_on}
-use Rattle.dms_recovery.proofs.Answered.{written_refuses, nothing_refuses}
+use Rattle.dms_recovery.proofs.Answered.{may_be_done, written_refuses, nothing_refuses}
 use Rattle.dms_recovery.proofs.Seen.{ready_here, none_before, may_begin_here, ends_here, leaves_here, grows_here, grows_nothing, point_of_trail, rolls_here, rolled_here, rolls_since, mends_here, mended_here, mends_since}
 use Rattle.dms_recovery.proofs.recovering.recover.Goals as goal
 
@@ -214,3 +214,18 @@ returns-in-Ok-carry-clause-same g c = subst (λ s. g.S.Site.same_site c.args.fou
 
 pub returns-in-Err-carry-clause-same_then : goal.returns-in-Err-carry-clause-same_then
 returns-in-Err-carry-clause-same_then g c = g.met.S.Site.same_then _ _ _ c.in-Ok.ensures.same c.in-Err-carry.ensures.same_then
+
+pub returns-in-Ok-carry-clause-may : goal.returns-in-Ok-carry-clause-may
+returns-in-Ok-carry-clause-may g c tells =
+    let p = c.in-Ok.planned in
+    let l = c.in-Ok.ensures in
+    may_be_done p.log.end.total p.log.first (g.S.Site.files c.args.found.site) c.args.wanted c.args.rows.now p.before p.own (l.trail tells) (l.plans tells)
+
+pub returns-in-Err-clause-may_then : goal.returns-in-Err-clause-may_then
+returns-in-Err-clause-may_then g c tells = inr (record { files = c.in-Err.ensures.files_then tells; moments = c.in-Err.ensures.moments_then })
+
+pub returns-in-Err-carry-clause-may_then : goal.returns-in-Err-carry-clause-may_then
+returns-in-Err-carry-clause-may_then g c tells =
+    let p = c.in-Ok.planned in
+    let l = c.in-Ok.ensures in
+    inl (may_be_done p.log.end.total p.log.first (g.S.Site.files c.args.found.site) c.args.wanted c.args.rows.now p.before p.own (l.trail tells) (l.plans tells))

@@ -1,4 +1,4 @@
-use Rattle.std.proofs.Common.{rules, MutBor, sym, subst}
+use Rattle.std.proofs.Common.{rules, MutBor, inl, inr, sym, subst}
 use Rattle.dms_goback.specs.RebuildDoes.{RebuildDoes}
 use Rattle.dms_utility.proofs.command.rebuild_command.Goals as goal
 
@@ -14,9 +14,10 @@ returns-clause-does g c =
     (subst (λ (x : MutBor g.row.S.Denot). RebuildDoes g.S.Site d chosen old x.now status) (sym c.into_site-site.ensures) (record {
       statuses = one.statuses;
       refused = λ tells is. let r = one.refused tells is in record { fault = r.fault; is = r.is; why = r.why; files = r.files; moments = r.moments };
+      opens = λ tells. elim (one.opens tells) [ inl may ↦ inl may | inr r ↦ inr (record { unmade = r.unmade; files = r.files; moments = r.moments }) ];
       complete = one.complete;
       full = one.full;
-      trail = λ tells. let k = one.trail tells in record { kept = k.kept; left = k.left };
+      trail = λ tells. let k = one.trail tells in record { kept = k.kept; left = k.left; few = k.few };
       beside = λ s has. let these = one.beside s has in record { read = these.read; left = these.left };
       says = record { point = one.says.point; line = one.says.line; is = one.says.is };
       every_moment = one.every_moment;
