@@ -5,7 +5,7 @@ use Rattle.dms_audfile.specs.Counting.{CountedAt}
 use Rattle.dms_status.specs.declared.status.LimitKind.{LimitKind}
 use Rattle.dms_status.specs.declared.status.LimitKind.TheVariants.{AuditFile, Lines, Bytes, Held}
 use Rattle.dms_status.specs.declared.status.Status.{Status}
-use Rattle.dms_status.specs.declared.status.Status.TheVariants.{Ok, BadWords, SchemaRefused, NoDatabase, Needed, InputFault, Memory, Limit, Damaged, SayFault, DiskFault, Exists, BadStatement}
+use Rattle.dms_status.specs.declared.status.Status.TheVariants.{Ok, BadWords, SchemaRefused, NoDatabase, Needed, InputFault, Memory, Limit, Damaged, SayFault, DiskFault, Exists, BadStatement, Reorganization, BadStream, Diverged, Flaw}
 use Rattle.dms_loadrun.specs.Statuses.{IsOfAudit, IsOfFilling, IsUnfound, filled_limit, filled_status}
 use Rattle.dms_runtop.specs.Statuses.{IsOfRun, IsRefusal}
 
@@ -29,6 +29,10 @@ of_filling SayFault of = tt
 of_filling DiskFault of = tt
 of_filling Exists of = tt
 of_filling (BadStatement p) of = tt
+of_filling (Reorganization why) of = tt
+of_filling (BadStream place) of = tt
+of_filling (Diverged file block) of = tt
+of_filling (Flaw flaw) of = tt
 
 limit_ok : (k : LimitKind) → filled_limit k ≡ Ok → ⊥
 limit_ok (AuditFile f) is = absurd cc
@@ -50,6 +54,10 @@ ok_filled SayFault is = absurd cc
 ok_filled DiskFault is = absurd cc
 ok_filled Exists is = absurd cc
 ok_filled (BadStatement p) is = absurd cc
+ok_filled (Reorganization why) is = absurd cc
+ok_filled (BadStream place) is = absurd cc
+ok_filled (Diverged file block) is = absurd cc
+ok_filled (Flaw flaw) is = absurd cc
 
 limit_disk : (k : LimitKind) → filled_limit k ≡ DiskFault → ⊥
 limit_disk (AuditFile f) is = absurd cc
@@ -71,6 +79,10 @@ disk_filled SayFault is = absurd cc
 disk_filled DiskFault is = refl
 disk_filled Exists is = absurd cc
 disk_filled (BadStatement p) is = absurd cc
+disk_filled (Reorganization why) is = absurd cc
+disk_filled (BadStream place) is = absurd cc
+disk_filled (Diverged file block) is = absurd cc
+disk_filled (Flaw flaw) is = absurd cc
 
 pub disk_fills : (s : Status) → s ≡ DiskFault → filled_status s ≡ DiskFault
 disk_fills s is = λ i. filled_status (is i)
@@ -95,6 +107,10 @@ audit_filled SayFault f is = absurd cc
 audit_filled DiskFault f is = absurd cc
 audit_filled Exists f is = absurd cc
 audit_filled (BadStatement p) f is = absurd cc
+audit_filled (Reorganization why) f is = absurd cc
+audit_filled (BadStream place) f is = absurd cc
+audit_filled (Diverged file block) f is = absurd cc
+audit_filled (Flaw flaw) f is = absurd cc
 
 limit_found : (k : LimitKind) → IsUnfound (filled_limit k) → ⊥
 limit_found (AuditFile f) un = un
@@ -117,6 +133,10 @@ found_filled SayFault refused damaged un = un
 found_filled DiskFault refused damaged un = un
 found_filled Exists refused damaged un = un
 found_filled (BadStatement p) refused damaged un = un
+found_filled (Reorganization why) refused damaged un = un
+found_filled (BadStream place) refused damaged un = un
+found_filled (Diverged file block) refused damaged un = un
+found_filled (Flaw flaw) refused damaged un = un
 
 -- a count of what is said in other words
 pub counted_as : (P Q : Type 0) (a b : ℕ) → (P → Q) → (Q → P) → CountedAt P a b → CountedAt Q a b

@@ -6,7 +6,7 @@ use Rattle.dms_loadrun.specs.Description.{load_description}
 use Rattle.dms_loadrun.specs.LoadDoes.{LoadDoes, LoadsOver}
 use Rattle.dms_loadrun.proofs.Loaded.{loads_from}
 use Rattle.dms_moments.specs.Moments.{Steps}
-use Rattle.dms_newdb.specs.Saying.{SaysLine}
+use Rattle.dms_status.specs.Saying.{SaysLine}
 use Rattle.dms_site.specs.declared.site.Site.{Ghosts}
 use Rattle.dms_site.specs.Files.{Files, Same}
 use Rattle.dms_status.specs.declared.status.Status.{Status}

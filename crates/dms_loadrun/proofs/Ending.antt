@@ -9,13 +9,13 @@ use Rattle.dms_loadrun.specs.Loading.{EndsLoaded, Loads}
 use Rattle.dms_loadrun.specs.Statuses.{IsOfAudit, IsOfFilling, IsOfLoad, IsOfLoadLimit, IsOfMaking, IsUnfound}
 use Rattle.dms_loadrun.proofs.Loaded.{fills_audit, fills_loads, fills_others, makes_loads, says_loads}
 use Rattle.dms_moments.specs.Moments.{Now, Steps}
-use Rattle.dms_newdb.specs.Saying.{IsSpoken, SaysLine}
+use Rattle.dms_status.specs.Saying.{IsSpoken, SaysLine}
 use Rattle.dms_site.specs.declared.site.Site.{Ghosts}
 use Rattle.dms_site.specs.Files.{Files, Left, Only, PrintsPartOf}
 use Rattle.dms_status.specs.declared.status.LimitKind.{LimitKind}
 use Rattle.dms_status.specs.declared.status.LimitKind.TheVariants.{AuditFile, Lines, Bytes, Held}
 use Rattle.dms_status.specs.declared.status.Status.{Status}
-use Rattle.dms_status.specs.declared.status.Status.TheVariants.{Ok, BadWords, SchemaRefused, NoDatabase, Needed, InputFault, Memory, Limit, Damaged, SayFault, DiskFault, Exists, BadStatement}
+use Rattle.dms_status.specs.declared.status.Status.TheVariants.{Ok, BadWords, SchemaRefused, NoDatabase, Needed, InputFault, Memory, Limit, Damaged, SayFault, DiskFault, Exists, BadStatement, Reorganization, BadStream, Diverged, Flaw}
 
 pub says_none : (s : Status) (text old new : List ℕ) → (IsSpoken s → ⊥) → new ≡ old → SaysLine s text old new
 says_none Ok text old new un is = absurd (un tt)
@@ -31,6 +31,10 @@ says_none SayFault text old new un is = absurd (un tt)
 says_none DiskFault text old new un is = is
 says_none Exists text old new un is = is
 says_none (BadStatement p) text old new un is = is
+says_none (Reorganization why) text old new un is = is
+says_none (BadStream place) text old new un is = is
+says_none (Diverged file block) text old new un is = is
+says_none (Flaw flaw) text old new un is = is
 
 pub making_loading : (s : Status) → IsOfMaking s → IsOfLoad s
 making_loading Ok of = absurd of
@@ -46,6 +50,10 @@ making_loading SayFault of = absurd of
 making_loading DiskFault of = tt
 making_loading Exists of = tt
 making_loading (BadStatement p) of = absurd of
+making_loading (Reorganization why) of = absurd of
+making_loading (BadStream place) of = absurd of
+making_loading (Diverged file block) of = absurd of
+making_loading (Flaw flaw) of = absurd of
 
 pub making_unspoken : (s : Status) → IsOfMaking s → IsSpoken s → ⊥
 making_unspoken Ok of is = of
@@ -61,6 +69,10 @@ making_unspoken SayFault of is = of
 making_unspoken DiskFault of is = is
 making_unspoken Exists of is = is
 making_unspoken (BadStatement p) of is = is
+making_unspoken (Reorganization why) of is = is
+making_unspoken (BadStream place) of is = is
+making_unspoken (Diverged file block) of is = is
+making_unspoken (Flaw flaw) of is = is
 
 limit_loading : (k : LimitKind) → IsOfAudit k → IsOfLoadLimit k
 limit_loading (AuditFile f) of = tt
@@ -82,6 +94,10 @@ filling_loading SayFault of = absurd of
 filling_loading DiskFault of = tt
 filling_loading Exists of = absurd of
 filling_loading (BadStatement p) of = absurd of
+filling_loading (Reorganization why) of = absurd of
+filling_loading (BadStream place) of = absurd of
+filling_loading (Diverged file block) of = absurd of
+filling_loading (Flaw flaw) of = absurd of
 
 pub filling_unspoken : (s : Status) → IsOfFilling s → s ≢ Ok → IsSpoken s → ⊥
 filling_unspoken Ok of other is = other refl
@@ -97,6 +113,10 @@ filling_unspoken SayFault of other is = of
 filling_unspoken DiskFault of other is = is
 filling_unspoken Exists of other is = is
 filling_unspoken (BadStatement p) of other is = is
+filling_unspoken (Reorganization why) of other is = is
+filling_unspoken (BadStream place) of other is = is
+filling_unspoken (Diverged file block) of other is = is
+filling_unspoken (Flaw flaw) of other is = is
 
 pub filling_there : (s : Status) → IsOfFilling s → s ≡ Exists → ⊥
 filling_there Ok of is = absurd cc
@@ -112,6 +132,10 @@ filling_there SayFault of is = absurd cc
 filling_there DiskFault of is = absurd cc
 filling_there Exists of is = of
 filling_there (BadStatement p) of is = absurd cc
+filling_there (Reorganization why) of is = absurd cc
+filling_there (BadStream place) of is = absurd cc
+filling_there (Diverged file block) of is = absurd cc
+filling_there (Flaw flaw) of is = absurd cc
 
 audit_held : (k : LimitKind) → IsOfAudit k → Limit k ≡ Limit Held → ⊥
 audit_held (AuditFile f) of is = absurd cc
@@ -133,6 +157,10 @@ filling_held SayFault of is = absurd cc
 filling_held DiskFault of is = absurd cc
 filling_held Exists of is = absurd cc
 filling_held (BadStatement p) of is = absurd cc
+filling_held (Reorganization why) of is = absurd cc
+filling_held (BadStream place) of is = absurd cc
+filling_held (Diverged file block) of is = absurd cc
+filling_held (Flaw flaw) of is = absurd cc
 
 pub making_limit : (s : Status) (k : LimitKind) → IsOfMaking s → s ≡ Limit k → ⊥
 making_limit Ok l of is = absurd cc
@@ -148,6 +176,10 @@ making_limit SayFault l of is = absurd cc
 making_limit DiskFault l of is = absurd cc
 making_limit Exists l of is = absurd cc
 making_limit (BadStatement p) l of is = absurd cc
+making_limit (Reorganization why) l of is = absurd cc
+making_limit (BadStream place) l of is = absurd cc
+making_limit (Diverged file block) l of is = absurd cc
+making_limit (Flaw flaw) l of is = absurd cc
 
 module _ {S : Type 0} (g : Ghosts S) (d : Described) (seed n : ℕ) (text : List ℕ) where
   -- the making of the database failed

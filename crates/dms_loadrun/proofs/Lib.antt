@@ -4,5 +4,6 @@ pub mod Computing
 pub mod Does
 pub mod Ending
 pub mod Filled
+pub mod FirstFile
 pub mod Loaded
 pub mod Made

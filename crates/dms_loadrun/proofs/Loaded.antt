@@ -3,16 +3,17 @@ use Rattle.std.proofs.Common.{◌≡◌, ◌≢◌, ◌≤◌, ◌⊎◌, ◌∙
 use Rattle.std.proofs.lemmas.Option.{none-some}
 use Rattle.dms_creation.specs.Clearing.{AllButDescriptionStay, IsApart}
 use Rattle.dms_desc.specs.Shape.{Described}
-use Rattle.dms_loadcount.specs.Answers.{load_quiets}
 use Rattle.dms_loadrun.specs.Filling.{Fills, IsNew, LeavesMaking, Makes}
 use Rattle.dms_loadrun.specs.LoadDoes.{FillsAudit}
-use Rattle.dms_loadrun.specs.Loading.{EndsLoaded, LeavesLoad, Loads, StandsWithin}
+use Rattle.dms_loadrun.specs.Loading.{EndsLoaded, LeavesLoad, Loads, StandsWithin, load_events}
+use Rattle.dms_loadrun.proofs.FirstFile.{last_full}
 use Rattle.dms_model.specs.Db.{Db, empty_db}
-use Rattle.dms_model.specs.Points.{Quiet}
 use Rattle.dms_moments.specs.Moments.{After, Clock, Now, Runs, Steps}
 use Rattle.dms_moments.specs.MomentLaws.{runs_on, runs_since, runs_step, runs_weaken}
 use Rattle.dms_newdb.specs.State.{StandsNew}
+use Rattle.dms_runner.specs.Events.{RunEvent}
 use Rattle.dms_run.specs.RunStands.{RunStands}
+use Rattle.dms_runtop.specs.Full.{IsFullAt}
 use Rattle.dms_runtop.specs.Guard.{IsBeside, LeavesBeside, StaysBut}
 use Rattle.dms_runtop.specs.GuardLaws.{all_structures}
 use Rattle.dms_site.specs.declared.site.Site.{Ghosts}
@@ -61,14 +62,15 @@ both_runs a b one two = record {
 }
 
 -- what was printed doesn't count where no text was told at entry
-pub any_said : (made : Files) (d : Described) (n : ℕ) (db : Db) (next : ℕ) (quiets : List Quiet) (x : Left) → RunStands made d None n db next quiets x → RunStands made d None n db next quiets (record { files = x.files; said = [] })
-any_said made d n db next quiets x r = record {
+pub any_said : (made : Files) (d : Described) (n : ℕ) (db : Db) (next : ℕ) (events : List RunEvent) (x : Left) → RunStands made d None n db next events x → RunStands made d None n db next events (record { files = x.files; said = [] })
+any_said made d n db next events x r = record {
   point = r.point;
   now = r.now;
   state = r.state;
   valid = r.valid;
   recovered = r.recovered;
   no_earlier = λ text printed told. absurd (none-some text told);
+  text = λ t told. absurd (none-some t told);
   keeps = r.keeps;
   each = r.each;
   next_left = r.next_left;
@@ -87,13 +89,13 @@ module _ {S : Type 0} (g : Ghosts S) (d : Described) (seed n : ℕ) (was : Files
   new_leaves : (files : Files) → files ≡ g.files old → LeavesLoad d seed n was files
   new_leaves files same = record { others = λ f apart other. ap (λ (fs : Files). fs f) same ∙ begun.others f apart other; holds = inr (inl (subst (λ (fs : Files). StandsNew 0 d fs) (sym same) begun.stands)) }
 
-  run_leaves : (x : Left) → RunStands (g.files old) d None 0 empty_db 1 (load_quiets d seed n) x → After (g.clock old) (LeavesBeside 200) x → LeavesLoad d seed n was x.files
+  run_leaves : (x : Left) → RunStands (g.files old) d None 0 empty_db 1 (load_events d seed n) x → After (g.clock old) (LeavesBeside 200) x → LeavesLoad d seed n was x.files
   run_leaves x r y = record {
     others = λ f apart other. y.2 f (apart_beside f apart) ∙ ap (λ (fs : Files). fs f) (begun.only y.0 y.1) ∙ begun.others f apart other;
-    holds = inr (inr (record { made = g.files old; new = begun.stands; stands = any_said (g.files old) d 0 empty_db 1 (load_quiets d seed n) x r }));
+    holds = inr (inr (record { made = g.files old; new = begun.stands; stands = any_said (g.files old) d 0 empty_db 1 (load_events d seed n) x r }));
   }
 
-  run_both : Runs (g.clock old) (g.clock new) (λ x. Both (RunStands (g.files old) d None 0 empty_db 1 (load_quiets d seed n) x) (After (g.clock old) (LeavesBeside 200) x))
+  run_both : Runs (g.clock old) (g.clock new) (λ x. Both (RunStands (g.files old) d None 0 empty_db 1 (load_events d seed n) x) (After (g.clock old) (LeavesBeside 200) x))
   run_both = both_runs (g.clock old) (g.clock new) (fills.stands tells) stays.left.runs
 
   -- while the script is run
@@ -115,7 +117,7 @@ module _ {S : Type 0} (g : Ghosts S) (d : Described) (seed n : ℕ) (was : Files
   fills_others f apart other = stays.read tells f (apart_beside f apart) ∙ begun.others f apart other
 
   pub fills_audit : (k : ℕ) → status ≡ Limit (AuditFile k) → FillsAudit d k (g.files new)
-  fills_audit k is = record { made = g.files old; new = begun.stands; full = fills.full k is tells }
+  fills_audit k is = let f = fills.full k is tells in (f.0, last_full 0 d (g.files old) begun.first (g.files new) (subst (λ n. IsFullAt n (g.files old) (g.files new)) f.0 f.1))
 
 -- one description is meant
 or_that : {T E : Type 0} → T → Result T E → T

@@ -51,7 +51,7 @@ module _ (law : MadeStands) (d : Described) (files made : Files) (sealed : made 
   ])
 
   pub new_of : (now : Files) (c : Clock Left) → IsMade 0 d made now → Only now c → IsNew d files now c
-  new_of now c new only = record { others = λ g apart other. new.others g apart other ∙ others g other; stands = law 0 d made now is new; only = only }
+  new_of now c new only = record { others = λ g apart other. new.others g apart other ∙ others g other; first = new.trail; stands = law 0 d made now is new; only = only }
 
   -- and where that failed no other file was changed
   pub others_on : (b c : Clock Left) → Only made b → Initializes 0 d made b c → (x : Left) → c.left b.now x → AllButDescriptionStay files x.files

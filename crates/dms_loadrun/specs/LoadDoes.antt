@@ -1,5 +1,6 @@
 -- What the command `load` does: a field for each promise.
-use Rattle.std.specs.Prelude.{ℕ, ◌≡◌, List, IsTrue}
+use Rattle.std.specs.Prelude.{ℕ, ◌≡◌, List, true, IsTrue}
+use Rattle.dms_audfile.specs.Gates.{is_full}
 use Rattle.dms_creation.specs.Clearing.{AllButDescriptionStay}
 use Rattle.dms_desc.specs.Shape.{Described}
 use Rattle.dms_descfile.specs.DescriptionFile.{IsSealed, IsUnsealed}
@@ -7,20 +8,17 @@ use Rattle.dms_loadcount.specs.Answers.{HoldsTooMany, load_text}
 use Rattle.dms_loadrun.specs.Description.{load_description}
 use Rattle.dms_loadrun.specs.Loading.{EndsLoaded, Loads}
 use Rattle.dms_loadrun.specs.Statuses.{IsBehindExists, IsOfLoad, IsUnfound}
-use Rattle.dms_newdb.specs.Saying.{IsSpoken, OfSealed, SaysLine, SiteAndTextStay}
-use Rattle.dms_newdb.specs.State.{StandsNew}
-use Rattle.dms_runtop.specs.Full.{IsFullAt}
+use Rattle.dms_status.specs.Saying.{IsSpoken, SaysLine}
+use Rattle.dms_newdb.specs.Saying.{OfSealed, SiteAndTextStay}
 use Rattle.dms_site.specs.declared.site.Site.{Ghosts}
 use Rattle.dms_site.specs.Files.{Files, Only}
 use Rattle.dms_status.specs.declared.status.LimitKind.TheVariants.{AuditFile, Held}
 use Rattle.dms_status.specs.declared.status.Status.{Status}
 use Rattle.dms_status.specs.declared.status.Status.TheVariants.{Exists, Limit}
 
--- the audit has no room up to this file, behind the trail of a new database
-pub record FillsAudit (d : Described) (k : ℕ) (files : Files) : Type 0 where
-  pub made : Files
-  pub new : StandsNew 0 d made
-  pub full : IsFullAt k made files
+-- the audit has no room: the file is the last one, 9,999, and all gates of it are open
+abbrev pub FillsAudit : Described → ℕ → Files → Type 0
+FillsAudit d k files = (k ≡ 9999) × (is_full d.blocks (files 19999) ≡ true)
 
 -- What a load does where no description is, under this description of its schema, with this text for its summary.
 pub record LoadsOver {S : Type 0} (g : Ghosts S) (d : Described) (seed n : ℕ) (text : List ℕ) (old new : S) (status : Status) : Type 0 where
@@ -55,7 +53,7 @@ pub record LoadDoes {S : Type 0} (g : Ghosts S) (seed n : ℕ) (old new : S) (st
   pub at_ok : IsSpoken status → IsTrue g.tells → EndsLoaded load_description seed n (g.files new)
   -- and a stop leaves no others
   pub at_ok_stable : IsSpoken status → IsTrue g.tells → Only (g.files new) (g.clock new)
-  -- 8 of an audit file comes only where the trail of the new database goes on after that file
+  -- 8 of an audit file comes only of the last one, 9,999, where all gates of it are open
   pub full : (k : ℕ) → status ≡ Limit (AuditFile k) → IsTrue g.tells → FillsAudit load_description k (g.files new)
   -- 8 of held lines comes only where the script has a line that is one too many to hold
   pub held : status ≡ Limit Held → HoldsTooMany load_description seed n

@@ -1,12 +1,14 @@
 -- What a load leaves.
-use Rattle.std.specs.Prelude.{ℕ, ◌≢◌, ◌⊎◌, [], None, slice_index}
+use Rattle.std.specs.Prelude.{ℕ, ◌≢◌, ◌⊎◌, List, [], None, slice_index}
 use Rattle.dms_creation.specs.Clearing.{AllButDescriptionStay}
 use Rattle.dms_desc.specs.Shape.{Described}
 use Rattle.dms_descfile.specs.DescriptionFile.{IsUnsealed}
-use Rattle.dms_loadcount.specs.Answers.{load_quiets}
+use Rattle.dms_loadcount.specs.Answers.{load_lines, load_quiets}
 use Rattle.dms_model.specs.Db.{empty_db}
 use Rattle.dms_moments.specs.Moments.{Clock, Now, Runs}
 use Rattle.dms_newdb.specs.State.{StandsNew}
+use Rattle.dms_runner.specs.Answers.{script_events}
+use Rattle.dms_runner.specs.Events.{RunEvent}
 use Rattle.dms_run.specs.RunStands.{LastStands, RunStands}
 use Rattle.dms_site.specs.Files.{Files, Left}
 
@@ -14,11 +16,15 @@ use Rattle.dms_site.specs.Files.{Files, Left}
 abbrev pub HoldsNone : Files → Type 0
 HoldsNone files = IsUnsealed (files 1) ⊎ (slice_index (files 1) 1 ≢ 1)
 
+-- the events of the script over the empty database
+abbrev pub load_events : Described → ℕ → ℕ → List RunEvent
+load_events d seed n = script_events d empty_db 1 (load_lines seed n)
+
 -- The script was begun over a new database. The files stand for that one, or for the database of one quiet point of the script, and it is valid.
 pub record StandsWithin (d : Described) (seed n : ℕ) (files : Files) : Type 0 where
   pub made : Files
   pub new : StandsNew 0 d made
-  pub stands : RunStands made d None 0 empty_db 1 (load_quiets d seed n) (record { files = files; said = [] })
+  pub stands : RunStands made d None 0 empty_db 1 (load_events d seed n) (record { files = files; said = [] })
 
 -- What a stop within a load leaves of these files: none has changed but the description file, audit files, dumps and structure files, and there is no
 -- database, or the new one at point 0, or one that the script left.

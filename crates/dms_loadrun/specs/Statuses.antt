@@ -3,7 +3,7 @@ use Rattle.std.specs.Prelude.{◌≤◌, ⊤}
 use Rattle.dms_status.specs.declared.status.LimitKind.{LimitKind}
 use Rattle.dms_status.specs.declared.status.LimitKind.TheVariants.{AuditFile, Lines, Bytes, Held}
 use Rattle.dms_status.specs.declared.status.Status.{Status}
-use Rattle.dms_status.specs.declared.status.Status.TheVariants.{Ok, BadWords, SchemaRefused, NoDatabase, Needed, InputFault, Memory, Limit, Damaged, SayFault, DiskFault, Exists, BadStatement}
+use Rattle.dms_status.specs.declared.status.Status.TheVariants.{Ok, BadWords, SchemaRefused, NoDatabase, Needed, InputFault, Memory, Limit, Damaged, SayFault, DiskFault, Exists, BadStatement, Reorganization, BadStream, Diverged, Flaw}
 
 -- the limits that a script of a load can pass: it has at most 20,004 lines, and no more bytes than a script may have
 abbrev pub IsOfLoadLimit : LimitKind → Type 0
@@ -27,6 +27,10 @@ IsOfLoad SayFault = ⊤
 IsOfLoad DiskFault = ⊤
 IsOfLoad Exists = ⊤
 IsOfLoad (BadStatement p) = ⊥
+IsOfLoad (Reorganization why) = ⊥
+IsOfLoad (BadStream place) = ⊥
+IsOfLoad (Diverged file block) = ⊥
+IsOfLoad (Flaw flaw) = ⊥
 
 -- the statuses of a database that isn't found as it was made: no database, a need, a damaged block
 abbrev pub IsUnfound : Status → Type 0
@@ -43,6 +47,10 @@ IsUnfound SayFault = ⊥
 IsUnfound DiskFault = ⊥
 IsUnfound Exists = ⊥
 IsUnfound (BadStatement p) = ⊥
+IsUnfound (Reorganization why) = ⊥
+IsUnfound (BadStream place) = ⊥
+IsUnfound (Diverged file block) = ⊥
+IsUnfound (Flaw flaw) = ⊥
 
 -- the statuses that come only where there was no sealed description
 abbrev pub IsBehindExists : Status → Type 0
@@ -59,6 +67,10 @@ IsBehindExists SayFault = ⊤
 IsBehindExists DiskFault = ⊥
 IsBehindExists Exists = ⊥
 IsBehindExists (BadStatement p) = ⊥
+IsBehindExists (Reorganization why) = ⊥
+IsBehindExists (BadStream place) = ⊥
+IsBehindExists (Diverged file block) = ⊥
+IsBehindExists (Flaw flaw) = ⊥
 
 -- what makes a database doesn't end otherwise
 abbrev pub IsOfMaking : Status → Type 0
@@ -75,6 +87,10 @@ IsOfMaking SayFault = ⊥
 IsOfMaking DiskFault = ⊤
 IsOfMaking Exists = ⊤
 IsOfMaking (BadStatement p) = ⊥
+IsOfMaking (Reorganization why) = ⊥
+IsOfMaking (BadStream place) = ⊥
+IsOfMaking (Diverged file block) = ⊥
+IsOfMaking (Flaw flaw) = ⊥
 
 -- the limit of an audit file alone
 abbrev pub IsOfAudit : LimitKind → Type 0
@@ -98,6 +114,10 @@ IsOfFilling SayFault = ⊥
 IsOfFilling DiskFault = ⊤
 IsOfFilling Exists = ⊥
 IsOfFilling (BadStatement p) = ⊥
+IsOfFilling (Reorganization why) = ⊥
+IsOfFilling (BadStream place) = ⊥
+IsOfFilling (Diverged file block) = ⊥
+IsOfFilling (Flaw flaw) = ⊥
 
 abbrev pub filled_limit : LimitKind → Status
 filled_limit (AuditFile f) = Limit (AuditFile f)
@@ -121,3 +141,7 @@ filled_status SayFault = Memory
 filled_status DiskFault = DiskFault
 filled_status Exists = Memory
 filled_status (BadStatement p) = Memory
+filled_status (Reorganization why) = Memory
+filled_status (BadStream place) = Memory
+filled_status (Diverged file block) = Memory
+filled_status (Flaw flaw) = Memory

@@ -1,5 +1,5 @@
 -- The files that a stop leaves are states.
-use Rattle.std.proofs.Common.{ℕ, ◌<◌, ◌≡◌, ◌∙◌, ◌⊎◌, inl, inr, ⊎_elim, List, [], ◌∷◌, ◌++◌, sym, subst, ap, arith, append_assoc}
+use Rattle.std.proofs.Common.{ℕ, ◌<◌, ◌≡◌, ◌∙◌, ◌⊎◌, inl, inr, ⊎_elim, List, [], ◌∷◌, ◌++◌, length, take, refl, sym, subst, ap, arith, append_assoc}
 use Rattle.std.specs.List.{AllByRecursion}
 use Rattle.dms_desc.specs.Shape.{Described}
 use Rattle.dms_model.specs.Points.{Quiet}
@@ -43,6 +43,10 @@ of_all P q [] all one = absurd one
 of_all P q (x ∷ qs) all (inl is) = subst P (sym is) all.0
 of_all P q (x ∷ qs) all (inr more) = of_all P q qs all.1 more
 
+take_front : (xs ys : List Quiet) → take (length xs) (xs ++ ys) ≡ xs
+take_front [] ys = refl
+take_front (x ∷ xs) ys = ap (λ (l : List Quiet). x ∷ l) (take_front xs ys)
+
 pub stand : StopsStand
 stand files n desc db h begins next has_next entry lines x r =
     let t = telling_of h.total h.first in
@@ -62,6 +66,7 @@ stand files n desc db h begins next has_next entry lines x r =
       valid = ⊎_elim (λ same. subst (IsValid desc) (sym same.1) begins) (λ one. of_all (λ (q : Quiet). IsValid desc q.1) (point, now) (answers_quiets desc db next lines) stay.valid one) recovered;
       recovered = recovered;
       no_earlier = λ text printed is said. no_later _ next (tells_true desc scripts db begins next lines) rises n r.made r.rest text printed x.said r.front_of (r.text text is) said;
+      text = λ t is. record { made = length r.made; point_is = ap (last_quiet_number n) (sym (ap (λ (l : List Quiet). take (length r.made) l) (sym r.front_of) ∙ take_front r.made r.rest)); printed = r.text t is };
       keeps = λ d m then a. stands.at h.total h.first x.files d (m, then) a.well_formed r.whole
           (subst (λ (l : List DescribedPoint). HasLive d l (m, then)) (sym r.kept) (has_more d points r.more (m, then) (state_lives h.total h.first files h.whole m d then a)));
       each = λ q one le. stands.at h.total h.first x.files desc q h.formed r.whole (

@@ -60,8 +60,8 @@ module _ {S : Type 0} (g : Ghosts S) (one : (d e : Described) → IsWellFormed d
         unused = unused;
       }
 
-  pub runs_described : (site : S) (left left' : Option (List ℕ)) (status : Status) → RunsOver g r desc left left' status site → RunsOpened g o left left' status site
-  runs_described site left left' status ran told st n db all state valid room is =
+  pub runs_described : o.next + 1000003 < 2 ^ 64 → (site : S) (left left' : Option (List ℕ)) (status : Status) → RunsOver g r desc left left' status site → RunsOpened g o left left' status site
+  runs_described room site left left' status ran told st n db all state valid is =
       let same : desc ≡ st.desc = same_description one o.schema.items desc st.desc formed under st.formed st.spelled in
       let over : RunsOver g r st.desc left left' status site = subst (λ (d : Described). RunsOver g r d left left' status site) same ran in
       let ps : List DescribedPoint = points_of t st.files in

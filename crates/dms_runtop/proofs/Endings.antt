@@ -8,7 +8,7 @@ use Rattle.dms_runner.specs.declared.run.RunFault.TheVariants as run
 use Rattle.dms_status.specs.declared.status.LimitKind.{LimitKind}
 use Rattle.dms_status.specs.declared.status.LimitKind.TheVariants as limit
 use Rattle.dms_status.specs.declared.status.Status.{Status}
-use Rattle.dms_status.specs.declared.status.Status.TheVariants.{Ok, BadWords, SchemaRefused, NoDatabase, Needed, InputFault, Memory, Limit, Damaged, SayFault, DiskFault, Exists, BadStatement}
+use Rattle.dms_status.specs.declared.status.Status.TheVariants.{Ok, BadWords, SchemaRefused, NoDatabase, Needed, InputFault, Memory, Limit, Damaged, SayFault, DiskFault, Exists, BadStatement, Reorganization, BadStream, Diverged, Flaw}
 use Rattle.dms_runtop.specs.Both.{first_of, second_of}
 use Rattle.dms_runtop.specs.Faults.{is_structure_file, damaged_status, run_status}
 use Rattle.dms_runtop.specs.Statuses.{IsOfAuditLimit, IsOfClosing, IsOfScript}
@@ -179,6 +179,10 @@ IsUndone SayFault = ⊥
 IsUndone DiskFault = Unit {0}
 IsUndone Exists = ⊥
 IsUndone (BadStatement p) = ⊥
+IsUndone (Reorganization why) = ⊥
+IsUndone (BadStream place) = ⊥
+IsUndone (Diverged file block) = ⊥
+IsUndone (Flaw flaw) = ⊥
 
 pub undone_ok : (s : Status) → IsUndone s → s ≡ Ok → ⊥
 undone_ok s undone is = subst IsUndone is undone

@@ -35,7 +35,7 @@ use Rattle.dms_run.specs.RunStands.{EndsStand, StopsStand}
 use Rattle.dms_status.specs.declared.status.Status.{Status}
 use Rattle.dms_runtop.proofs.Bounds.{bounds_opening}
 use Rattle.dms_runtop.proofs.Refused.{open_ok}
-use Rattle.dms_runtop.specs.Command.{DatabaseState, GrowsOpened, HasNumbersLeft, HoldsState, HoldsTold, NeverRefuses, NeverRefusesState, RunKeepsTrail, RunsAlong, RunsCommand, RunsOpened, EndsInState, StandsOpened, StandsThroughout, StatesHold}
+use Rattle.dms_runtop.specs.Command.{DatabaseState, GrowsOpened, HoldsState, HoldsTold, NeverRefuses, NeverRefusesState, RunKeepsTrail, RunsAlong, RunsCommand, RunsOpened, EndsInState, StandsOpened, StandsThroughout, StatesHold}
 use Rattle.dms_runtop.specs.Faults.{open_status}
 use Rattle.dms_runtop.specs.Over.{ReachesFiles, ScriptRuns, seen_site}
 use Rattle.dms_runtop.proofs.Endings.{IsUndone}
@@ -111,8 +111,8 @@ module _ {S : Type 0} (g : Ghosts S) (old : S) (s : DatabaseState) where
   pub runs_entered : NextIsOne → (o : Opened S) → OpensAt o.log.end.total o.log.first (g.files old) o.point o.next o.schema.items o.counts.items
       → (IsWhole (telling_of o.log.end.total o.log.first) (g.files old) → RunsFrom (g.files old) o.point o.next o.schema.items o.counts.items (view_of g o.log)) → ReopensSince g old o.log.site → OpeningGrows g old o.log.site → g.said o.log.site ≡ g.said old
       → (left left' : Option (List ℕ)) (status : Status) (new : S) → RunsOpened g o left left' status new → IsTrue g.tells
-      → HoldsState (g.files old) s → IsValid s.desc s.db → (next : ℕ) → HasNext (g.files old) next → HasNumbersLeft next → (all : List ℕ) → left ≡ Some all → RunsAlong g s next all old new left' status
-  runs_entered one_next o opens runs since grows said left left' status new ran told h valid next has_next room all is =
+      → HoldsState (g.files old) s → IsValid s.desc s.db → (next : ℕ) → HasNext (g.files old) next → (all : List ℕ) → left ≡ Some all → RunsAlong g s next all old new left' status
+  runs_entered one_next o opens runs since grows said left left' status new ran told h valid next has_next all is =
       let files : Files = g.files old in
       let t : Telling = telling_of o.log.end.total o.log.first in
       let ps : List DescribedPoint = points_of t files in
@@ -122,7 +122,7 @@ module _ {S : Type 0} (g : Ghosts S) (old : S) (s : DatabaseState) where
       let next_is : next_in t files ≡ next = one_next o.log.end.total o.log.first next files whole has_next in
       let script : ScriptRuns 18 t s.desc ps s.point s.db next all (seen_site g o.log.site) (seen_site g new) left' status =
       subst (λ m. ScriptRuns 18 t s.desc ps s.point s.db m all (seen_site g o.log.site) (seen_site g new) left' status) (sym opens.next_is ∙ next_is)
-      (ran told st s.point s.db all state valid (subst HasNumbersLeft (sym next_is ∙ opens.next_is) room) is) in
+      (ran told st s.point s.db all state valid is) in
       let few : length (t.entries (g.files o.log.site)) ≤ length (t.entries files) + 19 = grows.few o.log.end.total o.log.first opens.trail whole in
       let before = λ (events : List RunEvent). runs_weaken (since o.log.end.total o.log.first opens.trail whole) (reopens_leaves t files (seen_site g old).said s.desc s.point s.db state next next_is events) in
       record {
@@ -185,12 +185,12 @@ module _ {S : Type 0} (g : Ghosts S) (old : S) (state : Option DatabaseState) wh
   pub runs_found : StatesHold → NextIsOne → (IsTrue g.tells → HoldsTold state (g.files old)) → (o : Opened S) → (IsTrue g.tells → OpensAt o.log.end.total o.log.first (g.files old) o.point o.next o.schema.items o.counts.items)
       → (IsTrue g.tells → IsWhole (telling_of o.log.end.total o.log.first) (g.files old) → RunsFrom (g.files old) o.point o.next o.schema.items o.counts.items (view_of g o.log)) → (IsTrue g.tells → ReopensSince g old o.log.site) → (IsTrue g.tells → OpeningGrows g old o.log.site)
       → g.said o.log.site ≡ g.said old → (left left' : Option (List ℕ)) (status : Status) (new : S) → (IsTrue (is_some state) → RunsOpened g o left left' status new) → RunsCommand g state old new left left' status
-  runs_found hold one_next told o opens runs since grows said left left' status new ran tells s is valid next has_next room all held =
-      runs_entered g old s one_next o (opens tells) (runs tells) (since tells) (grows tells) said left left' status new (ran (some_told state s is)) tells (hold (g.files old) s (told tells s is)) valid next has_next room all held
+  runs_found hold one_next told o opens runs since grows said left left' status new ran tells s is valid next has_next all held =
+      runs_entered g old s one_next o (opens tells) (runs tells) (since tells) (grows tells) said left left' status new (ran (some_told state s is)) tells (hold (g.files old) s (told tells s is)) valid next has_next all held
 
   pub runs_refused : StatesHold → NextIsOne → (IsTrue g.tells → HoldsTold state (g.files old)) → (fault : OpenFault) (new : S) → (IsTrue g.tells → (total first : ℕ) → IsOpenable total first (g.files old) → IsNoRefusal fault) → (IsTrue g.tells → OpeningGrows g old new)
       → (IsTrue g.tells → ReopensSince g old new) → g.said new ≡ g.said old → (left left' : Option (List ℕ)) (status : Status) → status ≡ open_status fault → RunsCommand g state old new left left' status
-  runs_refused hold one_next told fault new none grows since said left left' status status_is tells s is valid next has_next room all held =
+  runs_refused hold one_next told fault new none grows since said left left' status status_is tells s is valid next has_next all held =
       subst (λ (x : Status). RunsAlong g s next all old new left' x) (sym status_is)
       (runs_unopened g old s one_next fault new (none tells) (grows tells) (since tells) said left' (hold (g.files old) s (told tells s is)) next has_next all)
 
@@ -205,10 +205,10 @@ module _ {S : Type 0} (g : Ghosts S) (old : S) (state : Option DatabaseState) wh
   -- each stop leaves a state
   pub stands_throughout : StatesAreHeld → StopsStand → (IsTrue g.tells → HoldsTold state (g.files old)) → (left left' : Option (List ℕ)) (status : Status) (new : S) → RunsCommand g state old new left left' status
       → StandsThroughout g state old new left
-  stands_throughout held law told left left' status new ran tells s is valid next has_next room all left_is =
+  stands_throughout held law told left left' status new ran tells s is valid next has_next all left_is =
       let files : Files = g.files old in
       let h : HoldsLast files s.point s.desc s.db = held files s.point s.desc s.db (told tells s is) in
-      let along : RunsAlong g s next all old new left' status = ran tells s is valid next has_next room all left_is in
+      let along : RunsAlong g s next all old new left' status = ran tells s is valid next has_next all left_is in
       let one = trail_is_one along.total along.first h.total h.first files along.trail (trail_of h) in
       let each : Runs (g.clock old) (g.clock new) (RunLeavesFiles (telling_of along.total along.first) s.desc (seen_site g old).said (points_of (telling_of along.total along.first) files) s.point s.db next (script_events s.desc s.db next (raw_lines all))) =
       runs_weaken along.runs.every_moment (leaves_wide (script_widens s.desc s.db next (raw_lines all) along.runs.does.carried.lines along.runs.does.carried.events along.runs.does.carried.are)) in
@@ -220,7 +220,7 @@ module _ {S : Type 0} (g : Ghosts S) (old : S) (state : Option DatabaseState) wh
 
   -- and so does the end
   pub stands_at_end : EndsStand → (IsTrue g.tells → HoldsTold state (g.files old)) → (left left' : Option (List ℕ)) (status : Status) (new : S) → RunsCommand g state old new left left' status → EndsInState g state old new left status
-  stands_at_end law told left left' status new ran tells s is valid next has_next room all here ok =
-      let along : RunsAlong g s next all old new left' status = ran tells s is valid next has_next room all here in
+  stands_at_end law told left left' status new ran tells s is valid next has_next all here ok =
+      let along : RunsAlong g s next all old new left' status = ran tells s is valid next has_next all here in
       let ends : ReachesFiles (telling_of along.total along.first) s.desc s.point s.db next (raw_lines all) (seen_site g new) = along.runs.at_ok ok in
       (law along.total along.first (g.files new) s.desc (told tells s is).at_point.well_formed s.point s.db valid next (raw_lines all) ends.whole ends.state ends.next_is, ends.only)

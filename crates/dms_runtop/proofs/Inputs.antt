@@ -11,13 +11,13 @@ use Rattle.dms_status.specs.declared.status.LimitKind.{LimitKind}
 use Rattle.dms_status.specs.declared.status.LimitKind.TheVariants as limit
 use Rattle.dms_status.specs.declared.status.Status.{Status}
 use Rattle.dms_status.specs.declared.status.Status.TheVariants.{Ok, InputFault, Limit}
-use Rattle.dms_runtop.specs.Faults.{IsWithin, open_status, run_status}
+use Rattle.dms_runtop.specs.Faults.{IsWithin, damaged_status, open_status, run_status}
 use Rattle.dms_runtop.specs.Full.{IsOfFull}
 use Rattle.dms_runtop.specs.Inputs.{BlamesInput}
 use Rattle.dms_runtop.specs.Statuses.{IsOfClosing}
 use Rattle.dms_runtop.proofs.Counted.{within_input}
 use Rattle.dms_runtop.proofs.Endings.{IsUndone, closing_input, damage_is, ok_not_limit, run_bytes_is, run_input, run_lines_is, run_not_ok, undone_input, undone_limit, undone_ok}
-use Rattle.dms_runtop.proofs.Refused.{open_input, open_ok}
+use Rattle.dms_runtop.proofs.Refused.{open_input, open_ok, short_not}
 
 -- ---- a status that isn't of the input
 
@@ -68,6 +68,12 @@ open_limit (DumpLater d n) k e = absurd cc
 
 pub blames_opening : {left left' : Option (List ℕ)} (fault : OpenFault) (s : Status) → s ≡ open_status fault → BlamesInput left left' s
 blames_opening {left} {left'} fault s is = subst (BlamesInput left left') (sym is) (blames_none (open_ok fault) (open_limit fault limit.Lines) (open_limit fault limit.Bytes) (open_input fault))
+
+-- that of a block that isn't there
+pub blames_short : {left left' : Option (List ℕ)} (f b : ℕ) (s : Status) → s ≡ damaged_status f b → BlamesInput left left' s
+blames_short {left} {left'} f b s is =
+    subst (BlamesInput left left') (sym is)
+    (blames_none (short_not f b Ok (λ e. absurd cc) (λ e. absurd cc)) (short_not f b (Limit limit.Lines) (λ e. absurd cc) (λ e. absurd cc)) (short_not f b (Limit limit.Bytes) (λ e. absurd cc) (λ e. absurd cc)) (short_not f b InputFault (λ e. absurd cc) (λ e. absurd cc)))
 
 -- ---- that of a script
 

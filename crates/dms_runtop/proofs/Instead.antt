@@ -85,13 +85,13 @@ ran_instead most t d ps n db next all a b c left' s then place moments same file
 module _ {S : Type 0} (g : Ghosts S) where
   pub opened_instead : ((x : S) (t : ℕ) (l : Left) → t ≤ (g.clock x).now → Now (g.clock x) l → (g.clock x).left t l) → (o : Opened S) (x y : S) (left left' : Option (List ℕ)) (s then : Status) → TakesPlace s then
       → Steps Same (g.clock x) (g.clock y) → g.said y ≡ g.said x → (IsTrue g.tells → g.files y ≡ g.files x) → RunsOpened g o left left' s x → RunsOpened g o left left' then y
-  opened_instead counts o x y left left' s then place steps said files ran told st n db all state valid room is =
-      ran_instead 18 _ _ _ _ _ _ _ (seen_site g o.log.site) (seen_site g x) (seen_site g y) left' s then place (λ events. runs_looking (counts x) steps) (said_seen g x y said) (files told) (ran told st n db all state valid room is)
+  opened_instead counts o x y left left' s then place steps said files ran told st n db all state valid is =
+      ran_instead 18 _ _ _ _ _ _ _ (seen_site g o.log.site) (seen_site g x) (seen_site g y) left' s then place (λ events. runs_looking (counts x) steps) (said_seen g x y said) (files told) (ran told st n db all state valid is)
 
   -- a call was refused
   pub command_instead : (state : Option DatabaseState) (old x : S) (left left' : Option (List ℕ)) (s : Status) → TakesPlace s Memory → RunsCommand g state old x left left' s → RunsCommand g state old x left left' Memory
-  command_instead state old x left left' s place ran told d is valid next has room all held =
-      let r = ran told d is valid next has room all held in
+  command_instead state old x left left' s place ran told d is valid next has all held =
+      let r = ran told d is valid next has all held in
       record {
         total = r.total;
         first = r.first;

@@ -23,3 +23,4 @@ pub mod Bounds
 pub mod Inputs
 pub mod Grows
 pub mod Naming
+mod Turned

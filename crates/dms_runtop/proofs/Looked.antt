@@ -56,15 +56,15 @@ module _ {S : Type 0} (g : Ghosts S) where
   pub runs_looked : ((s : S) (t : ℕ) (x : Left) → t ≤ (g.clock s).now → Now (g.clock s) x → (g.clock s).left t x) → (o : Opened S) (site new : S) (left left' : Option (List ℕ)) (status : Status)
       → (IsTrue g.tells → g.files site ≡ g.files o.log.site) → g.said site ≡ g.said o.log.site → Steps Same (g.clock o.log.site) (g.clock site)
       → RunsOpened g (record o { log = record o.log { site = site } }) left left' status new → RunsOpened g o left left' status new
-  runs_looked counts o site new left left' status same said steps ran t st n db all state valid room is =
+  runs_looked counts o site new left left' status same said steps ran t st n db all state valid is =
       runs_since 18 18 (telling (view_of g o.log)) st.desc (points_of (telling (view_of g o.log)) st.files) n db o.next all (seen_site g o.log.site) (seen_site g site) (seen_site g new) left' status
       (said_seen o.log.site site said) (λ events. runs_looking (counts o.log.site) steps) (omega (arith, ap (λ (f : Files). length ((telling (view_of g o.log)).entries f)) (same t)))
-      (ran t (stands_looked o site (same t) steps st) n db all state valid room is)
+      (ran t (stands_looked o site (same t) steps st) n db all state valid is)
 
   -- no line was run
   pub runs_undone : (o : Opened S) (new : S) (left left' : Option (List ℕ)) (status : Status) → IsUndone status → (IsTrue g.tells → g.files new ≡ g.files o.log.site)
       → ((P : Left → Type 0) → Runs (g.clock o.log.site) (g.clock new) P) → g.said new ≡ g.said o.log.site → RunsOpened g o left left' status new
-  runs_undone o new left left' status undone files moments said t st n db all state valid room is =
+  runs_undone o new left left' status undone files moments said t st n db all state valid is =
       ran_nothing 18 (telling (view_of g o.log)) st.desc (points_of (telling (view_of g o.log)) st.files) n db o.next all (seen_site g o.log.site) (seen_site g new) left' status undone
       (moments _) (said_seen o.log.site new said) (bounds_none status (undone_ok status undone) (files t) (said_seen o.log.site new said))
 

@@ -1,6 +1,6 @@
 -- What an opening's refusal leaves.
-use Rattle.std.proofs.Common.{ℕ, ◌+◌, ◌≡◌, ◌⊎◌, inl, inr, Bool, true, false, cond, refl, sym, ap, subst, arith}
-use Rattle.std.specs.Prelude.{nat_le}
+use Rattle.std.proofs.Common.{ℕ, ◌+◌, ◌<◌, ◌≤◌, ◌≡◌, ◌⊎◌, inl, inr, Bool, true, false, cond, refl, sym, ap, subst, arith}
+use Rattle.std.specs.Prelude.{◌&&◌, nat_lt, nat_le}
 use Rattle.std.proofs.lemmas.Bool.Decides.{nat_tests}
 use Rattle.dms_audfile.specs.Counting.{CountedAt}
 use Rattle.dms_audfile.specs.declared.fault.AudFault.TheVariants as aud
@@ -8,8 +8,9 @@ use Rattle.dms_opening.specs.declared.choosing.OpenFault.{OpenFault}
 use Rattle.dms_opening.specs.declared.choosing.OpenFault.TheVariants.{Audit, NoSuchPoint, Voided, DumpMissing, DumpUnsealed, DumpDamaged, DumpForeign, DumpLater}
 use Rattle.dms_opening.specs.Openings.{MayHaveWritten, IsNoRefusal}
 use Rattle.dms_status.specs.declared.status.Status.{Status}
-use Rattle.dms_status.specs.declared.status.Status.TheVariants.{Ok, BadWords, SchemaRefused, NoDatabase, Needed, InputFault, Memory, Limit, Damaged, SayFault, DiskFault, Exists, BadStatement}
-use Rattle.dms_runtop.specs.Faults.{open_status}
+use Rattle.dms_status.specs.declared.status.Status.TheVariants.{Ok, BadWords, SchemaRefused, NoDatabase, Needed, InputFault, Memory, Limit, Damaged, SayFault, DiskFault, Exists, BadStatement, Reorganization, BadStream, Diverged, Flaw}
+use Rattle.dms_opening.specs.declared.whole.OpenRefusal.TheVariants.{Fault, Short}
+use Rattle.dms_runtop.specs.Faults.{audit_damaged_status, damaged_status, is_structure_file, open_status}
 use Rattle.dms_runtop.specs.Statuses.{IsRefusal, IsOfScript, IsOfRun}
 use Rattle.dms_runtop.proofs.Endings.{damage_is}
 
@@ -40,6 +41,10 @@ script_refuses SayFault of is = is
 script_refuses DiskFault of is = is
 script_refuses Exists of is = of
 script_refuses (BadStatement p) of is = of
+script_refuses (Reorganization why) of is = of
+script_refuses (BadStream place) of is = of
+script_refuses (Diverged file block) of is = of
+script_refuses (Flaw flaw) of is = of
 
 -- what a script ends with is no refusal
 pub script_no_refusal : (s : Status) → (s ≡ Ok) ⊎ IsOfScript s → IsRefusal s → ⊥
@@ -60,6 +65,10 @@ script_of_run SayFault of = tt
 script_of_run DiskFault of = tt
 script_of_run Exists of = of
 script_of_run (BadStatement p) of = of
+script_of_run (Reorganization why) of = of
+script_of_run (BadStream place) of = of
+script_of_run (Diverged file block) of = of
+script_of_run (Flaw flaw) of = of
 
 ok_of_run : IsOfRun Ok
 ok_of_run = tt
@@ -162,3 +171,86 @@ open_ok (DumpUnsealed d) e = absurd cc
 open_ok (DumpDamaged d) e = absurd (damage_is (nat_le (20000 + d) 30000) (20000 + d) 0 (λ x. x ≡ Ok → ⊥) (λ e. absurd cc) (λ e. absurd cc) e)
 open_ok (DumpForeign d) e = absurd cc
 open_ok (DumpLater d n) e = absurd cc
+
+-- ---- a block of a structure file that isn't there
+
+pub short_of_run : (f b : ℕ) → IsOfRun (damaged_status f b)
+short_of_run f b = by (is_structure_file f) refl
+  where
+    by : (t : Bool) → is_structure_file f ≡ t → IsOfRun (cond t (Damaged f b) Memory)
+    by true is = within (nat_lt 30000 f) (nat_le f 30200) refl is
+      where
+        within : (one two : Bool) → nat_le f 30200 ≡ two → (one && two) ≡ true → f ≤ 30200
+        within true true e h = grind (arith, nat_tests)
+        within true false e h = absurd cc
+        within false two e h = absurd cc
+    by false is = tt
+
+-- its status is none but 9 of it, and 7
+pub short_not : (f b : ℕ) (s : Status) → (Damaged f b ≡ s → ⊥) → (Memory ≡ s → ⊥) → damaged_status f b ≡ s → ⊥
+short_not f b s one two is = damage_is (is_structure_file f) f b (λ x. x ≡ s → ⊥) one two is
+
+pub short_no_refusal : (f b : ℕ) → IsRefusal (damaged_status f b) → ⊥
+short_no_refusal f b refusal = by (is_structure_file f) refl refusal
+  where
+    by : (t : Bool) → is_structure_file f ≡ t → IsRefusal (cond t (Damaged f b) Memory) → ⊥
+    by true is r = above (nat_lt 30000 f) (nat_le f 30200) refl is r
+      where
+        above : (one two : Bool) → nat_lt 30000 f ≡ one → (one && two) ≡ true → f ≤ 30000 → ⊥
+        above true two e h low = absurd (grind (arith, nat_tests))
+        above false two e h low = absurd cc
+    by false is r = r
+
+-- no call failed then
+pub short_clean : (f b x y : ℕ) → CountedAt (Short f b ≡ Fault (Audit aud.Disk)) x y → y ≡ x
+short_clean f b x y counted = counted.clean (λ is. absurd cc)
+
+-- and 9 of a structure file comes of no fault
+IsLow : Status → Type 0
+IsLow Ok = Unit {0}
+IsLow BadWords = Unit {0}
+IsLow (SchemaRefused f) = Unit {0}
+IsLow NoDatabase = Unit {0}
+IsLow (Needed n) = Unit {0}
+IsLow InputFault = Unit {0}
+IsLow Memory = Unit {0}
+IsLow (Limit k) = Unit {0}
+IsLow (Damaged f b) = f ≤ 30000
+IsLow SayFault = Unit {0}
+IsLow DiskFault = Unit {0}
+IsLow Exists = Unit {0}
+IsLow (BadStatement p) = Unit {0}
+IsLow (Reorganization why) = Unit {0}
+IsLow (BadStream place) = Unit {0}
+IsLow (Diverged file block) = Unit {0}
+IsLow (Flaw flaw) = Unit {0}
+
+low_damage : (f b : ℕ) → IsLow (audit_damaged_status f b)
+unfolding IsLow
+low_damage f b = by (nat_le f 30000) refl
+  where
+    by : (t : Bool) → nat_le f 30000 ≡ t → IsLow (cond t (Damaged f b) Memory)
+    by true is = grind (arith, nat_tests)
+    by false is = tt
+
+low_open : (fault : OpenFault) → IsLow (open_status fault)
+unfolding IsLow
+low_open (Audit aud.NoDatabase) = tt
+low_open (Audit aud.Disk) = tt
+low_open (Audit (aud.Full k)) = tt
+low_open (Audit (aud.Missing k)) = tt
+low_open (Audit (aud.Unsealed k)) = tt
+low_open (Audit (aud.Foreign k)) = tt
+low_open (Audit (aud.Damaged f b)) = low_damage f b
+low_open (Audit aud.Memory) = tt
+low_open (NoSuchPoint n) = tt
+low_open (Voided n) = tt
+low_open (DumpMissing d) = tt
+low_open (DumpUnsealed d) = tt
+low_open (DumpDamaged d) = low_damage (20000 + d) 0
+low_open (DumpForeign d) = tt
+low_open (DumpLater d n) = tt
+
+pub fault_low : (fault : OpenFault) (f b : ℕ) → open_status fault ≡ Damaged f b → 30000 < f → ⊥
+unfolding IsLow
+fault_low fault f b is high = let low : f ≤ 30000 = subst IsLow is (low_open fault) in omega (arith, low, high)

@@ -6,12 +6,12 @@ use Rattle.dms_site.specs.declared.source.Source as source
 use Rattle.dms_status.specs.declared.status.LimitKind.TheVariants.{AuditFile}
 use Rattle.dms_status.specs.declared.status.Status.{Status}
 use Rattle.dms_status.specs.declared.status.Status.TheVariants.{DiskFault, InputFault, Limit, Memory, Ok}
-use Rattle.dms_runtop.specs.Faults.{open_status}
+use Rattle.dms_runtop.specs.Faults.{damaged_status, open_status}
 use Rattle.dms_runtop.specs.Full.{IsOfFull}
 use Rattle.dms_runtop.specs.Inputs.{TakesInput}
 use Rattle.dms_runtop.proofs.Endings.{IsUndone, undone_input, undone_ok}
-use Rattle.dms_runtop.proofs.Inputs.{blames_full, blames_opening, blames_undone}
-use Rattle.dms_runtop.proofs.Refused.{open_input, open_ok}
+use Rattle.dms_runtop.proofs.Inputs.{blames_full, blames_opening, blames_short, blames_undone}
+use Rattle.dms_runtop.proofs.Refused.{open_input, open_ok, short_not}
 
 full_not_ok : (k : ℕ) (s : Status) → IsOfFull k s → s ≡ Ok → ⊥
 full_not_ok k s (inl full) is = limit_not_ok (sym full ∙ is)
@@ -57,6 +57,15 @@ module _ {I : Type 0} (i : source.Ghosts I) where
     end = λ ok. absurd (open_ok fault (sym is ∙ ok));
     blames = blames_opening fault status is;
     faults = not_counted _ _ _ (λ input. open_input fault (sym is ∙ input)) refl;
+    same = again from;
+  }
+
+  -- a block isn't there
+  pub takes_short : ((x : I) → i.same_source x x) → (from : I) (f b : ℕ) (status : Status) → status ≡ damaged_status f b → TakesInput i from from status
+  takes_short again from f b status is = record {
+    end = λ ok. absurd (short_not f b Ok (λ e. absurd cc) (λ e. absurd cc) (sym is ∙ ok));
+    blames = blames_short f b status is;
+    faults = not_counted _ _ _ (λ input. short_not f b InputFault (λ e. absurd cc) (λ e. absurd cc) (sym is ∙ input)) refl;
     same = again from;
   }
 

@@ -1,9 +1,9 @@
 -- The command `run`: the state that its files stand for at entry, and why it is refused.
-use Rattle.std.specs.Prelude.{ℕ, ◌≡◌, ◌+◌, ◌<◌, ◌^◌, List, Some, IsTrue}
+use Rattle.std.specs.Prelude.{ℕ, ◌≡◌, ◌⊎◌, ◌<◌, List, Some, IsTrue}
 use Rattle.std.specs.declared.option.Option.{Option}
 use Rattle.dms_moments.specs.Moments.{Runs, Steps}
 use Rattle.dms_feed.specs.Lines.{raw_lines}
-use Rattle.dms_runner.specs.Answers.{answers_quiets}
+use Rattle.dms_runner.specs.Answers.{answers_quiets, script_events}
 use Rattle.dms_run.specs.RunStands.{LastStands, RunStands}
 use Rattle.dms_model.specs.Valid.{IsValid}
 use Rattle.dms_desc.specs.Shape.{Described}
@@ -15,7 +15,7 @@ use Rattle.dms_site.specs.Files.{Files, Only, Same}
 use Rattle.dms_audfile.specs.TrailEntries.{trail_entries}
 use Rattle.dms_running.specs.Standing.{IsWhole}
 use Rattle.dms_running.specs.Points.{points_of}
-use Rattle.dms_opening.specs.declared.choosing.OpenFault.{OpenFault}
+use Rattle.dms_opening.specs.declared.whole.OpenRefusal.{OpenRefusal}
 use Rattle.dms_restore.specs.Logging.{LeavesTrail, LogStays, TrailKept, telling_of, telling}
 use Rattle.dms_restore.specs.Views.{view_of}
 use Rattle.dms_wal.specs.Growing.{over_site}
@@ -23,10 +23,11 @@ use Rattle.dms_run.specs.State.{StateOf, HasNext}
 use Rattle.dms_run.specs.States.{LivesEndWith}
 use Rattle.dms_opening.specs.declared.opened.Opened.{Opened}
 use Rattle.dms_opening.specs.Laws.{LastIsDescribed}
-use Rattle.dms_opening.specs.Openings.{IsTrailFound, IsOpenable, RunsFrom, RefusesFiles, StaysUnopened}
+use Rattle.dms_opening.specs.Openings.{IsTrailFound, IsOpenable, RunsFrom}
+use Rattle.dms_opening.specs.Whole.{NoShortOf, RefusesWhole, StaysUnopenedWhole}
 use Rattle.dms_status.specs.declared.status.Status.{Status}
-use Rattle.dms_status.specs.declared.status.Status.TheVariants.{Ok}
-use Rattle.dms_runtop.specs.Faults.{open_status}
+use Rattle.dms_status.specs.declared.status.Status.TheVariants.{Ok, Damaged}
+use Rattle.dms_runtop.specs.Faults.{refusal_status}
 use Rattle.dms_runtop.specs.Over.{ScriptRuns, seen_site}
 use Rattle.dms_runtop.specs.Statuses.{IsRefusal}
 
@@ -39,10 +40,6 @@ pub record DatabaseState : Type 0 where
 -- where a state is told, files stand for it
 abbrev pub HoldsTold : Option DatabaseState → Files → Type 0
 HoldsTold state files = (s : DatabaseState) → state ≡ Some s → StateOf files s.point s.desc s.db
-
--- there is room for the numbers of a script, from the next number on
-abbrev pub HasNumbersLeft : ℕ → Type 0
-HasNumbersLeft next = next + 1000003 < 2 ^ 64
 
 -- Files that stand for this state hold a database, as an opening asks for it: their trail is found, and their last live point, which has that
 -- number and is described, is the last of their points.
@@ -70,7 +67,7 @@ module _ {S : Type 0} (g : Ghosts S) where
   -- a run of the script over a valid database that was opened
   abbrev pub RunsOpened : Opened S → Option (List ℕ) → Option (List ℕ) → Status → S → Type 0
   RunsOpened o left left' status site =
-      IsTrue g.tells → (st : StandsOpened o) (n : ℕ) (db : Db) (all : List ℕ) → LivesEndWith st.desc (points_of (telling (view_of g o.log)) st.files) n db → IsValid st.desc db → o.next + 1000003 < 2 ^ 64 → left ≡ Some all
+      IsTrue g.tells → (st : StandsOpened o) (n : ℕ) (db : Db) (all : List ℕ) → LivesEndWith st.desc (points_of (telling (view_of g o.log)) st.files) n db → IsValid st.desc db → left ≡ Some all
       → ScriptRuns 18 (telling (view_of g o.log)) st.desc (points_of (telling (view_of g o.log)) st.files) n db o.next all (seen_site g o.log.site) (seen_site g site) left' status
 
   -- the trail is the one of the opening and blocks behind it, each of which is in its grammar and holds an entry, now and at each stop
@@ -78,10 +75,10 @@ module _ {S : Type 0} (g : Ghosts S) where
   GrowsOpened o site = IsTrue g.tells → LogStays (view_of g o.log) (over_site g (view_of g o.log) site)
 
   -- The one premise of what is said of a script: the files of a site, which are told, hold a valid database; this is their next
-  -- number, which leaves room for those of a script; and this is the input.
+  -- number; and this is the input.
   abbrev pub OverDatabase : Option DatabaseState → S → Option (List ℕ) → (DatabaseState → ℕ → List ℕ → Type 0) → Type 0
   OverDatabase state old left Holds =
-      IsTrue g.tells → (s : DatabaseState) → state ≡ Some s → IsValid s.desc s.db → (next : ℕ) → HasNext (g.files old) next → HasNumbersLeft next → (all : List ℕ) → left ≡ Some all → Holds s next all
+      IsTrue g.tells → (s : DatabaseState) → state ≡ Some s → IsValid s.desc s.db → (next : ℕ) → HasNext (g.files old) next → (all : List ℕ) → left ≡ Some all → Holds s next all
 
   -- A run of the script over the database that the files of a site stand for, whose next number is this one, along their trail.
   pub record RunsAlong (s : DatabaseState) (next : ℕ) (all : List ℕ) (old new : S) (left' : Option (List ℕ)) (status : Status) : Type 0 where
@@ -108,7 +105,7 @@ module _ {S : Type 0} (g : Ghosts S) where
   -- point up to it has its own state. That database is valid, too.
   abbrev pub StandsThroughout : Option DatabaseState → S → S → Option (List ℕ) → Type 0
   StandsThroughout state old new left =
-      OverDatabase state old left (λ s next all. Runs (g.clock old) (g.clock new) (RunStands (g.files old) s.desc (seen_site g old).said s.point s.db next (answers_quiets s.desc s.db next (raw_lines all))))
+      OverDatabase state old left (λ s next all. Runs (g.clock old) (g.clock new) (RunStands (g.files old) s.desc (seen_site g old).said s.point s.db next (script_events s.desc s.db next (raw_lines all))))
 
   -- And at status 0 the files stand for the database of the last quiet point, or for that of entry, which is valid, too. A stop leaves no other files.
   abbrev pub EndsInState : Option DatabaseState → S → S → Option (List ℕ) → Status → Type 0
@@ -123,22 +120,26 @@ module _ {S : Type 0} (g : Ghosts S) where
   abbrev pub NeverRefusesState : S → Status → Type 0
   NeverRefusesState old status = IsTrue g.tells → (s : DatabaseState) → StateOf (g.files old) s.point s.desc s.db → IsRefusal status → ⊥
 
-  -- The opening was refused: with this fault, which is the first refusal of the files. No file has changed, and a stop leaves what it could leave
-  -- before.
+  -- The opening was refused: so, which is the first refusal of the files, or where nothing else is refused the first block of a structure file that isn't
+  -- there whole and that the opening doesn't write. No file has changed, and a stop leaves what it could leave before.
   pub record IsRefused (old new : S) (status : Status) : Type 0 where
-    pub fault : OpenFault
-    pub is : status ≡ open_status fault
-    pub why : RefusesFiles (g.files old) fault
+    pub refusal : OpenRefusal
+    pub is : status ≡ refusal_status refusal
+    pub why : RefusesWhole (g.files old) refusal
     pub files : g.files new ≡ g.files old
     pub moments : Steps Same (g.clock old) (g.clock new)
 
-  -- Nothing was done, since the opening was refused: with this fault, which is the first refusal of the files, or one of the disk or of memory, and
-  -- none of a full audit. The files are the same, and a stop leaves what it could leave before.
+  -- Nothing was done, since the opening was refused: so, or by a failure of the disk or want of memory, and not by a full audit. The files are the same, and a
+  -- stop leaves what it could leave before.
   pub record IsUnopened (old new : S) (status : Status) : Type 0 where
-    pub fault : OpenFault
-    pub is : status ≡ open_status fault
-    pub why : RefusesFiles (g.files old) fault
-    pub stays : StaysUnopened g old new fault
+    pub refusal : OpenRefusal
+    pub is : status ≡ refusal_status refusal
+    pub why : RefusesWhole (g.files old) refusal
+    pub stays : StaysUnopenedWhole g old new refusal
+
+  -- Status 9 of a structure file: no block was short of the opening, or the opening was refused for the first one that was.
+  abbrev pub BlamesShort : S → S → Status → Type 0
+  BlamesShort old new status = (f b : ℕ) → status ≡ Damaged f b → 30000 < f → IsTrue g.tells → NoShortOf (g.files old) ⊎ IsRefused old new status
 
   abbrev pub RefusesRun : S → S → Status → Type 0
   RefusesRun old new status = IsTrue g.tells → IsRefused old new status

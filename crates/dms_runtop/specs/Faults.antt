@@ -5,6 +5,8 @@ use Rattle.dms_block.specs.declared.block_fault.BlockFault.{BlockFault}
 use Rattle.dms_block.specs.declared.block_fault.BlockFault.TheVariants as block
 use Rattle.dms_opening.specs.declared.choosing.OpenFault.{OpenFault}
 use Rattle.dms_opening.specs.declared.choosing.OpenFault.TheVariants.{Audit, NoSuchPoint, Voided, DumpMissing, DumpUnsealed, DumpDamaged, DumpForeign, DumpLater}
+use Rattle.dms_opening.specs.declared.whole.OpenRefusal.{OpenRefusal}
+use Rattle.dms_opening.specs.declared.whole.OpenRefusal.TheVariants.{Fault, Short}
 use Rattle.dms_runner.specs.declared.run.RunFault.{RunFault}
 use Rattle.dms_runner.specs.declared.run.RunFault.TheVariants as run
 use Rattle.dms_status.specs.declared.status.LimitKind.TheVariants as limit
@@ -67,3 +69,8 @@ open_status (DumpUnsealed d) = Needed (need.DumpUnsealed d)
 open_status (DumpDamaged d) = audit_damaged_status (20000 + d) 0
 open_status (DumpForeign d) = Needed (need.DumpForeign d)
 open_status (DumpLater d n) = Needed (need.DumpLater d n)
+
+-- of what keeps a database from being opened
+abbrev pub refusal_status : OpenRefusal → Status
+refusal_status (Fault fault) = open_status fault
+refusal_status (Short f b) = damaged_status f b

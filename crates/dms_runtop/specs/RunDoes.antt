@@ -1,9 +1,10 @@
 -- What the command `run` does: a field for each promise.
 use Rattle.std.specs.Prelude.{ℕ, ◌≡◌, ◌⊎◌, IsTrue, List}
 use Rattle.std.specs.declared.option.Option.{Option}
-use Rattle.dms_opening.specs.Openings.{CanOpen, IsTrailFound}
+use Rattle.dms_opening.specs.Openings.{IsTrailFound}
+use Rattle.dms_opening.specs.Whole.{CanOpenWhole}
 use Rattle.dms_restore.specs.Logging.{telling_of}
-use Rattle.dms_runtop.specs.Command.{DatabaseState, EndsInState, IsRefused, IsUnopened, NeverRefuses, NeverRefusesState, OverDatabase, RunKeepsTrail, StandsThroughout}
+use Rattle.dms_runtop.specs.Command.{BlamesShort, DatabaseState, EndsInState, IsRefused, IsUnopened, NeverRefuses, NeverRefusesState, OverDatabase, RunKeepsTrail, StandsThroughout}
 use Rattle.dms_runtop.specs.Full.{HasNoRoom}
 use Rattle.dms_runtop.specs.Guard.{StaysBeside}
 use Rattle.dms_runtop.specs.Inputs.{BlamesInput}
@@ -16,14 +17,16 @@ use Rattle.dms_status.specs.declared.status.Status.{Status}
 module _ {S I : Type 0} (g : Ghosts S) (i : source.Ghosts I) where
   -- Whether a run opens the database that its files hold.
   pub record Opens (old new : S) (from to : I) (status : Status) : Type 0 where
-    -- neither the trail of the files nor a point of it is refused, or nothing was done: the files are the same, and the status is that of the first
-    -- refusal, or 5 or 7
-    pub opens : IsTrue g.tells → CanOpen (g.files old) ⊎ IsUnopened g old new status
+    -- neither the trail of the files nor a point of it is refused, and each block that the opening takes from a structure file is there, or nothing was
+    -- done: the files are the same, and the status is that of the first refusal, 9 of the first block that isn't there, or 5 or 7
+    pub opens : IsTrue g.tells → CanOpenWhole (g.files old) ⊎ IsUnopened g old new status
     -- the statuses 3, 4, and 9 of a file that is no structure file, are the first refusal of the files: no file has changed, and a stop leaves what it
     -- could leave before
     pub refused : IsRefusal status → IsTrue g.tells → IsRefused g old new status
     -- at these nothing of the input was taken
     pub untaken : IsRefusal status → to ≡ from
+    -- 9 of a structure file comes from a script alone, or of the first block that isn't there: nothing was done then
+    pub short : BlamesShort g old new status
     -- they don't come where the files hold a database whose last point is live and described
     pub complete : NeverRefuses g old status
     -- nor where the files stand for a state

@@ -5,7 +5,7 @@ use Rattle.dms_status.specs.declared.status.NeedFault.TheVariants.{NoDescription
 use Rattle.dms_status.specs.declared.status.LimitKind.{LimitKind}
 use Rattle.dms_status.specs.declared.status.LimitKind.TheVariants.{AuditFile, Lines, Bytes, Held}
 use Rattle.dms_status.specs.declared.status.Status.{Status}
-use Rattle.dms_status.specs.declared.status.Status.TheVariants.{Ok, BadWords, SchemaRefused, NoDatabase, Needed, InputFault, Memory, Limit, Damaged, SayFault, DiskFault, Exists, BadStatement}
+use Rattle.dms_status.specs.declared.status.Status.TheVariants.{Ok, BadWords, SchemaRefused, NoDatabase, Needed, InputFault, Memory, Limit, Damaged, SayFault, DiskFault, Exists, BadStatement, Reorganization, BadStream, Diverged, Flaw}
 
 -- the last audit file
 abbrev pub IsOfAuditLimit : LimitKind → Type 0
@@ -29,6 +29,10 @@ IsOfClosing SayFault = ⊥
 IsOfClosing DiskFault = ⊤
 IsOfClosing Exists = ⊥
 IsOfClosing (BadStatement p) = ⊥
+IsOfClosing (Reorganization why) = ⊥
+IsOfClosing (BadStream place) = ⊥
+IsOfClosing (Diverged file block) = ⊥
+IsOfClosing (Flaw flaw) = ⊥
 
 -- what a fault of a script's run ends with
 abbrev pub IsOfScript : Status → Type 0
@@ -45,6 +49,10 @@ IsOfScript SayFault = ⊤
 IsOfScript DiskFault = ⊤
 IsOfScript Exists = ⊥
 IsOfScript (BadStatement p) = ⊥
+IsOfScript (Reorganization why) = ⊥
+IsOfScript (BadStream place) = ⊥
+IsOfScript (Diverged file block) = ⊥
+IsOfScript (Flaw flaw) = ⊥
 
 -- what an opening needs and doesn't find
 abbrev pub IsOfOpening : NeedFault → Type 0
@@ -75,6 +83,10 @@ IsOfRun SayFault = ⊤
 IsOfRun DiskFault = ⊤
 IsOfRun Exists = ⊥
 IsOfRun (BadStatement p) = ⊥
+IsOfRun (Reorganization why) = ⊥
+IsOfRun (BadStream place) = ⊥
+IsOfRun (Diverged file block) = ⊥
+IsOfRun (Flaw flaw) = ⊥
 
 -- the statuses with which an opening alone is refused: no database, a need, or a damaged block that is none of a structure file
 abbrev pub IsRefusal : Status → Type 0
@@ -91,3 +103,7 @@ IsRefusal SayFault = ⊥
 IsRefusal DiskFault = ⊥
 IsRefusal Exists = ⊥
 IsRefusal (BadStatement p) = ⊥
+IsRefusal (Reorganization why) = ⊥
+IsRefusal (BadStream place) = ⊥
+IsRefusal (Diverged file block) = ⊥
+IsRefusal (Flaw flaw) = ⊥

@@ -1,6 +1,6 @@
 //! The command `run`.
 
-ghost use Rattle.std.specs.Prelude.{◌≡◌, ◌⊎◌, ◌+◌, [], ℕ, List, Option, Some, IfSome, IsTrue};
+ghost use Rattle.std.specs.Prelude.{◌≡◌, ◌↔◌, ◌<◌, ◌^◌, ◌⊎◌, ◌+◌, [], ℕ, List, Option, Some, IfSome, IsTrue};
 ghost use Rattle.dms_audfile.specs.Counting.{CountedAt};
 ghost use Rattle.dms_desc.specs.Shape.{as_described};
 ghost use Rattle.dms_desc_bytes.specs.Spelling.{spelling};
@@ -18,7 +18,7 @@ ghost use Rattle.dms_wal.specs.Lifting.{AreCounts};
 
 use crate::describing::describe;
 use crate::ended::Ended;
-use crate::ending::status_of_open;
+use crate::ending::status_of_refusal;
 use crate::full::status_of_full;
 use crate::laws::states_law;
 use crate::over::run_over;
@@ -79,7 +79,15 @@ fn bytes_of(alloc: Global, desc: &Description) -> Option<Vec<u8>>
     }
 }
 
-/// Runs the script over a database that was opened, under this description, and closes it.
+/// Whether there is room for the numbers of a script, from the next one on.
+fn has_numbers_left(next: u64) -> bool
+    ensures { IsTrue result ↔ (next + 1000003 < 2 ^ 64) }
+{
+    next < u64::MAX - 1_000_002
+}
+
+/// Runs the script over a database that was opened, under this description, and closes it. Where there is no room for the numbers of a script that
+/// counts as want of memory.
 fn run_described<S: Site, I: Source>(
     alloc: Global,
     opened: Opened<S>,
@@ -101,6 +109,12 @@ fn run_described<S: Site, I: Source>(
 {
     served_law();
     spelling_law();
+    if !has_numbers_left(opened.next) {
+        return Ended {
+            status: Status::Memory,
+            site: site_of(opened),
+        };
+    }
     let Some(schema) = bytes_of(alloc, desc) else {
         return Ended {
             status: Status::Memory,
@@ -255,8 +269,8 @@ fn run_found<S: Site, I: Source>(
     states_law();
     match open(alloc, Found { site }) {
         Ok(opened) => run_confirmed::<S, I, Brand>(alloc, opened, source),
-        Err((fault, site)) => Ended {
-            status: status_of_open(fault),
+        Err((refusal, site)) => Ended {
+            status: status_of_refusal(refusal),
             site,
         },
     }

@@ -1,11 +1,11 @@
 //! The status that each fault ends with.
 
 ghost use Rattle.std.specs.Prelude.{◌≡◌};
-ghost use Rattle.dms_runtop.specs.Faults.{IsWithin, audit_damaged_status, block_status, damaged_status, run_status, open_status};
+ghost use Rattle.dms_runtop.specs.Faults.{IsWithin, audit_damaged_status, block_status, damaged_status, refusal_status, run_status, open_status};
 
 use dms_audfile::AudFault;
 use dms_block::BlockFault;
-use dms_opening::OpenFault;
+use dms_opening::{OpenFault, OpenRefusal};
 use dms_runner::RunFault;
 use dms_status::{LimitKind, NeedFault, Status};
 
@@ -18,8 +18,8 @@ const LAST_AUDIT_FILE: u32 = 9_999;
 /// The number of the last structure file that a database may have.
 const LAST_STRUCTURE_FILE: u32 = 30_200;
 
-/// The status that a damaged block ends with. Only blocks of structure files are found damaged while a script runs; where another file were
-/// named, that counts as want of memory.
+/// The status that a damaged block ends with. Only blocks of structure files are found damaged while a script runs, and missing before it; where another file
+/// were named, that counts as want of memory.
 fn status_of_damage(file: u32, block: u32) -> Status
     ensures { result ≡ damaged_status file block }
 {
@@ -104,5 +104,15 @@ pub fn status_of_open(fault: OpenFault) -> Status
         OpenFault::DumpDamaged(dump) => status_of_audit_damage(20_000 + u32::from(dump), 0),
         OpenFault::DumpForeign(dump) => Status::Needed(NeedFault::DumpForeign(dump)),
         OpenFault::DumpLater(dump, point) => Status::Needed(NeedFault::DumpLater(dump, point)),
+    }
+}
+
+/// The status that an opening ends with that was refused.
+pub(crate) fn status_of_refusal(refusal: OpenRefusal) -> Status
+    ensures { result ≡ refusal_status refusal }
+{
+    match refusal {
+        OpenRefusal::Fault(fault) => status_of_open(fault),
+        OpenRefusal::Short(file, block) => status_of_damage(file, block),
     }
 }

@@ -47,13 +47,13 @@ pub returns-in-Ok-clause-ran : goal.returns-in-Ok-clause-ran
 returns-in-Ok-clause-ran g c =
     runs_described g.S.Site c.spelling_law.ensures c.args.opened (as_described c.args.desc.now) c.requires.formed c.requires.under _ c.in-Some.ensures c.in-Ok.running c.in-Ok.ensures.log.0 c.in-Ok.ensures.log.2 c.in-Ok.ensures.log.1
     c.in-Ok.ensures.kept.2 (c.in-Ok.ensures.log.3 ∙ c.from-3.ensures) c.in-Ok.ensures.tells (c.in-Ok.ensures.kept.4 ∙ c.from-2.ensures) (c.in-Ok.ensures.kept.7, c.in-Ok.ensures.kept.6, c.in-Ok.ensures.kept.8) c.in-Ok.ensures.nothing
-    c.run_over.result.site _ _ c.run_over.result.status c.run_over.ensures.ran
+    (c.has_numbers_left.ensures.0 c.if-not-has_numbers_left.false) c.run_over.result.site _ _ c.run_over.result.status c.run_over.ensures.ran
 
 pub returns-clause-ran : goal.returns-clause-ran
 returns-clause-ran g c = runs_left g.S.Site c.args.opened _ _ _ c.in-Err.ensures.site
 
 pub returns-in_default-clause-ran : goal.returns-in_default-clause-ran
-returns-in_default-clause-ran g c = runs_left g.S.Site c.args.opened c.site_of.result _ _ c.site_of.ensures
+returns-in_default-clause-ran g c = runs_left g.S.Site c.args.opened c.site_of-in_default.result _ _ c.site_of-in_default.ensures
 
 pub returns-in-Ok-clause-grown : goal.returns-in-Ok-clause-grown
 returns-in-Ok-clause-grown g c = grows_described g.S.Site c.args.opened c.in-Ok.running c.in-Ok.ensures.log.0 c.in-Ok.ensures.log.2 c.in-Ok.ensures.log.1 c.run_over.result.site c.run_over.ensures.grown
@@ -62,10 +62,19 @@ pub returns-clause-grown : goal.returns-clause-grown
 returns-clause-grown g c = grows_same g.S.Site c.args.opened _ c.in-Err.ensures.site
 
 pub returns-in_default-clause-grown : goal.returns-in_default-clause-grown
-returns-in_default-clause-grown g c = grows_same g.S.Site c.args.opened c.site_of.result c.site_of.ensures
+returns-in_default-clause-grown g c = grows_same g.S.Site c.args.opened c.site_of-in_default.result c.site_of-in_default.ensures
 
 pub returns-in_default-clause-takes : goal.returns-in_default-clause-takes
 returns-in_default-clause-takes g c = takes_none g.I.Source g.met.I.Source.same_again c.args.source.now Memory tt
 
 pub returns-clause-takes : goal.returns-clause-takes
 returns-clause-takes g c = takes_none g.I.Source g.met.I.Source.same_again c.args.source.now Memory tt
+
+pub returns-then-not-has_numbers_left-clause-ran : goal.returns-then-not-has_numbers_left-clause-ran
+returns-then-not-has_numbers_left-clause-ran g c = runs_left g.S.Site c.args.opened c.site_of.result _ _ c.site_of.ensures
+
+pub returns-then-not-has_numbers_left-clause-grown : goal.returns-then-not-has_numbers_left-clause-grown
+returns-then-not-has_numbers_left-clause-grown g c = grows_same g.S.Site c.args.opened c.site_of.result c.site_of.ensures
+
+pub returns-then-not-has_numbers_left-clause-takes : goal.returns-then-not-has_numbers_left-clause-takes
+returns-then-not-has_numbers_left-clause-takes g c = takes_none g.I.Source g.met.I.Source.same_again c.args.source.now Memory tt

@@ -42,6 +42,7 @@ returns-then-refused-gt0-clause-opens g c =
       opens = λ tells. unopened_memory g.S.Site c.args.site c.into_site-site.result.site e.result.status (o.opens tells);
       refused = λ is. absurd (none is);
       untaken = λ is. absurd (none is);
+      short = λ f b is. absurd cc;
       complete = λ tells total first openable is. none is;
       complete_state = λ tells s stands is. none is;
     }
