@@ -14,7 +14,7 @@ use Rattle.dms_audprint.specs.Printing.{PrintsSome, IsLate, RefusesAudit}
 use Rattle.dms_audprint.specs.declared.fault.PrintFault.{PrintFault}
 use Rattle.dms_audprint.specs.declared.fault.PrintFault.TheVariants.{Audit, Say}
 use Rattle.dms_status.specs.declared.status.Status.{Status}
-use Rattle.dms_status.specs.declared.status.Status.TheVariants.{Ok, BadWords, SchemaRefused, NoDatabase, Needed, InputFault, Memory, Limit, Damaged, SayFault, DiskFault, Exists, BadStatement}
+use Rattle.dms_status.specs.declared.status.Status.TheVariants.{Ok, BadWords, SchemaRefused, NoDatabase, Needed, InputFault, Memory, Limit, Damaged, SayFault, DiskFault, Exists, BadStatement, Reorganization, BadStream, Diverged, Flaw}
 use Rattle.dms_top.specs.Auditing.{IsOfPrinting, JudgesTrail, audit_status}
 use Rattle.dms_audfile.specs.Counting.{CountedAt}
 use Rattle.dms_top.specs.Words.{ComesUnsaid, IsUntouched}
@@ -114,6 +114,10 @@ print_untouched SayFault of is = is
 print_untouched DiskFault of is = is
 print_untouched Exists of is = is
 print_untouched (BadStatement p) of is = of
+print_untouched (Reorganization why) of is = of
+print_untouched (BadStream place) of is = of
+print_untouched (Diverged file block) of is = of
+print_untouched (Flaw flaw) of is = of
 
 -- a count of a call below, by the status that it is told as
 pub counted_as : (P Q : Type 0) (a b : ℕ) → (Q → P) → (P → Q) → counting.CountedAt P a b → CountedAt Q a b

@@ -10,9 +10,9 @@ use Rattle.dms_site.specs.declared.source.Source as source
 use Rattle.dms_site.specs.Files.{Left, Same}
 use Rattle.dms_status.specs.declared.status.SchemaFault.{SchemaFault}
 use Rattle.dms_status.specs.declared.status.Status.{Status}
-use Rattle.dms_status.specs.declared.status.Status.TheVariants.{Ok, BadWords, SchemaRefused, NoDatabase, Needed, InputFault, Memory, Limit, Damaged, SayFault, DiskFault, Exists, BadStatement}
+use Rattle.dms_status.specs.declared.status.Status.TheVariants.{Ok, BadWords, SchemaRefused, NoDatabase, Needed, InputFault, Memory, Limit, Damaged, SayFault, DiskFault, Exists, BadStatement, Reorganization, BadStream, Diverged, Flaw}
 use Rattle.dms_top.specs.Compiling.{CompileDoes, compiled_text}
-use Rattle.dms_newdb.specs.Saying.{IsSpoken, SaysLine}
+use Rattle.dms_status.specs.Saying.{IsSpoken, SaysLine}
 use Rattle.dms_newdb.specs.Judging.{judge_schema}
 use Rattle.dms_top.specs.Premises.{OfInput}
 use Rattle.dms_top.specs.Words.{IsOfCompile, IsPast}
@@ -78,6 +78,10 @@ unsaid SayFault line old new mute says = absurd (mute tt)
 unsaid DiskFault line old new mute says = says
 unsaid Exists line old new mute says = says
 unsaid (BadStatement p) line old new mute says = says
+unsaid (Reorganization why) line old new mute says = says
+unsaid (BadStream place) line old new mute says = says
+unsaid (Diverged file block) line old new mute says = says
+unsaid (Flaw flaw) line old new mute says = says
 
 -- the line of a description that is meant says how many structures it has
 pub line_of : (desc : Description) (d : Described) (s : Status) (old new : List ℕ) → d ≡ as_described desc → SaysLine s (compiled_text (length desc.structures)) old new → SaysLine s (compiled_text (length d.structures)) old new

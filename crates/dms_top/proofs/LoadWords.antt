@@ -3,7 +3,7 @@ use Rattle.std.proofs.Common.{◌≡◌, ◌∙◌, ℕ, List, [], ◌∷◌, sy
 use Rattle.std.proofs.lemmas.Option.{none-some}
 use Rattle.dms_loadrun.specs.Statuses.{IsOfLoad}
 use Rattle.dms_status.specs.declared.status.Status.{Status}
-use Rattle.dms_status.specs.declared.status.Status.TheVariants.{Ok, BadWords, SchemaRefused, NoDatabase, Needed, InputFault, Memory, Limit, Damaged, SayFault, DiskFault, Exists, BadStatement}
+use Rattle.dms_status.specs.declared.status.Status.TheVariants.{Ok, BadWords, SchemaRefused, NoDatabase, Needed, InputFault, Memory, Limit, Damaged, SayFault, DiskFault, Exists, BadStatement, Reorganization, BadStream, Diverged, Flaw}
 use Rattle.dms_top.specs.Words.{IsUntouched, initialize_tag, load_numbers}
 
 -- other words say no numbers
@@ -32,3 +32,7 @@ not_untouched SayFault of is = is
 not_untouched DiskFault of is = is
 not_untouched Exists of is = is
 not_untouched (BadStatement p) of is = of
+not_untouched (Reorganization why) of is = of
+not_untouched (BadStream place) of is = of
+not_untouched (Diverged file block) of is = of
+not_untouched (Flaw flaw) of is = of

@@ -10,12 +10,12 @@ use Rattle.dms_storeverbs.specs.View.{View, StandsFor}
 use Rattle.dms_plain.specs.Told.{text_if}
 use Rattle.dms_runner.specs.Answers.{answers_text, lines_run, script_events, script_run}
 use Rattle.dms_runner.specs.Events.{RunEvent, SaidWhole, text_of}
-use Rattle.dms_runner.specs.Running.{AnswersWhole, PassesBytes, PassesLines, PassesWaiting, TakesLines, bytes_of}
+use Rattle.dms_runner.specs.Running.{AnswersWhole, PassesBytes, PassesLines, PassesWaiting, TakesLines, bytes_of, front_events}
 use Rattle.dms_status.specs.declared.status.SchemaFault.{SchemaFault}
 use Rattle.dms_status.specs.declared.status.Status.{Status}
 use Rattle.dms_status.specs.declared.status.LimitKind.{LimitKind}
 use Rattle.dms_top.specs.Answering.{Printed, PrintedFront, PrintedPart, PrintedPrefix, PrintedWhole, judged_events}
-use Rattle.dms_top.specs.TryLimits.{PassesLimit, TooManyBytes, TooManyHeld, TooManyLines, WithinLimits}
+use Rattle.dms_top.specs.TryLimits.{PassesLimit, SaidIf, TooManyBytes, TooManyHeld, TooManyLines, WithinLimits}
 
 -- a text that is told
 pub told_prints : (b : Bool) (before after text : List ℕ) → b ≡ true → Prints (text_if b before) (text_if b after) text → Printed before after text
@@ -33,14 +33,18 @@ limits_kept d lines before after a = record { few = a.few; short = a.short; room
 pub within_front : (d : Described) (lines : List (List ℕ)) (n : ℕ) (before after : Option (List ℕ)) → TakesLines d empty_db 1 lines n before after → WithinLimits d (take n lines)
 within_front d lines n before after t = record { few = omega (arith, length-take n lines, t.within, t.few); short = t.short; room = t.room }
 
-pub too_many_lines : (d : Described) (lines : List (List ℕ)) (before after : Option (List ℕ)) → PassesLines d empty_db 1 lines before after → TooManyLines d lines
-too_many_lines d lines before after p = (p.0, within_front d lines 1000000 before after p.1)
+-- what these lines answer was printed
+said_front : (b : Bool) (before after : List ℕ) (d : Described) (lines : List (List ℕ)) (n : ℕ) → TakesLines d empty_db 1 lines n (text_if b before) (text_if b after) → SaidIf b before after (front_events d empty_db 1 lines n)
+said_front b before after d lines n t tells = told_prints b before after _ tells t.text
 
-pub too_many_bytes : (d : Described) (lines : List (List ℕ)) (before after : Option (List ℕ)) → PassesBytes d empty_db 1 lines before after → TooManyBytes d lines
-too_many_bytes d lines before after p = record { n = p.n; before = within_front d lines p.n before after p.took; few = p.few; over = p.over }
+pub too_many_lines : (b : Bool) (before after : List ℕ) (d : Described) (lines : List (List ℕ)) → PassesLines d empty_db 1 lines (text_if b before) (text_if b after) → TooManyLines (SaidIf b before after) d lines
+too_many_lines b before after d lines p = (p.0, (within_front d lines 1000000 (text_if b before) (text_if b after) p.1, said_front b before after d lines 1000000 p.1))
 
-pub too_many_held : (d : Described) (lines : List (List ℕ)) (before after : Option (List ℕ)) → PassesWaiting d empty_db 1 lines before after → TooManyHeld d lines
-too_many_held d lines before after p = record { n = p.n; before = within_front d lines p.n before after p.took; few = p.few; short = p.short; full = p.full }
+pub too_many_bytes : (b : Bool) (before after : List ℕ) (d : Described) (lines : List (List ℕ)) → PassesBytes d empty_db 1 lines (text_if b before) (text_if b after) → TooManyBytes (SaidIf b before after) d lines
+too_many_bytes b before after d lines p = record { n = p.n; before = within_front d lines p.n (text_if b before) (text_if b after) p.took; text = said_front b before after d lines p.n p.took; few = p.few; over = p.over }
+
+pub too_many_held : (b : Bool) (before after : List ℕ) (d : Described) (lines : List (List ℕ)) → PassesWaiting d empty_db 1 lines (text_if b before) (text_if b after) → TooManyHeld (SaidIf b before after) d lines
+too_many_held b before after d lines p = record { n = p.n; before = within_front d lines p.n (text_if b before) (text_if b after) p.took; text = said_front b before after d lines p.n p.took; few = p.few; short = p.short; full = p.full }
 
 pub nothing_printed : (before after text : List ℕ) → after ≡ before → PrintedPrefix before after text
 nothing_printed before after text same = (0, same ∙ sym (append-nil before))
@@ -52,8 +56,17 @@ stands_at v n m same stands = subst (λ (k : ℕ). StandsFor v (fresh_session em
 pub printed_moved : (before after text before' after' text' : List ℕ) → after ≡ after' → before ≡ before' → text ≡ text' → Printed before' after' text' → Printed before after text
 printed_moved before after text before' after' text' a b t p = a ∙ p ∙ ap (λ (x : List ℕ). x ++ text') (sym b) ∙ ap (λ (x : List ℕ). before ++ x) (sym t)
 
-pub passes_described : (k : LimitKind) (d d' : Described) (lines : List (List ℕ)) → d ≡ d' → PassesLimit k d' lines → PassesLimit k d lines
-passes_described k d d' lines e p = subst (λ (x : Described). PassesLimit k x lines) (sym e) p
+pub passes_described : (said : List RunEvent → Type 0) (k : LimitKind) (d d' : Described) (lines : List (List ℕ)) → d ≡ d' → PassesLimit said k d' lines → PassesLimit said k d lines
+passes_described said k d d' lines e p = subst (λ (x : Described). PassesLimit said k x lines) (sym e) p
+
+-- the same texts, where they are told
+pub said_moved : (b : Bool) (before after before' after' : List ℕ) (events : List RunEvent) → after ≡ after' → before ≡ before' → SaidIf b before' after' events → SaidIf b before after events
+said_moved b before after before' after' events a s p tells = printed_moved before after (text_of events) before' after' (text_of events) a s refl (p tells)
+
+-- and what is so of each of them
+pub passes_said : (k : LimitKind) (b : Bool) (before after before' after' : List ℕ) (d : Described) (lines : List (List ℕ)) → after ≡ after' → before ≡ before' → PassesLimit (SaidIf b before' after') k d lines → PassesLimit (SaidIf b before after) k d lines
+passes_said k b before after before' after' d lines a s p =
+    subst (λ (x : List ℕ). PassesLimit (SaidIf b before x) k d lines) (sym a) (subst (λ (x : List ℕ). PassesLimit (SaidIf b x after') k d lines) (sym s) p)
 
 pub within_moved : (d d' : Described) (lines : List (List ℕ)) → d ≡ d' → WithinLimits d' lines → WithinLimits d lines
 within_moved d d' lines e w = subst (λ (x : Described). WithinLimits x lines) (sym e) w
@@ -75,8 +88,8 @@ same_description j d e first then_ = ap (or_that d) (sym then_ ∙ first)
 pub within_lines : (d : Described) (lines lines' : List (List ℕ)) → lines' ≡ lines → WithinLimits d lines' → WithinLimits d lines
 within_lines d lines lines' e w = subst (λ (x : List (List ℕ)). WithinLimits d x) e w
 
-pub passes_lines : (k : LimitKind) (d : Described) (lines lines' : List (List ℕ)) → lines' ≡ lines → PassesLimit k d lines' → PassesLimit k d lines
-passes_lines k d lines lines' e p = subst (λ (x : List (List ℕ)). PassesLimit k d x) e p
+pub passes_lines : (said : List RunEvent → Type 0) (k : LimitKind) (d : Described) (lines lines' : List (List ℕ)) → lines' ≡ lines → PassesLimit said k d lines' → PassesLimit said k d lines
+passes_lines said k d lines lines' e p = subst (λ (x : List (List ℕ)). PassesLimit said k d x) e p
 
 pub not_refused : (j : Result Described SchemaFault) (d : Described) (e : SchemaFault) → j ≡ Ok d → j ≡ Err e → ⊥
 not_refused (Ok x) d e p q = absurd (cc)
@@ -128,6 +141,11 @@ none_full d = refl
 none_answered : (d : Described) → answers_text d empty_db 1 [] ≡ []
 unfolding lines_run script_events
 none_answered d = refl
+
+-- nothing was printed, and no line answered
+pub none_said : (b : Bool) (d : Described) (said : List ℕ) → SaidIf b said said (script_run d empty_db 1 []).events
+unfolding lines_run
+none_said b d said tells = sym (append-nil said)
 
 pub none_printed : (d : Described) (lines : List (List ℕ)) (said : List ℕ) → lines ≡ [] → Printed said said (answers_text d empty_db 1 lines)
 none_printed d lines said none = sym (ap (λ (ls : List (List ℕ)). said ++ answers_text d empty_db 1 ls) none ∙ ap (λ (t : List ℕ). said ++ t) (none_answered d) ∙ append-nil said)

@@ -1,6 +1,6 @@
 -- The statuses of `run`.
 use Rattle.dms_status.specs.declared.status.Status.{Status}
-use Rattle.dms_status.specs.declared.status.Status.TheVariants.{Ok, BadWords, SchemaRefused, NoDatabase, Needed, InputFault, Memory, Limit, Damaged, SayFault, DiskFault, Exists, BadStatement}
+use Rattle.dms_status.specs.declared.status.Status.TheVariants.{Ok, BadWords, SchemaRefused, NoDatabase, Needed, InputFault, Memory, Limit, Damaged, SayFault, DiskFault, Exists, BadStatement, Reorganization, BadStream, Diverged, Flaw}
 use Rattle.dms_runtop.specs.Statuses.{IsOfRun}
 use Rattle.dms_top.specs.Words.{IsUntouched}
 
@@ -19,3 +19,7 @@ never_untouched SayFault of is = is
 never_untouched DiskFault of is = is
 never_untouched Exists of is = is
 never_untouched (BadStatement p) of is = of
+never_untouched (Reorganization why) of is = of
+never_untouched (BadStream place) of is = of
+never_untouched (Diverged file block) of is = of
+never_untouched (Flaw flaw) of is = of

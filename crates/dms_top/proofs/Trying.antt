@@ -26,7 +26,7 @@ nothing_tried g i site from to status of early refused cut = record {
   by_input = record {
     ok = λ ok. absurd (early (subst (λ (s : Status). IsPast s) (sym ok) tt));
     limit = λ k is. absurd (early (subst (λ (s : Status). IsPast s) (sym is) tt));
-    breaks = λ is all d told judged. cut_text d all (i.left to) (cut is all told);
+    breaks = λ is all d told judged. cut_text g.tells_said (g.said site) d all (i.left to) (cut is all told);
     breaks_schema = λ is all e told judged. cut is all told;
   };
   answers = λ ok. absurd (early (subst (λ (s : Status). IsPast s) (sym ok) tt));

@@ -1,6 +1,6 @@
 -- The statuses of `utility`.
 use Rattle.dms_status.specs.declared.status.Status.{Status}
-use Rattle.dms_status.specs.declared.status.Status.TheVariants.{Ok, BadWords, SchemaRefused, NoDatabase, Needed, InputFault, Memory, Limit, Damaged, SayFault, DiskFault, Exists, BadStatement}
+use Rattle.dms_status.specs.declared.status.Status.TheVariants.{Ok, BadWords, SchemaRefused, NoDatabase, Needed, InputFault, Memory, Limit, Damaged, SayFault, DiskFault, Exists, BadStatement, Reorganization, BadStream, Diverged, Flaw}
 use Rattle.dms_top.specs.Words.{IsUntouched}
 use Rattle.dms_dumping.specs.Statuses.{IsOfReading}
 use Rattle.dms_utility.specs.Statuses.{IsOfUtility}
@@ -20,3 +20,7 @@ only_read SayFault of is = absurd is
 only_read DiskFault of is = absurd is
 only_read Exists of is = absurd is
 only_read (BadStatement p) of is = tt
+only_read (Reorganization why) of is = of
+only_read (BadStream place) of is = of
+only_read (Diverged file block) of is = of
+only_read (Flaw flaw) of is = of

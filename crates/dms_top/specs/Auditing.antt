@@ -14,7 +14,7 @@ use Rattle.dms_audprint.specs.declared.fault.PrintFault.TheVariants.{Audit, Say}
 use Rattle.dms_status.specs.declared.status.NeedFault.{NeedFault}
 use Rattle.dms_status.specs.declared.status.NeedFault.TheVariants.{NoDescription, AuditMissing, AuditUnsealed, AuditForeign, NoSuchPoint, Voided, DumpMissing, DumpUnsealed, DumpForeign, DumpLater, NoSuchRow}
 use Rattle.dms_status.specs.declared.status.Status.{Status}
-use Rattle.dms_status.specs.declared.status.Status.TheVariants.{Ok, BadWords, SchemaRefused, NoDatabase, Needed, InputFault, Memory, Limit, Damaged, SayFault, DiskFault, Exists, BadStatement}
+use Rattle.dms_status.specs.declared.status.Status.TheVariants.{Ok, BadWords, SchemaRefused, NoDatabase, Needed, InputFault, Memory, Limit, Damaged, SayFault, DiskFault, Exists, BadStatement, Reorganization, BadStream, Diverged, Flaw}
 use Rattle.dms_top.specs.Words.{ComesUnsaid}
 
 -- the need of an audit file
@@ -46,6 +46,10 @@ IsOfPrinting SayFault = ⊤
 IsOfPrinting DiskFault = ⊤
 IsOfPrinting Exists = ⊥
 IsOfPrinting (BadStatement p) = ⊥
+IsOfPrinting (Reorganization why) = ⊥
+IsOfPrinting (BadStream place) = ⊥
+IsOfPrinting (Diverged file block) = ⊥
+IsOfPrinting (Flaw flaw) = ⊥
 
 -- that need is what scanning the trail of these files refuses
 abbrev pub NeedsAudit : Files → NeedFault → Type 0
@@ -76,6 +80,10 @@ JudgesTrail files SayFault = ⊤
 JudgesTrail files DiskFault = ⊤
 JudgesTrail files Exists = ⊤
 JudgesTrail files (BadStatement p) = ⊤
+JudgesTrail files (Reorganization why) = ⊤
+JudgesTrail files (BadStream place) = ⊤
+JudgesTrail files (Diverged file block) = ⊤
+JudgesTrail files (Flaw flaw) = ⊤
 
 -- The status behind printing the audit. Nothing is sealed then, so no file is full; that is told as want of memory.
 abbrev pub audit_status : {T : Type 0} → Result T PrintFault → Status

@@ -5,13 +5,14 @@ use Rattle.dms_moments.specs.Moments.{Clock, Now, Runs, Steps}
 use Rattle.dms_desc.specs.Shape.{Described}
 use Rattle.dms_descfile.specs.Becoming.{Creates, IsCreated}
 use Rattle.dms_descfile.specs.DescriptionFile.{sealed_file, IsSealed, IsUnsealed}
-use Rattle.dms_newdb.specs.Saying.{OfSealed, IsSpoken, SaysLine, SiteAndTextStay}
+use Rattle.dms_status.specs.Saying.{IsSpoken, SaysLine}
+use Rattle.dms_newdb.specs.Saying.{OfSealed, SiteAndTextStay}
 use Rattle.dms_site.specs.declared.site.Site.{Ghosts}
 use Rattle.dms_site.specs.declared.source.Source as source
 use Rattle.dms_site.specs.Files.{Files, Left, Only, Same}
 use Rattle.dms_status.specs.declared.status.SchemaFault.{SchemaFault}
 use Rattle.dms_status.specs.declared.status.Status.{Status}
-use Rattle.dms_status.specs.declared.status.Status.TheVariants.{Ok, BadWords, SchemaRefused, NoDatabase, Needed, InputFault, Memory, Limit, Damaged, SayFault, DiskFault, Exists, BadStatement}
+use Rattle.dms_status.specs.declared.status.Status.TheVariants.{Ok, BadWords, SchemaRefused, NoDatabase, Needed, InputFault, Memory, Limit, Damaged, SayFault, DiskFault, Exists, BadStatement, Reorganization, BadStream, Diverged, Flaw}
 use Rattle.dms_newdb.specs.Judging.{judge_schema}
 use Rattle.dms_top.specs.Premises.{OfInput, OfSchema, OfNoSchema}
 use Rattle.dms_top.specs.Words.{IsOfCompile, IsPast}
@@ -35,6 +36,10 @@ IsBefore SayFault = ⊥
 IsBefore DiskFault = ⊥
 IsBefore Exists = ⊤
 IsBefore (BadStatement p) = ⊤
+IsBefore (Reorganization why) = ⊤
+IsBefore (BadStream place) = ⊤
+IsBefore (Diverged file block) = ⊤
+IsBefore (Flaw flaw) = ⊤
 
 -- the statuses of the work on the description file
 abbrev pub IsOfFile : Status → Type 0
@@ -51,6 +56,10 @@ IsOfFile SayFault = ⊤
 IsOfFile DiskFault = ⊤
 IsOfFile Exists = ⊤
 IsOfFile (BadStatement p) = ⊥
+IsOfFile (Reorganization why) = ⊥
+IsOfFile (BadStream place) = ⊥
+IsOfFile (Diverged file block) = ⊥
+IsOfFile (Flaw flaw) = ⊥
 
 -- Each outcome that a stop on the way left is one that it could leave at the old moment, or there the description file is no
 -- sealed description, or exactly that of some description, and the other files are these.

@@ -9,9 +9,9 @@ use Rattle.dms_site.specs.Files.{Only, Same}
 use Rattle.dms_status.specs.declared.status.NeedFault.{NeedFault}
 use Rattle.dms_status.specs.declared.status.NeedFault.TheVariants.{NoDescription, AuditMissing, AuditUnsealed, AuditForeign, NoSuchPoint, Voided, DumpMissing, DumpUnsealed, DumpForeign, DumpLater, NoSuchRow}
 use Rattle.dms_status.specs.declared.status.Status.{Status}
-use Rattle.dms_status.specs.declared.status.Status.TheVariants.{Ok, BadWords, SchemaRefused, NoDatabase, Needed, InputFault, Memory, Limit, Damaged, SayFault, DiskFault, Exists, BadStatement}
+use Rattle.dms_status.specs.declared.status.Status.TheVariants.{Ok, BadWords, SchemaRefused, NoDatabase, Needed, InputFault, Memory, Limit, Damaged, SayFault, DiskFault, Exists, BadStatement, Reorganization, BadStream, Diverged, Flaw}
 use Rattle.dms_top.specs.Compiling.{IsBefore}
-use Rattle.dms_newdb.specs.Saying.{IsSpoken, SaysLine}
+use Rattle.dms_status.specs.Saying.{IsSpoken, SaysLine}
 use Rattle.dms_newdb.specs.Saying.{OfSealed}
 use Rattle.dms_newdb.specs.State.{BecomesNewSite, StandsNew}
 
@@ -47,6 +47,10 @@ IsOfCreation SayFault = ⊤
 IsOfCreation DiskFault = ⊤
 IsOfCreation Exists = ⊤
 IsOfCreation (BadStatement p) = ⊥
+IsOfCreation (Reorganization why) = ⊥
+IsOfCreation (BadStream place) = ⊥
+IsOfCreation (Diverged file block) = ⊥
+IsOfCreation (Flaw flaw) = ⊥
 
 -- What `initialize` with this tag promises of a site before and after it, and of the status.
 pub record InitializeDoes {S : Type 0} (g : Ghosts S) (tag : ℕ) (old new : S) (status : Status) : Type 0 where

@@ -11,7 +11,7 @@ use Rattle.dms_top.specs.Answering.{Printed, PrintedFront, PrintedPart, script_o
 use Rattle.dms_newdb.specs.Judging.{judge_schema}
 use Rattle.dms_top.specs.Premises.{OfInput, OfTriedScript}
 use Rattle.dms_top.specs.Schema.{schema_text}
-use Rattle.dms_top.specs.TryLimits.{BlamesTry}
+use Rattle.dms_top.specs.TryLimits.{BlamesTry, SaidIf}
 use Rattle.dms_top.specs.Words.{IsOfTry, IsPast, ComesUnsaid}
 
 -- What `try` promises of a site and an input before and after it, and of the status.
@@ -22,8 +22,8 @@ pub record TryDoes {S I : Type 0} (g : Ghosts S) (i : source.Ghosts I) (old new 
   pub refused : (f : SchemaFault) → status ≡ SchemaRefused f → OfInput (i.left from) (λ all. judge_schema (schema_text all) ≡ Err f)
   -- the statuses after the schema, 0, 8 and 10, come only where it is accepted
   pub accepted : IsPast status → OfInput (i.left from) (λ all. IsOk (judge_schema (schema_text all)))
-  -- the statuses 0, 6 and 8 have their cause in the input
-  pub by_input : BlamesTry (i.left from) (i.left to) status
+  -- the statuses 0, 6 and 8 have their cause in the input, and at 6 and 8 exactly what the lines before answer was printed
+  pub by_input : BlamesTry (SaidIf g.tells_said (g.said old) (g.said new)) (i.left from) (i.left to) status
   -- at status 0 exactly what the script answers was printed
   pub answers : status ≡ Ok → IsTrue g.tells_said → OfInput (i.left from) (λ all. Printed (g.said old) (g.said new) (try_text all))
   -- at every status a prefix of that was printed, and at every status but 10 the text of whole answers

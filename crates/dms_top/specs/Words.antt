@@ -4,7 +4,7 @@ use Rattle.std.specs.Str.{bytes_eq}
 use Rattle.dms_status.specs.declared.status.LimitKind.{LimitKind}
 use Rattle.dms_status.specs.declared.status.LimitKind.TheVariants.{AuditFile, Lines, Bytes, Held}
 use Rattle.dms_status.specs.declared.status.Status.{Status}
-use Rattle.dms_status.specs.declared.status.Status.TheVariants.{Ok, BadWords, SchemaRefused, NoDatabase, Needed, InputFault, Memory, Limit, Damaged, SayFault, DiskFault, Exists, BadStatement}
+use Rattle.dms_status.specs.declared.status.Status.TheVariants.{Ok, BadWords, SchemaRefused, NoDatabase, Needed, InputFault, Memory, Limit, Damaged, SayFault, DiskFault, Exists, BadStatement, Reorganization, BadStream, Diverged, Flaw}
 
 -- the word `try`
 abbrev pub IsTry : List (List ℕ) → Type 0
@@ -102,6 +102,10 @@ IsPast SayFault = ⊤
 IsPast DiskFault = ⊤
 IsPast Exists = ⊤
 IsPast (BadStatement p) = ⊥
+IsPast (Reorganization why) = ⊥
+IsPast (BadStream place) = ⊥
+IsPast (Diverged file block) = ⊥
+IsPast (Flaw flaw) = ⊥
 
 -- the statuses that come before anything is printed
 abbrev pub ComesUnsaid : Status → Type 0
@@ -118,6 +122,10 @@ ComesUnsaid SayFault = ⊥
 ComesUnsaid DiskFault = ⊥
 ComesUnsaid Exists = ⊤
 ComesUnsaid (BadStatement p) = ⊤
+ComesUnsaid (Reorganization why) = ⊤
+ComesUnsaid (BadStream place) = ⊤
+ComesUnsaid (Diverged file block) = ⊤
+ComesUnsaid (Flaw flaw) = ⊤
 
 -- the statuses that come before a call on the site is made
 abbrev pub IsUntouched : Status → Type 0
@@ -134,6 +142,10 @@ IsUntouched SayFault = ⊥
 IsUntouched DiskFault = ⊥
 IsUntouched Exists = ⊥
 IsUntouched (BadStatement p) = ⊤
+IsUntouched (Reorganization why) = ⊥
+IsUntouched (BadStream place) = ⊥
+IsUntouched (Diverged file block) = ⊥
+IsUntouched (Flaw flaw) = ⊥
 
 -- a limit of the script
 abbrev pub IsOfLines : LimitKind → Type 0
@@ -157,6 +169,10 @@ IsOfTry SayFault = ⊤
 IsOfTry DiskFault = ⊥
 IsOfTry Exists = ⊥
 IsOfTry (BadStatement p) = ⊥
+IsOfTry (Reorganization why) = ⊥
+IsOfTry (BadStream place) = ⊥
+IsOfTry (Diverged file block) = ⊥
+IsOfTry (Flaw flaw) = ⊥
 
 -- the statuses of `compile`
 abbrev pub IsOfCompile : Status → Type 0
@@ -173,3 +189,7 @@ IsOfCompile SayFault = ⊤
 IsOfCompile DiskFault = ⊤
 IsOfCompile Exists = ⊤
 IsOfCompile (BadStatement p) = ⊥
+IsOfCompile (Reorganization why) = ⊥
+IsOfCompile (BadStream place) = ⊥
+IsOfCompile (Diverged file block) = ⊥
+IsOfCompile (Flaw flaw) = ⊥

@@ -12,7 +12,7 @@ mod try_run;
 mod whole;
 
 pub use audit_run::is_print_audit;
-pub use dms_status::{LimitKind, NeedFault, SchemaFault, Status};
+pub use dms_status::{Flaw, LimitKind, NeedFault, ReorgFault, SchemaFault, Status};
 pub use load_run::load_numbers;
 pub use tags::initialize_tag;
 pub use top::{dms, is_run, is_utility};

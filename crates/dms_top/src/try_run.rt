@@ -9,7 +9,7 @@ ghost use Rattle.dms_top.specs.Answering.{Printed, PrintedFront, PrintedPart, li
 ghost use Rattle.dms_status.specs.declared.status.LimitKind.{LimitKind as Kind};
 ghost use Rattle.dms_top.specs.Premises.{OfRest};
 ghost use Rattle.dms_audfile.specs.Counting.{CountedAt};
-ghost use Rattle.dms_top.specs.TryLimits.{CutLines, PassesLimit, WithinLimits};
+ghost use Rattle.dms_top.specs.TryLimits.{CutLines, PassesLimit, SaidIf, WithinLimits};
 ghost use Rattle.dms_top.specs.Words.{IsOfTry, ComesUnsaid};
 ghost use Rattle.dms_status.specs.declared.status.SchemaFault.{SchemaFault as Refusal};
 
@@ -91,8 +91,8 @@ pub fn try_lines<S: Site, I: Source>(
     ensures part { IsTrue S.tells_said → OfRest feed.old (I.left source.old) (λ all. PrintedPart result (S.said site.old) (S.said site.new) (lines_events (as_described desc.now) all)) }
     ensures front { IsTrue S.tells_said → OfRest feed.old (I.left source.old) (λ all. PrintedFront result (as_described desc.now) (raw_lines all) (S.said site.old) (S.said site.new)) }
     ensures within { result ≡ Status.Ok → OfRest feed.old (I.left source.old) (λ all. WithinLimits (as_described desc.now) (raw_lines all)) }
-    ensures limit { (k : Kind) → result ≡ Status.Limit k → OfRest feed.old (I.left source.old) (λ all. PassesLimit k (as_described desc.now) (raw_lines all)) }
-    ensures input_cut { result ≡ Status.InputFault → OfRest feed.old (I.left source.old) (λ all. CutLines (as_described desc.now) all (I.left source.new)) }
+    ensures limit { (k : Kind) → result ≡ Status.Limit k → OfRest feed.old (I.left source.old) (λ all. PassesLimit (SaidIf S.tells_said (S.said site.old) (S.said site.new)) k (as_described desc.now) (raw_lines all)) }
+    ensures input_cut { result ≡ Status.InputFault → OfRest feed.old (I.left source.old) (λ all. CutLines (SaidIf S.tells_said (S.said site.old) (S.said site.new)) (as_described desc.now) all (I.left source.new)) }
     ensures input { CountedAt (result ≡ Status.InputFault) (I.faults source.old) (I.faults source.new) }
     ensures disk { CountedAt (result ≡ Status.DiskFault) (S.disk_faults site.old) (S.disk_faults site.new) }
     ensures say { CountedAt (result ≡ Status.SayFault) (S.say_faults site.old) (S.say_faults site.new) }

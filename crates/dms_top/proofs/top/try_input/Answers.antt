@@ -56,11 +56,11 @@ returns-clause-does g c = record {
     limit = λ k limit all d left is.
         let t = c.in-Ok.ensures.text all (at_start _ _ all c.new-feed.ensures left) in
         let j : judge_schema (schema_text all) ≡ Ok (as_described c.in-Description.desc) = ap judge_schema (sym t.is ∙ sym c.as_slice.ensures) ∙ c.in-Description.ensures in
-        passes_described k _ _ _ (same_description _ _ d j is) (passes_lines k _ _ _ t.script (c.try_lines.ensures.limit k limit t.rest t.remains));
+        passes_described _ k _ _ _ (same_description _ _ d j is) (passes_lines _ k _ _ _ t.script (c.try_lines.ensures.limit k limit t.rest t.remains));
     breaks = λ cut all d left is.
         let t = c.in-Ok.ensures.text all (at_start _ _ all c.new-feed.ensures left) in
         let j : judge_schema (schema_text all) ≡ Ok (as_described c.in-Description.desc) = ap judge_schema (sym t.is ∙ sym c.as_slice.ensures) ∙ c.in-Description.ensures in
-        cut_described _ _ all _ (same_description _ _ d j is) (cut_script _ t.done all t.rest _ t.leaves t.behind (t.ended c.if-not-taken.false) (c.try_lines.ensures.input_cut cut t.rest t.remains));
+        cut_described _ _ _ all _ (same_description _ _ d j is) (cut_script _ _ t.done all t.rest _ t.leaves t.behind (t.ended c.if-not-taken.false) (c.try_lines.ensures.input_cut cut t.rest t.remains));
     breaks_schema = λ cut all e left is.
         let t = c.in-Ok.ensures.text all (at_start _ _ all c.new-feed.ensures left) in
         let j : judge_schema (schema_text all) ≡ Ok (as_described c.in-Description.desc) = ap judge_schema (sym t.is ∙ sym c.as_slice.ensures) ∙ c.in-Description.ensures in

@@ -5,11 +5,11 @@ use Rattle.dms_desc.specs.Shape.{Described, as_described}
 use Rattle.dms_feed.specs.Lines.{raw_lines}
 use Rattle.dms_model.specs.Db.{empty_db}
 use Rattle.dms_runner.specs.Answers.{answers_text, script_events}
-use Rattle.dms_top.specs.TryLimits.{PassesLimit}
-use Rattle.dms_top.proofs.Printing.{told_front, told_prints, told_whole, limits_kept, stands_at, nothing_part, part_moved, printed_moved, front_none, printed_front, passes_described, too_many_bytes, too_many_held, too_many_lines, within_moved, on_ok}
+use Rattle.dms_top.specs.TryLimits.{PassesLimit, SaidIf}
+use Rattle.dms_top.proofs.Printing.{told_front, told_prints, told_whole, limits_kept, stands_at, nothing_part, part_moved, printed_moved, front_none, printed_front, passes_described, passes_said, too_many_bytes, too_many_held, too_many_lines, within_moved, on_ok}
 use Rattle.dms_top.proofs.Counting.{say_counted, counted_moved}
 use Rattle.dms_top.proofs.Carried.{whole_part}
-use Rattle.dms_top.proofs.Cutting.{cut_lines, cut_lines_described}
+use Rattle.dms_top.proofs.Cutting.{cut_lines, cut_lines_described, cut_said}
 use Rattle.dms_feed.specs.Feeds.{Remains}
 use Rattle.dms_status.specs.declared.status.Status.TheVariants.{Limit}
 use Rattle.dms_status.specs.declared.status.LimitKind.{LimitKind}
@@ -62,20 +62,23 @@ returns-in-Ok-new-clause-within g c = λ ok all remains.
 
 pub returns-in-Ok-new-clause-input_cut : goal.returns-in-Ok-new-clause-input_cut
 returns-in-Ok-new-clause-input_cut g c = λ is all remains.
-    cut_lines_described _ (as_described c.in-Ok-new.engine.desc) all _ (sym c.in-Ok-new.ensures.described)
-    (cut_lines _ all _ _ _ ((c.run_lines-ran.ensures.carried empty_db 1 all (stands_at _ _ 1 c.in-Ok.ensures.starts.next_is (c.in-Ok-new.ensures.stands empty_db c.in-Ok.ensures.starts.db_is)) (omega arith) remains).failed (c.status_after.ensures.input is)).0)
+    cut_said _ _ _ (g.S.Site.said c.in-Ok-new.engine.store.site.now) (g.S.Site.said c.run_lines-ran.new.engine.store.site.now) _ all _ (search rules) (search rules)
+    (cut_lines_described _ _ (as_described c.in-Ok-new.engine.desc) all _ (sym c.in-Ok-new.ensures.described)
+    (cut_lines g.S.Site.tells_said (g.S.Site.said c.in-Ok-new.engine.store.site.now) (g.S.Site.said c.run_lines-ran.new.engine.store.site.now) _ all _ ((c.run_lines-ran.ensures.carried empty_db 1 all (stands_at _ _ 1 c.in-Ok.ensures.starts.next_is (c.in-Ok-new.ensures.stands empty_db c.in-Ok.ensures.starts.db_is)) (omega arith) remains).failed (c.status_after.ensures.input is)).0))
 
 pub returns-in-Ok-new-clause-limit : goal.returns-in-Ok-new-clause-limit
-returns-in-Ok-new-clause-limit g c = λ k is all remains. passes_described k _ (as_described c.in-Ok-new.engine.desc) _ (sym c.in-Ok-new.ensures.described) (passes g c k is all remains)
+returns-in-Ok-new-clause-limit g c = λ k is all remains.
+    passes_said k _ _ _ (g.S.Site.said c.in-Ok-new.engine.store.site.now) (g.S.Site.said c.run_lines-ran.new.engine.store.site.now) _ _ (search rules) (search rules)
+    (passes_described _ k _ (as_described c.in-Ok-new.engine.desc) _ (sym c.in-Ok-new.ensures.described) (passes g c k is all remains))
   where
-    passes : (g : Over) (c : goal.After-status_after g) (k : LimitKind) → c.status_after.result ≡ Limit k → (all : List ℕ) → Remains c.args.feed.now (g.I.Source.left c.args.source.now) all → PassesLimit k (as_described c.in-Ok-new.engine.desc) (raw_lines all)
+    passes : (g : Over) (c : goal.After-status_after g) (k : LimitKind) → c.status_after.result ≡ Limit k → (all : List ℕ) → Remains c.args.feed.now (g.I.Source.left c.args.source.now) all → PassesLimit (SaidIf g.S.Site.tells_said (g.S.Site.said c.in-Ok-new.engine.store.site.now) (g.S.Site.said c.run_lines-ran.new.engine.store.site.now)) k (as_described c.in-Ok-new.engine.desc) (raw_lines all)
     passes g c (AuditFile f) is all remains = absurd (subst (λ (s : Status). IsOfTry s) is c.status_after.ensures.statuses)
     passes g c Lines is all remains =
-        too_many_lines _ _ _ _ ((c.run_lines-ran.ensures.carried empty_db 1 all (stands_at _ _ 1 c.in-Ok.ensures.starts.next_is (c.in-Ok-new.ensures.stands empty_db c.in-Ok.ensures.starts.db_is)) (omega arith) remains).lines (c.status_after.ensures.lines is)).0
+        record { by = too_many_lines _ _ _ _ _ ((c.run_lines-ran.ensures.carried empty_db 1 all (stands_at _ _ 1 c.in-Ok.ensures.starts.next_is (c.in-Ok-new.ensures.stands empty_db c.in-Ok.ensures.starts.db_is)) (omega arith) remains).lines (c.status_after.ensures.lines is)).0 }
     passes g c Bytes is all remains =
-        too_many_bytes _ _ _ _ ((c.run_lines-ran.ensures.carried empty_db 1 all (stands_at _ _ 1 c.in-Ok.ensures.starts.next_is (c.in-Ok-new.ensures.stands empty_db c.in-Ok.ensures.starts.db_is)) (omega arith) remains).bytes (c.status_after.ensures.bytes is)).0
+        record { by = too_many_bytes _ _ _ _ _ ((c.run_lines-ran.ensures.carried empty_db 1 all (stands_at _ _ 1 c.in-Ok.ensures.starts.next_is (c.in-Ok-new.ensures.stands empty_db c.in-Ok.ensures.starts.db_is)) (omega arith) remains).bytes (c.status_after.ensures.bytes is)).0 }
     passes g c Held is all remains =
-        too_many_held _ _ _ _ ((c.run_lines-ran.ensures.carried empty_db 1 all (stands_at _ _ 1 c.in-Ok.ensures.starts.next_is (c.in-Ok-new.ensures.stands empty_db c.in-Ok.ensures.starts.db_is)) (omega arith) remains).full_list (c.status_after.ensures.waiting is)).0
+        record { by = too_many_held _ _ _ _ _ ((c.run_lines-ran.ensures.carried empty_db 1 all (stands_at _ _ 1 c.in-Ok.ensures.starts.next_is (c.in-Ok-new.ensures.stands empty_db c.in-Ok.ensures.starts.db_is)) (omega arith) remains).full_list (c.status_after.ensures.waiting is)).0 }
 
 pub returns-in-Ok-new-clause-input : goal.returns-in-Ok-new-clause-input
 returns-in-Ok-new-clause-input g c = record {
