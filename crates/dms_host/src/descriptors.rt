@@ -1,5 +1,7 @@
-//! The three standard streams.
+//! The three standard streams, and the files of the folder that they may end in.
 
+use crate::trouble::Subject;
+use std::alloc::Global;
 use std::fs::{self, File, OpenOptions};
 use std::io::{self, ErrorKind};
 use std::os::fd::AsFd;
@@ -76,6 +78,34 @@ pub fn reaches_database(rt: &HostRuntime, stream: Stream) -> io::Result<bool> {
         }
     }
     Ok(false)
+}
+
+/// The database file of the current folder that is also one of a lesser number, by links: None where each is a file of its own.
+///
+/// An error comes where the folder can't be read, or a database file is there and can't be looked at, and where memory is refused.
+pub fn twice_named(rt: &HostRuntime, alloc: Global) -> io::Result<Option<Subject>> {
+    let mut files = Vec::new(alloc);
+    for entry in fs::read_dir(rt, ".")? {
+        match entry {
+            Ok(entry) => {
+                let name = entry.file_name();
+                if let Subject::File(number) = Subject::of_name(name) {
+                    if let Some((device, place)) = regular_file(rt, name)? {
+                        files.push((device, place, number))?;
+                    }
+                }
+            }
+            Err(e) if e.kind() == ErrorKind::InvalidFilename => {}
+            Err(e) => return Err(e),
+        }
+    }
+    files.sort()?;
+    for pair in files.as_slice().windows(2) {
+        if (pair[0].0, pair[0].1) == (pair[1].0, pair[1].1) {
+            return Ok(Some(Subject::File(pair[1].2)));
+        }
+    }
+    Ok(None)
 }
 
 /// The device of the regular file of this name and its number there, which no other file has. None where there is none.

@@ -14,7 +14,7 @@ use std::fmt::Write as WriteText;
 use std::fs::{self, Files, OpenFile, OpenOptions};
 use std::io::{self, ErrorKind, Write};
 use std::ops::Range;
-use std::os::unix::fs::FileExt;
+use std::os::unix::fs::{FileExt, MetadataExt};
 use std::rt::{Clock, Runtime};
 
 /// The numbers of the structure files.
@@ -72,16 +72,6 @@ impl<R: Files> Host<R> {
                 Err(Failed)
             }
         }
-    }
-
-    /// The open file, or that opening it failed, which is kept.
-    fn keep_file(
-        &mut self,
-        on: Subject,
-        outcome: io::Result<R::File>,
-    ) -> Result<NumberedFile<R::File>, Failed> {
-        let file = self.keep(on, outcome)?;
-        Ok(NumberedFile { on, file })
     }
 }
 
@@ -148,6 +138,22 @@ fn whole_dump<R: Files>(rt: &R, file: &NumberedFile<R::File>, number: u32) -> u6
     whole
 }
 
+/// Opens a file of the folder, where it is a regular file without another name. It is looked at before it is opened, since the opening of a FIFO may wait
+/// for ever.
+fn open_own<R: Files>(rt: &R, name: &str, access: Access) -> io::Result<R::File> {
+    let found = fs::metadata(rt, name)?;
+    if !found.is_file() {
+        return Err(io::Error::other("not a regular file"));
+    }
+    if found.nlink() > 1 {
+        return Err(io::Error::other("the file has another name"));
+    }
+    OpenOptions::new()
+        .read(true)
+        .write(access == Access::Writing)
+        .open(rt, name)
+}
+
 /// Its value, or that the call failed.
 pub(crate) fn or_failed<T: Drop>(outcome: io::Result<T>) -> Result<T, Failed>
     ensures { MatchResult outcome (λ value. result ≡ Ok value) (λ e. result ≡ Err (record {})) }
@@ -193,11 +199,7 @@ where
     fn open(&mut self, name: &str) -> Result<Option<NumberedFile<R::File>>, Failed> {
         self.turn();
         let on = Subject::of_name(name);
-        let opened = OpenOptions::new()
-            .read(true)
-            .write(self.access == Access::Writing)
-            .open(&self.rt, name);
-        match opened {
+        match open_own(&self.rt, name, self.access) {
             Ok(file) => Ok(Some(NumberedFile { on, file })),
             Err(e) if e.kind() == ErrorKind::NotFound => Ok(None),
             Err(e) => {
@@ -214,7 +216,8 @@ where
             .write(true)
             .create_new(true)
             .open(&self.rt, name);
-        self.keep_file(on, made)
+        let file = self.keep(on, made)?;
+        Ok(NumberedFile { on, file })
     }
 
     fn size(&mut self, handle: &NumberedFile<R::File>) -> Result<u64, Failed> {
@@ -249,14 +252,12 @@ where
     }
 
     fn ftruncate(&mut self, handle: &NumberedFile<R::File>, len: u64) -> Result<(), Failed> {
-        let cut = handle.file.set_len(len);
-        self.keep(handle.on, cut)
+        self.keep(handle.on, handle.file.set_len(len))
     }
 
     fn fsync(&mut self, handle: &NumberedFile<R::File>) -> Result<(), Failed> {
         self.turn();
-        let synced = handle.file.sync_all();
-        self.keep(handle.on, synced)
+        self.keep(handle.on, handle.file.sync_all())
     }
 
     fn fsync_folder(&mut self) -> Result<(), Failed> {
