@@ -11,7 +11,11 @@ use Rattle.dms_status.specs.declared.status.LimitKind.TheVariants.{AuditFile, Li
 use Rattle.dms_status.specs.declared.status.SchemaFault.{SchemaFault}
 use Rattle.dms_status.specs.declared.status.SchemaFault.TheVariants.{Parse, Compile}
 use Rattle.dms_status.specs.declared.status.Status.{Status}
-use Rattle.dms_status.specs.declared.status.Status.TheVariants.{Ok, BadWords, SchemaRefused, NoDatabase, Needed, DiskFault, InputFault, Memory, Limit, Damaged, SayFault, Exists, BadStatement}
+use Rattle.dms_status.specs.declared.status.Status.TheVariants.{Ok, BadWords, SchemaRefused, NoDatabase, Needed, DiskFault, InputFault, Memory, Limit, Damaged, SayFault, Exists, BadStatement, Reorganization, BadStream, Diverged, Flaw}
+use Rattle.dms_status.specs.declared.status.ReorgFault.{ReorgFault}
+use Rattle.dms_status.specs.declared.status.ReorgFault.TheVariants.{AuditTrail, Changed, Required, Duplicate}
+use Rattle.dms_status.specs.declared.status.Flaw.{Flaw as Lack}
+use Rattle.dms_status.specs.declared.status.Flaw.TheVariants.{Entry, Description, Block, Shape, Record, Member}
 use Rattle.dms_status.specs.declared.status.NeedFault.{NeedFault}
 use Rattle.dms_status.specs.declared.status.NeedFault.TheVariants.{NoDescription, AuditMissing, AuditUnsealed, AuditForeign, NoSuchPoint, Voided, DumpMissing, DumpUnsealed, DumpForeign, DumpLater, NoSuchRow}
 
@@ -72,6 +76,26 @@ need_words (DumpForeign d) = around_number (codes "dump ") d (codes " of another
 need_words (DumpLater d n) = later_words d n
 need_words (NoSuchRow name r) = row_words name r
 
+-- why a database isn't reorganized
+abbrev pub reorg_words : ReorgFault → List ℕ
+reorg_words AuditTrail = codes "audit trail changed"
+reorg_words (Changed name) = codes "structure " ++ (name ++ codes " changed")
+reorg_words (Required name) = codes "item " ++ (name ++ codes " needs a value")
+reorg_words (Duplicate name) = codes "equal keys in " ++ name
+
+-- a block of a file
+abbrev pub place_words : ℕ → ℕ → List ℕ
+place_words f b = around_number (codes "file ") f (around_number (codes " block ") b [])
+
+-- what keeps a database from standing for a state
+abbrev pub flaw_words : Lack → List ℕ
+flaw_words (Entry f b e) = around_number (codes "audit entry ") e (codes " of " ++ (place_words f b ++ codes " disagrees"))
+flaw_words Description = codes "description disagrees"
+flaw_words (Block f b) = place_words f b ++ codes " disagrees"
+flaw_words (Shape name) = codes "structure " ++ (name ++ codes " has a bad shape")
+flaw_words (Record name r) = around_number (codes "record ") r (codes " of " ++ (name ++ codes " disagrees"))
+flaw_words (Member name i) = around_number (codes "entry ") i (codes " of " ++ (name ++ codes " disagrees"))
+
 -- a line of the program, with its line feed
 abbrev pub line : List ℕ → List ℕ
 line words = codes "dms: " ++ (words ++ (10 ∷ []))
@@ -86,10 +110,14 @@ status_lines DiskFault = line (codes "disk fault")
 status_lines InputFault = line (codes "input fault")
 status_lines Memory = line (codes "no memory")
 status_lines (Limit kind) = line (limit_words kind)
-status_lines (Damaged f b) = line (around_number (codes "file ") f (around_number (codes " block ") b (codes " damaged")))
+status_lines (Damaged f b) = line (place_words f b ++ codes " damaged")
 status_lines SayFault = line (codes "output fault")
 status_lines Exists = line (codes "exists already")
 status_lines (BadStatement p) = line (around_number (codes "bad statement at ") p [])
+status_lines (Reorganization why) = line (reorg_words why)
+status_lines (BadStream p) = line (around_number (codes "bad stream at ") p [])
+status_lines (Diverged f b) = line (codes "diverged at " ++ place_words f b)
+status_lines (Flaw flaw) = line (flaw_words flaw)
 
 -- what is said of each ending
 abbrev pub lines_of : Ending → List ℕ

@@ -3,7 +3,7 @@ use Rattle.std.specs.Prelude.{ℕ}
 use Rattle.dms.specs.declared.texts.Ending.{Ending}
 use Rattle.dms.specs.declared.texts.Ending.TheVariants.{Command, InUse}
 use Rattle.dms_status.specs.declared.status.Status.{Status}
-use Rattle.dms_status.specs.declared.status.Status.TheVariants.{Ok, BadWords, SchemaRefused, NoDatabase, Needed, DiskFault, InputFault, Memory, Limit, Damaged, SayFault, Exists, BadStatement}
+use Rattle.dms_status.specs.declared.status.Status.TheVariants.{Ok, BadWords, SchemaRefused, NoDatabase, Needed, DiskFault, InputFault, Memory, Limit, Damaged, SayFault, Exists, BadStatement, Reorganization, BadStream, Diverged, Flaw}
 
 -- the number of each status
 abbrev pub status_number : Status → ℕ
@@ -20,6 +20,10 @@ status_number (Damaged f b) = 9
 status_number SayFault = 10
 status_number Exists = 11
 status_number (BadStatement p) = 12
+status_number (Reorganization why) = 13
+status_number (BadStream place) = 14
+status_number (Diverged file block) = 15
+status_number (Flaw flaw) = 16
 
 -- the number of each ending: a folder in use counts as a fault of the disk
 abbrev pub number_of : Ending → ℕ

@@ -7,16 +7,17 @@ mod help;
 mod texts;
 mod words;
 
-use advice::{Advice, Namer};
+use advice::{Advice, asked_of, is_like_script, seen_at, topic_named, wanted_behind};
 use dasdl_phrases::ParseFault;
 use dasdl_place::{SchemaPlace, wanted};
 use dms_folder::FolderSite;
 use dms_host::{
     Access, HeldStreams, Host, LockFault, Measure, Progress, StdinSource, Stream, Subject, Trouble,
-    hold_streams, lock_folder, reaches_database,
+    hold_streams, lock_folder, reaches_database, twice_named,
 };
 use dms_top::{SchemaFault, Status, dms};
 use help::{STATUSES, TOPICS, USAGE, VERSION, statuses_of, text_of, usage_of};
+use std::fmt::Write;
 use std::io::{self, ErrorKind, IsTerminal};
 use std::process::ExitCode;
 use texts::{Ending, code_of};
@@ -28,12 +29,14 @@ struct Outcome {
     ending: Ending,
     /// Why a call of the system failed.
     trouble: Option<Trouble>,
-    /// The text of a schema.
+    /// The text of a schema or a statement.
     text: Option<Vec<u8>>,
     /// Whether nothing stands behind the line of the ending.
     alone: bool,
-    /// Who named the point or the dump that was gone to.
-    namer: Namer,
+    /// What the words ask for, where they aren't bad.
+    request: Option<Request>,
+    /// The command that bad words begin with.
+    topic: Option<Topic>,
 }
 
 impl Outcome {
@@ -44,7 +47,8 @@ impl Outcome {
             trouble: None,
             text: None,
             alone: false,
-            namer: Namer::Files,
+            request: None,
+            topic: None,
         }
     }
 
@@ -55,7 +59,8 @@ impl Outcome {
             trouble: Some(trouble),
             text: None,
             alone: false,
-            namer: Namer::Files,
+            request: None,
+            topic: None,
         }
     }
 }
@@ -92,19 +97,21 @@ fn access_of(request: Request) -> Access {
     }
 }
 
-/// Who names the point or the dump that a command goes to.
-fn namer_of(request: Request) -> Namer {
+/// The input of a command. Of one that reads a schema or a statement the text is kept.
+fn input_of(rt: &HostRuntime, request: Request) -> StdinSource<HostRuntime> {
     match request {
-        Request::Utility => Namer::Statement,
-        _ => Namer::Files,
+        Request::Try | Request::Compile | Request::Utility => StdinSource::keeping(*rt, rt.alloc()),
+        _ => StdinSource::new(*rt),
     }
 }
 
-/// The input of a command. Of one that reads a schema the text is kept.
-fn input_of(rt: &HostRuntime, request: Request) -> StdinSource<HostRuntime> {
-    match request {
-        Request::Try | Request::Compile => StdinSource::keeping(*rt, rt.alloc()),
-        _ => StdinSource::new(*rt),
+/// Says what is waited for, where a person at a terminal is to give the input.
+fn ask(rt: &HostRuntime, request: Request) {
+    if let Some(asked) = asked_of(request)
+        && rt.stdin().is_terminal()
+        && rt.stderr().is_terminal()
+    {
+        let _unwritten = eprint!(rt; "dms: {asked}; Ctrl-D ends it\n").is_err();
     }
 }
 
@@ -121,6 +128,7 @@ fn call(rt: &HostRuntime, request: Request, words: &[String]) -> Outcome {
         return Outcome::new(Ending::Command(Status::Memory));
     };
     let mut input = input_of(rt, request);
+    ask(rt, request);
     let status = dms(alloc, words, &mut site, &mut input);
     site.calls().end_progress();
     let (text, input_trouble) = input.end();
@@ -132,7 +140,8 @@ fn call(rt: &HostRuntime, request: Request, words: &[String]) -> Outcome {
         },
         text,
         alone: false,
-        namer: namer_of(request),
+        request: Some(request),
+        topic: None,
     }
 }
 
@@ -152,12 +161,29 @@ fn call_locked(rt: &HostRuntime, request: Request, words: &[String]) -> Outcome 
         Err(LockFault::Failed(trouble)) => return Outcome::failed(Status::DiskFault, trouble),
     };
     match reaches_database(rt, Stream::Output) {
-        Ok(false) => call(rt, request, words),
+        Ok(false) => call_apart(rt, request, words),
         Ok(true) => Outcome::new(Ending::Command(Status::SayFault)),
-        Err(e) if e.kind() == ErrorKind::OutOfMemory => {
-            Outcome::new(Ending::Command(Status::Memory))
+        Err(e) => unread(e),
+    }
+}
+
+/// Runs a command over files, where each name of a database file is that of a file of its own.
+fn call_apart(rt: &HostRuntime, request: Request, words: &[String]) -> Outcome {
+    match twice_named(rt, rt.alloc()) {
+        Ok(None) => call(rt, request, words),
+        Ok(Some(on)) => {
+            let error = io::Error::other("the file has another name");
+            Outcome::failed(Status::DiskFault, Trouble::new(on, error))
         }
-        Err(e) => Outcome::failed(Status::DiskFault, Trouble::new(Subject::Folder, e)),
+        Err(e) => unread(e),
+    }
+}
+
+/// The folder can't be looked through.
+fn unread(error: io::Error) -> Outcome {
+    match error.kind() {
+        ErrorKind::OutOfMemory => Outcome::new(Ending::Command(Status::Memory)),
+        _ => Outcome::failed(Status::DiskFault, Trouble::new(Subject::Folder, error)),
     }
 }
 
@@ -168,7 +194,9 @@ fn run(rt: &HostRuntime, held: &io::Result<HeldStreams>) -> Outcome {
         Err(status) => return Outcome::new(Ending::Command(status)),
     };
     let Some(request) = request_of(words.as_slice()) else {
-        return Outcome::new(Ending::Command(Status::BadWords));
+        let mut outcome = Outcome::new(Ending::Command(Status::BadWords));
+        outcome.topic = topic_named(words.as_slice());
+        return outcome;
     };
     match request {
         Request::Compile
@@ -216,27 +244,76 @@ fn tell_fault(rt: &HostRuntime, text: &[u8], fault: ParseFault) {
     }
 }
 
+/// Writes why a call of the system failed, where that is known, and whether the stream doesn't wait.
+fn tell_trouble(rt: &HostRuntime, trouble: &Trouble) {
+    let _unwritten = eprint!(rt; "dms: {trouble}\n").is_err();
+    let mut text = String::new(rt.alloc());
+    if write!(text, "{trouble}").is_ok()
+        && text.as_str().ends_with("Resource temporarily unavailable")
+    {
+        let _unwritten = eprint!(rt;
+            "dms: the stream doesn't wait (O_NONBLOCK): put cat between\n"
+        ).is_err();
+    }
+}
+
+/// Writes what the operator can do about an ending.
+fn tell_advice(rt: &HostRuntime, outcome: &Outcome) {
+    let advice = Advice {
+        ending: outcome.ending,
+        request: outcome.request,
+        seen: seen_at(rt, outcome.ending),
+    };
+    let _unwritten = eprint!(rt; "{advice}").is_err();
+}
+
+/// Writes where the fault of a schema stands, and of `try` that a line was meant to be SCRIPT.
+fn tell_schema(rt: &HostRuntime, outcome: &Outcome, fault: ParseFault) {
+    let Some(text) = &outcome.text else {
+        return;
+    };
+    tell_fault(rt, text.as_slice(), fault);
+    if let (Some(Request::Try), ParseFault::Expected(place)) = (outcome.request, fault)
+        && is_like_script(text.as_slice(), place)
+    {
+        let _unwritten = eprint!(rt; "dms: the line must be exactly SCRIPT\n").is_err();
+    }
+}
+
+/// Writes where the first bad place of a statement stands.
+fn tell_statement(rt: &HostRuntime, outcome: &Outcome, place: u32) {
+    if let Some(text) = &outcome.text {
+        let text = text.as_slice();
+        let count = (place as usize).saturating_sub(1).min(text.len());
+        tell_place(rt, text, place, wanted_behind(&text[..count]));
+    }
+    tell_advice(rt, outcome);
+}
+
 /// Writes what may help behind the line of an ending.
 fn tell_more(rt: &HostRuntime, outcome: &Outcome) {
     match outcome.ending {
-        Ending::Command(Status::SchemaRefused(SchemaFault::Parse(fault))) => {
-            if let Some(text) = &outcome.text {
-                tell_fault(rt, text.as_slice(), fault);
+        Ending::Command(Status::BadWords) => {
+            if let Some(topic) = outcome.topic {
+                let usage = usage_of(topic).trim_end();
+                let _unwritten = eprint!(rt; "dms: {usage}\n").is_err();
             }
+        }
+        Ending::Command(Status::SchemaRefused(SchemaFault::Parse(fault))) => {
+            tell_schema(rt, outcome, fault);
+            tell_advice(rt, outcome);
         }
         Ending::Command(Status::DiskFault | Status::InputFault | Status::SayFault)
             if outcome.trouble.is_some() => {
             if let Some(trouble) = &outcome.trouble {
-                let _unwritten = eprint!(rt; "dms: {trouble}\n").is_err();
+                tell_trouble(rt, trouble);
+            }
+            if let Ending::Command(Status::DiskFault) = outcome.ending {
+                tell_advice(rt, outcome);
             }
         }
-        ending => {
-            let advice = Advice {
-                ending,
-                namer: outcome.namer,
-            };
-            let _unwritten = eprint!(rt; "{advice}").is_err();
-        }
+        Ending::Command(Status::BadStatement(place)) => tell_statement(rt, outcome, place),
+        _ => tell_advice(rt, outcome),
     }
 }
 

@@ -1,11 +1,11 @@
 ghost use Rattle.std.specs.Prelude.{◌≡◌, Some};
-ghost use Rattle.dms.specs.Lines.{parse_words, compile_words, later_words, row_words, need_words, lines_of};
+ghost use Rattle.dms.specs.Lines.{parse_words, compile_words, flaw_words, later_words, place_words, row_words, need_words, reorg_words, lines_of};
 ghost use Rattle.dms.specs.Numbers.{number_of};
 
 use dasdl_compile::CompileFault;
 use dasdl_phrases::ParseFault;
 use dms_base::Name;
-use dms_top::{LimitKind, NeedFault, SchemaFault, Status};
+use dms_top::{Flaw, LimitKind, NeedFault, ReorgFault, SchemaFault, Status};
 use std::fmt;
 
 /// How the program ends.
@@ -36,6 +36,10 @@ pub fn code_of(ending: &Ending) -> u8
         Ending::Command(Status::SayFault) => 10,
         Ending::Command(Status::Exists) => 11,
         Ending::Command(Status::BadStatement(_)) => 12,
+        Ending::Command(Status::Reorganization(_)) => 13,
+        Ending::Command(Status::BadStream(_)) => 14,
+        Ending::Command(Status::Diverged(_, _)) => 15,
+        Ending::Command(Status::Flaw(_)) => 16,
     }
 }
 
@@ -147,6 +151,63 @@ impl fmt::Display for NeedText {
     }
 }
 
+/// What is said where a database isn't reorganized.
+#[derive(Drop)]
+struct ReorgText(ReorgFault);
+
+impl fmt::Display for ReorgText {
+    ghost output = { λ t. Some (reorg_words t.0) };
+
+    fn fmt<W: fmt::Write>(&self, f: &mut fmt::Formatter<W>) -> fmt::Result {
+        match self.0 {
+            ReorgFault::AuditTrail => f.write_str("audit trail changed"),
+            ReorgFault::Changed(name) => write!(f, "structure {} changed", NameText(name)),
+            ReorgFault::Required(name) => write!(f, "item {} needs a value", NameText(name)),
+            ReorgFault::Duplicate(name) => write!(f, "equal keys in {}", NameText(name)),
+        }
+    }
+}
+
+/// A block of a file.
+#[derive(Drop)]
+struct PlaceText(u32, u32);
+
+impl fmt::Display for PlaceText {
+    ghost output = { λ t. Some (place_words t.0 t.1) };
+
+    fn fmt<W: fmt::Write>(&self, f: &mut fmt::Formatter<W>) -> fmt::Result {
+        let (file, block) = (self.0, self.1);
+        write!(f, "file {file} block {block}")
+    }
+}
+
+/// What is said of what keeps a database from standing for a state.
+#[derive(Drop)]
+struct FlawText(Flaw);
+
+impl fmt::Display for FlawText {
+    ghost output = { λ t. Some (flaw_words t.0) };
+
+    fn fmt<W: fmt::Write>(&self, f: &mut fmt::Formatter<W>) -> fmt::Result {
+        match self.0 {
+            Flaw::Entry(file, block, entry) => {
+                write!(
+                    f,
+                    "audit entry {entry} of {} disagrees",
+                    PlaceText(file, block)
+                )
+            }
+            Flaw::Description => f.write_str("description disagrees"),
+            Flaw::Block(file, block) => write!(f, "{} disagrees", PlaceText(file, block)),
+            Flaw::Shape(name) => write!(f, "structure {} has a bad shape", NameText(name)),
+            Flaw::Record(name, number) => {
+                write!(f, "record {number} of {} disagrees", NameText(name))
+            }
+            Flaw::Member(name, place) => write!(f, "entry {place} of {} disagrees", NameText(name)),
+        }
+    }
+}
+
 /// What is said of an ending, nothing where all went well. It is written as it is made, and needs no memory.
 impl fmt::Display for Ending {
     ghost output = { λ e. Some (lines_of e) };
@@ -182,13 +243,21 @@ impl fmt::Display for Ending {
                 f.write_str("dms: too many held lines\n")
             }
             Ending::Command(Status::Damaged(file, block)) => {
-                writeln!(f, "dms: file {file} block {block} damaged")
+                writeln!(f, "dms: {} damaged", PlaceText(file, block))
             }
             Ending::Command(Status::SayFault) => f.write_str("dms: output fault\n"),
             Ending::Command(Status::Exists) => f.write_str("dms: exists already\n"),
             Ending::Command(Status::BadStatement(place)) => {
                 writeln!(f, "dms: bad statement at {place}")
             }
+            Ending::Command(Status::Reorganization(fault)) => {
+                writeln!(f, "dms: {}", ReorgText(fault))
+            }
+            Ending::Command(Status::BadStream(place)) => writeln!(f, "dms: bad stream at {place}"),
+            Ending::Command(Status::Diverged(file, block)) => {
+                writeln!(f, "dms: diverged at {}", PlaceText(file, block))
+            }
+            Ending::Command(Status::Flaw(flaw)) => writeln!(f, "dms: {}", FlawText(flaw)),
         }
     }
 }
