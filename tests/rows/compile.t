@@ -16,7 +16,7 @@ A schema is compiled into the description file of the current folder, once.
   > E DATA SET (X NUMBER(4););
   > END
   dms: exists already
-  dms: take another folder, or for a dump another number
+  dms: F00001.DMS is a description; take another folder
   [11]
   $ od -An -v -tx1 F00001.DMS | tr -d ' \n'; echo
   01000000003e444d535300010064000a01000200270f000202035244530000000f42400103504944010a0000000000000101440000000f42400101580204000000000000
@@ -26,6 +26,7 @@ A schema that is refused is refused first, and nothing is written.
   $ mkdir ../other && cd ../other
   $ "$DMS" compile < /dev/null
   dms: schema: no restart data set
+  dms: a schema has one, as RDS RESTART DATA SET (STEP NUMBER(6););
   [2]
   $ "$DMS" compile <<'END'
   > D DATA SET (X NUMBER(19););
@@ -72,8 +73,8 @@ A file is a description where its bytes spell one that a schema can have. Here o
   $ for change in '0 69' '5 2' '6 255' '10 0' '12 3' '15 16' '17 1' '17 3' '18 1' '18 3' '19 2' '20 114' '24 1' '25 1' '29 0' '34 6' '35 0' '36 1' '38 2' '39 1' '40 1' '41 1' '42 2' '44 45' '46 1' '54 5' '55 19' '56 5' '57 2' '58 2' '61 5'; do with $change; done | sort -u
   COMPILED 2 STRUCTURES
   $ for change in '7 101' '22 84' '35 200' '55 18' '57 1' '58 1'; do with $change; done | sort -u
+  dms: F00001.DMS is a description; take another folder
   dms: exists already
-  dms: take another folder, or for a dump another number
   $ head -c 67 good > F00001.DMS; "$DMS" compile < schema
   COMPILED 2 STRUCTURES
   $ { cat good; printf A; } > F00001.DMS; "$DMS" compile < schema
@@ -92,11 +93,11 @@ A structure stands in none, in the structure before it, or in one in which that 
   COMPILED 4 STRUCTURES
   $ with 86 3
   dms: exists already
-  dms: take another folder, or for a dump another number
+  dms: F00001.DMS is a description; take another folder
   [11]
   $ with 66 2
   dms: exists already
-  dms: take another folder, or for a dump another number
+  dms: F00001.DMS is a description; take another folder
   [11]
 
 A group holds no link. Bytes 71 and 72 are the group's first item and its count, and byte 70 is its name.
@@ -112,7 +113,7 @@ A group holds no link. Bytes 71 and 72 are the group's first item and its count,
   COMPILED 2 STRUCTURES
   $ with 70 72
   dms: exists already
-  dms: take another folder, or for a dump another number
+  dms: F00001.DMS is a description; take another folder
   [11]
 
 Nothing stands behind the word.
@@ -120,4 +121,5 @@ Nothing stands behind the word.
   $ "$DMS" compile again < /dev/null
   dms: bad words
   dms: see dms --help
+  dms: usage: dms compile < FILE
   [1]

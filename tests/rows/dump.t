@@ -42,7 +42,7 @@ A dump that is there already isn't written over, and no other file changes.
   $ cksum F*.DMS > ../before
   $ echo 'DUMP TO 1' | "$DMS" utility
   dms: exists already
-  dms: take another folder, or for a dump another number
+  dms: that dump is there; name another number, or remove its file first
   [11]
   $ cksum F*.DMS | cmp - ../before
 
@@ -60,10 +60,8 @@ What is no statement is bad at its first bad place, and nothing is done.
   dms: bad statement at 11
   dms: bad statement at 1
   dms: bad statement at 1
-  $ head -c 10001 /dev/zero | tr '\0' ' ' | "$DMS" utility
+  $ head -c 10001 /dev/zero | tr '\0' ' ' | "$DMS" utility 2>&1 | head -n 1
   dms: bad statement at 10001
-  dms: the statements are in docs/GUIDE.md, Dumps
-  [12]
   $ cksum F*.DMS | cmp - ../before
 
 A structure file that ends too early is refused before anything is written, where its block isn't in the audit since the last control point.
@@ -75,7 +73,7 @@ A structure file that ends too early is refused before anything is written, wher
   $ cksum F*.DMS > ../short
   $ echo 'DUMP TO 3' | "$DMS" utility
   dms: file 30002 block 0 damaged
-  dms: rebuild or reconstruct from a dump, or put back a copy of the whole database
+  dms: F30002.DMS is missing or too short: rebuild from a dump, or put the file back
   [9]
   $ cksum F*.DMS | cmp - ../short
   $ cp ../D F30002.DMS

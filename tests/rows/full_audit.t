@@ -14,19 +14,22 @@ An audit that is full: what is there is read by a script, and brought into a new
   $ tail -n 1 ../out
   69 A DONE
 
-The records, and the lines that store them.
+The records, as the lines that store them.
 
-  $ { echo 'A: OPEN INQUIRY'; yes 'A: FIND NEXT D
-  > A: GET D' | head -n 50; } | "$DMS" run | sed -n 's/^[0-9]* A DONE X=/X = /p' > ../records
-  $ tail -n 1 ../records
-  X = 13
-  $ { echo 'A: OPEN UPDATE'; while read -r values; do printf 'A: BEGIN-TRANSACTION NO-AUDIT RDS\nA: CREATE D\nA: PUT D %s\nA: STORE D\nA: END-TRANSACTION NO-AUDIT RDS\n' "$values"; done < ../records; } > ../lines
+  $ export DMS
+  $ unload="$TESTDIR"/../../examples/unload.sh
+  $ "$unload" RDS D > ../lines
+  $ grep -c PUT ../lines
+  13
+
+A new database with more files, and the same records.
 
   $ cd ../new
   $ schema 9900 | "$DMS" compile && "$DMS" initialize
   COMPILED 2 STRUCTURES
   INITIALIZED AT POINT 0
   $ "$DMS" run < ../lines | tail -n 1
-  126 A DONE
-  $ printf 'A: OPEN INQUIRY\nA: FIND LAST D\nA: GET D\n' | "$DMS" run | tail -n 1
-  3 A DONE X=13
+  66 A DONE
+  $ "$unload" RDS D | cmp - ../lines
+  $ grep PUT ../lines | sort -u | wc -l
+  13

@@ -47,7 +47,7 @@ A rebuild from a dump, of structure files in which nothing is left. It doesn't g
   3 A DONE X=9
   $ utility 'DUMP TO 1'
   dms: exists already
-  dms: take another folder, or for a dump another number
+  dms: that dump is there; name another number, or remove its file first
   [11]
   $ cd ..
 
@@ -103,7 +103,7 @@ A rollback needs no dump. What came after its point is void: its number isn't gi
   [4]
   $ utility 'REBUILD FROM 1'
   dms: dump 1 missing
-  dms: put F20001.DMS back, as it was
+  dms: put F20001.DMS back, as it was, or name another dump
   [4]
   $ cksum F*.DMS | cmp - ../before
   $ store 40 40

@@ -147,6 +147,7 @@ A description that names fewer structures than the audit has blocks of: the file
   $ cd ../three && cp F00001.DMS right && cp F30003.DMS before && cp ../two/F00001.DMS .
   $ "$DMS" run < /dev/null
   dms: no memory
+  dms: give it more memory, unless F00001.DMS is of another database
   [7]
   $ cmp F30003.DMS before
   $ cp right F00001.DMS

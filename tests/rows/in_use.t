@@ -41,7 +41,7 @@ The first one goes on as if it were alone.
   01000000003e444d535300010064000a01000200270f000202035244530000000f42400103504944010a0000000000000101440000000f42400101580204000000000000
   $ "$DMS" compile < ../schema
   dms: exists already
-  dms: take another folder, or for a dump another number
+  dms: F00001.DMS is a description; take another folder
   [11]
 
 A program that is killed holds the folder no longer.

@@ -32,11 +32,11 @@ A second one is refused, and changes nothing.
   $ cat F*.DMS | cksum > before
   $ "$DMS" initialize
   dms: exists already
-  dms: take another folder, or for a dump another number
+  dms: the folder has a database; take another folder
   [11]
   $ "$DMS" initialize 5
   dms: exists already
-  dms: take another folder, or for a dump another number
+  dms: the folder has a database; take another folder
   [11]
   $ cat F*.DMS | cksum | cmp - before
 
@@ -66,9 +66,11 @@ A tag is a number in plain digits, below 2^64.
         6 1
         6 dms: bad words
         6 dms: see dms --help
+        6 dms: usage: dms initialize [TAG]
   $ "$DMS" initialize 1 2
   dms: bad words
   dms: see dms --help
+  dms: usage: dms initialize [TAG]
   [1]
   $ "$DMS" initialize 0007
   dms: no description
@@ -96,11 +98,11 @@ Another program in the folder, an output that is one of its files, and one that 
   [10]
   $ "$DMS" initialize
   dms: exists already
-  dms: take another folder, or for a dump another number
+  dms: the folder has a database; take another folder
   [11]
   $ "$DMS" initialize 7
   dms: exists already
-  dms: take another folder, or for a dump another number
+  dms: the folder has a database; take another folder
   [11]
 
 The tag 7 as the header has it.

@@ -29,7 +29,7 @@ What is there isn't loaded again, and nothing of it changes.
   $ cat F*.DMS | cksum > ../before
   $ "$DMS" load 1 1
   dms: exists already
-  dms: take another folder, or for a dump another number
+  dms: F00001.DMS is a description; take another folder
   [11]
   $ cat F*.DMS | cksum | cmp - ../before
   $ mkdir ../compiled && cd ../compiled
@@ -37,7 +37,7 @@ What is there isn't loaded again, and nothing of it changes.
   COMPILED 2 STRUCTURES
   $ "$DMS" load 1 1
   dms: exists already
-  dms: take another folder, or for a dump another number
+  dms: F00001.DMS is a description; take another folder
   [11]
   $ ls
   F00001.DMS
@@ -51,24 +51,31 @@ Its words are two numbers in plain digits.
   > done
   dms: bad words
   dms: see dms --help
+  dms: usage: dms load SEED N
   1
   dms: bad words
   dms: see dms --help
+  dms: usage: dms load SEED N
   1
   dms: bad words
   dms: see dms --help
+  dms: usage: dms load SEED N
   1
   dms: bad words
   dms: see dms --help
+  dms: usage: dms load SEED N
   1
   dms: bad words
   dms: see dms --help
+  dms: usage: dms load SEED N
   1
   dms: bad words
   dms: see dms --help
+  dms: usage: dms load SEED N
   1
   dms: bad words
   dms: see dms --help
+  dms: usage: dms load SEED N
   1
   dms: bad words
   dms: see dms --help

@@ -15,8 +15,10 @@ With memory enough they are bad words, and with fewer words so little memory is 
   $ words '"$DMS" "$@"; echo $?'
   dms: bad words
   dms: see dms --help
+  dms: usage: dms try < FILE
   1
   $ prlimit --as=10000000 "$DMS" try try < /dev/null
   dms: bad words
   dms: see dms --help
+  dms: usage: dms try < FILE
   [1]

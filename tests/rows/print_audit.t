@@ -35,6 +35,7 @@ Other words are bad. Another program in the folder, and an output that fails, ar
         6 1
         6 dms: bad words
         6 dms: see dms --help
+        4 dms: usage: dms print audit
   $ flock . "$DMS" print audit
   dms: the folder is in use
   dms: wait until the other command in this folder has ended
@@ -287,10 +288,10 @@ A longer one is as it was.
 No database: the description isn't sealed, its length is another one, the gate of the database is shut, or no audit file is there.
 
   $ for put in '0 00' '0 02' '1 00' '1 02' '2 0000003d' '6 45' '10 0002'; do rm -rf t; cp -r db t; patch t/F00001.DMS $put; (cd t; "$DMS" print audit 2>&1; echo $?) | tr '\n' ' '; echo; done | sort | uniq -c
-        7 dms: no database dms: go to the folder of a database, or make one by dms compile and dms initialize 3 
+        7 dms: no database dms: F00001.DMS isn't the description of the database whose files are here: put it back; initialize would empty them 3 
   $ for file in F00001.DMS F10001.DMS; do rm -rf t; cp -r db t; rm t/$file; (cd t; "$DMS" print audit); done
   dms: no database
-  dms: go to the folder of a database, or make one by dms compile and dms initialize
+  dms: F00001.DMS isn't the description of the database whose files are here: put it back; initialize would empty them
   dms: no database
   dms: go to the folder of a database, or make one by dms compile and dms initialize
   [3]

@@ -69,10 +69,10 @@ A row that isn't there comes last of all that is refused, and the first one of t
   dms: name a structure of the schema, and a row below its blocks divided by 16
   status 4
   dms: dump 9 missing
-  dms: put F20009.DMS back, as it was
+  dms: put F20009.DMS back, as it was, or name another dump
   status 4
   dms: dump 9 missing
-  dms: put F20009.DMS back, as it was
+  dms: put F20009.DMS back, as it was, or name another dump
   status 4
   $ cksum F*.DMS | cmp - ../before
 

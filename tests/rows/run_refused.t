@@ -31,6 +31,7 @@ Words, and the folder in use.
         5 1
         5 dms: bad words
         5 dms: see dms --help
+        3 dms: usage: dms run < FILE
   $ flock . "$DMS" run < ../look
   dms: the folder is in use
   dms: wait until the other command in this folder has ended
@@ -107,8 +108,9 @@ A gate that is shut two files before the last; a file that is missing; one of an
 No database: the description can't be read, its gate or that of the database is shut, or no audit file is there.
 
   $ for change in 'put F00001.DMS 0 00' 'put F00001.DMS 1 00' 'put F00001.DMS 6 45' 'rm F00001.DMS' 'rm F10*.DMS'; do after "$change"; done | sort | uniq -c
-        5 dms: go to the folder of a database, or make one by dms compile and dms initialize
+        4 dms: F00001.DMS isn't the description of the database whose files are here: put it back; initialize would empty them
         5 dms: no database
+        1 dms: the audit of the database is gone: put back a copy of the whole database
         5 status 3
 
 Old audit files may be removed from the front. Point 20 stands in file 3, and the last control point before it in file 2: so file 1 may go, and file 2 must stay.
@@ -141,7 +143,7 @@ A structure file that is lost. What the audit tells of its blocks from the last 
   2 A DONE
   3 A DONE X=20
 
-Behind point 21, which changed no block, it tells of none, and a block that is read and isn't there is damaged. What was printed before stands.
+Behind point 21, which changed no block, it tells of none, and the first block that isn't there is damaged. No line is answered.
 
   $ printf 'A: OPEN UPDATE\nA: BEGIN-TRANSACTION NO-AUDIT RDS\nA: END-TRANSACTION NO-AUDIT RDS SYNC\n' | "$DMS" run
   1 A DONE
@@ -150,9 +152,8 @@ Behind point 21, which changed no block, it tells of none, and a block that is r
   SYNCPOINT 21
   $ mv F30002.DMS ../kept
   $ "$DMS" run < ../look
-  1 A DONE
   dms: file 30002 block 0 damaged
-  dms: rebuild or reconstruct from a dump, or put back a copy of the whole database
+  dms: F30002.DMS is missing or too short: rebuild from a dump, or put the file back
   [9]
   $ mv ../kept F30002.DMS; "$DMS" run < ../look
   1 A DONE

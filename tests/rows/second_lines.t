@@ -81,6 +81,16 @@ Of `try` it stands at a terminal alone: else the line of the fault is all that g
       PARAMETERS (SYNCPOINT = 100);
                                  ^
 
+So it is said where a line of its input is nearly SCRIPT.
+
+  $ printf 'RDS RESTART DATA SET (X NUMBER(4););\nscript\nA: CLOSE\n' > nearly
+  $ script -qec '"$DMS" try < nearly' /dev/null < /dev/null | tr -d '\r'
+  dms: schema: unexpected at 38
+  dms: line 2, column 1
+      script
+      ^
+  dms: the line must be exactly SCRIPT
+
 Where more can stand there nothing is said; the end of the text is said.
 
   $ printf 'D DATA SET (X NUMBER(4) X;);\n' | "$DMS" compile
@@ -117,11 +127,57 @@ Of a long line a part is shown, a tab as a space, and a byte that is no printabl
                                                       ^
   [2]
 
-A fault that is none of a byte has no place.
+A fault that is none of a byte has no place. Where it is a limit, it is said what has at most so many.
 
   $ printf 'RDS RESTART DATA SET (X NUMBER(4); X NUMBER(4););\n' | "$DMS" compile
   dms: schema: twice X
   [2]
+  $ { printf 'RDS RESTART DATA SET ('; for n in $(seq 61); do printf 'X%d NUMBER(4); ' $n; done; echo ');'; } | "$DMS" compile
+  dms: schema: more than 60
+  dms: a data set has at most 60 items and links
+  [2]
+  $ printf 'RDS RESTART DATA SET (A ALPHA(200); B ALPHA(200); C ALPHA(200););\n' | "$DMS" compile
+  dms: schema: record of 603 bytes
+  dms: a record has at most 480 bytes; docs/GUIDE.md, The schema
+  [2]
+  $ printf 'RDS RESTART DATA SET (A ALPHA(200);); S SET OF RDS KEY IS A;\n' | "$DMS" compile
+  dms: schema: key of 201 bytes
+  dms: a key has at most 96 bytes; docs/GUIDE.md, The schema
+  [2]
+  $ printf 'D DATA SET (X NUMBER(4););\n' | "$DMS" compile
+  dms: schema: no restart data set
+  dms: a schema has one, as RDS RESTART DATA SET (STEP NUMBER(6););
+  [2]
+
+Words that are no command, but begin with one: how that is called.
+
+  $ "$DMS" load 7
+  dms: bad words
+  dms: see dms --help
+  dms: usage: dms load SEED N
+  [1]
+  $ "$DMS" print
+  dms: bad words
+  dms: see dms --help
+  dms: usage: dms print audit
+  [1]
+
+A statement: the line with a mark, and the word that must stand there, if only one can.
+
+  $ printf 'DUMP TO 0\n' | "$DMS" utility
+  dms: bad statement at 9
+  dms: line 1, column 9
+      DUMP TO 0
+              ^
+  dms: the statements are in dms utility --help
+  [12]
+  $ printf '\n rebuild TO 4\n' | "$DMS" utility
+  dms: bad statement at 11
+  dms: line 2, column 10, where FROM must stand
+       rebuild TO 4
+               ^
+  dms: the statements are in dms utility --help
+  [12]
 
 A call on a file that failed: the file and the system's own message.
 
@@ -129,7 +185,7 @@ A call on a file that failed: the file and the system's own message.
   $ mkdir folder && cd folder && mkdir F00001.DMS
   $ "$DMS" compile < ../schema
   dms: disk fault
-  dms: F00001.DMS: Is a directory
+  dms: F00001.DMS: not a regular file
   [5]
   $ rmdir F00001.DMS
   $ "$DMS" compile < ../schema && "$DMS" initialize
@@ -138,7 +194,7 @@ A call on a file that failed: the file and the system's own message.
   $ mkdir F10002.DMS
   $ "$DMS" run < /dev/null
   dms: disk fault
-  dms: F10002.DMS: Is a directory
+  dms: F10002.DMS: not a regular file
   [5]
   $ rmdir F10002.DMS
 
@@ -168,13 +224,13 @@ What the operator can do.
   COMPILED 2 STRUCTURES
   $ "$DMS" compile < ../schema
   dms: exists already
-  dms: take another folder, or for a dump another number
+  dms: F00001.DMS is a description; take another folder
   [11]
   $ "$DMS" initialize
   INITIALIZED AT POINT 0
   $ "$DMS" initialize
   dms: exists already
-  dms: take another folder, or for a dump another number
+  dms: the folder has a database; take another folder
   [11]
   $ flock . "$DMS" run < /dev/null
   dms: the folder is in use
@@ -183,10 +239,81 @@ What the operator can do.
   $ cp F10001.DMS F10003.DMS
   $ "$DMS" run < /dev/null
   dms: file 10003 block 0 damaged
-  dms: put back a copy of the whole database
+  dms: put back a copy of the whole database, or take F10003.DMS out, if it isn't this database's
   [9]
   $ rm F10003.DMS
   $ "$DMS" run < /dev/null > F00001.DMS
   dms: output fault
   dms: standard output is a file of a database; print to another place
   [10]
+
+Files of a database beside a description that is none, and without their audit.
+
+  $ mkdir ../other && cd ../other
+  $ "$DMS" compile < ../schema && "$DMS" initialize
+  COMPILED 2 STRUCTURES
+  INITIALIZED AT POINT 0
+  $ mv F00001.DMS ../kept
+  $ "$DMS" run < /dev/null
+  dms: no database
+  dms: F00001.DMS isn't the description of the database whose files are here: put it back; initialize would empty them
+  [3]
+  $ mv ../kept F00001.DMS
+  $ printf 'A: OPEN UPDATE\nA: BEGIN-TRANSACTION NO-AUDIT RDS\nA: CREATE D\nA: STORE D\nA: END-TRANSACTION NO-AUDIT RDS\n' | "$DMS" run | tail -n 1
+  5 A DONE
+  $ echo 'DUMP TO 1' | "$DMS" utility
+  DUMPED 1 AT POINT 1
+  $ mv F10001.DMS ..
+  $ "$DMS" run < /dev/null
+  dms: no database
+  dms: the audit of the database is gone: put back a copy of the whole database
+  [3]
+  $ mv ../F10001.DMS .
+
+A dump that is there, one that isn't, and one that wasn't finished.
+
+  $ echo 'DUMP TO 1' | "$DMS" utility
+  dms: exists already
+  dms: that dump is there; name another number, or remove its file first
+  [11]
+  $ echo 'REBUILD FROM 2' | "$DMS" utility
+  dms: dump 2 missing
+  dms: put F20002.DMS back, as it was, or name another dump
+  [4]
+  $ printf '\000' | dd of=F20001.DMS conv=notrunc 2> /dev/null
+  $ echo 'REBUILD FROM 1' | "$DMS" utility
+  dms: dump 1 unsealed
+  dms: the dump wasn't finished: name another, or remove F20001.DMS
+  [4]
+
+A structure file that is too short, and a block that has no valid form.
+
+  $ printf 'A: OPEN UPDATE\nA: BEGIN-TRANSACTION NO-AUDIT RDS\nA: END-TRANSACTION NO-AUDIT RDS\n' | "$DMS" run | tail -n 1
+  3 A DONE
+  $ cp F30002.DMS ../kept; truncate -s 1000 F30002.DMS
+  $ "$DMS" run < /dev/null
+  dms: file 30002 block 0 damaged
+  dms: F30002.DMS is missing or too short: rebuild from a dump, or put the file back
+  [9]
+  $ cp ../kept F30002.DMS; printf '\007' | dd of=F30002.DMS conv=notrunc 2> /dev/null
+  $ printf 'A: OPEN INQUIRY\nA: FIND FIRST D\n' | "$DMS" run
+  1 A DONE
+  dms: file 30002 block 0 damaged
+  dms: reconstruct row 0, or rebuild, from a dump, or put back a copy of the whole database
+  [9]
+  $ cp ../kept F30002.DMS
+
+A stream that doesn't wait.
+
+  $ mkfifo ../pipe
+  $ python3 -c 'import os, subprocess, sys; fd = os.open("../pipe", os.O_RDWR | os.O_NONBLOCK); sys.exit(subprocess.run([os.environ["DMS"], "run"], stdin=fd).returncode)'
+  dms: input fault
+  dms: standard input: Resource temporarily unavailable
+  dms: the stream doesn't wait (O_NONBLOCK): put cat between
+  [6]
+
+A person at a terminal is told what is waited for.
+
+  $ script -qec '"$DMS" run; echo status $?' /dev/null < /dev/null | tr -d '\r\004\010' | sed 's/^^D//'
+  dms: lines of a script; Ctrl-D ends it
+  status 0

@@ -15,7 +15,7 @@ Standard output is closed: the description is whole, and nothing was printed int
   01000000003e444d535300010064000a01000200270f000202035244530000000f42400103504944010a0000000000000101440000000f42400101580204000000000000
   $ "$DMS" compile < schema
   dms: exists already
-  dms: take another folder, or for a dump another number
+  dms: F00001.DMS is a description; take another folder
   [11]
   $ "$DMS" try < script >&-
   dms: output fault
@@ -111,7 +111,7 @@ Standard error is full: each status is the same.
   $ mkdir other && cd other && mkdir F00001.DMS
   $ "$DMS" compile < ../schema
   dms: disk fault
-  dms: F00001.DMS: Is a directory
+  dms: F00001.DMS: not a regular file
   [5]
   $ "$DMS" compile < ../schema 2> /dev/full
   [5]

@@ -44,7 +44,7 @@ A dump of the other one is refused before anything is written, and one of its ow
   $ cksum F*.DMS > ../before
   $ echo 'REBUILD FROM 1' | "$DMS" utility
   dms: dump 1 of another database
-  dms: put F20001.DMS back, as it was
+  dms: put F20001.DMS back, as it was, or name another dump
   [4]
   $ cksum F*.DMS | cmp - ../before
   $ rm F20001.DMS

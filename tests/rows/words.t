@@ -130,11 +130,13 @@ Words that are no command.
   $ "$DMS" print --help
   dms: bad words
   dms: see dms --help
+  dms: usage: dms print audit
   [1]
 
   $ "$DMS" run -h -h
   dms: bad words
   dms: see dms --help
+  dms: usage: dms run < FILE
   [1]
 
 
@@ -161,6 +163,7 @@ Words that are no command.
   $ "$DMS" try try < /dev/null
   dms: bad words
   dms: see dms --help
+  dms: usage: dms try < FILE
   [1]
 
   $ "$DMS" ''
@@ -188,6 +191,7 @@ A word that is no UTF-8, a long one, and many.
   $ "$DMS" $(yes try | head -n 10000) < /dev/null
   dms: bad words
   dms: see dms --help
+  dms: usage: dms try < FILE
   [1]
 
 The name that the program is started by may be no UTF-8.
