@@ -3,4 +3,4 @@
 
 mod status;
 
-pub use status::{LimitKind, NeedFault, SchemaFault, Status};
+pub use status::{Flaw, LimitKind, NeedFault, ReorgFault, SchemaFault, Status};

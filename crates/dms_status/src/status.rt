@@ -51,6 +51,37 @@ pub enum NeedFault {
     NoSuchRow(Name, u32),
 }
 
+/// Why a database isn't reorganized under a further description.
+#[derive(Clone, Copy, Debug, PartialEq, Eq)]
+pub enum ReorgFault {
+    /// BLOCKS or FILES of the audit trail differ.
+    AuditTrail,
+    /// The structure of that name isn't there under the same number with the same fields, further items and groups and a greater
+    /// POPULATION aside.
+    Changed(Name),
+    /// A further item of that name is REQUIRED and has no initial value.
+    Required(Name),
+    /// Two records of one owner have equal keys in that new structure, which has no DUPLICATES.
+    Duplicate(Name),
+}
+
+/// The first thing that keeps a database from standing for a state.
+#[derive(Clone, Copy, Debug, PartialEq, Eq)]
+pub enum Flaw {
+    /// In that audit file and block, the entry of that number from 1 breaks a rule of the trail.
+    Entry(u32, u32, u32),
+    /// The Schema of the point is no description.
+    Description,
+    /// That block of that file is missing, disagrees with the trail, or isn't in its format.
+    Block(u32, u32),
+    /// The blocks of the structure of that name aren't together.
+    Shape(Name),
+    /// The record of that number, of the data set of that name, breaks a rule of its description.
+    Record(Name, u64),
+    /// At that place from 1 the list of the structure of that name differs from its definition.
+    Member(Name, u64),
+}
+
 /// How a command ends.
 #[derive(Clone, Copy, Debug, PartialEq, Eq)]
 pub enum Status {
@@ -77,4 +108,11 @@ pub enum Status {
     Exists,
     /// The text of a statement is none; this is its first bad place, counted in bytes from 1.
     BadStatement(u32),
+    Reorganization(ReorgFault),
+    /// The input is no stream of an audit trail; this is its first bad place, counted in bytes from 1.
+    BadStream(u64),
+    /// The stream isn't of this database, or goes another way from that block of that file on; block 0 of file 1 is the database itself.
+    Diverged(u32, u32),
+    /// The database stands for no state.
+    Flaw(Flaw),
 }
