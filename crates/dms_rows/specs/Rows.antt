@@ -1,12 +1,12 @@
 -- The rows of a data set: its slots read one by one, whatever the ranges of their values.
-use Rattle.std.specs.Prelude.{ℕ, zero, suc, ◌≡◌, List, [], ◌∷◌, flat_map, Bool, true, ◌&&◌, ◌==◌, length, take, drop}
+use Rattle.std.specs.Prelude.{ℕ, zero, suc, ◌≡◌, ◌-◌, List, [], ◌∷◌, flat_map, Bool, true, ◌&&◌, ◌==◌, length, take, drop, slice_get}
 use Rattle.std.specs.List.{list_all}
 use Rattle.dms_desc.specs.Fitting.{values_fit}
 use Rattle.dms_desc.specs.Shape.{Shape}
 use Rattle.dms_layout.specs.declared.slot.SlotRead.{SlotRead}
 use Rattle.dms_layout.specs.declared.slot.SlotRead.TheVariants.{Free, Used, Bad}
 use Rattle.dms_layout.specs.Slots.{is_raw_slot, is_zero, raw_of, slot_width}
-use Rattle.dms_slots.specs.SlotBlocks.{is_block, per_block, slots_of}
+use Rattle.dms_slots.specs.SlotBlocks.{is_block, or_free, per_block, slots_of}
 
 -- so many slots one after another, each in the format, and zeros behind them
 abbrev pub are_raw_slots : Shape → ℕ → List ℕ → Bool
@@ -25,6 +25,10 @@ raw_chunks s (suc k) bytes = raw_of s (take (slot_width s.items) bytes) ∷ raw_
 -- the rows of a file in their order
 abbrev pub raw_rows : Shape → List (List ℕ) → List SlotRead
 raw_rows s bs = flat_map (raw_chunks s (per_block s.items)) bs
+
+-- the row with a number, counted from 1; behind the last block it is free
+abbrev pub row_at : Shape → List (List ℕ) → ℕ → SlotRead
+row_at s bs number = or_free (slice_get (raw_rows s bs) (number - 1))
 
 -- the values of a row fit
 abbrev pub read_fits : Shape → SlotRead → Bool

@@ -3,8 +3,10 @@
 
 mod alone;
 mod laws;
+mod place;
 mod rows;
 
 pub use alone::first_alone;
 pub use laws::rows_law;
+pub use place::row_in;
 pub use rows::is_row_block;

@@ -5,3 +5,5 @@ pub mod Fringes
 pub mod Descents
 pub mod Wholes
 pub mod TreeForms
+pub mod Fronts
+pub mod Callers

@@ -136,7 +136,7 @@ head_met count some =
     other : (n : ℕ) → 0 < n → eqb 0 n ≡ false
     other n more = grind (arith, nat_tests, more)
 
-grown_of : (width count : ℕ) (look : ℕ → Option (List ℕ)) (root : ℕ) (us : List (List Inner)) (ls : List Leaf) (fs : List Spare) → IsTree width count look root us ls fs → IsGrown width look root us ls
+pub grown_of : (width count : ℕ) (look : ℕ → Option (List ℕ)) (root : ℕ) (us : List (List Inner)) (ls : List Leaf) (fs : List Spare) → IsTree width count look root us ls fs → IsGrown width look root us ls
 grown_of width count look root us ls fs t = record { inner = t.inner; chain = t.chain; hangs = t.hangs; some = t.some; rises = t.rises; half = t.half }
 
 grown_or : Option Grown → Grown

@@ -1,5 +1,4 @@
 pub mod Blocks
-pub mod BlockLaws
 pub mod Walks
 pub mod WalkLaws
 pub mod ListShapes
@@ -10,3 +9,4 @@ pub mod Leafage
 pub mod Trees
 pub mod TreeShapes
 pub mod TreeFormed
+pub mod Walking

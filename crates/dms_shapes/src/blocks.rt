@@ -1,21 +1,31 @@
 //! Blocks of a list's file, each for itself.
 
-ghost use Rattle.std.specs.Prelude.{◌≡◌, ℕ, List, Some, IfOk, IsTrue, is_some, slice_get};
+ghost use Rattle.std.specs.Prelude.{◌≡◌, IfOk, is_some};
 ghost use Rattle.dms_chain.specs.ListBlocks.{free_in, head_in, leaf_in};
 ghost use Rattle.dms_chain.specs.Seen.{IsListWidth};
-ghost use Rattle.dms_shapes.specs.Blocks.{first_unformed, is_list_block};
-ghost use Rattle.dms_view.specs.Looked.{Looked};
+ghost use Rattle.dms_shapes.specs.Blocks.{is_kept_block, is_list_block, is_tree_block};
+ghost use Rattle.dms_tree.specs.TreeBlocks.{inner_in, root_in};
 
 use dms_base::Memory;
-use dms_block::{Block, BlockId};
+use dms_block::Block;
 use dms_chain::{free_of, head_of, leaf_of};
-use dms_view::{View, ViewFault};
+use dms_lists::ListForm;
+use dms_tree::{inner_of, root_of};
 use std::alloc::Global;
 
 fn is_head(block: &Block) -> bool
     ensures { result ≡ is_some (head_in block.now.0) }
 {
     match head_of(block) {
+        Some(_head) => true,
+        None => false,
+    }
+}
+
+fn is_root(block: &Block) -> bool
+    ensures { result ≡ is_some (root_in block.now.0) }
+{
+    match root_of(block) {
         Some(_head) => true,
         None => false,
     }
@@ -40,13 +50,18 @@ fn is_leaf(alloc: Global, width: usize, block: &Block) -> Result<bool, Memory>
     }
 }
 
-/// Whether a block, by its number, may stand in a list's file: a head, a block of entries or a free one.
-pub fn is_list_block(
-    alloc: Global,
-    width: usize,
-    number: u32,
-    block: &Block,
-) -> Result<bool, Memory>
+fn is_inner(alloc: Global, width: usize, block: &Block) -> Result<bool, Memory>
+    requires width { IsListWidth width }
+    ensures { IfOk result (λ b. b ≡ is_some (inner_in width block.now.0)) }
+{
+    match inner_of(alloc, width, block)? {
+        Some(_inner) => Ok(true),
+        None => Ok(false),
+    }
+}
+
+/// Whether a block, by its number, may stand in the file of a list in one chain: a head, a block of entries or a free one.
+fn is_list_block(alloc: Global, width: usize, number: u32, block: &Block) -> Result<bool, Memory>
     requires width { IsListWidth width }
     ensures { IfOk result (λ b. b ≡ is_list_block width number block.now.0) }
 {
@@ -59,40 +74,36 @@ pub fn is_list_block(
     Ok(is_spare(block))
 }
 
-fn is_formed_at<V: View>(
-    view: &mut V,
-    alloc: Global,
-    file: u32,
-    width: usize,
-    number: u32,
-) -> Result<bool, ViewFault>
+/// Whether a block, by its number, may stand in the file of a tree: a head, a leaf, an inner block or a free one.
+fn is_tree_block(alloc: Global, width: usize, number: u32, block: &Block) -> Result<bool, Memory>
     requires width { IsListWidth width }
-    ensures is { IfOk result (λ b. IsTrue V.tells → (bytes : List ℕ) → slice_get (V.content view.old file) number ≡ Some bytes → b ≡ is_list_block width number bytes) }
-    ensures looks { Looked V.View view.old view.new result }
+    ensures { IfOk result (λ b. b ≡ is_tree_block width number block.now.0) }
 {
-    let block = view.block(BlockId {
-        file,
-        block: number,
-    })?;
-    Ok(is_list_block(alloc, width, number, &block)?)
+    if number == 0 {
+        return Ok(is_root(block));
+    }
+    if is_leaf(alloc, width, block)? {
+        return Ok(true);
+    }
+    if is_inner(alloc, width, block)? {
+        return Ok(true);
+    }
+    Ok(is_spare(block))
 }
 
-/// The first block of a list's file that may not stand there; each block is read once.
-pub fn first_unformed<V: View>(
-    view: &mut V,
+/// Whether a block, by its number, may stand in the file of a list that is kept in a form.
+pub fn is_kept_block(
     alloc: Global,
-    file: u32,
+    form: ListForm,
     width: usize,
-) -> Result<Option<u32>, ViewFault>
+    number: u32,
+    block: &Block,
+) -> Result<bool, Memory>
     requires width { IsListWidth width }
-    ensures first { IfOk result (λ o. IsTrue V.tells → o ≡ first_unformed width 0 (V.content view.old file)) }
-    ensures looks { Looked V.View view.old view.new result }
+    ensures { IfOk result (λ b. b ≡ is_kept_block form width number block.now.0) }
 {
-    let count = view.count(file);
-    for number in 0..count {
-        if !is_formed_at(view, alloc, file, width, number)? {
-            return Ok(Some(number));
-        }
+    match form {
+        ListForm::Tree => is_tree_block(alloc, width, number, block),
+        ListForm::List => is_list_block(alloc, width, number, block),
     }
-    Ok(None)
 }

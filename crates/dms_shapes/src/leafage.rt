@@ -65,7 +65,7 @@ fn is_ahead(fences: &[Bytes], place: usize, entries: &[Bytes]) -> bool
 }
 
 /// The number at a place, 0 behind the last one.
-fn number_at(numbers: &[u32], place: usize) -> u32
+pub(crate) fn number_at(numbers: &[u32], place: usize) -> u32
     ensures { result ≡ slice_index_or numbers.now place 0 }
 {
     match numbers.get(place) {

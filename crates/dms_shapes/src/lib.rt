@@ -3,6 +3,7 @@
 
 mod blocks;
 mod descent;
+mod front;
 mod kept;
 mod laws;
 mod leafage;
@@ -12,9 +13,11 @@ mod list;
 mod marks;
 mod spares;
 mod tree;
+mod walk;
 
-pub use blocks::{first_unformed, is_list_block};
+pub use blocks::is_kept_block;
 pub use kept::is_kept;
 pub use laws::{formed_law, tree_formed_law};
 pub use list::is_list;
 pub use tree::is_tree;
+pub use walk::ListWalk;

@@ -17,7 +17,7 @@ use dms_view::{View, ViewFault};
 use std::alloc::Global;
 
 /// The head of a list, if one stands at the front of a file.
-fn head_at<V: View>(view: &mut V, file: u32) -> Result<Option<ListHead>, ViewFault>
+pub(crate) fn head_at<V: View>(view: &mut V, file: u32) -> Result<Option<ListHead>, ViewFault>
     ensures head { IfOk result (λ o. IsTrue V.tells → 0 < length (V.content view.old file) → said_by head_in (slice_get (V.content view.old file) 0) ≡ option_map (λ h. (h.first, h.free)) o) }
     ensures looks { Looked V.View view.old view.new result }
 {

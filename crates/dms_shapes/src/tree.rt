@@ -20,7 +20,7 @@ use dms_view::{View, ViewFault};
 use std::alloc::Global;
 
 /// The head of a tree, if one stands at the front of a file.
-fn root_at<V: View>(view: &mut V, file: u32) -> Result<Option<TreeHead>, ViewFault>
+pub(crate) fn root_at<V: View>(view: &mut V, file: u32) -> Result<Option<TreeHead>, ViewFault>
     ensures head { IfOk result (λ o. IsTrue V.tells → 0 < length (V.content view.old file) → said_by root_in (slice_get (V.content view.old file) 0) ≡ option_map (λ h. (h.root, h.free)) o) }
     ensures looks { Looked V.View view.old view.new result }
 {

@@ -1,0 +1,4 @@
+pub mod Firsts
+pub mod EntryWidths
+pub mod DataSets
+pub mod Shaping
