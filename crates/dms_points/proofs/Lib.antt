@@ -1,0 +1,4 @@
+pub mod Found
+pub mod Fronts
+pub mod Marks
+pub mod Stands
