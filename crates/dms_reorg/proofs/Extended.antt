@@ -97,7 +97,7 @@ module _ (set n : ℕ) where
 
 module _ (old new : Described) where
   -- a structure that stands in the new one has its items, and then the further ones
-  items_are : (m : ℕ) → StandsIn old new m → items_of (structure_of new m) ≡ items_of (structure_of old m) ++ further old new m
+  pub items_are : (m : ℕ) → StandsIn old new m → items_of (structure_of new m) ≡ items_of (structure_of old m) ++ further old new m
   items_are m h =
       let was = ap items_of h.was in
       let now = ap items_of h.now in
@@ -105,10 +105,10 @@ module _ (old new : Described) where
       now ∙ sym (take-append-drop (length h.s.items) h.t.items) ∙ ap (λ (l : List Item). l ++ drop (length h.s.items) h.t.items) front
       ∙ sym (λ i. was i ++ drop (length (was i)) (now i))
 
-  further_are : (m : ℕ) (h : StandsIn old new m) → further old new m ≡ drop (length h.s.items) h.t.items
+  pub further_are : (m : ℕ) (h : StandsIn old new m) → further old new m ≡ drop (length h.s.items) h.t.items
   further_are m h = λ i. drop (length (ap items_of h.was i)) (ap items_of h.now i)
 
-  owner_is : (m : ℕ) → StandsIn old new m → owner_in (structure_of new m) ≡ owner_in (structure_of old m)
+  pub owner_is : (m : ℕ) → StandsIn old new m → owner_in (structure_of new m) ≡ owner_in (structure_of old m)
   owner_is m h = ap owner_in h.now ∙ ap (λ (s : Shape). s.owner) h.keeps.same ∙ sym (ap owner_in h.was)
 
   module _ (set n : ℕ) where
@@ -144,7 +144,7 @@ module _ (old new : Described) where
         let rest = entered_same es all.1 in
         omega (arith, one, rest, count_more (owns_entry new set n) e es, count_more (owns_entry old set n) e es)
 
-entries_stay : (old new : Described) (db : Db) → (extended old new db).entries ≡ db.entries
+pub entries_stay : (old new : Described) (db : Db) → (extended old new db).entries ≡ db.entries
 unfolding extended
 entries_stay old new db = refl
 

@@ -1,6 +1,5 @@
 pub mod OneReason
 pub mod Growing
-pub mod Following
 pub mod Reasons
 pub mod Same
 pub mod Extended
@@ -15,3 +14,11 @@ pub mod Damage
 pub mod Filled
 pub mod Handing
 pub mod Records
+pub mod Prefixes
+pub mod Looking
+pub mod Alike
+pub mod Members
+pub mod Spelled
+pub mod Collected
+pub mod Keyed
+pub mod Judging

@@ -6,7 +6,7 @@ use Rattle.std.proofs.lemmas.Option.{none-some, same_Some}
 use Rattle.dms_desc.specs.declared.structure.Item.{Item}
 use Rattle.dms_desc.specs.Lookups.{structure_of}
 use Rattle.dms_desc.specs.Shape.{Described, Shape}
-use Rattle.dms_reorg.specs.declared.status.ReorgFault.TheVariants.{AuditTrail, Changed, Required, Duplicate}
+use Rattle.dms_status.specs.declared.status.ReorgFault.TheVariants.{AuditTrail, Changed, Required, Duplicate}
 use Rattle.dms_reorg.specs.RefusalLaws.{HasOneReason}
 use Rattle.dms_reorg.specs.Refusals.{EachBelow, Extends, IsFirstChanged, IsFirstLacking, Stands, first_lacking}
 

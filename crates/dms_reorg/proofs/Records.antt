@@ -1,5 +1,5 @@
 -- The records of a database, and the slots and entries that they have.
-use Rattle.std.proofs.Common.{◌≡◌, ◌∙◌, ◌+◌, ◌<◌, ◌≤◌, ◌++◌, ℕ, suc, List, [], ◌∷◌, Bool, true, cond, None, Some, map, option_map, refl, sym, ap, subst, arith}
+use Rattle.std.proofs.Common.{◌≡◌, ◌∙◌, ◌≤◌, ◌++◌, ℕ, suc, List, [], ◌∷◌, Bool, true, cond, None, Some, map, option_map, refl, sym, ap, subst, arith}
 use Rattle.std.specs.declared.option.Option.{Option}
 use Rattle.std.specs.FinMap.{entries, entries_sorted, get, get-entries}
 use Rattle.std.specs.List.{AllByRecursion}
@@ -8,7 +8,6 @@ use Rattle.dms_desc.specs.Shape.{Described, Shape}
 use Rattle.dms_desc.specs.declared.record.Record.{Record}
 use Rattle.dms_block.specs.Content.{Content}
 use Rattle.dms_desc.specs.Lookups.{structure_of}
-use Rattle.dms_layout.specs.declared.slot.Slot.{Slot}
 use Rattle.dms_layout.specs.declared.slot.SlotRead.{SlotRead}
 use Rattle.dms_layout.specs.declared.slot.SlotRead.TheVariants.{Free, Used, Bad}
 use Rattle.dms_links.specs.Rows.{file_in, rec_in, rec_opt}
@@ -38,7 +37,7 @@ module _ (desc : Described) (db : Db) (own : Tally) (c : Content) (served : IsSe
       let low = number_low desc served db own c slots e.0.0 e.0.1 e.1 (get-entries db.records e.0 ∙ found.0) in
       (omega (arith, low.1), small_found es found.1)
 
-  small_numbers : HasSmallNumbers db
+  pub small_numbers : HasSmallNumbers db
   small_numbers = small_found (entries db.records) (all_found (entries db.records) (entries_sorted db.records))
 
   module _ (set : ℕ) (s : Shape) (at : structure_of desc set ≡ Some s) (is_set : is_data_set (Some s) ≡ true) where

@@ -10,3 +10,5 @@ pub mod OneFile
 pub mod Filled
 pub mod Filling
 pub mod Records
+pub mod Rewritten
+pub mod EqualKeys

@@ -4,9 +4,8 @@ use Rattle.std.specs.declared.option.Option.{Option}
 use Rattle.dms_desc.specs.Lookups.{structure_of}
 use Rattle.dms_desc.specs.Shape.{Shape, Described}
 use Rattle.dms_desc_bytes.specs.WellFormed.{IsWellFormed}
-use Rattle.dms_reorg.specs.declared.status.ReorgFault.{ReorgFault}
+use Rattle.dms_status.specs.declared.status.ReorgFault.{ReorgFault}
 use Rattle.dms_reorg.specs.Extended.{first_values, further}
-use Rattle.dms_reorg.specs.Extends as spelled
 use Rattle.dms_reorg.specs.Laws.{StandsIn}
 use Rattle.dms_reorg.specs.Refusals.{Extends, IsFirstRefusal}
 use Rattle.dms_reorg.specs.Widened.{Widens}
@@ -29,7 +28,3 @@ pub record Growth (old new : Described) : Type 0 where
 
 abbrev pub EachGrows : Type 0
 EachGrows = (old new : Described) → IsWellFormed new → Extends old new → Growth old new
-
--- what extends a description that a schema can have does so also where structures are compared by their bytes
-abbrev pub ExtendsSpelled : Type 0
-ExtendsSpelled = (old new : Described) → IsWellFormed old → Extends old new → spelled.Extends old new

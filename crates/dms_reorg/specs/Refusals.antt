@@ -6,8 +6,8 @@ use Rattle.dms_desc.specs.Conds.{is_null}
 use Rattle.dms_desc.specs.Lookups.{structure_of}
 use Rattle.dms_desc.specs.Shape.{Shape, Described}
 use Rattle.dms_desc.specs.Sorted.{first}
-use Rattle.dms_reorg.specs.declared.status.ReorgFault.{ReorgFault}
-use Rattle.dms_reorg.specs.declared.status.ReorgFault.TheVariants.{AuditTrail, Changed, Required, Duplicate}
+use Rattle.dms_status.specs.declared.status.ReorgFault.{ReorgFault}
+use Rattle.dms_status.specs.declared.status.ReorgFault.TheVariants.{AuditTrail, Changed, Required, Duplicate}
 use Rattle.dms_reorg.specs.Extended.{further}
 use Rattle.dms_reorg.specs.Extends.{KeepsStructure}
 

@@ -5,13 +5,13 @@ ghost use Rattle.std.specs.Option.{MatchOption};
 ghost use Rattle.dms_desc.specs.Lookups.{items_of, structure_of};
 ghost use Rattle.dms_desc.specs.Shape.{as_described, shape_of};
 ghost use Rattle.dms_desc.specs.Sorted.{first};
-ghost use Rattle.dms_reorg.specs.RefusalLaws.{EachGrows, ExtendsSpelled, HasOneReason};
+ghost use Rattle.dms_reorg.specs.RefusalLaws.{EachGrows, HasOneReason};
 ghost use Rattle.dms_reorg.specs.Refusals.{AllGiven, AllStand, IsFirstChanged, IsFirstLacking, IsFirstRefusal, KeepsAudit, Stands, lacks_value};
 
 use crate::comparing::keeps_structure;
-use crate::status::ReorgFault;
 use dms_base::Name;
 use dms_desc::{Description, Item, Structure, is_null};
+use dms_status::ReorgFault;
 
 /// Whether a structure stands in that of the new description with the same number, which is one above this place.
 fn stands(s: &Structure, new: &Description, place: usize) -> bool
@@ -102,5 +102,4 @@ pub fn check(old: &Description, new: &Description) -> Option<ReorgFault>
 pub fn refusal_law()
     ensures one { HasOneReason }
     ensures grows { EachGrows }
-    ensures spelled { ExtendsSpelled }
 {}

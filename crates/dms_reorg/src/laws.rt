@@ -1,6 +1,8 @@
+ghost use Rattle.dms_reorg.specs.EqualKeys.{RefusesNoRecord, ToldByKeys};
 ghost use Rattle.dms_reorg.specs.InPlace.{EachInPlace};
 ghost use Rattle.dms_reorg.specs.Laws.{ExtendsGives, StaysCounted};
 ghost use Rattle.dms_reorg.specs.Records.{HoldsSet, KeepsNumbers, SpelledHolds, WidensRecords};
+ghost use Rattle.dms_reorg.specs.Rewritten.{SpellsExtended, StaysItself};
 ghost use Rattle.dms_reorg.specs.Widened.{EachReadsBefore, WidenedFits, WidensFile};
 
 /// A law: each record of the extended database is that of the database, extended; and each record counts and owns what it did.
@@ -25,4 +27,17 @@ pub fn records_law()
     ensures widens { WidensRecords }
     ensures numbers { KeepsNumbers }
     ensures set { HoldsSet }
+{}
+
+/// A law: where the files of a database are rewritten one by one they spell the extended database; and the file of a data set without further items is its own.
+pub fn rewritten_law()
+    ensures spells { SpellsExtended }
+    ensures itself { StaysItself }
+{}
+
+/// A law: where files spell a database, two slots of a data set have one key in a new set or automatic subset exactly where two records of the extended database have
+/// equal keys; and such a structure with DUPLICATES, or in which none have, refuses none of the records of the widened file.
+pub fn keys_law()
+    ensures told { ToldByKeys }
+    ensures none { RefusesNoRecord }
 {}

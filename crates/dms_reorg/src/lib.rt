@@ -4,11 +4,12 @@
 mod checking;
 mod comparing;
 mod filling;
+mod keys;
 mod laws;
-mod status;
 mod widening;
 
 pub use checking::{check, refusal_law};
 pub use filling::fill_set;
-pub use laws::{extension_law, records_law, widening_law};
+pub use keys::{further_values, has_equal_keys};
+pub use laws::{extension_law, keys_law, records_law, rewritten_law, widening_law};
 pub use widening::{widen_file, widened_block};

@@ -24,7 +24,7 @@ use dms_slots::{per_block, read_slot};
 use std::alloc::Global;
 
 /// A slot with these values behind those of its record.
-fn with_values(alloc: Global, slot: Slot, first: &Values) -> Result<Slot, Memory>
+pub(crate) fn with_values(alloc: Global, slot: Slot, first: &Values) -> Result<Slot, Memory>
     ensures { IfOk result (λ s. s ≡ with_values first.now slot) }
 {
     let mut slot = slot;
