@@ -28,15 +28,15 @@ blocks_turn count i file less = by (count + 1 - i) refl
     by zero e = absurd (omega (arith, e, less))
     by (suc m) e = let left : m ≡ count + 1 - (i + 1) = omega (arith, e, less) in ap (λ (n : ℕ). block_at i file ∷ blocks_from n (i + 1) file) left
 
-full_blocks : (total : ℕ) (file : List ℕ) → is_full total file ≡ true → sealed_blocks total file ≡ blocks_from total 1 file
+pub full_blocks : (total : ℕ) (file : List ℕ) → is_full total file ≡ true → sealed_blocks total file ≡ blocks_from total 1 file
 unfolding sealed_blocks
 full_blocks total file is = ap (λ (n : ℕ). blocks_from n 1 file) (full_opened total file is)
 
-part_blocks : (total count : ℕ) (file : List ℕ) → count_open total file ≡ count → sealed_blocks total file ≡ blocks_from count 1 file
+pub part_blocks : (total count : ℕ) (file : List ℕ) → count_open total file ≡ count → sealed_blocks total file ≡ blocks_from count 1 file
 unfolding sealed_blocks
 part_blocks total count file is = ap (λ (n : ℕ). blocks_from n 1 file) is
 
-part_full : (total count : ℕ) (file : List ℕ) → count_open total file ≡ count → count < total → is_full total file ≡ false
+pub part_full : (total count : ℕ) (file : List ℕ) → count_open total file ≡ count → count < total → is_full total file ≡ false
 unfolding is_full
 part_full total count file is less = grind (arith, nat_tests, is, less)
 

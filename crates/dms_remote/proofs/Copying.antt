@@ -1,15 +1,15 @@
 -- A block is sealed in a copy.
-use Rattle.std.proofs.Common.{ℕ, zero, suc, ◌+◌, ◌*◌, ◌<◌, ◌≤◌, ◌≡◌, ◌≢◌, ◌⊎◌, inl, inr, ◌∙◌, Bool, true, false, cond, sym, ap, subst, refl, List, [], ◌∷◌, ◌++◌, length, take, drop, nat_lt, arith}
+use Rattle.std.proofs.Common.{ℕ, zero, suc, ◌+◌, ◌*◌, ◌<◌, ◌≤◌, ◌≡◌, ◌⊎◌, inl, inr, ◌∙◌, Bool, false, cond, sym, ap, subst, refl, List, [], ◌∷◌, ◌++◌, length, take, nat_lt, arith}
 use Rattle.std.proofs.lemmas.Bool.Decides.{nat_tests}
 use Rattle.std.proofs.lemmas.Bool.{cases_lt}
 use Rattle.std.proofs.lemmas.List.{append-nil, take_all}
-use Rattle.dms_moments.specs.Moments.{Clock, Now, After, Steps}
+use Rattle.dms_moments.specs.Moments.{Clock, Now, Steps}
 use Rattle.dms_site.specs.Files.{Files, Left, stored_of, range, Only}
-use Rattle.dms_audfile.specs.Gates.{block_at, blocks_from}
+use Rattle.dms_audfile.specs.Gates.{blocks_from}
 use Rattle.dms_audfile.specs.Sealing.{Grows, GrowsLeft, IsWrittenUpTo}
 use Rattle.dms_audfile.specs.Trail.{trail_from}
 use Rattle.dms_audfile.specs.TrailEntries.{entries_in}
-use Rattle.dms_audfile.specs.Copies.{IsTrailOf, HasTrailOf}
+use Rattle.dms_audfile.specs.Copies.{IsTrailOf}
 use Rattle.dms_audfile.specs.declared.audit_end.AuditEnd.{AuditEnd}
 use Rattle.dms_audfile.proofs.Copies.{trail_goes_on}
 use Rattle.dms_follow.specs.Following.{Follows}
@@ -45,7 +45,7 @@ stored_stays old new same f b = elim (cases_lt 30000 f) [
       ap (λ (t : Bool). cond t (range (1024 * b) 1024 (new f)) []) off ∙ sym (ap (λ (t : Bool). cond t (range (1024 * b) 1024 (old f)) []) off))
 ]
 
-follows_there : (blocks : List (List ℕ)) (old new : Files) → ((g : ℕ) → 30000 < g → new g ≡ old g) → Follows (entries_in blocks) (stored_of old) → Follows (entries_in blocks) (stored_of new)
+pub follows_there : (blocks : List (List ℕ)) (old new : Files) → ((g : ℕ) → 30000 < g → new g ≡ old g) → Follows (entries_in blocks) (stored_of old) → Follows (entries_in blocks) (stored_of new)
 follows_there blocks old new same is = subst (λ (s : ℕ → ℕ → List ℕ). Follows (entries_in blocks) s) (λ i f b. sym (stored_stays old new same f b) i) is
 
 -- each outcome of sealing

@@ -1,6 +1,15 @@
 pub mod Blocks
 pub mod Copying
+pub mod Followed
+pub mod Gates
 pub mod Kept
+pub mod BlockKinds
+pub mod Next
+pub mod Noted
+pub mod Planned
 pub mod Printing
 pub mod Settled
+pub mod Settles
 pub mod Shipped
+pub mod Traced
+pub mod Turned

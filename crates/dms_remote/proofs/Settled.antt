@@ -1,13 +1,12 @@
 -- A copy is found, and stays one while its blocks are settled.
-use Rattle.std.proofs.Common.{ℕ, ◌≡◌, ◌∙◌, sym, subst, List, arith}
-use Rattle.dms_site.specs.Files.{Files, stored_of}
+use Rattle.std.proofs.Common.{ℕ, ◌∙◌, sym, subst, List, arith}
+use Rattle.dms_site.specs.Files.{stored_of}
 use Rattle.dms_audfile.specs.Database.{HasDatabase}
 use Rattle.dms_audfile.specs.TrailEntries.{entries_in}
 use Rattle.dms_audfile.proofs.Copies.{blocks_are_found, trail_is_same}
 use Rattle.dms_follow.proofs.Agreeing.{follows_agrees}
 use Rattle.dms_follow.proofs.Going.{writes_keep_following, settles_all, settled_follows}
 use Rattle.dms_follow.proofs.Settling.{restoring_leaves, restoring_settles}
-use Rattle.dms_remote.specs.Copy.{IsCopyOf}
 use Rattle.dms_remote.specs.Laws.{CopyIsFound, CopyStays, CopySettles}
 
 pub copy_is_found : CopyIsFound

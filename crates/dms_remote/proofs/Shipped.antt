@@ -6,7 +6,7 @@ use Rattle.dms_audfile.specs.Database.{HasDatabase}
 use Rattle.dms_audfile.specs.declared.fault.AudFault.{AudFault}
 use Rattle.dms_audfile.specs.declared.fault.AudFault.TheVariants.{NoDatabase, Disk, Full, Missing, Unsealed, Damaged, Foreign, Memory}
 use Rattle.dms_stream.specs.Stream.{Heading, head_bytes, record_bytes, records_bytes, stream_bytes}
-use Rattle.dms_remote.specs.Shipping.{PrintsFirst, RefusesFrom, IsLateAudit, RefusesShip, IsLate}
+use Rattle.dms_remote.specs.Shipping.{PrintsFirst, RefusesFrom, IsLateAudit, RefusesShip, IsLate, IsOfShipping}
 use Rattle.dms_remote.specs.declared.fault.RemoteFault.{RemoteFault}
 use Rattle.dms_remote.specs.declared.fault.RemoteFault.TheVariants.{Audit, Input, Bytes, Say, BadStream, Diverged}
 use Rattle.dms_remote.specs.Shipment.{GivesNone}
@@ -75,3 +75,11 @@ late_refuses k files Bytes late = absurd late
 late_refuses k files Say late = tt
 late_refuses k files (BadStream p) late = absurd late
 late_refuses k files (Diverged f b) late = absurd late
+
+pub late_kind : (fault : RemoteFault) → IsLate fault → IsOfShipping fault
+late_kind (Audit fault) late = tt
+late_kind Input late = absurd late
+late_kind Bytes late = absurd late
+late_kind Say late = tt
+late_kind (BadStream p) late = absurd late
+late_kind (Diverged f b) late = absurd late

@@ -1,6 +1,13 @@
 pub mod Copy
 pub mod Files
+pub mod Gate
 pub mod Keeping
+pub mod Kinds
 pub mod Laws
+pub mod Next
+pub mod Noting
+pub mod Settling
 pub mod Shipment
 pub mod Shipping
+pub mod Traced
+pub mod Turn

@@ -105,6 +105,15 @@ RefusesShip k files Say = Unit {0}
 RefusesShip k files (BadStream p) = ⊥
 RefusesShip k files (Diverged f b) = ⊥
 
+-- the faults of shipping: those of the audit, and a failure of printing
+abbrev pub IsOfShipping : RemoteFault → Type 0
+IsOfShipping (Audit fault) = Unit {0}
+IsOfShipping Input = ⊥
+IsOfShipping Bytes = ⊥
+IsOfShipping Say = Unit {0}
+IsOfShipping (BadStream p) = ⊥
+IsOfShipping (Diverged f b) = ⊥
+
 -- a failure of the disk or of printing, or want of memory
 abbrev pub IsLateAudit : AudFault → Type 0
 IsLateAudit NoDatabase = ⊥

@@ -6,7 +6,7 @@ ghost use Rattle.dms_audfile.specs.Counting.{CountedAt};
 ghost use Rattle.dms_audfile.specs.Gates.{block_at, blocks_from};
 ghost use Rattle.dms_audfile.specs.Reads.{ReadsAlone};
 ghost use Rattle.dms_stream.specs.Stream.{record_bytes, records_bytes};
-ghost use Rattle.dms_remote.specs.Shipping.{blocks_on, IsShipped, PrintsStream, PrintsFirst, PrintsStreamFirst, PrintsStreamPart, PrintsSome, placed_bytes, AreWhole, RefusesShip, IsLate};
+ghost use Rattle.dms_remote.specs.Shipping.{blocks_on, IsShipped, PrintsStream, PrintsFirst, PrintsStreamFirst, PrintsStreamPart, PrintsSome, placed_bytes, AreWhole, RefusesShip, IsLate, IsOfShipping};
 ghost use Rattle.dms_remote.specs.Shipment.{HasShipment};
 ghost use Rattle.dms_remote.specs.Files.{EndsIn};
 
@@ -180,6 +180,7 @@ pub fn ship<S: Site>(alloc: Global, site: &mut S, from: u32) -> Result<(), Remot
     requires high { from ≤ 9999 }
     ensures printed { OnOk result (IsTrue S.tells → IsTrue S.tells_said → PrintsStream from (S.files site.old) (S.said site.old) (S.said site.new)) }
     ensures refused { IfErr result (λ fault. IsTrue S.tells → RefusesShip from (S.files site.old) fault) }
+    ensures kinds { IfErr result IsOfShipping }
     ensures silent { IfErr result (λ fault. IsTrue S.tells → (IsLate fault → ⊥) → S.said site.new ≡ S.said site.old) }
     ensures part { IsTrue S.tells → IsTrue S.tells_said → PrintsStreamPart from (S.files site.old) (S.said site.old) (S.said site.new) }
     ensures files { IsTrue S.tells → S.files site.new ≡ S.files site.old }

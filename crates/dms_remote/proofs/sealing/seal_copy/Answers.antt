@@ -1,4 +1,4 @@
-use Rattle.std.proofs.Common.{ℕ, ◌++◌, ◌≡◌, ◌∙◌, ap, List, arith}
+use Rattle.std.proofs.Common.{ℕ, ◌++◌, ◌∙◌, ap, List, arith}
 use Rattle.dms_audfile.specs.Trail.{trail_from}
 use Rattle.dms_remote.proofs.Copying.{one_block, leaves_copies, ends_copy}
 use Rattle.dms_remote.proofs.sealing.seal_copy.Goals as goal

@@ -5,7 +5,7 @@ use Rattle.dms_site.specs.Files.{Files}
 use Rattle.dms_remote.specs.Shipping.{PrintsStream, PrintsStreamFirst}
 use Rattle.dms_remote.specs.Shipment.{HasShipment}
 use Rattle.dms_remote.proofs.Printing.{prints_on, prints_same}
-use Rattle.dms_remote.proofs.Shipped.{late_refuses}
+use Rattle.dms_remote.proofs.Shipped.{late_kind, late_refuses}
 use Rattle.dms_remote.proofs.shipping.ship.Goals as goal
 
 on_ok : {T E P Q : Type 0} (r : Result T E) → OnOk r P → (P → Q) → OnOk r Q
@@ -39,6 +39,9 @@ returns-clause-part g c = λ tells told.
 
 pub returns-clause-refused : goal.returns-clause-refused
 returns-clause-refused g c = if_err c.ship_stream.result c.ship_stream.ensures.late (λ e late tells. late_refuses c.args.from (g.S.Site.files c.args.site.now) e late)
+
+pub returns-clause-kinds : goal.returns-clause-kinds
+returns-clause-kinds g c = if_err c.ship_stream.result c.ship_stream.ensures.late late_kind
 
 pub returns-clause-silent : goal.returns-clause-silent
 returns-clause-silent g c = if_err c.ship_stream.result c.ship_stream.ensures.late (λ e late tells not_late. absurd (not_late late))
