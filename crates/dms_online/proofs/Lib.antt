@@ -14,3 +14,5 @@ pub mod Keeps
 pub mod Listed
 pub mod Planned
 pub mod Finished
+pub mod Closed
+pub mod Dumped

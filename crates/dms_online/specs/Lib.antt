@@ -6,3 +6,4 @@ pub mod Plans
 pub mod Onlines
 pub mod OnlineLaws
 pub mod Ending
+pub mod Closes

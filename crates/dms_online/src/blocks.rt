@@ -1,7 +1,7 @@
 //! A running database is blocks, with its dump too.
 
-ghost use Rattle.std.specs.Prelude.{◌≡◌, IfSome, IsTrue, OnOk, option_map};
-ghost use Rattle.dms_block.specs.Held.{HasNextNumber};
+ghost use Rattle.std.specs.Prelude.{◌≡◌, IfSome, OnOk, option_map};
+ghost use Rattle.dms_block.specs.Held.{IfTold};
 ghost use Rattle.dms_online.specs.Calls.{Beside, SameDump};
 ghost use Rattle.dms_online.specs.Going.{IsQuiet};
 ghost use Rattle.dms_online.specs.Onlines.{CopiedOn, IsCopied, SameOnline, online_held, undone};
@@ -27,7 +27,7 @@ impl<S: Site> Online<S> {
         ensures dump { SameDump S.Site self.old.running.log.site self.new.running.log.site }
         ensures plan { option_map undone self.new.copy ≡ option_map undone self.old.copy }
         ensures up { OnOk result (CopiedOn self.old.copy self.new.copy) }
-        ensures copied { OnOk result (IfSome self.old.copy (λ c. IsTrue S.tells → HasNextNumber (running_held ⟦<DumpSite<S> as Site>⟧ self.old.running) → IsQuiet (running_held ⟦<DumpSite<S> as Site>⟧ self.old.running) c.point)
+        ensures copied { OnOk result (IfSome self.old.copy (λ c. let h = running_held ⟦<DumpSite<S> as Site>⟧ self.old.running in IfTold h (IsQuiet h c.point))
             → IfSome self.new.copy (IsCopied ⟦<DumpSite<S> as Site>⟧ S.Site self.new.running)) }
     {
         match &mut self.copy {

@@ -1,11 +1,11 @@
 //! What ends a dump: the rest of its blocks, its head anew, and its gate.
 
-ghost use Rattle.std.specs.Prelude.{◌≡◌, ◌⊎◌, ◌<◌, ◌≤◌, ◌∷◌, ℕ, List, IfErr, IsErrOf, IsTrue, OnOk, true};
+ghost use Rattle.std.specs.Prelude.{◌≡◌, ◌⊎◌, ◌<◌, ◌≤◌, IfErr, IsErrOf, IsTrue, OnOk, true};
 ghost use Rattle.dms_block.specs.Held.{HasCauses, IfTold, MakesNoPoint, SameBlocks, Stays};
-ghost use Rattle.dms_moments.specs.Moments.{Now, Runs};
+ghost use Rattle.dms_moments.specs.Moments.{Now};
 ghost use Rattle.dms_online.specs.Calls.{Beside, HasShutGate, SameDump};
 ghost use Rattle.dms_online.specs.Copying.{IsAtPoint};
-ghost use Rattle.dms_online.specs.Ending.{LeavesShutOr};
+ghost use Rattle.dms_online.specs.Ending.{LeavesOpening, OpensGate, SealsDump};
 ghost use Rattle.dms_online.specs.Going.{IsAllBut};
 ghost use Rattle.dms_online.specs.Onlines.{IsCopied};
 ghost use Rattle.dms_online.specs.Plans.{head_of};
@@ -60,8 +60,8 @@ fn open_dump<S: Site>(running: &mut Running<DumpSite<S>>) -> Result<(), BlockFau
     ensures unchanged { SameBlocks (running_held ⟦<DumpSite<S> as Site>⟧ running.old) (running_held ⟦<DumpSite<S> as Site>⟧ running.new) }
     ensures tells { IsTrue S.tells → TellsSame (view_of ⟦<DumpSite<S> as Site>⟧ running.old.log) (view_of ⟦<DumpSite<S> as Site>⟧ running.new.log) }
     ensures settles { OnOk result (IsTrue S.tells → IsSettled (view_of ⟦<DumpSite<S> as Site>⟧ running.old.log) → IsSettled (view_of ⟦<DumpSite<S> as Site>⟧ running.new.log)) }
-    ensures opened { OnOk result ((rest : List ℕ) → IsTrue S.tells → S.files running.old.log.site.site running.old.log.site.file ≡ 0 ∷ rest → S.files running.new.log.site.site running.old.log.site.file ≡ 1 ∷ rest) }
-    ensures moments { (rest : List ℕ) → IsTrue S.tells → S.files running.old.log.site.site running.old.log.site.file ≡ 0 ∷ rest → Runs (S.clock running.old.log.site.site) (S.clock running.new.log.site.site) (LeavesShutOr running.old.log.site.file (1 ∷ rest)) }
+    ensures opened { OnOk result (let s = running.old.log.site in OpensGate S.tells s.file (S.files s.site) (S.files running.new.log.site.site)) }
+    ensures moments { let s = running.old.log.site in LeavesOpening S.tells s.file (S.files s.site) (S.clock s.site) (S.clock running.new.log.site.site) }
     ensures only { IfErr result (λ e. e ≡ BlockFault.Disk) }
     ensures causes { HasCauses result (running_held ⟦<DumpSite<S> as Site>⟧ running.old) (running_held ⟦<DumpSite<S> as Site>⟧ running.new) }
     ensures kept { KeepsFields running.old running.new }
@@ -80,7 +80,7 @@ fn open_dump<S: Site>(running: &mut Running<DumpSite<S>>) -> Result<(), BlockFau
     }
 }
 
-/// Makes a control point, and then opens the gate of the dump. Takes no memory. Answers Disk, and Full where the audit has no room.
+/// Makes a control point, and then opens the gate of the dump, so that wherever it is open the files hold all points. Takes no memory. Answers Disk, and Full where the audit has no room.
 pub(crate) fn seal_open<S: Site>(running: &mut Running<DumpSite<S>>) -> Result<(), BlockFault>
     requires sound { (running_held ⟦<DumpSite<S> as Site>⟧ running.old).sound }
     requires above { 20000 < running.old.log.site.file }
@@ -88,11 +88,10 @@ pub(crate) fn seal_open<S: Site>(running: &mut Running<DumpSite<S>>) -> Result<(
     requires shut { IsTrue S.tells → (x : Left) → Now (S.clock running.old.log.site.site) x → HasShutGate (x.files running.old.log.site.file) }
     ensures sound { OnOk result ((running_held ⟦<DumpSite<S> as Site>⟧ running.new).sound) }
     ensures passes { MakesNoPoint (running_held ⟦<DumpSite<S> as Site>⟧ running.old) (running_held ⟦<DumpSite<S> as Site>⟧ running.new) }
-    ensures control { OnOk result (IsTrue S.tells
-        → MakesControl (view_of ⟦<DumpSite<S> as Site>⟧ running.old.log) (view_of ⟦<DumpSite<S> as Site>⟧ running.new.log) running.old.schema.items running.old.point running.old.next running.old.counts.items) }
-    ensures opened { OnOk result ((rest : List ℕ) → IsTrue S.tells → S.files running.old.log.site.site running.old.log.site.file ≡ 0 ∷ rest → S.files running.new.log.site.site running.old.log.site.file ≡ 1 ∷ rest) }
-    ensures moments { (rest : List ℕ) → IsTrue S.tells
-        → S.files running.old.log.site.site running.old.log.site.file ≡ 0 ∷ rest → Runs (S.clock running.old.log.site.site) (S.clock running.new.log.site.site) (LeavesShutOr running.old.log.site.file (1 ∷ rest)) }
+    ensures control { OnOk result (IsTrue S.tells → let r = running.old in
+        MakesControl (view_of ⟦<DumpSite<S> as Site>⟧ r.log) (view_of ⟦<DumpSite<S> as Site>⟧ running.new.log) r.schema.items r.point r.next r.counts.items) }
+    ensures opened { OnOk result (let s = running.old.log.site in OpensGate S.tells s.file (S.files s.site) (S.files running.new.log.site.site)) }
+    ensures moments { SealsDump ⟦<DumpSite<S> as Site>⟧ S.Site running.old running.new.log.site }
     ensures only { IfErr result (λ e. (e ≡ BlockFault.Disk) ⊎ (e ≡ BlockFault.Full running.old.log.end.limit)) }
     ensures full { (n : _) → IsErrOf result (BlockFault.Full n) → StandsFull running.new.log.end n }
     ensures ends { (n : _) → IsErrOf result (BlockFault.Full n) → IsTrue S.tells → Ends (view_of ⟦<DumpSite<S> as Site>⟧ running.new.log) }

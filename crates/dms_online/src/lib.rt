@@ -3,6 +3,7 @@
 
 mod block_copy;
 mod blocks;
+mod closing;
 mod dump_site;
 mod ending;
 mod heads;

@@ -1,7 +1,7 @@
 //! A dump is copied, one block after another.
 
-ghost use Rattle.std.specs.Prelude.{◌≡◌, ◌+◌, ◌*◌, ◌<◌, ◌≤◌, ◌^◌, ℕ, List, IsTrue, OnOk, Some};
-ghost use Rattle.dms_block.specs.Held.{HasNextNumber};
+ghost use Rattle.std.specs.Prelude.{◌≡◌, ◌+◌, ◌*◌, ◌<◌, ◌≤◌, ◌^◌, ℕ, List, OnOk, Some};
+ghost use Rattle.dms_block.specs.Held.{IfTold};
 ghost use Rattle.dms_dump.specs.Copies.{id_at};
 ghost use Rattle.dms_online.specs.Calls.{Beside, SameDump};
 ghost use Rattle.dms_online.specs.Going.{GoesOn, IsQuiet};
@@ -28,9 +28,9 @@ pub fn copy_next<S: Site>(
     requires place { front + 1024 * (n + 1) < 2 ^ 40 }
     ensures beside { Beside ⟦<DumpSite<S> as Site>⟧ result running.old running.new }
     ensures dump { SameDump S.Site running.old.log.site running.new.log.site }
-    ensures goes { OnOk result (IsTrue S.tells → HasNextNumber (running_held ⟦<DumpSite<S> as Site>⟧ running.old) → (f k low : ℕ) (head : List ℕ) → id_at counts.now n ≡ Some (f, k)
-        → IsQuiet (running_held ⟦<DumpSite<S> as Site>⟧ running.old) low → GoesOn (running_held ⟦<DumpSite<S> as Site>⟧ running.old) (S.files running.old.log.site.site running.old.log.site.file) front low counts.now n head
-        → GoesOn (running_held ⟦<DumpSite<S> as Site>⟧ running.new) (S.files running.new.log.site.site running.old.log.site.file) front low counts.now (n + 1) head) }
+    ensures goes { OnOk result (let h = running_held ⟦<DumpSite<S> as Site>⟧ running.old in IfTold h ((f k low : ℕ) (head : List ℕ) → id_at counts.now n ≡ Some (f, k) → IsQuiet h low
+        → GoesOn h (S.files running.old.log.site.site running.old.log.site.file) front low counts.now n head
+        → GoesOn (running_held ⟦<DumpSite<S> as Site>⟧ running.new) (S.files running.new.log.site.site running.old.log.site.file) front low counts.now (n + 1) head)) }
 {
     match id_of(counts, n) {
         Some(id) => {

@@ -1,7 +1,7 @@
 //! Some blocks of a dump are copied.
 
-ghost use Rattle.std.specs.Prelude.{◌+◌, ◌*◌, ◌<◌, ◌≤◌, ◌^◌, ℕ, List, IsTrue, OnOk};
-ghost use Rattle.dms_block.specs.Held.{HasNextNumber};
+ghost use Rattle.std.specs.Prelude.{◌+◌, ◌*◌, ◌<◌, ◌≤◌, ◌^◌, ℕ, List, OnOk};
+ghost use Rattle.dms_block.specs.Held.{IfTold};
 ghost use Rattle.dms_online.specs.Calls.{Beside, SameDump};
 ghost use Rattle.dms_online.specs.Going.{GoesOn, IsNamed, IsQuiet};
 ghost use Rattle.dms_wal.specs.Database.{running_held};
@@ -28,9 +28,9 @@ pub fn copy_some<S: Site>(
     requires place { front + 1024 * (end + 1) < 2 ^ 40 }
     ensures beside { Beside ⟦<DumpSite<S> as Site>⟧ result running.old running.new }
     ensures dump { SameDump S.Site running.old.log.site running.new.log.site }
-    ensures goes { OnOk result (IsTrue S.tells → HasNextNumber (running_held ⟦<DumpSite<S> as Site>⟧ running.old) → (low : ℕ) (head : List ℕ) → ((i : ℕ) → i < end → IsNamed counts.now i)
-        → IsQuiet (running_held ⟦<DumpSite<S> as Site>⟧ running.old) low → GoesOn (running_held ⟦<DumpSite<S> as Site>⟧ running.old) (S.files running.old.log.site.site running.old.log.site.file) front low counts.now n head
-        → GoesOn (running_held ⟦<DumpSite<S> as Site>⟧ running.new) (S.files running.new.log.site.site running.old.log.site.file) front low counts.now end head) }
+    ensures goes { OnOk result (let h = running_held ⟦<DumpSite<S> as Site>⟧ running.old in IfTold h ((low : ℕ) (head : List ℕ) → ((i : ℕ) → i < end → IsNamed counts.now i)
+        → IsQuiet h low → GoesOn h (S.files running.old.log.site.site running.old.log.site.file) front low counts.now n head
+        → GoesOn (running_held ⟦<DumpSite<S> as Site>⟧ running.new) (S.files running.new.log.site.site running.old.log.site.file) front low counts.now end head)) }
 {
     for i in n..end {
         match copy_next(running, counts, front, i) {

@@ -1,7 +1,7 @@
 //! A dump is copied up to some block.
 
-ghost use Rattle.std.specs.Prelude.{◌≡◌, ◌≤◌, IsTrue, OnOk};
-ghost use Rattle.dms_block.specs.Held.{HasNextNumber};
+ghost use Rattle.std.specs.Prelude.{◌≡◌, ◌≤◌, OnOk};
+ghost use Rattle.dms_block.specs.Held.{IfTold};
 ghost use Rattle.dms_online.specs.Calls.{Beside, SameDump};
 ghost use Rattle.dms_online.specs.Going.{IsQuiet};
 ghost use Rattle.dms_online.specs.Onlines.{IsCopied};
@@ -26,7 +26,7 @@ pub(crate) fn copy_until<S: Site>(
     ensures dump { SameDump S.Site running.old.log.site running.new.log.site }
     ensures plan { copy.new ≡ record copy.old { done = copy.new.done } }
     ensures done { OnOk result (copy.new.done ≡ end) }
-    ensures copied { OnOk result ((IsTrue S.tells → HasNextNumber (running_held ⟦<DumpSite<S> as Site>⟧ running.old) → IsQuiet (running_held ⟦<DumpSite<S> as Site>⟧ running.old) copy.old.point)
+    ensures copied { OnOk result ((let h = running_held ⟦<DumpSite<S> as Site>⟧ running.old in IfTold h (IsQuiet h copy.old.point))
         → IsCopied ⟦<DumpSite<S> as Site>⟧ S.Site running.new copy.new) }
 {
     let done = copy.done;

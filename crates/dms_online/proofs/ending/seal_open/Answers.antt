@@ -1,6 +1,11 @@
-use Rattle.std.proofs.Common.{ℕ, ◌+◌, ◌∙◌, ◌∷◌, ap, sym, arith}
+use Rattle.std.proofs.Common.{ℕ, ◌+◌, ◌∙◌, ◌∷◌, ap, sym, subst, arith}
 use Rattle.std.proofs.lemmas.Result.{on_ok_weaker}
-use Rattle.dms_block.specs.Held.{Stays}
+use Rattle.dms_block.specs.Held.{HasNextNumber, Prefix, Stays, TextIs}
+use Rattle.dms_moments.specs.Moments.{Runs}
+use Rattle.dms_restore.specs.Logging.{telling}
+use Rattle.dms_running.specs.Telling.{Telling}
+use Rattle.dms_wal.specs.Lifting.{lift_clock}
+use Rattle.dms_wal.proofs.Lifts.{both_run, lower_runs, told_same}
 use Rattle.dms_block.specs.HeldLaws.{passes_on}
 use Rattle.dms_restore.specs.GrowLaws.{log_grows_more, log_grows_on}
 use Rattle.dms_restore.specs.Views.{view_of}
@@ -10,7 +15,8 @@ use Rattle.dms_wal.proofs.Grown.{logged_more, ok_never}
 use Rattle.dms_online.specs.OnlineLaws.{dump_kept}
 use Rattle.dms_online.specs.contracts.dump_site.DumpSiteSite as contracts
 use Rattle.dms_online.proofs.Gates.{shut_then}
-use Rattle.dms_online.proofs.Finished.{control_on, gate_now, opens_runs, shut_runs, stays_durable}
+use Rattle.dms_online.proofs.Dumped.{seals_open, seals_shut, still_shut}
+use Rattle.dms_online.proofs.Finished.{control_on, gate_now, stays_durable}
 use Rattle.dms_online.proofs.ending.seal_open.Goals as goal
 
 pub open_dump-requires-clause-gate : goal.open_dump-requires-clause-gate
@@ -42,19 +48,32 @@ returns-clause-control g c =
     on_ok_weaker c.open_dump.result (λ settles tells. control_on (view_of d r.log) (view_of d c.control.new.self.log) (view_of d c.open_dump.new.running.log) r.schema.items r.point r.next r.counts.items (c.open_dump.ensures.tells tells) (settles tells) (c.in-Ok.ensures.control tells)) c.open_dump.ensures.settles
 
 pub returns-in-Err-clause-moments : goal.returns-in-Err-clause-moments
-returns-in-Err-clause-moments g c rest tells is =
-    let site = c.args.running.now.log.site in
+returns-in-Err-clause-moments g c tells room rest is =
+    let d = contracts.TheImpl.ghosts g.row.S g.S.Site g.S.Site-dict in
+    let r = c.args.running.now in
+    let site = r.log.site in
     let mid = c.control.new.self.log.site in
-    shut_runs site.file (1 ∷ rest) (g.S.Site.clock site.site) (g.S.Site.clock mid.site) ((dump_kept g.S.Site site mid c.control.ensures.same).gate tells) (c.requires.shut tells)
+    seals_shut (view_of d r.log) site.file (1 ∷ rest) (still_shut site.file ((dump_kept g.S.Site site mid c.control.ensures.same).gate tells) (c.requires.shut tells))
 
 pub returns-clause-moments : goal.returns-clause-moments
-returns-clause-moments g c rest tells is =
-    let site = c.args.running.now.log.site in
-    let mid = c.control.new.self.log.site in
+returns-clause-moments g c tells room rest is =
+    let d = contracts.TheImpl.ghosts g.row.S g.S.Site g.S.Site-dict in
+    let r = c.args.running.now in
+    let site = r.log.site in
+    let half = c.control.new.self in
+    let mid = half.log.site in
     let same = c.control.ensures.same in
-    opens_runs site.file mid.file (1 ∷ rest) same.file_same
-    (shut_runs site.file (1 ∷ rest) (g.S.Site.clock site.site) (g.S.Site.clock mid.site) ((dump_kept g.S.Site site mid same).gate tells) (c.requires.shut tells))
-    (c.open_dump.ensures.moments rest tells (ap (λ (f : ℕ). g.S.Site.files mid.site f) same.file_same ∙ same.read tells ∙ is))
+    let made = c.in-Ok.ensures.made in
+    let a = running_held d r in
+    let b = running_held d half in
+    let later : HasNextNumber b = omega (arith, c.control.ensures.passes.next, room) in
+    let t = telling (view_of d half.log) in
+    let leaves = c.open_dump.ensures.passes.leaves tells later in
+    seals_open (view_of d r.log) (view_of d half.log) site.file mid.file (1 ∷ rest) b.durable b.next b.said same.file_same (told_same c.control.ensures.kind) (made.points tells room) (made.durable tells room)
+    (still_shut site.file ((dump_kept g.S.Site site mid same).gate tells) (c.requires.shut tells))
+    (both_run (c.open_dump.ensures.moments rest tells (ap (λ (f : ℕ). g.S.Site.files mid.site f) same.file_same ∙ same.read tells ∙ is))
+    (lower_runs t (g.S.Site.clock mid.site) (g.S.Site.clock c.open_dump.new.running.log.site.site)
+    (subst (λ (k : Telling). Runs (lift_clock t (g.S.Site.clock mid.site)) (lift_clock k (g.S.Site.clock c.open_dump.new.running.log.site.site)) (λ stop. Prefix b.whole b.durable b.points b.next stop × TextIs b.said stop)) (told_same c.open_dump.ensures.kind) leaves)))
 
 pub returns-clause-opened : goal.returns-clause-opened
 returns-clause-opened g c =
