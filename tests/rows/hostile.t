@@ -130,7 +130,7 @@ A line that is cut at each of its bytes is answered, and the run goes on.
         5 A EXCEPTION
        13 BADLINE
 
-A description that names fewer structures than the audit has blocks of: the files of the others aren't written, and stay. With the right description the database is as it was.
+The description file of another database, which names fewer structures: the database is opened under the description in its audit, so the files of all its structures are written.
 
   $ mkdir ../two ../three && cd ../three
   $ printf 'RDS RESTART DATA SET (PID ALPHA(10););\nD DATA SET (X NUMBER(4););\nE DATA SET (Y NUMBER(4););\n' | "$DMS" compile
@@ -144,14 +144,65 @@ A description that names fewer structures than the audit has blocks of: the file
   COMPILED 2 STRUCTURES
   $ "$DMS" initialize
   INITIALIZED AT POINT 0
-  $ cd ../three && cp F00001.DMS right && cp F30003.DMS before && cp ../two/F00001.DMS .
-  $ "$DMS" run < /dev/null
-  dms: no memory
-  dms: give it more memory, unless F00001.DMS is of another database
-  [7]
-  $ cmp F30003.DMS before
-  $ cp right F00001.DMS
-  $ printf 'A: OPEN INQUIRY\nA: FIND FIRST E\nA: GET E Y\n' | "$DMS" run
+  $ cd ../three && cp F00001.DMS right && cp ../two/F00001.DMS .
+  $ printf 'A: OPEN UPDATE\nA: BEGIN-TRANSACTION NO-AUDIT RDS\nA: CREATE E\nA: PUT E Y = 6\nA: STORE E\nA: END-TRANSACTION NO-AUDIT RDS\n' | "$DMS" run | tail -n 1
+  6 A DONE
+  $ printf 'A: OPEN INQUIRY\nA: FIND LAST E\nA: GET E Y\n' | "$DMS" run
+  1 A DONE
+  2 A DONE
+  3 A DONE Y=6
+  $ echo 'DUMP TO 1' | "$DMS" utility
+  DUMPED 1 AT POINT 2
+  $ echo 'ROLLBACK TO 1' | "$DMS" utility
+  ROLLED BACK TO POINT 1
+  $ printf 'A: OPEN INQUIRY\nA: FIND LAST E\nA: GET E Y\n' | "$DMS" run
   1 A DONE
   2 A DONE
   3 A DONE Y=5
+  $ cp right F00001.DMS
+  $ printf 'A: OPEN INQUIRY\nA: FIND LAST E\nA: GET E Y\n' | "$DMS" run
+  1 A DONE
+  2 A DONE
+  3 A DONE Y=5
+
+A Schema of no byte, and one of more than 65,535, are in the audit's grammar, and no description. Where one stands at the point that is opened the trail's first file is damaged, in `run` and in each statement, and nothing changes.
+
+  $ cat > schema.py <<'END'
+  > # the audit of a new database anew, with a Schema of so many bytes
+  > import sys
+  > size = int(sys.argv[1])
+  > file = bytearray(open('F10001.DMS', 'rb').read())
+  > entries = file[4098:4098 + int.from_bytes(file[4096:4098], 'big')]
+  > length = int.from_bytes(entries[5:7], 'big')
+  > schema = (entries[7:7 + length] * (size // length + 1))[:size]
+  > parts = [schema[i:i + 4000] for i in range(0, size, 4000)] or [b'']
+  > blocks = [b'\1' + (i + 1).to_bytes(2, 'big') + len(parts).to_bytes(2, 'big') + len(part).to_bytes(2, 'big') + part for i, part in enumerate(parts)]
+  > blocks[-1] += entries[7 + length:]
+  > out = file[:512] + b'\1' * len(blocks) + bytes(3584 - len(blocks))
+  > for block in blocks:
+  >     out += len(block).to_bytes(2, 'big') + block + bytes(4094 - len(block))
+  > open('F10001.DMS', 'wb').write(out)
+  > END
+  $ rm -rf db; mkdir db; cd db
+  $ printf 'RDS RESTART DATA SET (PID ALPHA(10););\nD DATA SET (X NUMBER(4););\n' | "$DMS" compile
+  COMPILED 2 STRUCTURES
+  $ "$DMS" initialize
+  INITIALIZED AT POINT 0
+  $ echo 'DUMP TO 1' | "$DMS" utility
+  DUMPED 1 AT POINT 0
+  $ cd ..
+  $ for size in 65535 65536 0; do row "python3 ../schema.py $size" run; done
+  status 0, files other
+  dms: file 10001 block 0 damaged
+  status 9, files same
+  dms: file 10001 block 0 damaged
+  status 9, files same
+  $ for statement in 'DUMP TO 2' 'ROLLBACK TO 0' 'REBUILD FROM 1' 'RECONSTRUCT D ROW 0 FROM 1'; do row 'python3 ../schema.py 0' utility "$statement"; done
+  dms: file 10001 block 0 damaged
+  status 9, files same
+  dms: file 10001 block 0 damaged
+  status 9, files same
+  dms: file 10001 block 0 damaged
+  status 9, files same
+  dms: file 10001 block 0 damaged
+  status 9, files same

@@ -93,21 +93,111 @@ The copy of a backup without its structure files: what comes first is the rebuil
   1 2 3 4 5 6 7 8 9 
   $ cd ../db
 
-ROLLBACK and RECONSTRUCT don't look: what is missing is filled with zeros, which are free slots. So the records are gone, and a rebuild brings them back.
+ROLLBACK and RECONSTRUCT mark what is missing: each block that they would take from where the file has none is 1,024 bytes of 255 then. What the audit tells stands beside it, and each later look at a mark
+ends with 9.
 
+  $ find() { printf "A: OPEN INQUIRY\nA: FIND $1\nA: GET D X\n" | "$DMS" run 2>&1; }
+  $ marked() { tail -c +$((1024 * $2 + 1)) $1 | head -c 1024 | tr -d '\377' | wc -c; }
   $ again; rm F30002.DMS
   $ echo 'ROLLBACK TO 8' | "$DMS" utility
   ROLLED BACK TO POINT 8
-  $ walk D
-  7 8 
-  $ again; rm F30002.DMS
+  $ stat -c %s F30002.DMS; for block in 0 1 2; do marked F30002.DMS $block; done; cmp -i 3072 F30002.DMS ../sound/F30002.DMS
+  4096
+  0
+  0
+  0
+  $ find 'FIRST D'
+  1 A DONE
+  dms: file 30002 block 0 damaged
+  dms: reconstruct row 0 of D, or rebuild, from a dump, or put back a copy of the whole database
+  [9]
+  $ find 'D-SET AT X = 6'
+  1 A DONE
+  dms: file 30002 block 2 damaged
+  dms: reconstruct row 0 of D, or rebuild, from a dump, or put back a copy of the whole database
+  [9]
+  $ find 'D-SET AT X = 8'
+  1 A DONE
+  2 A DONE
+  3 A DONE X=8
+
+Reconstruction of its row makes each of them what it was.
+
+  $ echo 'RECONSTRUCT D ROW 0 FROM 1' | "$DMS" utility
+  RECONSTRUCTED AT POINT 8
+  $ cmp F30002.DMS ../sound/F30002.DMS; walk D
+  1 2 3 4 5 6 7 8 
+
+A file that is cut within a block: what stands before it stays.
+
+  $ again; truncate -s 2500 F30002.DMS
+  $ echo 'ROLLBACK TO 8' | "$DMS" utility
+  ROLLED BACK TO POINT 8
+  $ cmp -n 2048 F30002.DMS ../sound/F30002.DMS; marked F30002.DMS 2; cmp -i 3072 F30002.DMS ../sound/F30002.DMS
+  0
+
+The file of a set, and the file of D where the row of another structure is reconstructed.
+
+  $ again; rm F30004.DMS
+  $ echo 'ROLLBACK TO 8' | "$DMS" utility
+  ROLLED BACK TO POINT 8
+  $ find 'FIRST D-SET' | sed -n 2p
+  dms: file 30004 block 0 damaged
   $ echo 'RECONSTRUCT D-SET ROW 0 FROM 1' | "$DMS" utility
   RECONSTRUCTED AT POINT 8
-  $ walk D
-  7 8 
+  $ walk D-SET
+  1 2 3 4 5 6 7 8 
+  $ rm F30002.DMS
+  $ echo 'RECONSTRUCT D-SET ROW 0 FROM 1' | "$DMS" utility
+  RECONSTRUCTED AT POINT 8
+  $ find 'FIRST D' | sed -n 2p
+  dms: file 30002 block 0 damaged
   $ echo 'REBUILD FROM 1' | "$DMS" utility
   REBUILT TO POINT 8
-  $ walk D
+  $ cmp F30002.DMS ../sound/F30002.DMS; walk D
+  1 2 3 4 5 6 7 8 
+
+A file of two rows, of 16 blocks and of 5. The row that is reconstructed is mended, and no other one.
+
+  $ again; store $(seq 9 41) | "$DMS" run | tail -n 1
+  SYNCPOINT 41
+  $ store 42 | "$DMS" run | tail -n 1
+  SYNCPOINT 42
+  $ echo 'DUMP TO 2' | "$DMS" utility
+  DUMPED 2 AT POINT 42
+  $ cp F30002.DMS ../two; rm F30002.DMS
+  $ echo 'ROLLBACK TO 42' | "$DMS" utility
+  ROLLED BACK TO POINT 42
+  $ for x in 1 32 33 40 42; do find "D-SET AT X = $x" | sed -n '2,3p' | tail -n 1; done
+  dms: reconstruct row 0 of D, or rebuild, from a dump, or put back a copy of the whole database
+  dms: reconstruct row 0 of D, or rebuild, from a dump, or put back a copy of the whole database
+  dms: reconstruct row 1 of D, or rebuild, from a dump, or put back a copy of the whole database
+  dms: reconstruct row 1 of D, or rebuild, from a dump, or put back a copy of the whole database
+  3 A DONE X=42
+  $ echo 'RECONSTRUCT D ROW 1 FROM 2' | "$DMS" utility
+  RECONSTRUCTED AT POINT 42
+  $ cmp -i 16384 F30002.DMS ../two; for block in $(seq 0 15); do marked F30002.DMS $block; done | uniq
+  0
+  $ echo 'RECONSTRUCT D ROW 0 FROM 2' | "$DMS" utility
+  RECONSTRUCTED AT POINT 42
+  $ cmp F30002.DMS ../two
+
+A rollback that was stopped behind its Begin, and a file that is lost behind that: `run` refuses it, a reconstruction ends the rollback first, and marks what is missing.
+
+  $ again; blocks=$((($(stat -c %s F10001.DMS) + 4095) / 4096))
+  $ (bash -c "ulimit -c 0; ulimit -f $((4 * (blocks + 1))); echo 'ROLLBACK TO 8' | \"\$DMS\" utility" > ../out; echo "status $?") 2> /dev/null
+  status 153
+  $ "$DMS" print audit | tail -n 1 | cut -d' ' -f3-
+  BEGIN 8 ROLLBACK
+  $ rm F30002.DMS; first "$DMS" run < /dev/null
+  dms: file 30002 block 0 damaged
+  $ echo 'RECONSTRUCT D-SET ROW 0 FROM 1' | "$DMS" utility
+  RECONSTRUCTED AT POINT 8
+  $ find 'FIRST D' | sed -n 2p
+  dms: file 30002 block 0 damaged
+  $ echo 'RECONSTRUCT D ROW 0 FROM 1' | "$DMS" utility
+  RECONSTRUCTED AT POINT 8
+  $ cmp F30002.DMS ../sound/F30002.DMS; walk D
   1 2 3 4 5 6 7 8 
 
 RECONSTRUCT of all rows of the lost file brings it back, too.

@@ -39,18 +39,18 @@ use Rattle.dms_statelaws.proofs.Kept.{is_whole}
 use Rattle.dms_statelaws.proofs.Statements as states
 use Rattle.dms_statelaws.proofs.Statements.{dump_law}
 use Rattle.dms_statelaws.proofs.Trails.{WritesWithin, writes_within}
-use Rattle.dms_runtop.specs.Command.{DatabaseState, HoldsState, StatesHold}
-use Rattle.dms_runtop.specs.Guard.{IsBeside, StaysBeside, StaysBut}
-use Rattle.dms_runtop.specs.GuardLaws.{all_structures}
-use Rattle.dms_runtop.proofs.Grows.{keeps_entered}
-use Rattle.dms_runtop.proofs.Since.{last_is}
+use Rattle.dms_run.specs.Opens.{DatabaseState, HoldsState, StatesHold}
+use Rattle.dms_guard.specs.Guard.{IsBeside, StaysBeside, StaysBut}
+use Rattle.dms_guard.specs.GuardLaws.{all_structures}
+use Rattle.dms_guard.proofs.Trails.{trail_entered}
+use Rattle.dms_run.proofs.Holding.{last_is}
 use Rattle.dms_dumping.specs.DumpDoes.{AsLeft, LeavesDump, StaysBesideDump}
 use Rattle.dms_dumping.specs.Writing.{IsHeadOf, WritesDump}
 
 -- ---- what a call leaves
 
 -- both of two facts on what a stop leaves
-both_runs : {a b : Clock Left} {P Q R : Left → Type 0} → Runs a b P → Runs a b Q → ((x : Left) → P x → Q x → R x) → Runs a b R
+pub both_runs : {a b : Clock Left} {P Q R : Left → Type 0} → Runs a b P → Runs a b Q → ((x : Left) → P x → Q x → R x) → Runs a b R
 both_runs one two both = record {
   later = one.later;
   only = λ t x le left. elim (one.only t x le left) [
@@ -207,10 +207,10 @@ module _ {S : Type 0} (g : Ghosts S) (d : ℕ) (some : 1 ≤ d) (few : d ≤ 999
 
         pub grows_on : IsTrue g.tells → OpeningGrows g old mid → Others (g.files mid) (g.files new) → Writes → OpeningGrows g old new
         grows_on tells grows others writes =
-            let keeps = keeps_entered g old new o opens.trail grows (λ told. record { kept = kept_there (g.files new) others; left = steps_weaken writes (λ y x now w. leaves_there y x now w.others) }) tells in
+            let on = trail_entered g old mid new total first opens.trail grows (kept_there (g.files new) others) (steps_weaken writes (λ y x now w. leaves_there y x now w.others)) in
             record {
-              kept = keeps.kept;
-              left = keeps.left;
+              kept = λ t f found. (on t f found).0;
+              left = λ t f found. (on t f found).1;
               few = λ total' first' found whole.
                   let one = trail_is_one total first total' first' (g.files old) opens.trail found in
                   let few : SealsFew total' first' (g.files old) (g.files mid) = grows.few total' first' found whole in

@@ -11,8 +11,8 @@ use Rattle.dms_site.specs.Files.{Files}
 use Rattle.dms_status.specs.declared.status.LimitKind.TheVariants.{AuditFile}
 use Rattle.dms_status.specs.declared.status.Status.{Status}
 use Rattle.dms_status.specs.declared.status.Status.TheVariants.{Limit}
-use Rattle.dms_runtop.specs.Faults.{open_status}
-use Rattle.dms_runtop.proofs.Endings.{damage_is}
+use Rattle.dms_guard.specs.Faults.{open_status}
+use Rattle.dms_guard.proofs.Refused.{damage_is}
 use Rattle.dms_dumping.specs.Filling.{FillsTrail}
 
 -- the fault behind that status

@@ -6,9 +6,9 @@ use Rattle.dms_site.specs.Files.{Files, Left}
 use Rattle.dms_dump.specs.Stops.{IsShut}
 use Rattle.dms_opening.specs.Openings.{OpeningGrows}
 use Rattle.dms_run.specs.State.{StateOf}
-use Rattle.dms_runtop.specs.Command.{DatabaseState}
+use Rattle.dms_run.specs.Opens.{DatabaseState}
 use Rattle.dms_dumping.specs.Filling.{FillsTrail}
-use Rattle.dms_runtop.specs.Guard.{HasAtMost, IsBeside}
+use Rattle.dms_guard.specs.Guard.{HasAtMost, IsBeside}
 use Rattle.dms_statelaws.specs.Dumps.{HasDumpAt}
 use Rattle.dms_statelaws.specs.Statements.{DumpEnds, DumpStands}
 use Rattle.dms_status.specs.declared.status.Status.{Status}
@@ -71,7 +71,7 @@ module _ {S : Type 0} (g : Ghosts S) where
     -- description file names at entry
     pub beside : StaysBesideDump d old new
     pub says : SaysDump d old new status
-    -- at every moment the files stand for the state that they stood for, with each state that they had at a point
+    -- at every moment the files stand for the state that they stood for, with each point that they had, as it was
     pub every_moment : IsTrue g.tells → DumpStands g old new
     -- and the dump is as it was, or shut, and nothing was printed; or it is whole and true, at the point of that state
     pub dump : OfState old (λ s. Runs (g.clock old) (g.clock new) (LeavesDump d s.point old))

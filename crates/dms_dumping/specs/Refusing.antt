@@ -11,7 +11,7 @@ use Rattle.dms_opening.specs.Openings.{RefusesFiles}
 use Rattle.dms_opening.specs.Plans.{IsPlainFault}
 use Rattle.dms_status.specs.declared.status.Status.{Status}
 use Rattle.dms_status.specs.declared.status.Status.TheVariants as status
-use Rattle.dms_runtop.specs.Faults.{open_status}
+use Rattle.dms_guard.specs.Faults.{open_status}
 use Rattle.dms_opening.specs.Short.{IsFirstShort, IsPlannable, IsShortOf, NoneShort}
 use Rattle.dms_dumping.specs.declared.looking.DumpRefusal.{DumpRefusal}
 use Rattle.dms_dumping.specs.declared.looking.DumpRefusal.TheVariants.{Open, Exists, Short}

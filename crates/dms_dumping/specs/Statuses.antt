@@ -4,7 +4,7 @@ use Rattle.dms_status.specs.declared.status.LimitKind.{LimitKind}
 use Rattle.dms_status.specs.declared.status.LimitKind.TheVariants.{AuditFile, Lines, Bytes, Held}
 use Rattle.dms_status.specs.declared.status.Status.{Status}
 use Rattle.dms_status.specs.declared.status.Status.TheVariants.{Ok, BadWords, SchemaRefused, NoDatabase, Needed, InputFault, Memory, Limit, Damaged, SayFault, DiskFault, Exists, BadStatement, Reorganization, BadStream, Diverged, Flaw}
-use Rattle.dms_runtop.specs.Statuses.{IsOfOpening}
+use Rattle.dms_guard.specs.Statuses.{IsOfOpening}
 
 -- a limit of the audit
 abbrev pub IsOfAudit : LimitKind → Type 0

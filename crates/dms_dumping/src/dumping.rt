@@ -7,7 +7,8 @@ ghost use Rattle.dms_dumping.specs.Statuses.{IsOfReading};
 
 use crate::preparing::prepare_dump;
 use crate::writing::write_ready;
-use dms_runtop::{Ended, states_law};
+use dms_guard::Ended;
+use dms_run::states_law;
 use dms_site::Site;
 use dms_status::Status;
 use std::alloc::Global;

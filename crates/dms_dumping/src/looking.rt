@@ -15,10 +15,10 @@ ghost use Rattle.dms_dumping.specs.Refusing.{CanDump, JudgesDump, RefusesDump, r
 use crate::listing::list_counts;
 use dms_audfile::AudFault;
 use dms_dump::is_dump_open;
+use dms_guard::status_of_open;
 use dms_history::FileCount;
 use dms_opening::{Found, OpenFault, OpeningPlan, PlannedOpening, first_short, look};
 use dms_restore::Log;
-use dms_runtop::status_of_open;
 use dms_site::Site;
 use dms_status::Status;
 use std::alloc::Global;

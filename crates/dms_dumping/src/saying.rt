@@ -8,7 +8,7 @@ ghost use Rattle.dms_status.specs.Saying.{IsSpoken, SaysLine};
 ghost use Rattle.dms_dumping.specs.Writing.{dumped_text, point_line};
 
 use dms_base::{Bytes, Memory};
-use dms_runtop::Ended;
+use dms_guard::Ended;
 use dms_site::Site;
 use dms_status::Status;
 use std::alloc::Global;

@@ -16,10 +16,10 @@ ghost use Rattle.dms_wal.specs.Lifting.{AreCounts};
 use crate::preparing::ReadyDump;
 use crate::saying::say_done;
 use dms_dump::{DumpFault, write_dump};
+use dms_guard::Ended;
 use dms_history::FileCount;
 use dms_opening::Opened;
 use dms_restore::Log;
-use dms_runtop::Ended;
 use dms_site::Site;
 use dms_status::Status;
 

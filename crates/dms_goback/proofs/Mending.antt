@@ -21,11 +21,10 @@ use Rattle.dms_recovery.specs.declared.naming.ReconstructFault.{ReconstructFault
 use Rattle.dms_recovery.specs.declared.naming.ReconstructFault.TheVariants.{Open, NoSuchRow}
 use Rattle.dms_recovery.specs.declared.wanted.Wanted.TheVariants.{Reconstruct}
 use Rattle.dms_recovery.specs.Refusing.{RecoveryGrows, StaysUndone}
-use Rattle.dms_runtop.specs.Faults.{open_status}
+use Rattle.dms_guard.specs.Faults.{open_status}
 use Rattle.dms_dumping.specs.Filling.{FillsTrail}
-use Rattle.dms_runtop.specs.Guard.{StaysBeside}
-use Rattle.dms_runtop.specs.Statuses.{IsRefusal}
-use Rattle.dms_runtop.proofs.Refused.{counts_open, no_refusal, not_written}
+use Rattle.dms_guard.specs.Statuses.{IsRefusal}
+use Rattle.dms_guard.proofs.Refused.{counts_open, no_refusal, not_written}
 use Rattle.dms_statelaws.specs.Stopping as law
 use Rattle.dms_statelaws.specs.SiteLaws.{MendsFrom, MendsSince, MendsEnd, SameFiles}
 use Rattle.dms_statelaws.proofs.Statements.{reconstruct_law}
@@ -36,7 +35,7 @@ use Rattle.dms_status.specs.declared.status.Status.TheVariants.{DiskFault, Limit
 use Rattle.dms_dumping.specs.Statuses.{IsOfReading}
 use Rattle.dms_status.specs.Saying.{IsSpoken, SaysLine}
 use Rattle.dms_goback.specs.ReconstructDoes.{AreRowsRefused, IsNoRow, IsOfMending, IsOfReconstruct, NeverRefusesRows, ReconstructDoes, reconstruct_status, reconstructed_text}
-use Rattle.dms_goback.specs.Restores.{IsOfRestored}
+use Rattle.dms_goback.specs.Restores.{IsOfRestored, StaysFor}
 use Rattle.dms_goback.proofs.Backs.{beside_behind, trail_behind, undone}
 use Rattle.dms_goback.proofs.Restored.{full_restore, restores_to}
 use Rattle.dms_goback.proofs.RestoreStatuses.{counted_stopped, not_made, of_restoring, restore_unread, restored_no_refusal, restored_of, restored_room, said_back, says_nothing, stopped_of}
@@ -145,7 +144,7 @@ unread_rows s (inr none) read = subst IsOfReading none.is read
 
 module _ {S : Type 0} (g : Ghosts S) (d : ℕ) (rows : List NamedRow) (old : S) where
   pub reconstruct_stopped : (new : S) (status : Status) → IsOfMending status → (IsTrue g.tells → AreRowsRefused g d rows old new status) → (IsTrue g.tells → NeverRefusesRows d rows (g.files old) status) → (IsTrue g.tells → MayMend (g.files old) d rows ⊎ StaysUndone g old new) → FillsTrail g old new status
-      → (IsTrue g.tells → RecoveryGrows g old new) → StaysBeside g old new → g.said new ≡ g.said old → (IsTrue g.tells → MendsSince g old new d rows) → ReconstructDoes g d rows old new status
+      → (IsTrue g.tells → RecoveryGrows g old new) → StaysFor g (Reconstruct d) old new → g.said new ≡ g.said old → (IsTrue g.tells → MendsSince g old new d rows) → ReconstructDoes g d rows old new status
   reconstruct_stopped new status of refused complete may full trail beside said since = record {
     statuses = stopped_rows status of;
     refused = refused;
@@ -163,7 +162,7 @@ module _ {S : Type 0} (g : Ghosts S) (d : ℕ) (rows : List NamedRow) (old : S) 
     at_ok = λ made. absurd (unmade_rows status of made);
   }
 
-  pub reconstruct_done : (mid new : S) (status : Status) (point : ℕ) → IsOfRestored status → (IsTrue g.tells → MayMend (g.files old) d rows) → (IsTrue g.tells → RecoveryGrows g old mid) → StaysBeside g old mid → g.said mid ≡ g.said old → (IsTrue g.tells → MendsSince g old mid d rows) → (IsTrue g.tells → MendsEnd g old mid d rows)
+  pub reconstruct_done : (mid new : S) (status : Status) (point : ℕ) → IsOfRestored status → (IsTrue g.tells → MayMend (g.files old) d rows) → (IsTrue g.tells → RecoveryGrows g old mid) → StaysFor g (Reconstruct d) old mid → g.said mid ≡ g.said old → (IsTrue g.tells → MendsSince g old mid d rows) → (IsTrue g.tells → MendsEnd g old mid d rows)
       → (IsTrue g.tells → (total first n : ℕ) → IsTrailFound total first (g.files old) → last_of total first (g.files old) ≡ Some n → point ≡ n)
       → (IsTrue g.tells_said → SaysLine status (reconstructed_text point) (g.said mid) (g.said new)) → (IsTrue g.tells → g.files new ≡ g.files mid) → Steps SameFiles (g.clock mid) (g.clock new) → ReconstructDoes g d rows old new status
   reconstruct_done mid new status point of may trail beside said since ends is says files steps = record {
@@ -173,7 +172,7 @@ module _ {S : Type 0} (g : Ghosts S) (d : ℕ) (rows : List NamedRow) (old : S) 
     complete = λ tells total first can is. restored_no_refusal status of is;
     full = restored_room g old new status of;
     trail = λ tells. trail_behind g old mid new steps (files tells) (trail tells);
-    beside = beside_behind g old mid new steps files beside;
+    beside = beside_behind g old mid new steps (Reconstruct d) files beside;
     says = record {
       point = point;
       line = λ tells. said_back status (reconstructed_text point) (g.said old) (g.said mid) (g.said new) said (says tells);

@@ -9,9 +9,9 @@ use Rattle.dms_opening.specs.declared.choosing.OpenFault.TheVariants.{Audit, NoS
 use Rattle.dms_site.specs.declared.site.Site.{Ghosts}
 use Rattle.dms_status.specs.declared.status.Status.{Status}
 use Rattle.dms_status.specs.declared.status.Status.TheVariants.{Ok, BadWords, SchemaRefused, NoDatabase, Needed, InputFault, Memory, Limit, Damaged, SayFault, DiskFault, Exists, BadStatement, Reorganization, BadStream, Diverged, Flaw}
-use Rattle.dms_runtop.specs.Faults.{open_status}
+use Rattle.dms_guard.specs.Faults.{open_status}
 use Rattle.dms_dumping.specs.Filling.{FillsTrail}
-use Rattle.dms_runtop.specs.Statuses.{IsRefusal}
+use Rattle.dms_guard.specs.Statuses.{IsRefusal}
 use Rattle.dms_goback.specs.Restores.{IsOfRestore, IsOfRestored, IsOfRestoring}
 use Rattle.dms_dumping.specs.Statuses.{IsOfReading}
 use Rattle.dms_status.specs.Saying.{IsSpoken, SaysLine}

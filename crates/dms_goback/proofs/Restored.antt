@@ -19,11 +19,11 @@ use Rattle.dms_recovery.specs.Planned.{RefusesAll}
 use Rattle.dms_recovery.specs.Refusing.{CanBeDone, RefusesWanted}
 use Rattle.dms_recovery.specs.Wanting as wanting
 use Rattle.dms_recovery.specs.declared.wanted.Wanted.{Wanted}
-use Rattle.dms_runtop.specs.Faults.{open_status}
+use Rattle.dms_guard.specs.Faults.{open_status}
 use Rattle.dms_dumping.specs.Filling.{FillsTrail}
 use Rattle.dms_dumping.proofs.Fills.{open_full, same_limit}
-use Rattle.dms_runtop.specs.Statuses.{IsRefusal}
-use Rattle.dms_runtop.proofs.Refused.{not_written, no_refusal}
+use Rattle.dms_guard.specs.Statuses.{IsRefusal}
+use Rattle.dms_guard.proofs.Refused.{not_written, no_refusal}
 use Rattle.dms_statelaws.specs.Stopping as law
 use Rattle.dms_statelaws.specs.SiteLaws.{RollsSince, RollsEnd, RebuildsSince, RebuildsEnd}
 use Rattle.dms_status.specs.declared.status.LimitKind.TheVariants.{AuditFile}

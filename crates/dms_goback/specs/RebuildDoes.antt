@@ -6,10 +6,9 @@ use Rattle.dms_recovery.specs.Wanting.{chosen_point}
 use Rattle.dms_recovery.specs.declared.wanted.Wanted.TheVariants.{Rebuild}
 use Rattle.dms_recovery.specs.Refusing.{MayBeDone, RecoveryGrows}
 use Rattle.dms_dumping.specs.Filling.{FillsTrail}
-use Rattle.dms_runtop.specs.Guard.{StaysBeside}
 use Rattle.dms_statelaws.specs.Statements.{RebuildEnds, RebuildStands}
 use Rattle.dms_status.specs.declared.status.Status.{Status}
-use Rattle.dms_goback.specs.Restores.{IsOfRestore, IsRestoreRefused, NeverRefusesRestore, rebuilt_text}
+use Rattle.dms_goback.specs.Restores.{IsOfRestore, IsRestoreRefused, NeverRefusesRestore, StaysFor, rebuilt_text}
 use Rattle.dms_dumping.specs.Preparing.{IsUndone}
 use Rattle.dms_status.specs.Saying.{IsSpoken, SaysLine}
 
@@ -36,11 +35,11 @@ module _ {S : Type 0} (g : Ghosts S) where
     -- at every moment a stop leaves the trail, with the same tag, and blocks after it that hold an entry; the audit files before it stay. At most 38
     -- entries were added
     pub trail : IsTrue g.tells → RecoveryGrows g old new
-    -- no file but audit files and the files of structures changes, at any moment: where the files are told, of no more structures than the description
-    -- file names at entry
-    pub beside : StaysBeside g old new
+    -- no file but audit files and the files of structures changes, at any moment: where the files are told, of no more structures than the description names
+    -- at the chosen point, and that at the point of a restore that goes first, or than have a block there
+    pub beside : StaysFor g (Rebuild d chosen) old new
     pub says : SaysRebuilt chosen old new status
-    -- Of each database that differs from the files in structure files alone, and of which that dump is true: at every moment nothing was done, or the
+    -- Of each database that differs from the files in structure files alone, and from which that dump was copied: at every moment nothing was done, or the
     -- files stand for its state at the chosen point, whatever the structure files held
     pub every_moment : IsTrue g.tells → RebuildStands g old new d chosen
     -- at 0 and 10 they stand for that, and a stop leaves no other files

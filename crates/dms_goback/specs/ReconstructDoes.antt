@@ -6,19 +6,19 @@ use Rattle.dms_site.specs.Files.{Files, Same}
 use Rattle.dms_opening.specs.Openings.{IsTrailFound}
 use Rattle.dms_recovery.specs.Reconstructing.{CanReconstruct, MayMend, RefusesReconstruct}
 use Rattle.dms_recovery.specs.Wanting.{last_of}
+use Rattle.dms_recovery.specs.declared.wanted.Wanted.TheVariants.{Reconstruct}
 use Rattle.dms_recovery.specs.declared.naming.ReconstructFault.{ReconstructFault}
 use Rattle.dms_recovery.specs.declared.naming.ReconstructFault.TheVariants as fault
 use Rattle.dms_recovery.specs.Refusing.{RecoveryGrows}
-use Rattle.dms_runtop.specs.Faults.{open_status}
+use Rattle.dms_guard.specs.Faults.{open_status}
 use Rattle.dms_dumping.specs.Filling.{FillsTrail}
-use Rattle.dms_runtop.specs.Guard.{StaysBeside}
-use Rattle.dms_runtop.specs.Statuses.{IsRefusal}
+use Rattle.dms_guard.specs.Statuses.{IsRefusal}
 use Rattle.dms_statelaws.specs.Statements.{ReconstructEnds, ReconstructStands}
 use Rattle.dms_statements.specs.declared.statement.NamedRow.{NamedRow}
 use Rattle.dms_status.specs.declared.status.NeedFault.TheVariants.{NoSuchRow}
 use Rattle.dms_status.specs.declared.status.Status.{Status}
 use Rattle.dms_status.specs.declared.status.Status.TheVariants.{Needed}
-use Rattle.dms_goback.specs.Restores.{IsOfRestore, IsOfRestoring}
+use Rattle.dms_goback.specs.Restores.{IsOfRestore, IsOfRestoring, StaysFor}
 use Rattle.dms_dumping.specs.Preparing.{IsUndone}
 use Rattle.dms_status.specs.Saying.{IsSpoken, SaysLine}
 use Rattle.dms_dumping.specs.Writing.{point_line}
@@ -84,11 +84,11 @@ module _ {S : Type 0} (g : Ghosts S) where
     -- at every moment a stop leaves the trail, with the same tag, and blocks after it that hold an entry; the audit files before it stay. At most 38
     -- entries were added
     pub trail : IsTrue g.tells → RecoveryGrows g old new
-    -- no file but audit files and the files of structures changes, at any moment: where the files are told, of no more structures than the description
-    -- file names at entry
-    pub beside : StaysBeside g old new
+    -- no file but audit files and the files of structures changes, at any moment: where the files are told, of no more structures than the description names
+    -- at the last point, and that at the point of a restore that goes first, or than have a block there
+    pub beside : StaysFor g (Reconstruct d) old new
     pub says : SaysReconstructed old new status
-    -- Of each database that differs from the files in the named rows alone, and of which that dump is true: at every moment nothing was done, or the files stand
+    -- Of each database that differs from the files in the named rows alone, and from which that dump was copied: at every moment nothing was done, or the files stand
     -- for its state at its last point, whatever the named rows held. Where a restore is pending over it that one goes first: then it may be that this alone was
     -- being ended, or was ended, and the files stand for that state with the named rows as they count
     pub every_moment : IsTrue g.tells → ReconstructStands g old new d rows

@@ -1,15 +1,17 @@
 -- Restores to a point: their statuses, why they are refused, and what is said of them.
-use Rattle.std.specs.Prelude.{ℕ, ◌≡◌, ◌≤◌, List, codes, ⊤}
+use Rattle.std.specs.Prelude.{ℕ, ◌≡◌, ◌≤◌, ◌⊎◌, List, codes, ⊤, IsTrue}
 use Rattle.dms_moments.specs.Moments.{Steps}
 use Rattle.dms_site.specs.declared.site.Site.{Ghosts}
 use Rattle.dms_site.specs.Files.{Files, Same}
 use Rattle.dms_opening.specs.declared.choosing.OpenFault.{OpenFault}
+use Rattle.dms_recovery.specs.Looked.{GoesWithin}
 use Rattle.dms_recovery.specs.Refusing.{CanBeDone, RefusesWanted}
 use Rattle.dms_recovery.specs.declared.wanted.Wanted.{Wanted}
 use Rattle.dms_status.specs.declared.status.Status.{Status}
 use Rattle.dms_status.specs.declared.status.Status.TheVariants.{Ok, BadWords, SchemaRefused, NoDatabase, Needed, InputFault, Memory, Limit, Damaged, SayFault, DiskFault, Exists, BadStatement, Reorganization, BadStream, Diverged, Flaw}
-use Rattle.dms_runtop.specs.Faults.{open_status}
-use Rattle.dms_runtop.specs.Statuses.{IsOfOpening, IsRefusal}
+use Rattle.dms_guard.specs.Faults.{open_status}
+use Rattle.dms_guard.specs.Guard.{StaysBut}
+use Rattle.dms_guard.specs.Statuses.{IsOfOpening, IsRefusal}
 use Rattle.dms_dumping.specs.Statuses.{IsOfAudit}
 use Rattle.dms_dumping.specs.Writing.{point_line}
 
@@ -97,3 +99,8 @@ module _ {S : Type 0} (g : Ghosts S) where
   -- so it is at 3, 4 and 9
   abbrev pub IsRestoreRefused : Wanted → S → S → Status → Type 0
   IsRestoreRefused wanted old new status = IsRefusal status → RefusedFirst wanted old new status
+
+  -- No file has changed, at any moment, but audit files and the files of structures: 200 of these in any case, and where the files are told as many as what is
+  -- wanted of them needs.
+  abbrev pub StaysFor : Wanted → S → S → Type 0
+  StaysFor wanted a b = (s : ℕ) → (200 ≤ s) ⊎ (IsTrue g.tells × GoesWithin s wanted (g.files a)) → StaysBut g s a b

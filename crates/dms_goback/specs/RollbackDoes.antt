@@ -4,10 +4,9 @@ use Rattle.dms_site.specs.declared.site.Site.{Ghosts}
 use Rattle.dms_recovery.specs.declared.wanted.Wanted.TheVariants.{Rollback}
 use Rattle.dms_recovery.specs.Refusing.{MayBeDone, RecoveryGrows}
 use Rattle.dms_dumping.specs.Filling.{FillsTrail}
-use Rattle.dms_runtop.specs.Guard.{StaysBeside}
 use Rattle.dms_statelaws.specs.Statements.{RollbackEnds, RollbackStands}
 use Rattle.dms_status.specs.declared.status.Status.{Status}
-use Rattle.dms_goback.specs.Restores.{IsOfRestore, IsRestoreRefused, NeverRefusesRestore, rolled_text}
+use Rattle.dms_goback.specs.Restores.{IsOfRestore, IsRestoreRefused, NeverRefusesRestore, StaysFor, rolled_text}
 use Rattle.dms_dumping.specs.Preparing.{IsUndone}
 use Rattle.dms_status.specs.Saying.{IsSpoken, SaysLine}
 
@@ -28,9 +27,9 @@ module _ {S : Type 0} (g : Ghosts S) where
     -- at every moment a stop leaves the trail, with the same tag, and blocks after it that hold an entry; the audit files before it stay. At most 38
     -- entries were added
     pub trail : IsTrue g.tells → RecoveryGrows g old new
-    -- no file but audit files and the files of structures changes, at any moment: where the files are told, of no more structures than the description
-    -- file names at entry
-    pub beside : StaysBeside g old new
+    -- no file but audit files and the files of structures changes, at any moment: where the files are told, of no more structures than the description names
+    -- at point n, and that at the point of a restore that goes first, or than have a block there
+    pub beside : StaysFor g (Rollback n) old new
     -- at status 0 the line is said, at 10 a prefix of it, else nothing
     pub says : IsTrue g.tells_said → SaysLine status (rolled_text n) (g.said old) (g.said new)
     -- at every moment the files stand for the state that they stood for, or for that of point n

@@ -14,8 +14,8 @@ ghost use Rattle.dms_goback.specs.RollbackDoes.{RollbackDoes};
 
 use crate::restoring::{rebuild_guarded, roll_guarded};
 use dms_dumping::{point_line, say_done};
+use dms_guard::Ended;
 use dms_recovery::Recovered;
-use dms_runtop::Ended;
 use dms_site::Site;
 use dms_status::Status;
 use std::alloc::Global;

@@ -2,6 +2,7 @@
 #![tactic(auto)]
 
 mod going_back;
+mod looking;
 mod reconstructing;
 mod restoring;
 

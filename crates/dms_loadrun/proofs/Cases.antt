@@ -7,7 +7,8 @@ use Rattle.dms_status.specs.declared.status.LimitKind.TheVariants.{AuditFile, Li
 use Rattle.dms_status.specs.declared.status.Status.{Status}
 use Rattle.dms_status.specs.declared.status.Status.TheVariants.{Ok, BadWords, SchemaRefused, NoDatabase, Needed, InputFault, Memory, Limit, Damaged, SayFault, DiskFault, Exists, BadStatement, Reorganization, BadStream, Diverged, Flaw}
 use Rattle.dms_loadrun.specs.Statuses.{IsOfAudit, IsOfFilling, IsUnfound, filled_limit, filled_status}
-use Rattle.dms_runtop.specs.Statuses.{IsOfRun, IsRefusal}
+use Rattle.dms_runtop.specs.Statuses.{IsOfRun}
+use Rattle.dms_guard.specs.Statuses.{IsRefusal}
 
 limit_filled : (k : LimitKind) → IsOfFilling (filled_limit k)
 limit_filled (AuditFile f) = tt

@@ -15,7 +15,7 @@ use Rattle.dms_moments.specs.Moments.{Runs}
 use Rattle.dms_newdb.specs.State.{StandsNew}
 use Rattle.dms_run.specs.RunStands.{RunStands}
 use Rattle.dms_run.specs.State.{StateOf}
-use Rattle.dms_runtop.specs.Command.{DatabaseState, HoldsTold}
+use Rattle.dms_run.specs.Opens.{DatabaseState, HoldsTold}
 use Rattle.dms_runner.specs.Events.{RunEvent}
 use Rattle.dms_runtop.specs.Over.{PassesScript}
 use Rattle.dms_runtop.specs.RunDoes.{RunDoes}
@@ -45,17 +45,17 @@ module _ {S I : Type 0} (m : Ghosts S) (i : source.Ghosts I) (untold : m.tells_s
     stands = λ tells.
         let s = stands tells in
         subst (λ (said : Option (List ℕ)). Runs (m.clock old) (m.clock new) (RunStands (m.files old) load_description said 0 empty_db 1 (load_events load_description seed n))) none_told
-        (does.stands tells load_state refl s.valid 1 s.next (load_script seed n) left);
-    ends = λ ok tells. let s = stands tells in does.ends tells load_state refl s.valid 1 s.next (load_script seed n) left (ok_filled status ok);
+        (does.stands tells load_state refl 1 s.next (load_script seed n) left);
+    ends = λ ok tells. let s = stands tells in does.ends tells load_state refl 1 s.next (load_script seed n) left (ok_filled status ok);
     beside = does.beside;
     found = λ tells.
         let s = stands tells in
         found_filled status (does.opens.complete_state tells load_state s.state)
-        (does.script tells load_state refl s.valid 1 s.next (load_script seed n) left).does.undamaged;
+        (does.script tells load_state refl 1 s.next (load_script seed n) left).does.undamaged;
     full = λ k is tells.
         let s = stands tells in
         let at = audit_filled status k is in
-        let script = (does.script tells load_state refl s.valid 1 s.next (load_script seed n) left).does in
+        let script = (does.script tells load_state refl 1 s.next (load_script seed n) left).does in
         (last_file empty_db 1 (load_lines seed n) script.carried.lines script.carried.events _ _ k (script.limit (AuditFile k) at), does.full k at tells);
   }
 

@@ -14,8 +14,8 @@ use Rattle.dms_newdb.specs.State.{StandsNew}
 use Rattle.dms_runner.specs.Events.{RunEvent}
 use Rattle.dms_run.specs.RunStands.{RunStands}
 use Rattle.dms_runtop.specs.Full.{IsFullAt}
-use Rattle.dms_runtop.specs.Guard.{IsBeside, LeavesBeside, StaysBut}
-use Rattle.dms_runtop.specs.GuardLaws.{all_structures}
+use Rattle.dms_guard.specs.Guard.{IsBeside, LeavesBeside, StaysBut}
+use Rattle.dms_guard.specs.GuardLaws.{all_structures}
 use Rattle.dms_site.specs.declared.site.Site.{Ghosts}
 use Rattle.dms_site.specs.Files.{Files, Left, Only, PrintsPartOf, Same}
 use Rattle.dms_status.specs.declared.status.LimitKind.TheVariants.{AuditFile}
@@ -67,7 +67,6 @@ any_said made d n db next events x r = record {
   point = r.point;
   now = r.now;
   state = r.state;
-  valid = r.valid;
   recovered = r.recovered;
   no_earlier = λ text printed told. absurd (none-some text told);
   text = λ t told. absurd (none-some t told);

@@ -11,9 +11,9 @@ use Rattle.dms_model.specs.Db.{empty_db}
 use Rattle.dms_moments.specs.Moments.{Clock, Now, Runs}
 use Rattle.dms_newdb.specs.State.{StandsNew}
 use Rattle.dms_run.specs.RunStands.{RunStands}
-use Rattle.dms_runtop.specs.Command.{DatabaseState}
+use Rattle.dms_run.specs.Opens.{DatabaseState}
 use Rattle.dms_runtop.specs.Full.{IsFullAt}
-use Rattle.dms_runtop.specs.Guard.{StaysBeside}
+use Rattle.dms_guard.specs.Guard.{StaysBeside}
 use Rattle.dms_site.specs.declared.site.Site.{Ghosts}
 use Rattle.dms_site.specs.Files.{Files, Left, Only}
 use Rattle.dms_status.specs.declared.status.LimitKind.TheVariants.{AuditFile}

@@ -20,7 +20,7 @@ HoldsNone files = IsUnsealed (files 1) ⊎ (slice_index (files 1) 1 ≢ 1)
 abbrev pub load_events : Described → ℕ → ℕ → List RunEvent
 load_events d seed n = script_events d empty_db 1 (load_lines seed n)
 
--- The script was begun over a new database. The files stand for that one, or for the database of one quiet point of the script, and it is valid.
+-- The script was begun over a new database. The files stand for that one, or for the database of one quiet point of the script.
 pub record StandsWithin (d : Described) (seed n : ℕ) (files : Files) : Type 0 where
   pub made : Files
   pub new : StandsNew 0 d made

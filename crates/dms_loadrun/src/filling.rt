@@ -8,8 +8,9 @@ ghost use Rattle.dms_loadrun.specs.Filling.{Fills};
 ghost use Rattle.dms_loadrun.specs.Statuses.{IsOfFilling, filled_status};
 ghost use Rattle.dms_newdb.specs.State.{StandsNew};
 
+use dms_guard::Ended;
 use dms_load::{LoadSource, MuteSite};
-use dms_runtop::{Ended, run_command};
+use dms_runtop::run_command;
 use dms_site::Site;
 use dms_status::{LimitKind, Status};
 use std::alloc::Global;

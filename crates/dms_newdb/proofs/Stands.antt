@@ -36,7 +36,7 @@ use Rattle.dms_running.proofs.FromDumps.{none_order}
 use Rattle.dms_restore.specs.Dumped.{IsDumpFound, dumps_of}
 use Rattle.dms_laws.proofs.Sound.{empty_valid}
 use Rattle.dms_newdb.specs.State.{StandsNew, BecomesNew, MadeStands}
-use Rattle.dms_runtop.proofs.Formed.{some_bytes}
+use Rattle.dms_run.proofs.Holding.{some_bytes}
 
 -- ---- the counts of a new database
 
@@ -212,10 +212,10 @@ module _ (found : MadeIsFound) (sealed_control : ControlSealed) (first_agrees : 
               described = described;
               well_formed = sealed.well_formed;
               spells = spells (here (dumps_of files) (history_of (first_entries d)) (stored_of files));
+              valid = empty_valid d;
             };
             last = ap (λ (l : List Event). last_point (history l)) events_are ∙ last_first n;
           };
-          valid = empty_valid d;
           next = record { entries = first_entries d; finds = f; is = ap next_number events_are ∙ next_first n };
           tagged = record { entries = first_entries d; finds = f; is = made.trail.writes.tags f.trail.first f.trail.span.low (first_within f.trail.span) };
         }

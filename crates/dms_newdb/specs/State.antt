@@ -7,13 +7,11 @@ use Rattle.dms_site.specs.Files.{Files, Left}
 use Rattle.dms_model.specs.Db.{empty_db}
 use Rattle.dms_descfile.specs.DescriptionFile.{IsSealed}
 use Rattle.dms_creation.specs.Creation.{IsMade, IsUnmade}
-use Rattle.dms_model.specs.Valid.{IsValid}
 use Rattle.dms_run.specs.State.{StateOf, HasNext, HasTag}
 
--- A new database: point 0 and the empty database of the description, which is valid, next number 1, and the tag.
+-- A new database: point 0 and the empty database of the description, next number 1, and the tag.
 pub record StandsNew (tag : ℕ) (desc : Described) (files : Files) : Type 0 where
   pub state : StateOf files 0 desc empty_db
-  pub valid : IsValid desc empty_db
   pub next : HasNext files 1
   pub tagged : HasTag files tag
 

@@ -32,4 +32,5 @@ pub mod Overs
 pub mod Lacks
 pub mod Going
 pub mod NoneShort
+pub mod Marked
 pub mod Reading

@@ -32,7 +32,7 @@ may_refuse files fault (inr full) = inr (inr full)
 
 -- what was planned is an opening
 module _ {S : Type 0} (files : Files) (p : PlannedOpening S) where
-  planned_opens : IsTrailFound p.log.end.total p.log.first files → Plans p.log.end.total p.log.first files p.plan → NamesStructures p.plan.schema.items p.plan.counts.items
+  pub planned_opens : IsTrailFound p.log.end.total p.log.first files → Plans p.log.end.total p.log.first files p.plan → NamesStructures p.plan.schema.items p.plan.counts.items
       → OpensAt p.log.end.total p.log.first files p.plan.choice.point p.plan.next p.plan.schema.items p.plan.counts.items
   planned_opens trail plans named = record {
     trail = trail;

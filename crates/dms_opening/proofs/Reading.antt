@@ -73,7 +73,7 @@ module _ {S : Type 0} (g : Ghosts S) (p : PlannedOpening S) (found now : S) wher
 
 -- ---- refusals
 
-plain_refuses : (files : Files) (fault : OpenFault) → IsPlainFault fault → RefusesFiles files fault
+pub plain_refuses : (files : Files) (fault : OpenFault) → IsPlainFault fault → RefusesFiles files fault
 plain_refuses files fault (inl disk) = inl (aud.Disk, disk, tt)
 plain_refuses files fault (inr memory) = inl (aud.Memory, memory, tt)
 
@@ -88,7 +88,7 @@ same_fault f h is = cc
 pub no_full : (fault : OpenFault) → (fault ≡ Audit (aud.Full 9999) → ⊥) → Fault fault ≢ Fault (Audit (aud.Full 9999))
 no_full fault room is = room (same_fault fault (Audit (aud.Full 9999)) is)
 
-plain_room : (fault : OpenFault) → IsPlainFault fault → fault ≡ Audit (aud.Full 9999) → ⊥
+pub plain_room : (fault : OpenFault) → IsPlainFault fault → fault ≡ Audit (aud.Full 9999) → ⊥
 plain_room fault (inl disk) is = apart (sym disk ∙ is)
   where
     apart : Audit aud.Disk ≡ Audit (aud.Full 9999) → ⊥

@@ -13,4 +13,5 @@ pub mod Starts
 pub mod Behind
 pub mod Claims
 pub mod Short
+pub mod Marking
 pub mod Whole

@@ -186,13 +186,6 @@ pub record CanOpen (files : Files) : Type 0 where
   pub opens : OpensAt total first files point next schema counts
   pub described : IsDescription schema
 
-module _ {S : Type 0} (g : Ghosts S) where
-  -- Nothing was done for this fault, which is none of a full audit: the files are the same, and a stop leaves what it could leave before.
-  pub record StaysUnopened (old new : S) (fault : OpenFault) : Type 0 where
-    pub files : g.files new ≡ g.files old
-    pub moments : Steps Same (g.clock old) (g.clock new)
-    pub room : IsFullFault fault → ⊥
-
 -- A call of the site failed, or the audit had no room: the opening may have begun to write.
 abbrev pub MayHaveWritten : OpenFault → Type 0
 MayHaveWritten fault = (fault ≡ Audit aud.Disk) ⊎ IsFullFault fault

@@ -12,11 +12,13 @@ ghost use Rattle.dms_running.specs.AnyBegun.{BeginLeaves};
 ghost use Rattle.dms_running.specs.Standing.{IsWhole};
 ghost use Rattle.dms_restore.specs.Begins.{AnyLeaves};
 ghost use Rattle.dms_restore.specs.Logging.{LogGrows, telling, state, view};
+ghost use Rattle.dms_restore.specs.Planned.{AreCountsAt};
 ghost use Rattle.dms_restore.specs.Views.{view_of, LogStarts};
 ghost use Rattle.dms_wal.specs.Closing.{IsFullTrail};
 ghost use Rattle.dms_opening.specs.Carrying.{IsFitPlan, IsPlanned, WritesFor, MayBegin, RunsTo};
 ghost use Rattle.dms_restore.specs.Over.{EndsOver, LeavesOver};
 ghost use Rattle.dms_opening.specs.Claims.{RunsAsPlanned, ReopensAsPlanned, BeginsAsPlanned, GoesOnWhere, ends_of};
+ghost use Rattle.dms_opening.specs.Marking.{KeepsOrMarks};
 ghost use Rattle.dms_opening.specs.Plans.{SameDumps};
 ghost use Rattle.dms_opening.specs.Openings.{RunsFrom, Reopens, text_of, IsFullFault, MayHaveWritten};
 
@@ -40,7 +42,8 @@ pub fn site_of<S: Site>(log: Log<S>) -> S
     site
 }
 
-/// Begins the restore of a plan, which is of this kind, or goes on with the pending one, writes its blocks, and ends it.
+/// Begins the restore of a plan, which is of this kind, or goes on with the pending one, marks the blocks that it would take from where a structure file has
+/// none, writes its blocks, and ends it.
 pub fn carry_out<S: Site>(
     planned: PlannedOpening<S>,
     how: BeginHow<'_>,
@@ -68,6 +71,8 @@ pub fn carry_out<S: Site>(
         → LogGrows 19 v (view_of S.Site o.log)) }
     ensures grown_then { IfErr result (λ e. (p : Pending) → IsTrue S.tells → let v = view_of S.Site planned.log in WritesFor v p planned.plan
         → LogGrows 19 v (view v.end v.first (S.files e.1) (S.clock e.1))) }
+    ensures marked { IfOk result (λ o. (p : Pending) → IsTrue S.tells → WritesFor (view_of S.Site planned.log) p planned.plan → AreCountsAt planned.plan.counts.items p
+        → KeepsOrMarks p (S.files planned.log.site) (S.files o.log.site)) }
     ensures starts { IfOk result (λ o. (p : Pending) → IsTrue S.tells → WritesFor (view_of S.Site planned.log) p planned.plan → LogStarts (view_of S.Site o.log)) }
     ensures dumps { IfOk result (λ o. (p : Pending) → IsTrue S.tells → WritesFor (view_of S.Site planned.log) p planned.plan → SameDumps (S.files planned.log.site) (S.files o.log.site)) }
     ensures plan { IfOk result (λ o. (o.point ≡ planned.plan.choice.point) × (o.next ≡ planned.plan.next) × (o.schema ≡ planned.plan.schema) × (o.counts ≡ planned.plan.counts)) }
@@ -96,7 +101,15 @@ pub fn carry_out<S: Site>(
     let audit = begun.log.end.file.saturating_sub(10_000);
     let mut bytes = [0u8; 1600];
     let used = count_bytes(&counts, &mut bytes);
-    match go_on(begun, &table, &schema, choice.point, next, &bytes[..used]) {
+    match go_on(
+        begun,
+        &table,
+        &counts,
+        &schema,
+        choice.point,
+        next,
+        &bytes[..used],
+    ) {
         Ok(log) => Ok(Opened {
             log,
             schema,

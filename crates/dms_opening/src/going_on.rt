@@ -7,25 +7,31 @@ ghost use Rattle.dms_history.specs.Entries.{control_point};
 ghost use Rattle.dms_audrec.specs.Spelling.{IsEntry};
 ghost use Rattle.dms_audrec.specs.Reading.{counts_at};
 ghost use Rattle.dms_audfile.specs.Counting.{CountedAt};
+ghost use Rattle.dms_restore.specs.Counts.{AllAtMost};
 ghost use Rattle.dms_restore.specs.Logging.{Ends, EndsSealed, LogGrows};
 ghost use Rattle.dms_restore.specs.Parts.{SealsPart};
+ghost use Rattle.dms_restore.specs.Planned.{AreCountsAt};
 ghost use Rattle.dms_restore.specs.Views.{view_of, StaysSilent, LogStarts, IsSameTrail};
 ghost use Rattle.dms_restore.specs.Laying.{schema_control};
 ghost use Rattle.dms_restore.specs.Begins.{LeavesEach};
 ghost use Rattle.dms_restore.specs.Over.{EndsOver, LeavesOver};
 ghost use Rattle.dms_opening.specs.Claims.{IfGoesOn, IsFullAt, OverWhere};
+ghost use Rattle.dms_opening.specs.Marking.{KeepsOrMarks};
 ghost use Rattle.dms_opening.specs.Plans.{SameDumps};
 ghost use Rattle.dms_opening.specs.Starts.{MayGoOn, OpenedAt};
 ghost use Rattle.dms_restore.specs.Table.{AreBlocks, AreRuns, IsPlan};
 
+use crate::marking::restore_marked;
 use dms_audfile::AudFault;
 use dms_restore::{Begun, Log, RestoreTable};
 use dms_site::Site;
 
-/// Writes the blocks of the restore's point, and seals the description and the Control that end it.
+/// Marks what is missing, writes the blocks of the restore's point, and seals the description and the Control that end it. `blocks` are the counts of the files
+/// 30,001 and on, and `counts` their bytes, as the Control has them.
 pub(crate) fn go_on<S: Site>(
     begun: Begun<S>,
     table: &RestoreTable,
+    blocks: &[u32],
     description: &[u8],
     point: u64,
     next: u64,
@@ -37,6 +43,10 @@ pub(crate) fn go_on<S: Site>(
     requires few { length description.now ≤ 65535 }
     requires control { IsEntry (control_point point next (counts_at (length counts.now / 8) counts.now)) }
     requires size { length counts.now ≤ 1600 }
+    requires files { length blocks.now ≤ 200 }
+    requires small { AllAtMost blocks.now }
+    ensures marked { IfOk result (λ l. (p : Pending) → IsTrue S.tells → IsPlan p (S.files begun.log.site) table.now → AreCountsAt blocks.now p → EndsSealed (view_of S.Site begun.log)
+        → KeepsOrMarks p (S.files begun.log.site) (S.files l.site)) }
     ensures opened { IfOk result (λ l. let v = view_of S.Site begun.log in IfGoesOn S.tells v table.now point next counts.now (λ p. OpenedAt p v (view_of S.Site l) (schema_control description.now point next counts.now))) }
     ensures moments { IfOk result (λ l. (p : Pending) → IsTrue S.tells → MayGoOn p (view_of S.Site begun.log) table.now point next counts.now
         → LeavesEach (view_of S.Site begun.log) (view_of S.Site l)) }
@@ -77,7 +87,7 @@ pub(crate) fn go_on<S: Site>(
     ensures kind { IfOk result (λ l. IsSameTrail begun.log l) }
     ensures kind_then { IfErr result (λ e. IsSameTrail begun.log e.1) }
 {
-    match begun.restore(table) {
+    match restore_marked(begun, blocks, table) {
         Ok(restored) => restored.finish(description, point, next, counts),
         Err(fault) => Err(fault),
     }

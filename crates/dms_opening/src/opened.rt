@@ -37,48 +37,6 @@ pub struct Opened<S: Site> {
     pub audit: u32,
 }
 
-/// Opens the database of the files that were found: begins a restore by halt/load to the last point, or goes on with the restore that is
-/// pending, and ends it. The audit may go on up to file 9,999 meanwhile.
-///
-/// Answers the first refusal of the trail, of a restore that is pending and of the last point, and then the first block that it would take from a structure
-/// file that ends before or within it, before anything is written, Disk where a call of the site failed, Full where the audit has no room, and Memory,
-/// before anything is written.
-pub fn open<S: Site>(alloc: Global, found: Found<S>) -> Result<Opened<S>, (OpenRefusal, S)>
-    ensures opens { IfOk result (λ o. IsTrue S.tells → OpensAt o.log.end.total o.log.first (S.files found.site) o.point o.next o.schema.items o.counts.items) }
-    ensures whole { IfOk result (λ o. IsTrue S.tells → NoShortOf (S.files found.site)) }
-    ensures runs { IfOk result (λ o. IsTrue S.tells → RunsWhere S.Site (S.files found.site) o) }
-    ensures fit { IfOk result (λ o. IsDescription o.schema.items × AreCounts o.counts.items) }
-    ensures named { IfOk result (λ o. NamesStructures o.schema.items o.counts.items) }
-    ensures limit { IfOk result (λ o. o.log.end.limit ≡ 9999) }
-    ensures moments { IfOk result (λ o. IsTrue S.tells → ReopensSince S.Site found.site o.log.site) }
-    ensures stopped { IfErr result (λ e. IsTrue S.tells → ReopensSince S.Site found.site e.1) }
-    ensures refused { IfErr result (λ e. IsTrue S.tells → RefusesWhole (S.files found.site) e.0) }
-    ensures full { IfErr result (λ e. IsTrue S.tells → OnFault e.0 IsFullFault → HasFullTrail (S.files found.site) (S.files e.1)) }
-    ensures grows { IfOk result (λ o. IsTrue S.tells → OpeningGrows S.Site found.site o.log.site) }
-    ensures grows_then { IfErr result (λ e. IsTrue S.tells → OpeningGrows S.Site found.site e.1) }
-    ensures begun { IfErr result (λ e. IsTrue S.tells → CanOpenWhole (S.files found.site) ⊎ StaysUnopenedWhole S.Site found.site e.1 e.0) }
-    ensures complete { IfErr result (λ e. IsTrue S.tells → (total first : ℕ) → IsOpenable total first (S.files found.site) → OnFault e.0 IsNoRefusal) }
-    ensures files_then { IfErr result (λ e. IsTrue S.tells → (OnFault e.0 MayHaveWritten → ⊥) → S.files e.1 ≡ S.files found.site) }
-    ensures moments_then { IfErr result (λ e. IsTrue S.tells → (OnFault e.0 MayHaveWritten → ⊥) → Steps Same (S.clock found.site) (S.clock e.1)) }
-    ensures same { IfOk result (λ o. S.same_site found.site o.log.site) }
-    ensures same_then { IfErr result (λ e. S.same_site found.site e.1) }
-    ensures said { IfOk result (λ o. S.said o.log.site ≡ S.said found.site) }
-    ensures said_then { IfErr result (λ e. S.said e.1 ≡ S.said found.site) }
-    ensures clean { IfOk result (λ o. (S.disk_faults o.log.site ≡ S.disk_faults found.site) × (S.say_faults o.log.site ≡ S.say_faults found.site)) }
-    ensures disk { IfErr result (λ e. CountedAt (e.0 ≡ OpenRefusal.Fault (OpenFault.Audit AudFault.Disk)) (S.disk_faults found.site) (S.disk_faults e.1)) }
-    ensures say_faults { IfErr result (λ e. S.say_faults e.1 ≡ S.say_faults found.site) }
-{
-    let Found { site } = found;
-    let planned = match look_whole(alloc, site) {
-        Ok(planned) => planned,
-        Err(refused) => return Err(refused),
-    };
-    match planned.open() {
-        Ok(opened) => Ok(opened),
-        Err((fault, site)) => Err((OpenRefusal::Fault(fault), site)),
-    }
-}
-
 impl<S: Site> Opened<S> {
     /// Blocks over the database, with no block in memory: at most `frames` are held, each `every`-th sync makes a control point, and what is
     /// appended may go on up to audit file `limit`. Makes no call of the site. Answers Memory alone.

@@ -85,7 +85,7 @@ fn first_unwritten(table: &RestoreTable, file: u32, from: u64, upto: u64) -> u64
 }
 
 /// The first block of a structure file of so many blocks that a restore doesn't write and that isn't there whole.
-fn short_in<S: Site>(
+pub(crate) fn short_in<S: Site>(
     site: &mut S,
     file: u32,
     count: u32,

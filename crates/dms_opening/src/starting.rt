@@ -1,6 +1,6 @@
 //! The start of what is asked: its restore is begun, or the pending one goes on.
 
-ghost use Rattle.std.specs.Prelude.{◌≡◌, ◌⊎◌, ◌+◌, ◌<◌, ◌≤◌, [], ◌∷◌, true, false, if◌then◌else◌, length, IfOk, IfErr, IsTrue};
+ghost use Rattle.std.specs.Prelude.{◌≡◌, ◌⊎◌, ◌+◌, ◌<◌, ◌≤◌, ℕ, [], ◌∷◌, true, false, if◌then◌else◌, length, IfOk, IfErr, IsTrue};
 ghost use Rattle.dms_history.specs.History.{Pending};
 ghost use Rattle.dms_audfile.specs.Counting.{CountedAt};
 ghost use Rattle.dms_history.specs.Entries.{begin_restore, by_halt_load};
@@ -53,6 +53,7 @@ pub(crate) fn start<S: Site>(
     ensures leaves_then { IfErr result (λ e. (right : Stored) → IsTrue S.tells → let a = view_of S.Site log in BeginsAny a right point (how_seen how.entry)
         → AnyLeaves a right point (view_of S.Site e.1)) }
     ensures dumps { IfOk result (λ b. IsTrue S.tells → SameDumps (S.files log.site) (S.files b.log.site)) }
+    ensures above { IfOk result (λ b. IsTrue S.tells → (f : ℕ) → 20000 < f → S.files b.log.site f ≡ S.files log.site f) }
     ensures silent { IfOk result (λ b. IsTrue S.tells → LogStarts (view_of S.Site log) → StaysSilent S.Site log.site b.log.site) }
     ensures silent_then { IfErr result (λ e. IsTrue S.tells → LogStarts (view_of S.Site log) → StaysSilent S.Site log.site e.1.site) }
     ensures same { IfOk result (λ b. S.same_site log.site b.log.site) }

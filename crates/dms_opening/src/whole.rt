@@ -43,10 +43,7 @@ fn judge_whole<S: Site>(site: &mut S, plan: &OpeningPlan) -> Result<(), OpenRefu
 /// Looks at the database of a site and plans its opening. Nothing changes.
 ///
 /// Answers the first refusal of the opening, and then the first block that it would take from a structure file that ends before or within it.
-pub(crate) fn look_whole<S: Site>(
-    alloc: Global,
-    site: S,
-) -> Result<PlannedOpening<S>, (OpenRefusal, S)>
+pub fn look_whole<S: Site>(alloc: Global, site: S) -> Result<PlannedOpening<S>, (OpenRefusal, S)>
     ensures looked { IfOk result (λ p. IsTrue S.tells → IsLookedAt S.Site p) }
     ensures whole { IfOk result (λ p. IsTrue S.tells → NoShortOf (S.files site)) }
     ensures ready { IfOk result (λ p. IsFitPlan p.plan) }

@@ -5,6 +5,7 @@ pub mod Orders
 pub mod Ended
 pub mod Rounds
 pub mod Seen
+pub mod Marked
 pub mod Looked
 pub mod Answered
 pub mod Rolled
@@ -13,3 +14,4 @@ pub mod Behind
 pub mod First
 pub mod Placed
 pub mod Named
+pub mod Behold

@@ -232,23 +232,9 @@ module _ {S : Type 0} (g : Ghosts S) (a b : S) (same : g.files b ≡ g.files a) 
         };
       }))
 
-  pub mends_back : ((t : ℕ) (x : Left) → t ≤ (g.clock a).now → Now (g.clock a) x → (g.clock a).left t x) → Steps Same (g.clock a) (g.clock b) → (c : S) (total first : ℕ) (u : Files) (d : ℕ) (named : List NamedRow) (rows list : List Row) → list ≡ rows → (n : ℕ) (desc : Described)
-      → NamesRows (g.files a) named rows → MayReconstruct total first (g.files a) u d named n desc → Runs (g.clock b) (g.clock c) (MendsTo (telling_of total first) (g.files b) u (named_by list) n)
-      → Runs (g.clock a) (g.clock c) (MendsTo (telling_of total first) (g.files a) u (named_blocks desc.structures named) n)
-  mends_back counts steps c total first u d named rows list is n desc names may run =
-      let blocks : named_by list ≡ named_blocks desc.structures named = λ i f k. (ap (λ (l : List Row). named_by l f k) is ∙ names total first n desc may.trail may.last may.described f k) i in
-      runs_on (runs_looking counts steps)
-      (subst (λ (x : Files). Runs (g.clock b) (g.clock c) (MendsTo (telling_of total first) x u (named_blocks desc.structures named) n)) same
-      (subst (λ (l : ℕ → ℕ → Bool). Runs (g.clock b) (g.clock c) (MendsTo (telling_of total first) (g.files b) u l n)) blocks run)) (λ x p. p)
-
-  pub grows_back : Steps Same (g.clock a) (g.clock b) → (c : S) → RecoveryGrows g b c → RecoveryGrows g a c
-  grows_back steps c r = record {
-    kept = λ total first trail. subst (λ (f : Files). TrailKept total first f (g.files c)) same (r.kept total first (subst (λ (f : Files). IsTrailFound total first f) (sym same) trail));
-    left = λ total first trail. left_on total first (g.clock a) (g.clock b) (g.clock c) (steps_weaken steps (λ x y now is. subst (λ (z : Left). LeavesTrail total first x z) (sym is) (leaves_none total first x)))
-        (r.left total first (subst (λ (f : Files). IsTrailFound total first f) (sym same) trail));
-    few = λ total first trail. subst (λ (f : Files). SealsFewTwice total first f (g.files c)) same (r.few total first (subst (λ (f : Files). IsTrailFound total first f) (sym same) trail));
-  }
-
-pub point_back : (a b : Files) (point : ℕ) → b ≡ a → ((total first n : ℕ) → IsTrailFound total first b → last_of total first b ≡ Some n → point ≡ n)
-    → (total first n : ℕ) → IsTrailFound total first a → last_of total first a ≡ Some n → point ≡ n
-point_back a b point same is = subst (λ (x : Files). (total first n : ℕ) → IsTrailFound total first x → last_of total first x ≡ Some n → point ≡ n) same is
+-- what is left but for the rows is left but for those that are named
+pub mends_as : {S : Type 0} (g : Ghosts S) (a c : S) (total first : ℕ) (u : Files) (d : ℕ) (named : List NamedRow) (rows : List Row) (n : ℕ) (desc : Described) → NamesRows (g.files a) named rows → MayReconstruct total first (g.files a) u d named n desc
+    → Runs (g.clock a) (g.clock c) (MendsTo (telling_of total first) (g.files a) u (named_by rows) n) → Runs (g.clock a) (g.clock c) (MendsTo (telling_of total first) (g.files a) u (named_blocks desc.structures named) n)
+mends_as g a c total first u d named rows n desc names may run =
+    let blocks : named_by rows ≡ named_blocks desc.structures named = λ i f k. names total first n desc may.trail may.last may.described f k i in
+    subst (λ (l : ℕ → ℕ → Bool). Runs (g.clock a) (g.clock c) (MendsTo (telling_of total first) (g.files a) u l n)) blocks run

@@ -9,7 +9,7 @@ use Rattle.dms_history.specs.Events.{Stored}
 use Rattle.dms_history.specs.Here.{here, here_by}
 use Rattle.dms_history.specs.History.{Pending}
 use Rattle.dms_history.specs.Pick.{Dumps}
-use Rattle.dms_history.specs.Entries.{Entry, named_by}
+use Rattle.dms_history.specs.Entries.{Entry, by_rebuild, by_reconstruct, by_roll_back, named_by}
 use Rattle.dms_history.specs.declared.event.Row.{Row}
 use Rattle.dms_history.specs.EntryEvents.{history_of, next_of}
 use Rattle.dms_audfile.specs.TrailEntries.{trail_entries}
@@ -27,6 +27,7 @@ use Rattle.dms_restore.proofs.Trails.{is_telling}
 use Rattle.dms_opening.specs.Openings.{IsTrailFound}
 use Rattle.dms_recovery.specs.declared.wanted.Wanted.TheVariants.{Rollback, Rebuild, Reconstruct}
 use Rattle.dms_recovery.specs.Leaving.{IsMendedFrom, IsRebuiltFrom, RestoresTo, RollsTo}
+use Rattle.dms_recovery.specs.Looked.{IsMeant, rows_in}
 use Rattle.dms_recovery.specs.Restoring.{MayRestore}
 
 -- where none is pending, what is stored counts
@@ -111,3 +112,14 @@ two_if_err (Err e) one two f = f e one two
 -- a reconstruction is no rollback
 pub no_rollback : (d n : ℕ) → Reconstruct d ≡ Rollback n → ⊥
 no_rollback d n e = absurd cc
+
+-- ---- what is wanted of a plan
+
+pub meant_roll : (n : ℕ) → IsMeant by_roll_back (Rollback n) []
+meant_roll n = record { plain = λ m is. refl; is = λ last. refl }
+
+pub meant_rebuild : (d : ℕ) (chosen : Option ℕ) → IsMeant (by_rebuild d) (Rebuild d chosen) []
+meant_rebuild d chosen = record { plain = λ m is. refl; is = λ last. refl }
+
+pub meant_rows : (d : ℕ) (list bytes : List ℕ) → bytes ≡ list → IsMeant (by_reconstruct d (rows_in bytes)) (Reconstruct d) (rows_in list)
+meant_rows d list bytes same = record { plain = λ m is. absurd (no_rollback d m is); is = λ last. ap (λ (l : List ℕ). by_reconstruct d (rows_in l)) same }

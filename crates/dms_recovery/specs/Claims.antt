@@ -106,7 +106,7 @@ module _ {S : Type 0} (g : Ghosts S) where
   RollbackLeaves old new m = (total first : ℕ) → IsTrue g.tells → IsTrailFound total first (g.files old) → IsWhole (telling_of total first) (g.files old)
       → RollsBetween total first m old new
 
-  -- A rebuild reaches the point that is chosen, of each database from which the files differ in structure files alone, and of which dump d is true.
+  -- A rebuild reaches the point that is chosen, of each database from which the files differ in structure files alone, and from which dump d was copied.
   abbrev pub RebuildReaches : S → S → ℕ → Option ℕ → Type 0
   RebuildReaches old new d chosen = (u : Files) (total first : ℕ) → IsTrue g.tells → IsTrailFound total first (g.files old) → IsRebuiltFrom total first (g.files old) u d
       → ReachesPoint total first u (chosen_point total first (g.files old) chosen) new
@@ -139,6 +139,10 @@ module _ {S : Type 0} (g : Ghosts S) where
   -- What is wanted, where no restore goes first, reaches this point, of each database that it may restore.
   abbrev pub RestoreReaches : S → S → Wanted → List Row → ℕ → Type 0
   RestoreReaches old new wanted rows point = (u : Files) (total first : ℕ) → IsTrue g.tells → MayRestore total first (g.files old) u wanted rows → ReachesPoint total first u point new
+
+  -- It goes to this point, of whatever files.
+  abbrev pub GoesTo : S → Wanted → ℕ → Type 0
+  GoesTo old wanted point = (total first : ℕ) → IsTrue g.tells → IsTrailFound total first (g.files old) → (n : ℕ) → IsPointWanted total first (g.files old) wanted n → point ≡ n
 
   -- A stop within it leaves what there was, or that database at the point that is wanted.
   abbrev pub RestoreLeaves : S → S → Wanted → List Row → Type 0

@@ -9,3 +9,5 @@ pub mod Mending
 pub mod Rows
 pub mod Reconstructing
 pub mod Claims
+pub mod Marks
+pub mod Looked

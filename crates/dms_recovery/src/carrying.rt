@@ -1,6 +1,7 @@
 //! What was planned is carried out: the restore that is pending first, and then the one that is asked for.
 
-ghost use Rattle.std.specs.Prelude.{◌≡◌, ◌≤◌, Some, length, IfOk, IfErr, IsTrue};
+ghost use Rattle.std.specs.Prelude.{◌≡◌, ◌≤◌, Option, Some, length, IfOk, IfErr, IsTrue};
+ghost use Rattle.dms_history.specs.History.{Pending};
 ghost use Rattle.dms_audrec.specs.Seen.{how_seen};
 ghost use Rattle.dms_audrec.specs.Spelling.{IsRestoreKind, rows_of};
 ghost use Rattle.dms_audfile.specs.Counting.{CountedAt};
@@ -10,6 +11,7 @@ ghost use Rattle.dms_wal.specs.Closing.{IsFullTrail};
 ghost use Rattle.dms_opening.specs.Carrying.{IsFitPlan};
 ghost use Rattle.dms_opening.specs.Openings.{IsFullFault, MayHaveWritten};
 ghost use Rattle.dms_recovery.specs.Claims.{RunsAlone, LeavesAlone, ReachesAsPlanned, LeavesAsPlanned, MendsAsPlanned, LeavesMending};
+ghost use Rattle.dms_recovery.specs.Marks.{MarksAll, WritesAll, WritesCounted};
 ghost use Rattle.dms_recovery.specs.Planned.{AreFit};
 ghost use Rattle.dms_recovery.specs.Ready.{AreReady, AreReadyBoth};
 
@@ -38,6 +40,8 @@ fn carry_both<S: Site>(
     ensures mended { IfOk result (λ o. MendsAsPlanned S.tells (how_seen how.entry) (view_of S.Site log) (Some before) own (view_of S.Site o.log)) }
     ensures mends { IfOk result (λ o. LeavesMending S.tells (how_seen how.entry) (view_of S.Site log) (Some before) own (S.clock o.log.site)) }
     ensures mends_then { IfErr result (λ e. LeavesMending S.tells (how_seen how.entry) (view_of S.Site log) (Some before) own (S.clock e.1)) }
+    ensures marked { IfOk result (λ o. (q p : Pending) → IsTrue S.tells → WritesCounted (view_of S.Site log) q before → WritesCounted (view_of S.Site log) p own
+        → MarksAll (Some q) p (S.files log.site) (S.files o.log.site)) }
     ensures only { IfErr result (λ e. IsTrue S.tells → AreReadyBoth (view_of S.Site log) before own → MayHaveWritten e.0) }
     ensures full { IfErr result (λ e. IsTrue S.tells → AreReadyBoth (view_of S.Site log) before own → IsFullFault e.0 → IsFullTrail (view_of S.Site log) (S.files e.1)) }
     ensures grown { IfOk result (λ o. IsTrue S.tells → AreReadyBoth (view_of S.Site log) before own → LogGrows 38 (view_of S.Site log) (view_of S.Site o.log)) }
@@ -86,6 +90,8 @@ pub(crate) fn carry<S: Site>(
     ensures mended { IfOk result (λ o. MendsAsPlanned S.tells (how_seen how.entry) (view_of S.Site planned.log) planned.before planned.own (view_of S.Site o.log)) }
     ensures mends { IfOk result (λ o. LeavesMending S.tells (how_seen how.entry) (view_of S.Site planned.log) planned.before planned.own (S.clock o.log.site)) }
     ensures mends_then { IfErr result (λ e. LeavesMending S.tells (how_seen how.entry) (view_of S.Site planned.log) planned.before planned.own (S.clock e.1)) }
+    ensures marked { IfOk result (λ o. (first : Option Pending) (p : Pending) → IsTrue S.tells → WritesAll (view_of S.Site planned.log) first p planned.before planned.own
+        → MarksAll first p (S.files planned.log.site) (S.files o.log.site)) }
     ensures only { IfErr result (λ e. IsTrue S.tells → AreReady (view_of S.Site planned.log) planned.before planned.own → MayHaveWritten e.0) }
     ensures full { IfErr result (λ e. IsTrue S.tells → AreReady (view_of S.Site planned.log) planned.before planned.own → IsFullFault e.0 → IsFullTrail (view_of S.Site planned.log) (S.files e.1)) }
     ensures grown { IfOk result (λ o. IsTrue S.tells → AreReady (view_of S.Site planned.log) planned.before planned.own → LogGrows 38 (view_of S.Site planned.log) (view_of S.Site o.log)) }

@@ -13,7 +13,8 @@ mod restoring;
 mod rows;
 mod wanted;
 
+pub use looking::{PlannedRestore, look_for};
 pub use naming::ReconstructFault;
-pub use reconstructing::reconstruct;
+pub use reconstructing::{PlannedRows, plan_rows, reconstruct};
 pub use restoring::{Recovered, rebuild, roll_back};
 pub use wanted::Wanted;

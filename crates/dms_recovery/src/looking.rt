@@ -8,7 +8,7 @@ ghost use Rattle.dms_restore.specs.Views.{view_of, LogStarts};
 ghost use Rattle.dms_opening.specs.Openings.{IsTrailFound, IsFullFault};
 ghost use Rattle.dms_opening.specs.Plans.{IsScanRead};
 ghost use Rattle.dms_recovery.specs.Claims.{PlansWanted, RefusesWantedOf};
-ghost use Rattle.dms_recovery.specs.Planned.{AreFit};
+ghost use Rattle.dms_recovery.specs.Planned.{AreFit, AreNamed};
 ghost use Rattle.dms_recovery.specs.Refusing.{RefusesWanted};
 
 use crate::Wanted;
@@ -22,13 +22,13 @@ use dms_site::Site;
 use std::alloc::Global;
 
 /// A database that was looked at, and what a statement does of it: nothing was written yet.
-pub(crate) struct PlannedRestore<S: Site> {
+pub struct PlannedRestore<S: Site> {
     /// The end of its trail, with the trail's first file.
-    pub(crate) log: Log<S>,
+    pub log: Log<S>,
     /// What ends the restore that is pending, where that goes first.
-    pub(crate) before: Option<OpeningPlan>,
+    pub before: Option<OpeningPlan>,
     /// The restore that is asked for.
-    pub(crate) own: OpeningPlan,
+    pub own: OpeningPlan,
 }
 
 /// Plans what is wanted of a trail that was scanned. Nothing changes.
@@ -42,6 +42,7 @@ pub(crate) fn plan_scanned<S: Site>(
     ensures plans { IfOk result (λ p. IsTrue S.tells → IsScanRead S.Site scanned
         → PlansWanted scanned.log.end.total scanned.log.first (S.files scanned.log.site) wanted rows.now p.before p.own) }
     ensures fit { IfOk result (λ p. AreFit p.before p.own) }
+    ensures named { IfOk result (λ p. AreNamed p.before p.own) }
     ensures refused { IfErr result (λ e. IsTrue S.tells → IsScanRead S.Site scanned
         → RefusesWantedOf scanned.log.end.total scanned.log.first (S.files scanned.log.site) wanted e.0) }
     ensures kind { IfOk result (λ p. (p.log.end ≡ scanned.log.end) × (p.log.first ≡ scanned.log.first)) }
@@ -80,7 +81,7 @@ pub(crate) fn plan_scanned<S: Site>(
 /// Scans the trail of the files that were found, and plans what is wanted of them. Nothing changes.
 ///
 /// Answers the first refusal of the trail and of what is wanted, Disk where a call of the site failed, and Memory.
-pub(crate) fn look_for<S: Site>(
+pub fn look_for<S: Site>(
     alloc: Global,
     found: Found<S>,
     wanted: Wanted,
@@ -90,6 +91,7 @@ pub(crate) fn look_for<S: Site>(
     ensures trail { IfOk result (λ p. IsTrue S.tells → IsTrailFound p.log.end.total p.log.first (S.files found.site)) }
     ensures plans { IfOk result (λ p. IsTrue S.tells → PlansWanted p.log.end.total p.log.first (S.files found.site) wanted rows.now p.before p.own) }
     ensures fit { IfOk result (λ p. AreFit p.before p.own) }
+    ensures named { IfOk result (λ p. AreNamed p.before p.own) }
     ensures limit { IfOk result (λ p. p.log.end.limit ≡ 9999) }
     ensures refused { IfErr result (λ e. IsTrue S.tells → RefusesWanted (S.files found.site) wanted e.0) }
     ensures room { IfErr result (λ e. IsTrue S.tells → IsFullFault e.0 → ⊥) }

@@ -5,7 +5,7 @@ ghost use Rattle.dms_audfile.specs.Counting.{CountedAt};
 ghost use Rattle.dms_audfile.specs.Reads.{ReadsAlone};
 ghost use Rattle.dms_opening.specs.DumpLooks.{IsFitFound};
 ghost use Rattle.dms_opening.specs.Plans.{AreFoundFor, IsTaggedRead};
-ghost use Rattle.dms_recovery.specs.Planned.{PlansAll, AreFit, RefusesAll};
+ghost use Rattle.dms_recovery.specs.Planned.{PlansAll, AreFit, AreNamed, RefusesAll};
 
 use crate::cutting::cut;
 use crate::finding::find_asked;
@@ -42,6 +42,7 @@ fn plan_found<S: Site>(
     ensures plans { IfOk result (λ p. IsTrue S.tells → (total : ℕ) → AreFoundFor total first (S.files site.old) places.now trace asked begun.now look.now
         → PlansAll total first (S.files site.old) asked rows.now p.before p.own) }
     ensures fit { IfOk result (λ p. AreFit p.before p.own) }
+    ensures named { IfOk result (λ p. AreNamed p.before p.own) }
     ensures refused { IfErr result (λ e. IsTrue S.tells → (total : ℕ) → AreFoundFor total first (S.files site.old) places.now trace asked begun.now look.now
         → RefusesAll total first (S.files site.old) asked e) }
     ensures reads { ReadsAlone S.Site site.old site.new }
@@ -94,6 +95,7 @@ pub(crate) fn plan_asked<S: Site>(
     ensures plans { IfOk result (λ p. IsTrue S.tells → (total : ℕ) → IsTaggedRead total tag first (S.files site.old) places.now trace
         → PlansAll total first (S.files site.old) asked rows.now p.before p.own) }
     ensures fit { IfOk result (λ p. AreFit p.before p.own) }
+    ensures named { IfOk result (λ p. AreNamed p.before p.own) }
     ensures refused { IfErr result (λ e. IsTrue S.tells → (total : ℕ) → IsTaggedRead total tag first (S.files site.old) places.now trace
         → RefusesAll total first (S.files site.old) asked e) }
     ensures reads { ReadsAlone S.Site site.old site.new }

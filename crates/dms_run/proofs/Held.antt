@@ -177,4 +177,5 @@ held files n desc db s = record {
   lives = lives files n desc db s.at_point;
   described = described files n desc db s.at_point;
   formed = s.at_point.well_formed;
+  valid = s.at_point.valid;
 }

@@ -3,9 +3,11 @@ pub mod Leaving
 pub mod Words
 pub mod Lowering
 pub mod Standing
+pub mod SamePoints
 pub mod Running
 pub mod Ending
 pub mod NoLater
 pub mod Stands
 pub mod Fine
 pub mod Held
+pub mod Holding

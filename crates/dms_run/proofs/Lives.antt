@@ -38,14 +38,14 @@ pub same_number : (a b : ℕ) → (a == b) ≡ true → a ≡ b
 same_number a b on = grind (arith, nat_tests, on)
 
 -- the point of this number among some, and those behind it
-record AtNumber (ps : List LivePoint) (n : ℕ) : Type 0 where
-  front : List LivePoint
-  point : LivePoint
-  behind : List LivePoint
-  are : ps ≡ front ++ point ∷ behind
-  number : point.number ≡ n
+pub record AtNumber (ps : List LivePoint) (n : ℕ) : Type 0 where
+  pub front : List LivePoint
+  pub point : LivePoint
+  pub behind : List LivePoint
+  pub are : ps ≡ front ++ point ∷ behind
+  pub number : point.number ≡ n
 
-at_number : (ps : List LivePoint) (n : ℕ) → has (λ (m : ℕ). m == n) (numbers_of ps) ≡ true → AtNumber ps n
+pub at_number : (ps : List LivePoint) (n : ℕ) → has (λ (m : ℕ). m == n) (numbers_of ps) ≡ true → AtNumber ps n
 at_number [] n on = absurd (true≢false (sym on))
 at_number (p ∷ ps) n on = or_cases (p.number == n) (has (λ (m : ℕ). m == n) (numbers_of ps))
     (λ is. record { front = []; point = p; behind = ps; are = refl; number = same_number p.number n is })

@@ -17,6 +17,7 @@ use Rattle.dms_history.specs.Points.{LivePoint, live_points, HasPoint, AllLive, 
 use Rattle.dms_history.proofs.Listed.{points_listed}
 use Rattle.dms_history.proofs.Order.{last_lives}
 use Rattle.dms_model.specs.Db.{Db}
+use Rattle.dms_model.specs.Valid.{IsValid}
 use Rattle.dms_model.specs.Points.{Quiet}
 use Rattle.dms_running.specs.Standing.{IsWhole}
 use Rattle.dms_running.specs.Points.{DescribedPoint, described_in, points_of}
@@ -51,15 +52,15 @@ numbers_end (x ∷ xs) p = ap (λ (l : List ℕ). x.number ∷ l) (numbers_end x
 -- ---- points without their Schemas
 
 -- the live point that stands there under its Schema
-record Bare (es : List Entry) (ps : List LivePoint) (before : List DescribedPoint) (p : DescribedPoint) (behind : List DescribedPoint) : Type 0 where
-  front : List LivePoint
-  point : LivePoint
-  after : List LivePoint
-  are : ps ≡ front ++ point ∷ after
-  is : described_in es point ≡ p
-  rest : map (described_in es) after ≡ behind
+pub record Bare (es : List Entry) (ps : List LivePoint) (before : List DescribedPoint) (p : DescribedPoint) (behind : List DescribedPoint) : Type 0 where
+  pub front : List LivePoint
+  pub point : LivePoint
+  pub after : List LivePoint
+  pub are : ps ≡ front ++ point ∷ after
+  pub is : described_in es point ≡ p
+  pub rest : map (described_in es) after ≡ behind
 
-bare_of : (es : List Entry) (ps : List LivePoint) (before : List DescribedPoint) (p : DescribedPoint) (behind : List DescribedPoint) → map (described_in es) ps ≡ before ++ p ∷ behind → Bare es ps before p behind
+pub bare_of : (es : List Entry) (ps : List LivePoint) (before : List DescribedPoint) (p : DescribedPoint) (behind : List DescribedPoint) → map (described_in es) ps ≡ before ++ p ∷ behind → Bare es ps before p behind
 bare_of es [] [] p behind e = absurd (cc)
 bare_of es [] (b ∷ bs) p behind e = absurd (cc)
 bare_of es (x ∷ xs) [] p behind e = record { front = []; point = x; after = xs; are = refl; is = cc; rest = cc }
@@ -134,21 +135,21 @@ module _ (total first : ℕ) (files : Files) (desc : Described) (well : IsWellFo
   order : DumpsInOrder (IsDumpFound w.found.finds.trail.first files) (dumps_of files) (history_of all).pending
   order = subst (λ (k : ℕ). DumpsInOrder (IsDumpFound k files) (dumps_of files) (history_of all).pending) (sym w.found.first_is) w.order
 
-  abbrev state_by : (n : ℕ) (db : Db) → TellsAt all counts desc w.stands.kept.numbered n db → StateAt files n desc db
-  state_by n db t = record { entries = all; finds = w.found.finds; agrees = agrees; order = order; lives = t.0; described = t.1; well_formed = well; spells = t.2 }
+  abbrev state_by : (n : ℕ) (db : Db) → IsValid desc db → TellsAt all counts desc w.stands.kept.numbered n db → StateAt files n desc db
+  state_by n db valid t = record { entries = all; finds = w.found.finds; agrees = agrees; order = order; lives = t.0; described = t.1; well_formed = well; spells = t.2; valid = valid }
 
-  live_state : (q : Quiet) → HasLive desc (points_of (telling_of total first) files) q → StateAt files q.0 desc q.1
-  live_state q h = state_by q.0 q.1 (tells_at all counts desc w.stands.kept.numbered h.before h.after h.point q.0 q.1 h.are h.number h.schema h.spells)
+  live_state : (q : Quiet) → IsValid desc q.1 → HasLive desc (points_of (telling_of total first) files) q → StateAt files q.0 desc q.1
+  live_state q valid h = state_by q.0 q.1 valid (tells_at all counts desc w.stands.kept.numbered h.before h.after h.point q.0 q.1 h.are h.number h.schema h.spells)
 
-  last_state : (n : ℕ) (db : Db) → LivesEndWith desc (points_of (telling_of total first) files) n db → StateOf files n desc db
-  last_state n db s = record {
-    at_point = state_by n db (tells_at all counts desc w.stands.kept.numbered s.before [] s.point n db s.are s.number s.schema s.spells);
+  last_state : (n : ℕ) (db : Db) → IsValid desc db → LivesEndWith desc (points_of (telling_of total first) files) n db → StateOf files n desc db
+  last_state n db valid s = record {
+    at_point = state_by n db valid (tells_at all counts desc w.stands.kept.numbered s.before [] s.point n db s.are s.number s.schema s.spells);
     last = last_at all counts desc w.stands.kept.numbered s.before [] s.point n db s.are s.number s.schema s.spells refl;
   }
 
 pub stands : StandsLaw
 stands = record {
-  at = λ total first files desc q well w h. live_state total first files desc well w q h;
-  last = λ total first files desc n db well w s. last_state total first files desc well w n db s;
+  at = λ total first files desc q well valid w h. live_state total first files desc well w q valid h;
+  last = λ total first files desc n db well valid w s. last_state total first files desc well w n db valid s;
   next = λ total first files w. record { entries = trail_entries total first files; finds = w.found.finds; is = refl };
 }

@@ -16,20 +16,9 @@ use Rattle.dms_run.specs.Stops.{last_quiet_number, IsOneOf}
 use Rattle.dms_run.proofs.Standing.{stands}
 use Rattle.dms_run.proofs.Words.{last_one}
 use Rattle.dms_run.specs.RunStands.{EndsStand, StopsStand}
-use Rattle.dms_run.proofs.Lives.{next_is_one, state_lives}
+use Rattle.dms_run.proofs.Lives.{next_is_one}
+use Rattle.dms_run.proofs.SamePoints.{HasPointOf, has_behind, same_point}
 use Rattle.dms_run.proofs.NoLater.{RisesBy, rises_by, number_high, no_later}
-
--- a point of entry is among all
-has_more : (d : Described) (points more : List DescribedPoint) (q : Quiet) → HasLive d points q → HasLive d (points ++ more) q
-has_more d points more q h = record {
-  before = h.before;
-  point = h.point;
-  after = h.after ++ more;
-  are = ap (λ (l : List DescribedPoint). l ++ more) h.are ∙ append_assoc h.before (h.point ∷ h.after) more;
-  number = h.number;
-  schema = h.schema;
-  spells = h.spells;
-}
 
 -- one of a list and another
 either_part : (q : Quiet) (xs ys : List Quiet) → IsOneOf q (xs ++ ys) → IsOneOf q xs ⊎ IsOneOf q ys
@@ -48,28 +37,29 @@ take_front [] ys = refl
 take_front (x ∷ xs) ys = ap (λ (l : List Quiet). x ∷ l) (take_front xs ys)
 
 pub stand : StopsStand
-stand files n desc db h begins next has_next entry lines x r =
+stand files n desc db h next has_next entry lines x r =
     let t = telling_of h.total h.first in
     let points = points_of t files in
     let scripts = runnable desc h.formed in
-    let stay = stay_valid desc scripts db begins next lines in
+    let stay = stay_valid desc scripts db h.valid next lines in
+    let each_valid : (q : Quiet) → IsOneOf q (answers_quiets desc db next lines) → IsValid desc q.1 = λ q one. of_all (λ (p : Quiet). IsValid desc p.1) q (answers_quiets desc db next lines) stay.valid one in
     let rises = rises_by next _ stay.numbers in
     let low : n < next = subst (λ (k : ℕ). n < k) (next_is_one h.total h.first next files h.whole has_next) (point_below t files n h.whole h.lives.found) in
     let point = last_quiet_number n r.made in
     let now = last_quiet db r.made in
     let recovered : ((point ≡ n) × (now ≡ db)) ⊎ IsOneOf (point, now) (answers_quiets desc db next lines) =
     subst (λ (l : List Quiet). ((point ≡ n) × (now ≡ db)) ⊎ IsOneOf (point, now) l) r.front_of (last_one n db r.made r.rest) in
+    let valid : IsValid desc now = ⊎_elim (λ same. subst (IsValid desc) (sym same.1) h.valid) (λ one. each_valid (point, now) one) recovered in
     record {
       point = point;
       now = now;
-      state = (stands.last h.total h.first x.files desc point now h.formed r.whole r.state);
-      valid = ⊎_elim (λ same. subst (IsValid desc) (sym same.1) begins) (λ one. of_all (λ (q : Quiet). IsValid desc q.1) (point, now) (answers_quiets desc db next lines) stay.valid one) recovered;
+      state = stands.last h.total h.first x.files desc point now h.formed valid r.whole r.state;
       recovered = recovered;
-      no_earlier = λ text printed is said. no_later _ next (tells_true desc scripts db begins next lines) rises n r.made r.rest text printed x.said r.front_of (r.text text is) said;
+      no_earlier = λ text printed is said. no_later _ next (tells_true desc scripts db h.valid next lines) rises n r.made r.rest text printed x.said r.front_of (r.text text is) said;
       text = λ t is. record { made = length r.made; point_is = ap (last_quiet_number n) (sym (ap (λ (l : List Quiet). take (length r.made) l) (sym r.front_of) ∙ take_front r.made r.rest)); printed = r.text t is };
-      keeps = λ d m then a. stands.at h.total h.first x.files d (m, then) a.well_formed r.whole
-          (subst (λ (l : List DescribedPoint). HasLive d l (m, then)) (sym r.kept) (has_more d points r.more (m, then) (state_lives h.total h.first files h.whole m d then a)));
-      each = λ q one le. stands.at h.total h.first x.files desc q h.formed r.whole (
+      keeps = λ m lives. same_point h.total h.first files x.files h.whole r.whole m
+          (λ schema blocks p. subst (λ (l : List DescribedPoint). HasPointOf l m schema blocks) (sym r.kept) (has_behind points r.more m schema blocks p)) lives;
+      each = λ q one le. stands.at h.total h.first x.files desc q h.formed (each_valid q one) r.whole (
           elim (either_part q r.made r.rest (subst (λ (l : List Quiet). IsOneOf q l) (sym r.front_of) one)) [
             | inl made ↦ of_all (HasLive desc (points_of t x.files)) q r.made r.each made
             | inr behind ↦ absurd (omega (arith, le, number_high n next r.made r.rest q low (subst (RisesBy next) (sym r.front_of) rises) behind))
@@ -86,7 +76,6 @@ end_stands total first files desc well n db begins next lines whole state next_i
     let stay = stay_valid desc (runnable desc well) db begins next lines in
     let quiets = answers_quiets desc db next lines in
     record {
-      state = stands.last total first files desc (last_quiet_number n quiets) (last_quiet db quiets) well whole state;
-      valid = stay.left;
+      state = stands.last total first files desc (last_quiet_number n quiets) (last_quiet db quiets) well stay.left whole state;
       has_next = subst (HasNext files) (next_is ∙ stay.next) (stands.next total first files whole);
     }

@@ -6,6 +6,7 @@ use Rattle.dms_desc.specs.Shape.{Described}
 use Rattle.dms_desc_bytes.specs.WellFormed.{IsWellFormed}
 use Rattle.dms_model.specs.Db.{Db}
 use Rattle.dms_model.specs.Points.{Point, Quiet, Stop, known_point}
+use Rattle.dms_model.specs.Valid.{IsValid}
 use Rattle.dms_runner.specs.Answers.{last_quiet}
 use Rattle.dms_runner.specs.Events.{RunEvent, quiets_of, CrashesWithin}
 use Rattle.dms_running.specs.Telling.{Telling}
@@ -63,10 +64,10 @@ module _ {S : Type 0} (g : Ghosts S) where
       → Runs (lift_stops desc (running_held g a).clock) (lift_stops desc (running_held g b).clock) (RunLeaves (IsWhole (telling (view_of g a.log))) entry (points_seen desc points) n db next events)
       → Runs (g.clock a.log.site) (g.clock b.log.site) (RunLeavesFiles (telling (view_of g a.log)) desc entry points n db next events)
 
--- The points that files hold are states that they stand for: scanning finds their entries, and each point has its Schema.
+-- The points that files hold, each with a valid database, are states that they stand for: scanning finds their entries, and each point has its Schema.
 pub record StandsLaw : Type 0 where
-  pub at : (total first : ℕ) (files : Files) (desc : Described) (q : Quiet) → IsWellFormed desc → IsWhole (telling_of total first) files
+  pub at : (total first : ℕ) (files : Files) (desc : Described) (q : Quiet) → IsWellFormed desc → IsValid desc q.1 → IsWhole (telling_of total first) files
       → HasLive desc (points_of (telling_of total first) files) q → StateAt files q.0 desc q.1
-  pub last : (total first : ℕ) (files : Files) (desc : Described) (n : ℕ) (db : Db) → IsWellFormed desc → IsWhole (telling_of total first) files
+  pub last : (total first : ℕ) (files : Files) (desc : Described) (n : ℕ) (db : Db) → IsWellFormed desc → IsValid desc db → IsWhole (telling_of total first) files
       → LivesEndWith desc (points_of (telling_of total first) files) n db → StateOf files n desc db
   pub next : (total first : ℕ) (files : Files) → IsWhole (telling_of total first) files → HasNext files (next_in (telling_of total first) files)

@@ -4,6 +4,7 @@ use Rattle.dms_desc.specs.Shape.{Described}
 use Rattle.dms_desc_bytes.specs.Spelling.{spelling}
 use Rattle.dms_desc_bytes.specs.WellFormed.{IsWellFormed}
 use Rattle.dms_model.specs.Db.{Db}
+use Rattle.dms_model.specs.Valid.{IsValid}
 use Rattle.dms_site.specs.Files.{Files}
 use Rattle.dms_history.specs.EntryEvents.{history_of, live_of}
 use Rattle.dms_history.specs.History.{last_point}
@@ -20,7 +21,7 @@ use Rattle.dms_run.specs.State.{StateOf, HasNext}
 use Rattle.dms_run.specs.States.{LivesEndWith}
 
 -- The files hold a database, whose trail is one that scanning finds and a writer keeps. Their last point is live and has this number,
--- the Schema there is that of the well-formed description, and the blocks there spell this database.
+-- the Schema there is that of the well-formed description, and the blocks there spell this database, which is valid.
 pub record HoldsLast (files : Files) (n : ℕ) (desc : Described) (db : Db) : Type 0 where
   pub total : ℕ
   pub first : ℕ
@@ -36,6 +37,7 @@ pub record HoldsLast (files : Files) (n : ℕ) (desc : Described) (db : Db) : Ty
   pub lives : IsLive (live_of (trail_entries total first files)) n
   pub described : schema_at (trail_entries total first files) n ≡ Some (spelling desc)
   pub formed : IsWellFormed desc
+  pub valid : IsValid desc db
 
 -- Files that hold a database have one next number, which their trail tells.
 abbrev pub NextIsOne : Type 0

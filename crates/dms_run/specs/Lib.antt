@@ -1,5 +1,6 @@
 pub mod States
 pub mod State
+pub mod SamePoint
 pub mod Stops
 pub mod Laws
 pub mod Files
@@ -7,4 +8,5 @@ pub mod Starting
 pub mod Ending
 pub mod Told
 pub mod Held
+pub mod Opens
 pub mod RunStands

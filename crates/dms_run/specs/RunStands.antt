@@ -15,6 +15,7 @@ use Rattle.dms_restore.specs.Logging.{telling_of}
 use Rattle.dms_scriptlaws.specs.Told.{told}
 use Rattle.dms_model.specs.Valid.{IsValid}
 use Rattle.dms_run.specs.Files.{RunLeavesFiles}
+use Rattle.dms_run.specs.SamePoint.{LivesIn, SamePoint}
 use Rattle.dms_run.specs.State.{StateAt, StateOf, HasNext}
 use Rattle.dms_run.specs.States.{LivesEndWith}
 use Rattle.dms_run.specs.Stops.{IsOneOf, PrintedUpTo, last_quiet_number}
@@ -28,29 +29,27 @@ pub record PrintsAlong (entry : List ℕ) (events : List RunEvent) (n point : �
   pub printed : PrintedUpTo entry events made said
 
 -- The files stand for the database of entry at point n, or for that of one of the quiet points of these events, at a point that isn't below what the text tells
--- that was printed behind the text of entry, and it is valid, so that another run may begin with it. Each state at a point that the files of entry stood for
--- they stand for, and each of the quiet points that isn't above the last point has its own. The next number hasn't fallen, and has risen by one at most
+-- that was printed behind the text of entry: so another run may begin with it. Each point of the files of entry is there, as it was,
+-- and each of the quiet points that isn't above the last point has its own state. The next number hasn't fallen, and has risen by one at most
 -- for each of the quiet points: so where there was room for the numbers of this run and of the runs after it, the number that is left has room for those.
 pub record RunStands (files : Files) (desc : Described) (entry : Option (List ℕ)) (n : ℕ) (db : Db) (next : ℕ) (events : List RunEvent) (x : Left) : Type 0 where
   pub point : ℕ
   pub now : Db
   pub state : StateOf x.files point desc now
-  pub valid : IsValid desc now
   pub recovered : ((point ≡ n) × (now ≡ db)) ⊎ IsOneOf (point, now) (quiets_of events)
   pub no_earlier : (text printed : List ℕ) → entry ≡ Some text → x.said ≡ text ++ printed → told printed ≤ point
   pub text : (t : List ℕ) → entry ≡ Some t → PrintsAlong t events n point x.said
-  pub keeps : (d : Described) (m : ℕ) (then : Db) → StateAt files m d then → StateAt x.files m d then
+  pub keeps : (m : ℕ) → LivesIn files m → SamePoint files x.files m
   pub each : (q : Quiet) → IsOneOf q (quiets_of events) → q.0 ≤ point → StateAt x.files q.0 desc q.1
   pub next_left : ℕ
   pub has_next : HasNext x.files next_left
   pub not_fallen : next ≤ next_left
   pub not_risen : next_left ≤ next + length (quiets_of events)
 
--- The files stand for the database of the last of the quiet points, or for that of entry at point n where there is none, it is valid, and the next number
--- follows those of the quiet points.
+-- The files stand for the database of the last of the quiet points, or for that of entry at point n where there is none, and the next number follows those
+-- of the quiet points.
 pub record LastStands (files : Files) (desc : Described) (n : ℕ) (db : Db) (next : ℕ) (quiets : List Quiet) : Type 0 where
   pub state : StateOf files (last_quiet_number n quiets) desc (last_quiet db quiets)
-  pub valid : IsValid desc (last_quiet db quiets)
   pub has_next : HasNext files (next + length quiets)
 
 -- So it is of files that hold what a script leaves that was carried out.
@@ -61,5 +60,5 @@ EndsStand = (total first : ℕ) (files : Files) (desc : Described) → IsWellFor
 
 -- So it is of the files that a stop within the run of a script leaves, which began with files that stand for this state and have this next number.
 abbrev pub StopsStand : Type 0
-StopsStand = (files : Files) (n : ℕ) (desc : Described) (db : Db) (h : HoldsLast files n desc db) → IsValid desc db → (next : ℕ) → HasNext files next → (entry : Option (List ℕ)) (lines : List (List ℕ)) (x : Left)
+StopsStand = (files : Files) (n : ℕ) (desc : Described) (db : Db) (h : HoldsLast files n desc db) (next : ℕ) → HasNext files next → (entry : Option (List ℕ)) (lines : List (List ℕ)) (x : Left)
     → RunLeavesFiles (telling_of h.total h.first) desc entry (points_of (telling_of h.total h.first) files) n db next (script_events desc db next lines) x → RunStands files desc entry n db next (script_events desc db next lines) x

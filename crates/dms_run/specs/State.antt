@@ -5,6 +5,7 @@ use Rattle.dms_desc_bytes.specs.Spelling.{spelling}
 use Rattle.dms_desc_bytes.specs.WellFormed.{IsWellFormed}
 use Rattle.dms_site.specs.Files.{Files, stored_of}
 use Rattle.dms_model.specs.Db.{Db}
+use Rattle.dms_model.specs.Valid.{IsValid}
 use Rattle.dms_store.specs.Spelled.{database_in}
 use Rattle.dms_history.specs.Entries.{Entry}
 use Rattle.dms_history.specs.EntryEvents.{history_of, live_of, next_of, Agrees}
@@ -20,7 +21,7 @@ use Rattle.dms_restore.specs.Dumped.{IsDumpFound, dumps_of}
 
 -- At their live point n the files stand for this database under this description: scanning refuses nothing, the entries agree with
 -- the dumps and the structure files, the description is that of the last whole live Schema before the place of n, and it is
--- well-formed, and the blocks at n spell the database. Where a restore by a dump is pending, that dump is in order.
+-- well-formed, the blocks at n spell the database, and that is valid. Where a restore by a dump is pending, that dump is in order.
 pub record StateAt (files : Files) (n : ℕ) (desc : Described) (db : Db) : Type 0 where
   pub entries : List Entry
   pub finds : IsFoundWith entries files
@@ -30,6 +31,7 @@ pub record StateAt (files : Files) (n : ℕ) (desc : Described) (db : Db) : Type
   pub described : schema_at entries n ≡ Some (spelling desc)
   pub well_formed : IsWellFormed desc
   pub spells : database_in desc (blocks_at (live_of entries) (here (dumps_of files) (history_of entries) (stored_of files)) n) ≡ Some db
+  pub valid : IsValid desc db
 
 -- The files stand for the database at their last point.
 pub record StateOf (files : Files) (n : ℕ) (desc : Described) (db : Db) : Type 0 where

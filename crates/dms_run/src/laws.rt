@@ -2,7 +2,9 @@ ghost use Rattle.dms_run.specs.Laws.{StopsLaw, EndsLaw, AllowsLaw, OneStateLaw, 
 ghost use Rattle.dms_run.specs.Ending.{ScriptCloses};
 ghost use Rattle.dms_run.specs.Files.{FilesLaw, FilesLeft, StandsLaw};
 ghost use Rattle.dms_run.specs.Held.{NextIsOne, StatesAreHeld};
+ghost use Rattle.dms_run.specs.Opens.{StatesHold};
 ghost use Rattle.dms_run.specs.RunStands.{EndsStand, StopsStand};
+ghost use Rattle.dms_run.specs.SamePoint.{StatesStay};
 ghost use Rattle.dms_run.specs.Starting.{PartLeaves, ScriptEnds};
 ghost use Rattle.dms_run.specs.Told.{ScriptsTellNoLater};
 
@@ -51,10 +53,15 @@ pub fn told_law()
 {}
 
 /// The files that a stop within the run of a script leaves stand for the database of entry or of a quiet point, no earlier than the
-/// printed text tells, and each point up to it has its own state. That database is valid. At the script's end it is the last quiet point's.
+/// printed text tells, and each point up to it has its own state. At the script's end it is the last quiet point's.
 pub fn stands_law()
     ensures stops { StopsStand }
     ensures ends { EndsStand }
+{}
+
+/// Files that stand for a state, and have a point of others as it is there, stand at that point for the state that the others stand for there.
+pub fn same_point_law()
+    ensures { StatesStay }
 {}
 
 /// Files that stand for a state hold a database, whose last live point has that state; and files that hold one have one next number.
@@ -62,3 +69,10 @@ pub fn held_law()
     ensures state { StatesAreHeld }
     ensures next { NextIsOne }
 {}
+
+/// Files that stand for a state hold a database that can be opened, whose last live point has that state.
+pub fn states_law()
+    ensures { StatesHold }
+{
+    held_law();
+}

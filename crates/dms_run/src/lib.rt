@@ -5,5 +5,6 @@
 mod laws;
 
 pub use laws::{
-    engine_law, files_law, held_law, run_law, site_law, stands_law, state_law, told_law,
+    engine_law, files_law, held_law, run_law, same_point_law, site_law, stands_law, state_law,
+    states_law, told_law,
 };

@@ -11,8 +11,9 @@ use Rattle.dms_runner.specs.declared.run.RunFault.{RunFault}
 use Rattle.dms_runner.specs.declared.run.RunFault.TheVariants as run
 use Rattle.dms_status.specs.declared.status.Status.{Status}
 use Rattle.dms_status.specs.declared.status.Status.TheVariants.{DiskFault, SayFault}
-use Rattle.dms_runtop.specs.Faults.{is_structure_file, IsWithin, run_status, damaged_status}
-use Rattle.dms_runtop.proofs.Endings.{damage_is}
+use Rattle.dms_guard.specs.Faults.{is_structure_file, damaged_status}
+use Rattle.dms_runtop.specs.Faults.{IsWithin, run_status}
+use Rattle.dms_guard.proofs.Refused.{damage_is}
 
 not_disk : (f k : ℕ) → damaged_status f k ≡ DiskFault → ⊥
 not_disk f k = damage_is (is_structure_file f) f k (λ x. x ≡ DiskFault → ⊥) (λ e. absurd cc) (λ e. absurd cc)

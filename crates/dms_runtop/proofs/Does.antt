@@ -6,12 +6,14 @@ use Rattle.dms_run.specs.RunStands.{EndsStand, StopsStand}
 use Rattle.dms_site.specs.declared.site.Site.{Ghosts}
 use Rattle.dms_site.specs.declared.source.Source as source
 use Rattle.dms_status.specs.declared.status.Status.{Status}
-use Rattle.dms_runtop.specs.Command.{BlamesShort, DatabaseState, HoldsTold, IsUnopened, NeverRefuses, RefusesRun, RunKeepsTrail, RunsCommand, StatesHold}
+use Rattle.dms_runtop.specs.Command.{BlamesShort, IsUnopened, NeverRefuses, RefusesRun, RunKeepsTrail, RunsCommand}
+use Rattle.dms_run.specs.Opens.{DatabaseState, HoldsTold, StatesHold}
 use Rattle.dms_runtop.specs.Full.{HasNoRoom}
-use Rattle.dms_runtop.specs.Guard.{StaysBeside}
+use Rattle.dms_guard.specs.Guard.{StaysBeside}
 use Rattle.dms_runtop.specs.Inputs.{BlamesInput}
 use Rattle.dms_runtop.specs.RunDoes.{Opens, RunDoes}
-use Rattle.dms_runtop.specs.Statuses.{IsOfRun, IsRefusal}
+use Rattle.dms_runtop.specs.Statuses.{IsOfRun}
+use Rattle.dms_guard.specs.Statuses.{IsRefusal}
 use Rattle.dms_runtop.proofs.Entered.{refuses_no_state, stands_at_end, stands_throughout}
 
 module _ {S I : Type 0} (g : Ghosts S) (i : source.Ghosts I) (old new : S) (from to : I) (status : Status) where
@@ -25,8 +27,8 @@ module _ {S I : Type 0} (g : Ghosts S) (i : source.Ghosts I) (old new : S) (from
     opens = opens;
     stands = stands_throughout g old state held stops told (i.left from) (i.left to) status new ran;
     ends = stands_at_end g old state ends told (i.left from) (i.left to) status new ran;
-    script = λ tells s is valid next has_next all left_is.
-        let r = ran tells s is valid next has_next all left_is in
+    script = λ tells s is next has_next all left_is.
+        let r = ran tells s is next has_next all left_is in
         record { total = r.total; first = r.first; trail = r.trail; does = r.runs.does };
     trail = trail;
     by_input = by_input;

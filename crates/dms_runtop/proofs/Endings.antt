@@ -9,16 +9,13 @@ use Rattle.dms_status.specs.declared.status.LimitKind.{LimitKind}
 use Rattle.dms_status.specs.declared.status.LimitKind.TheVariants as limit
 use Rattle.dms_status.specs.declared.status.Status.{Status}
 use Rattle.dms_status.specs.declared.status.Status.TheVariants.{Ok, BadWords, SchemaRefused, NoDatabase, Needed, InputFault, Memory, Limit, Damaged, SayFault, DiskFault, Exists, BadStatement, Reorganization, BadStream, Diverged, Flaw}
-use Rattle.dms_runtop.specs.Both.{first_of, second_of}
-use Rattle.dms_runtop.specs.Faults.{is_structure_file, damaged_status, run_status}
+use Rattle.dms_guard.specs.Both.{first_of, second_of}
+use Rattle.dms_guard.specs.Faults.{is_structure_file, damaged_status}
+use Rattle.dms_guard.proofs.Refused.{damage_is}
+use Rattle.dms_runtop.specs.Faults.{run_status}
 use Rattle.dms_runtop.specs.Statuses.{IsOfAuditLimit, IsOfClosing, IsOfScript}
 
 -- ---- a damaged block
-
--- by cases of the test
-pub damage_is : (b : Bool) (f k : ℕ) (P : Status → Type 0) → P (Damaged f k) → P Memory → P (cond b (Damaged f k) Memory)
-damage_is true f k P one two = one
-damage_is false f k P one two = two
 
 damaged_not_ok : (f k : ℕ) → damaged_status f k ≡ Ok → ⊥
 damaged_not_ok f k = damage_is (is_structure_file f) f k (λ x. x ≡ Ok → ⊥) (λ e. absurd cc) (λ e. absurd cc)

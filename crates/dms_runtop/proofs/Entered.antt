@@ -34,16 +34,18 @@ use Rattle.dms_run.specs.Held.{HoldsLast, NextIsOne, StatesAreHeld}
 use Rattle.dms_run.specs.RunStands.{EndsStand, StopsStand}
 use Rattle.dms_status.specs.declared.status.Status.{Status}
 use Rattle.dms_runtop.proofs.Bounds.{bounds_opening}
-use Rattle.dms_runtop.proofs.Refused.{open_ok}
-use Rattle.dms_runtop.specs.Command.{DatabaseState, GrowsOpened, HoldsState, HoldsTold, NeverRefuses, NeverRefusesState, RunKeepsTrail, RunsAlong, RunsCommand, RunsOpened, EndsInState, StandsOpened, StandsThroughout, StatesHold}
-use Rattle.dms_runtop.specs.Faults.{open_status}
+use Rattle.dms_guard.proofs.Refused.{open_ok}
+use Rattle.dms_run.specs.Opens.{DatabaseState, HoldsState, HoldsTold, StatesHold}
+use Rattle.dms_runtop.specs.Command.{GrowsOpened, NeverRefuses, NeverRefusesState, RunKeepsTrail, RunsAlong, RunsCommand, RunsOpened, EndsInState, StandsOpened, StandsThroughout}
+use Rattle.dms_guard.specs.Faults.{open_status}
 use Rattle.dms_runtop.specs.Over.{ReachesFiles, ScriptRuns, seen_site}
 use Rattle.dms_runtop.proofs.Endings.{IsUndone}
 use Rattle.dms_runtop.proofs.Fronts.{leaves_wide, script_widens}
 use Rattle.dms_runtop.proofs.Grows.{keeps_entered, keeps_opening}
-use Rattle.dms_runtop.proofs.Holding.{trail_of}
+use Rattle.dms_run.proofs.Holding.{trail_of}
 use Rattle.dms_runtop.proofs.Ran.{ran_nothing}
-use Rattle.dms_runtop.proofs.Since.{last_is, reopens_leaves, runs_since}
+use Rattle.dms_run.proofs.Holding.{last_is}
+use Rattle.dms_runtop.proofs.Since.{reopens_leaves, runs_since}
 
 -- ---- the description of the last point
 
@@ -185,12 +187,13 @@ module _ {S : Type 0} (g : Ghosts S) (old : S) (state : Option DatabaseState) wh
   pub runs_found : StatesHold → NextIsOne → (IsTrue g.tells → HoldsTold state (g.files old)) → (o : Opened S) → (IsTrue g.tells → OpensAt o.log.end.total o.log.first (g.files old) o.point o.next o.schema.items o.counts.items)
       → (IsTrue g.tells → IsWhole (telling_of o.log.end.total o.log.first) (g.files old) → RunsFrom (g.files old) o.point o.next o.schema.items o.counts.items (view_of g o.log)) → (IsTrue g.tells → ReopensSince g old o.log.site) → (IsTrue g.tells → OpeningGrows g old o.log.site)
       → g.said o.log.site ≡ g.said old → (left left' : Option (List ℕ)) (status : Status) (new : S) → (IsTrue (is_some state) → RunsOpened g o left left' status new) → RunsCommand g state old new left left' status
-  runs_found hold one_next told o opens runs since grows said left left' status new ran tells s is valid next has_next all held =
-      runs_entered g old s one_next o (opens tells) (runs tells) (since tells) (grows tells) said left left' status new (ran (some_told state s is)) tells (hold (g.files old) s (told tells s is)) valid next has_next all held
+  runs_found hold one_next told o opens runs since grows said left left' status new ran tells s is next has_next all held =
+      runs_entered g old s one_next o (opens tells) (runs tells) (since tells) (grows tells) said left left' status new (ran (some_told state s is)) tells (hold (g.files old) s (told tells s is)) (told tells s is).at_point.valid
+      next has_next all held
 
   pub runs_refused : StatesHold → NextIsOne → (IsTrue g.tells → HoldsTold state (g.files old)) → (fault : OpenFault) (new : S) → (IsTrue g.tells → (total first : ℕ) → IsOpenable total first (g.files old) → IsNoRefusal fault) → (IsTrue g.tells → OpeningGrows g old new)
       → (IsTrue g.tells → ReopensSince g old new) → g.said new ≡ g.said old → (left left' : Option (List ℕ)) (status : Status) → status ≡ open_status fault → RunsCommand g state old new left left' status
-  runs_refused hold one_next told fault new none grows since said left left' status status_is tells s is valid next has_next all held =
+  runs_refused hold one_next told fault new none grows since said left left' status status_is tells s is next has_next all held =
       subst (λ (x : Status). RunsAlong g s next all old new left' x) (sym status_is)
       (runs_unopened g old s one_next fault new (none tells) (grows tells) (since tells) said left' (hold (g.files old) s (told tells s is)) next has_next all)
 
@@ -205,10 +208,10 @@ module _ {S : Type 0} (g : Ghosts S) (old : S) (state : Option DatabaseState) wh
   -- each stop leaves a state
   pub stands_throughout : StatesAreHeld → StopsStand → (IsTrue g.tells → HoldsTold state (g.files old)) → (left left' : Option (List ℕ)) (status : Status) (new : S) → RunsCommand g state old new left left' status
       → StandsThroughout g state old new left
-  stands_throughout held law told left left' status new ran tells s is valid next has_next all left_is =
+  stands_throughout held law told left left' status new ran tells s is next has_next all left_is =
       let files : Files = g.files old in
       let h : HoldsLast files s.point s.desc s.db = held files s.point s.desc s.db (told tells s is) in
-      let along : RunsAlong g s next all old new left' status = ran tells s is valid next has_next all left_is in
+      let along : RunsAlong g s next all old new left' status = ran tells s is next has_next all left_is in
       let one = trail_is_one along.total along.first h.total h.first files along.trail (trail_of h) in
       let each : Runs (g.clock old) (g.clock new) (RunLeavesFiles (telling_of along.total along.first) s.desc (seen_site g old).said (points_of (telling_of along.total along.first) files) s.point s.db next (script_events s.desc s.db next (raw_lines all))) =
       runs_weaken along.runs.every_moment (leaves_wide (script_widens s.desc s.db next (raw_lines all) along.runs.does.carried.lines along.runs.does.carried.events along.runs.does.carried.are)) in
@@ -216,11 +219,11 @@ module _ {S : Type 0} (g : Ghosts S) (old : S) (state : Option DatabaseState) wh
       subst (λ k. Runs (g.clock old) (g.clock new) (RunLeavesFiles (telling_of k h.first) s.desc (seen_site g old).said (points_of (telling_of k h.first) files) s.point s.db next (script_events s.desc s.db next (raw_lines all)))) one.0
       (subst (λ k. Runs (g.clock old) (g.clock new) (RunLeavesFiles (telling_of along.total k) s.desc (seen_site g old).said (points_of (telling_of along.total k) files) s.point s.db next (script_events s.desc s.db next (raw_lines all)))) one.1
       each) in
-      runs_weaken here (λ x l. law files s.point s.desc s.db h valid next has_next (seen_site g old).said (raw_lines all) x l)
+      runs_weaken here (λ x l. law files s.point s.desc s.db h next has_next (seen_site g old).said (raw_lines all) x l)
 
   -- and so does the end
   pub stands_at_end : EndsStand → (IsTrue g.tells → HoldsTold state (g.files old)) → (left left' : Option (List ℕ)) (status : Status) (new : S) → RunsCommand g state old new left left' status → EndsInState g state old new left status
-  stands_at_end law told left left' status new ran tells s is valid next has_next all here ok =
-      let along : RunsAlong g s next all old new left' status = ran tells s is valid next has_next all here in
+  stands_at_end law told left left' status new ran tells s is next has_next all here ok =
+      let along : RunsAlong g s next all old new left' status = ran tells s is next has_next all here in
       let ends : ReachesFiles (telling_of along.total along.first) s.desc s.point s.db next (raw_lines all) (seen_site g new) = along.runs.at_ok ok in
-      (law along.total along.first (g.files new) s.desc (told tells s is).at_point.well_formed s.point s.db valid next (raw_lines all) ends.whole ends.state ends.next_is, ends.only)
+      (law along.total along.first (g.files new) s.desc (told tells s is).at_point.well_formed s.point s.db (told tells s is).at_point.valid next (raw_lines all) ends.whole ends.state ends.next_is, ends.only)

@@ -4,7 +4,7 @@ use Rattle.dms_moments.specs.Moments.{Clock, Steps}
 use Rattle.dms_moments.specs.MomentLaws.{runs_none, steps_weaken}
 use Rattle.dms_opening.specs.declared.opened.Opened.{Opened}
 use Rattle.dms_opening.specs.Openings.{IsTrailFound, OpeningGrows}
-use Rattle.dms_opening.proofs.Callers.{trail_is_one}
+use Rattle.dms_guard.proofs.Trails.{kept_at, left_at, trail_entered}
 use Rattle.dms_restore.specs.GrowLaws.{kept_none, kept_on, leaves_none, left_on, log_grows_more, log_grows_none, stays_none, stays_on}
 use Rattle.dms_restore.specs.Logging.{LeavesTrail, LogGrows, LogStays, TrailKept, telling}
 use Rattle.dms_restore.specs.Views.{view_of}
@@ -24,13 +24,6 @@ memory_not_ok is = absurd cc
 -- a call that only looks leaves it
 left_looked : (total first : ℕ) (a b : Clock Left) → Steps Same a b → Steps (LeavesTrail total first) a b
 left_looked total first a b same = steps_weaken same (λ x y now is. subst (λ (z : Left). LeavesTrail total first x z) (sym is) (leaves_none total first x))
-
--- the same trail, named otherwise
-kept_at : {total total' first first' : ℕ} {a b : Files} → total ≡ total' → first ≡ first' → TrailKept total first a b → TrailKept total' first' a b
-kept_at {total} {total'} {first} {first'} {a} {b} one two kept = subst (λ k. TrailKept total' k a b) two (subst (λ k. TrailKept k first a b) one kept)
-
-left_at : {total total' first first' : ℕ} {a b : Clock Left} → total ≡ total' → first ≡ first' → Steps (LeavesTrail total first) a b → Steps (LeavesTrail total' first') a b
-left_at {total} {total'} {first} {first'} {a} {b} one two left = subst (λ k. Steps (LeavesTrail total' k) a b) two (subst (λ k. Steps (LeavesTrail k first) a b) one left)
 
 module _ {S : Type 0} (g : Ghosts S) where
   -- behind a running database
@@ -107,14 +100,8 @@ module _ {S : Type 0} (g : Ghosts S) where
   pub keeps_entered : (old new : S) (o : Opened S) → IsTrailFound o.log.end.total o.log.first (g.files old) → OpeningGrows g old o.log.site → GrowsOpened g o new → IsTrue g.tells → KeepsTrail g old new
   keeps_entered old new o trail grows grown told =
       let then = grown told in
-      record {
-        kept = λ total first found.
-            let one = trail_is_one o.log.end.total o.log.first total first (g.files old) trail found in
-            kept_on total first (g.files old) (g.files o.log.site) (g.files new) (grows.kept total first found) (kept_at one.0 one.1 then.kept);
-        left = λ total first found.
-            let one = trail_is_one o.log.end.total o.log.first total first (g.files old) trail found in
-            left_on total first (g.clock old) (g.clock o.log.site) (g.clock new) (grows.left total first found) (left_at one.0 one.1 then.left);
-      }
+      let on = trail_entered g old o.log.site new o.log.end.total o.log.first trail grows then.kept then.left in
+      record { kept = λ total first found. (on total first found).0; left = λ total first found. (on total first found).1 }
 
 -- and so its trail grows over the running database that was opened
 pub grows_described : {S : Type 0} (g : Ghosts S) (o : Opened S) (r : Running S) → r.log.site ≡ o.log.site → r.log.end.total ≡ o.log.end.total → r.log.first ≡ o.log.first → (site : S) → GrowsOver g r site → GrowsOpened g o site

@@ -11,13 +11,15 @@ use Rattle.dms_status.specs.declared.status.LimitKind.{LimitKind}
 use Rattle.dms_status.specs.declared.status.LimitKind.TheVariants as limit
 use Rattle.dms_status.specs.declared.status.Status.{Status}
 use Rattle.dms_status.specs.declared.status.Status.TheVariants.{Ok, InputFault, Limit}
-use Rattle.dms_runtop.specs.Faults.{IsWithin, damaged_status, open_status, run_status}
+use Rattle.dms_runtop.specs.Faults.{IsWithin, run_status}
+use Rattle.dms_guard.specs.Faults.{damaged_status, open_status}
 use Rattle.dms_runtop.specs.Full.{IsOfFull}
 use Rattle.dms_runtop.specs.Inputs.{BlamesInput}
 use Rattle.dms_runtop.specs.Statuses.{IsOfClosing}
 use Rattle.dms_runtop.proofs.Counted.{within_input}
-use Rattle.dms_runtop.proofs.Endings.{IsUndone, closing_input, damage_is, ok_not_limit, run_bytes_is, run_input, run_lines_is, run_not_ok, undone_input, undone_limit, undone_ok}
-use Rattle.dms_runtop.proofs.Refused.{open_input, open_ok, short_not}
+use Rattle.dms_runtop.proofs.Endings.{IsUndone, closing_input, ok_not_limit, run_bytes_is, run_input, run_lines_is, run_not_ok, undone_input, undone_limit, undone_ok}
+use Rattle.dms_guard.proofs.Refused.{damage_is}
+use Rattle.dms_guard.proofs.Refused.{open_input, open_ok, short_not}
 
 -- ---- a status that isn't of the input
 

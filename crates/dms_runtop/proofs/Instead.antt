@@ -17,7 +17,8 @@ use Rattle.dms_status.specs.declared.status.LimitKind.{LimitKind}
 use Rattle.dms_status.specs.declared.status.LimitKind.TheVariants.{AuditFile}
 use Rattle.dms_status.specs.declared.status.Status.{Status}
 use Rattle.dms_status.specs.declared.status.Status.TheVariants.{Ok, Limit, DiskFault, InputFault, Damaged, Memory, SayFault}
-use Rattle.dms_runtop.specs.Command.{DatabaseState, RunsCommand, RunsOpened}
+use Rattle.dms_run.specs.Opens.{DatabaseState}
+use Rattle.dms_runtop.specs.Command.{RunsCommand, RunsOpened}
 use Rattle.dms_runtop.specs.Full.{IsOfFull}
 use Rattle.dms_runtop.specs.Over.{PassesScript, ScriptRuns, SiteSeen, seen_site}
 use Rattle.dms_runtop.proofs.Bounds.{bounds_instead}
@@ -90,8 +91,8 @@ module _ {S : Type 0} (g : Ghosts S) where
 
   -- a call was refused
   pub command_instead : (state : Option DatabaseState) (old x : S) (left left' : Option (List ℕ)) (s : Status) → TakesPlace s Memory → RunsCommand g state old x left left' s → RunsCommand g state old x left left' Memory
-  command_instead state old x left left' s place ran told d is valid next has all held =
-      let r = ran told d is valid next has all held in
+  command_instead state old x left left' s place ran told d is next has all held =
+      let r = ran told d is next has all held in
       record {
         total = r.total;
         first = r.first;

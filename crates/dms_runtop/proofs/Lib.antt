@@ -12,15 +12,12 @@ pub mod Since
 pub mod Engine
 pub mod Looked
 pub mod Described
-pub mod Holding
 pub mod Entered
 pub mod Refused
 pub mod Gated
 pub mod Instead
-pub mod Guarding
 pub mod Fulls
 pub mod Bounds
 pub mod Inputs
 pub mod Grows
-pub mod Naming
 mod Turned

@@ -14,7 +14,7 @@ use Rattle.dms_status.specs.declared.status.Status.{Status}
 use Rattle.dms_status.specs.declared.status.Status.TheVariants.{Memory}
 use Rattle.dms_wal.specs.Marks.{IsDescription}
 use Rattle.dms_runtop.specs.Command.{IsRefused, IsUnopened}
-use Rattle.dms_runtop.specs.Faults.{refusal_status}
+use Rattle.dms_guard.specs.Faults.{refusal_status}
 
 pub opened_files : {S : Type 0} {files : Files} (o : Opened S) → OpensAt o.log.end.total o.log.first files o.point o.next o.schema.items o.counts.items → IsDescription o.schema.items → CanOpen files
 opened_files o opens described = record { total = o.log.end.total; first = o.log.first; point = o.point; next = o.next; schema = o.schema.items; counts = o.counts.items; opens = opens; described = described }

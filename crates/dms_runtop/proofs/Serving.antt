@@ -8,7 +8,7 @@ use Rattle.dms_desc.proofs.Numbers.{some_at}
 use Rattle.dms_desc_bytes.specs.Spelling.{spelling}
 use Rattle.dms_desc_bytes.specs.WellFormed.{IsWellFormed}
 use Rattle.dms_opening.specs.Openings.{NamesStructures}
-use Rattle.dms_runtop.specs.Both.{first_of, second_of, both_of}
+use Rattle.dms_guard.specs.Both.{first_of, second_of, both_of}
 use Rattle.dms_runtop.specs.Describing.{IsUnderSchema}
 use Rattle.dms_store.specs.Lifted.{Serves}
 use Rattle.dms_store.specs.Serving.{IsServed}

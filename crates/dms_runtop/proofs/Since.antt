@@ -67,14 +67,3 @@ module _ (opening opening0 : ℕ) (t : Telling) (d : Described) (ps : List Descr
         every_moment = runs_on (before does.carried.events) r.every_moment (λ x l. l);
         at_ok = r.at_ok;
       }
-
--- ---- the last point
-
-number_end : (before : Option ℕ) (ps : List DescribedPoint) (p : DescribedPoint) → number_from before (ps ++ p ∷ []) ≡ Some p.number
-number_end before [] p = refl
-number_end before (q ∷ qs) p = number_end (Some q.number) qs p
-
--- the number of the last point
-pub last_is : (desc : Described) (ps : List DescribedPoint) (n m : ℕ) (db : Db) → LivesEndWith desc ps n db → last_number ps ≡ Some m → m ≡ n
-last_is desc ps n m db state is =
-    same_Some m n (sym is ∙ ap last_number state.are ∙ number_end None state.before state.point ∙ ap (λ (k : ℕ). Some k) state.number)

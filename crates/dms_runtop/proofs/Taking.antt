@@ -6,12 +6,12 @@ use Rattle.dms_site.specs.declared.source.Source as source
 use Rattle.dms_status.specs.declared.status.LimitKind.TheVariants.{AuditFile}
 use Rattle.dms_status.specs.declared.status.Status.{Status}
 use Rattle.dms_status.specs.declared.status.Status.TheVariants.{DiskFault, InputFault, Limit, Memory, Ok}
-use Rattle.dms_runtop.specs.Faults.{damaged_status, open_status}
+use Rattle.dms_guard.specs.Faults.{damaged_status, open_status}
 use Rattle.dms_runtop.specs.Full.{IsOfFull}
 use Rattle.dms_runtop.specs.Inputs.{TakesInput}
 use Rattle.dms_runtop.proofs.Endings.{IsUndone, undone_input, undone_ok}
 use Rattle.dms_runtop.proofs.Inputs.{blames_full, blames_opening, blames_short, blames_undone}
-use Rattle.dms_runtop.proofs.Refused.{open_input, open_ok, short_not}
+use Rattle.dms_guard.proofs.Refused.{open_input, open_ok, short_not}
 
 full_not_ok : (k : ℕ) (s : Status) → IsOfFull k s → s ≡ Ok → ⊥
 full_not_ok k s (inl full) is = limit_not_ok (sym full ∙ is)

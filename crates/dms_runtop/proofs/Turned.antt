@@ -16,16 +16,19 @@ use Rattle.dms_run.specs.Held.{NextIsOne}
 use Rattle.dms_status.specs.declared.status.LimitKind.TheVariants.{AuditFile}
 use Rattle.dms_status.specs.declared.status.Status.{Status}
 use Rattle.dms_status.specs.declared.status.Status.TheVariants.{DiskFault, Limit, SayFault}
-use Rattle.dms_runtop.specs.Command.{DatabaseState, HoldsTold, IsUnopened, RunsCommand, StatesHold}
-use Rattle.dms_runtop.specs.Faults.{refusal_status}
+use Rattle.dms_run.specs.Opens.{DatabaseState, HoldsTold, StatesHold}
+use Rattle.dms_runtop.specs.Command.{IsUnopened, RunsCommand}
+use Rattle.dms_guard.specs.Faults.{refusal_status}
 use Rattle.dms_runtop.specs.Full.{HasNoRoom}
 use Rattle.dms_runtop.specs.Inputs.{TakesInput}
 use Rattle.dms_runtop.specs.RunDoes.{Opens}
-use Rattle.dms_runtop.specs.Statuses.{IsOfRun, IsRefusal}
+use Rattle.dms_runtop.specs.Statuses.{IsOfRun}
+use Rattle.dms_guard.specs.Statuses.{IsRefusal}
 use Rattle.dms_runtop.proofs.Does.{opens_of}
 use Rattle.dms_runtop.proofs.Entered.{openable, runs_refused}
 use Rattle.dms_runtop.proofs.Fulls.{full_opening}
-use Rattle.dms_runtop.proofs.Refused.{counts_open, fault_low, no_refusal, not_written, open_of_run, open_say, short_clean, short_no_refusal, short_not, short_of_run}
+use Rattle.dms_guard.proofs.Refused.{counts_open, fault_low, no_refusal, not_written, open_say, short_clean, short_no_refusal, short_not}
+use Rattle.dms_runtop.proofs.Refused.{open_of_run, short_of_run}
 use Rattle.dms_runtop.proofs.Taking.{takes_short, takes_unopened}
 
 pub turned_status : (r : OpenRefusal) → IsOfRun (refusal_status r)
@@ -54,7 +57,7 @@ module _ {S : Type 0} (g : Ghosts S) (old new : S) where
   pub turned_ran : (state : Option DatabaseState) → StatesHold → NextIsOne → (IsTrue g.tells → HoldsTold state (g.files old)) → (r : OpenRefusal) → (IsTrue g.tells → (total first : ℕ) → IsOpenable total first (g.files old) → OnFault r IsNoRefusal)
       → (IsTrue g.tells → OpeningGrows g old new) → (IsTrue g.tells → ReopensSince g old new) → g.said new ≡ g.said old → (left left' : Option (List ℕ)) (status : Status) → status ≡ refusal_status r → RunsCommand g state old new left left' status
   turned_ran state hold next told (Fault fault) complete grows since said left left' status is = runs_refused g old state hold next told fault new complete grows since said left left' status is
-  turned_ran state hold next told (Short f b) complete grows since said left left' status is = λ tells s at valid n has all held.
+  turned_ran state hold next told (Short f b) complete grows since said left left' status is = λ tells s at n has all held.
       let h = hold (g.files old) s (told tells s at) in
       absurd (complete tells h.total h.first (openable g old s h))
 

@@ -4,6 +4,7 @@ use Rattle.std.specs.declared.option.Option.{Option}
 use Rattle.dms_moments.specs.Moments.{Runs, Steps}
 use Rattle.dms_feed.specs.Lines.{raw_lines}
 use Rattle.dms_runner.specs.Answers.{answers_quiets, script_events}
+use Rattle.dms_run.specs.Opens.{DatabaseState}
 use Rattle.dms_run.specs.RunStands.{LastStands, RunStands}
 use Rattle.dms_model.specs.Valid.{IsValid}
 use Rattle.dms_desc.specs.Shape.{Described}
@@ -27,33 +28,9 @@ use Rattle.dms_opening.specs.Openings.{IsTrailFound, IsOpenable, RunsFrom}
 use Rattle.dms_opening.specs.Whole.{NoShortOf, RefusesWhole, StaysUnopenedWhole}
 use Rattle.dms_status.specs.declared.status.Status.{Status}
 use Rattle.dms_status.specs.declared.status.Status.TheVariants.{Ok, Damaged}
-use Rattle.dms_runtop.specs.Faults.{refusal_status}
+use Rattle.dms_guard.specs.Faults.{refusal_status}
 use Rattle.dms_runtop.specs.Over.{ScriptRuns, seen_site}
-use Rattle.dms_runtop.specs.Statuses.{IsRefusal}
-
--- A state: the number of the last point, the description, and the database there.
-pub record DatabaseState : Type 0 where
-  pub point : ℕ
-  pub desc : Described
-  pub db : Db
-
--- where a state is told, files stand for it
-abbrev pub HoldsTold : Option DatabaseState → Files → Type 0
-HoldsTold state files = (s : DatabaseState) → state ≡ Some s → StateOf files s.point s.desc s.db
-
--- Files that stand for this state hold a database, as an opening asks for it: their trail is found, and their last live point, which has that
--- number and is described, is the last of their points.
-pub record HoldsState (files : Files) (s : DatabaseState) : Type 0 where
-  pub total : ℕ
-  pub first : ℕ
-  pub trail : IsTrailFound total first files
-  pub whole : IsWhole (telling_of total first) files
-  pub described : LastIsDescribed (trail_entries total first files)
-  pub state : LivesEndWith s.desc (points_of (telling_of total first) files) s.point s.db
-  pub formed : IsWellFormed s.desc
-
-abbrev pub StatesHold : Type 0
-StatesHold = (files : Files) (s : DatabaseState) → StateOf files s.point s.desc s.db → HoldsState files s
+use Rattle.dms_guard.specs.Statuses.{IsRefusal}
 
 module _ {S : Type 0} (g : Ghosts S) where
   -- The database that was opened stands, under the description whose bytes were found.
@@ -74,11 +51,11 @@ module _ {S : Type 0} (g : Ghosts S) where
   abbrev pub GrowsOpened : Opened S → S → Type 0
   GrowsOpened o site = IsTrue g.tells → LogStays (view_of g o.log) (over_site g (view_of g o.log) site)
 
-  -- The one premise of what is said of a script: the files of a site, which are told, hold a valid database; this is their next
-  -- number; and this is the input.
+  -- The one premise of what is said of a script: the files of a site, which are told, stand for a state; this is their next number; and
+  -- this is the input.
   abbrev pub OverDatabase : Option DatabaseState → S → Option (List ℕ) → (DatabaseState → ℕ → List ℕ → Type 0) → Type 0
   OverDatabase state old left Holds =
-      IsTrue g.tells → (s : DatabaseState) → state ≡ Some s → IsValid s.desc s.db → (next : ℕ) → HasNext (g.files old) next → (all : List ℕ) → left ≡ Some all → Holds s next all
+      IsTrue g.tells → (s : DatabaseState) → state ≡ Some s → (next : ℕ) → HasNext (g.files old) next → (all : List ℕ) → left ≡ Some all → Holds s next all
 
   -- A run of the script over the database that the files of a site stand for, whose next number is this one, along their trail.
   pub record RunsAlong (s : DatabaseState) (next : ℕ) (all : List ℕ) (old new : S) (left' : Option (List ℕ)) (status : Status) : Type 0 where
@@ -102,12 +79,12 @@ module _ {S : Type 0} (g : Ghosts S) where
   RunKeepsTrail state old new = IsTrue g.tells → (s : DatabaseState) → state ≡ Some s → KeepsTrail old new
 
   -- At every moment a stop leaves files that stand for that database or for that of one quiet point, no earlier than the printed text tells, and each
-  -- point up to it has its own state. That database is valid, too.
+  -- point up to it has its own state.
   abbrev pub StandsThroughout : Option DatabaseState → S → S → Option (List ℕ) → Type 0
   StandsThroughout state old new left =
       OverDatabase state old left (λ s next all. Runs (g.clock old) (g.clock new) (RunStands (g.files old) s.desc (seen_site g old).said s.point s.db next (script_events s.desc s.db next (raw_lines all))))
 
-  -- And at status 0 the files stand for the database of the last quiet point, or for that of entry, which is valid, too. A stop leaves no other files.
+  -- And at status 0 the files stand for the database of the last quiet point, or for that of entry. A stop leaves no other files.
   abbrev pub EndsInState : Option DatabaseState → S → S → Option (List ℕ) → Status → Type 0
   EndsInState state old new left status =
       OverDatabase state old left (λ s next all. status ≡ Ok → LastStands (g.files new) s.desc s.point s.db next (answers_quiets s.desc s.db next (raw_lines all)) × Only (g.files new) (g.clock new))

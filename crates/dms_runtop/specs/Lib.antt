@@ -1,13 +1,9 @@
-pub mod Both
 pub mod Faults
 pub mod Statuses
 pub mod Over
 pub mod Describing
-pub mod Bare
 pub mod Command
 pub mod RunDoes
-pub mod Guard
-pub mod GuardLaws
 pub mod Full
 pub mod Bound
 pub mod Inputs

@@ -4,12 +4,14 @@ use Rattle.std.specs.declared.option.Option.{Option}
 use Rattle.dms_opening.specs.Openings.{IsTrailFound}
 use Rattle.dms_opening.specs.Whole.{CanOpenWhole}
 use Rattle.dms_restore.specs.Logging.{telling_of}
-use Rattle.dms_runtop.specs.Command.{BlamesShort, DatabaseState, EndsInState, IsRefused, IsUnopened, NeverRefuses, NeverRefusesState, OverDatabase, RunKeepsTrail, StandsThroughout}
+use Rattle.dms_runtop.specs.Command.{BlamesShort, EndsInState, IsRefused, IsUnopened, NeverRefuses, NeverRefusesState, OverDatabase, RunKeepsTrail, StandsThroughout}
+use Rattle.dms_run.specs.Opens.{DatabaseState}
 use Rattle.dms_runtop.specs.Full.{HasNoRoom}
-use Rattle.dms_runtop.specs.Guard.{StaysBeside}
+use Rattle.dms_guard.specs.Guard.{StaysBeside}
 use Rattle.dms_runtop.specs.Inputs.{BlamesInput}
 use Rattle.dms_runtop.specs.Over.{ScriptDoes, seen_site}
-use Rattle.dms_runtop.specs.Statuses.{IsOfRun, IsRefusal}
+use Rattle.dms_runtop.specs.Statuses.{IsOfRun}
+use Rattle.dms_guard.specs.Statuses.{IsRefusal}
 use Rattle.dms_site.specs.declared.site.Site.{Ghosts}
 use Rattle.dms_site.specs.declared.source.Source as source
 use Rattle.dms_status.specs.declared.status.Status.{Status}
@@ -47,7 +49,7 @@ module _ {S I : Type 0} (g : Ghosts S) (i : source.Ghosts I) where
     -- the database is opened, or refused and nothing done
     pub opens : Opens old new from to status
     -- where the files hold a database, at every moment a stop leaves files that stand for it or for that of one quiet point of the script, no earlier
-    -- than the last SYNCPOINT that was printed, and it is valid, so that another run may begin with it
+    -- than the last SYNCPOINT that was printed: so another run may begin with it
     pub stands : StandsThroughout g state old new (i.left from)
     -- where they do, at status 0 they stand for that of the last quiet point, or of entry, and a stop leaves no other files
     pub ends : EndsInState g state old new (i.left from) status
@@ -61,6 +63,6 @@ module _ {S I : Type 0} (g : Ghosts S) (i : source.Ghosts I) where
     pub by_input : BlamesInput (i.left from) (i.left to) status
     -- status 8 of an audit file comes only where the trail goes on after that file: it begins after it, or all gates of that file are open
     pub full : HasNoRoom g old new status
-    -- no file changes, at any moment, but audit files and the files of structures: where the files are told, of no more than the description file names
-    -- at entry
+    -- no file changes, at any moment, but audit files and the files of structures: where the files are told, of no more than the opening needs, so of those
+    -- that the description at the last point names
     pub beside : StaysBeside g old new

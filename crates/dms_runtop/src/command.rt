@@ -1,39 +1,37 @@
 //! The command `run`.
 
-ghost use Rattle.std.specs.Prelude.{◌≡◌, ◌↔◌, ◌<◌, ◌^◌, ◌⊎◌, ◌+◌, [], ℕ, List, Option, Some, IfSome, IsTrue};
+ghost use Rattle.std.specs.Prelude.{◌≡◌, ◌↔◌, ◌<◌, ◌≤◌, ◌^◌, ◌⊎◌, ◌+◌, [], ℕ, List, Option, Some, IfSome, IsTrue};
 ghost use Rattle.dms_audfile.specs.Counting.{CountedAt};
 ghost use Rattle.dms_desc.specs.Shape.{as_described};
 ghost use Rattle.dms_desc_bytes.specs.Spelling.{spelling};
 ghost use Rattle.dms_desc_bytes.specs.WellFormed.{IsWellFormed};
 ghost use Rattle.dms_opening.specs.Openings.{NamesStructures};
-ghost use Rattle.dms_runtop.specs.Bare.{bare};
-ghost use Rattle.dms_runtop.specs.Command.{DatabaseState, HoldsTold, GrowsOpened, StandsOpened, RunKeepsTrail, RunsCommand, RunsOpened};
+ghost use Rattle.dms_guard.specs.Bare.{bare};
+ghost use Rattle.dms_run.specs.Opens.{DatabaseState, HoldsTold};
+ghost use Rattle.dms_runtop.specs.Command.{GrowsOpened, StandsOpened, RunKeepsTrail, RunsCommand, RunsOpened};
 ghost use Rattle.dms_runtop.specs.Describing.{IsUnderSchema};
 ghost use Rattle.dms_runtop.specs.Full.{HasNoRoom, PassesAtFull};
-ghost use Rattle.dms_runtop.specs.Guard.{SameGuarded, StaysBeside};
+ghost use Rattle.dms_guard.specs.Guard.{SameGuarded, StaysBeside};
 ghost use Rattle.dms_runtop.specs.Inputs.{TakesInput};
 ghost use Rattle.dms_runtop.specs.RunDoes.{Opens, RunDoes};
 ghost use Rattle.dms_runtop.specs.Statuses.{IsOfRun, IsOfScript};
 ghost use Rattle.dms_wal.specs.Lifting.{AreCounts};
 
 use crate::describing::describe;
-use crate::ended::Ended;
-use crate::ending::status_of_refusal;
 use crate::full::status_of_full;
-use crate::laws::states_law;
 use crate::over::run_over;
-use crate::site::{Knows, RunSite};
 use dms_desc::Description;
 use dms_desc_bytes::{encode, spelling_law};
 use dms_descfile::FileFault;
-use dms_opening::{Found, Opened, open};
+use dms_guard::{Ended, Knows, RunSite, open, status_of_refusal};
+use dms_opening::Opened;
 use dms_restore::Log;
-use dms_run::{held_law, stands_law};
+use dms_run::{held_law, stands_law, states_law};
 use dms_site::{Site, Source};
 use dms_status::{LimitKind, Status};
 use dms_store::served_law;
 use std::alloc::Global;
-use std::marker::{Brand, PhantomData};
+use std::marker::Brand;
 
 /// The status that a fault of the description ends with.
 fn status_of_description(fault: FileFault) -> Status
@@ -247,27 +245,25 @@ fn run_confirmed<S: Site, I: Source, K: Knows>(
     }
 }
 
-/// `run` over the site of a run.
-fn run_found<S: Site, I: Source>(
-    alloc: Global,
-    site: RunSite<S, Brand>,
-    source: &mut I,
-) -> Ended<RunSite<S, Brand>>
+/// `run` over a site by value, that is guarded from its opening on.
+fn run_found<S: Site, I: Source>(alloc: Global, site: S, source: &mut I) -> Ended<RunSite<S, Brand>>
     ghost state: { Option DatabaseState }
-    requires told { IsTrue S.tells → HoldsTold state (S.files site.site) }
-    ensures opens { Opens S.Site I.Source site.site result.site.site source.old source.new result.status }
-    ensures ran { RunsCommand S.Site state site.site result.site.site (I.left source.old) (I.left source.new) result.status }
-    ensures trail { RunKeepsTrail S.Site state site.site result.site.site }
+    requires told { IsTrue S.tells → HoldsTold state (S.files site) }
+    ensures opens { Opens S.Site I.Source site result.site.site source.old source.new result.status }
+    ensures ran { RunsCommand S.Site state site result.site.site (I.left source.old) (I.left source.new) result.status }
+    ensures trail { RunKeepsTrail S.Site state site result.site.site }
     ensures takes { TakesInput I.Source source.old source.new result.status }
     ensures statuses { IsOfRun result.status }
-    ensures full { HasNoRoom S.Site site.site result.site.site result.status }
-    ensures disk { CountedAt (result.status ≡ Status.DiskFault) (S.disk_faults site.site + site.refused) (S.disk_faults result.site.site + result.site.refused) }
-    ensures say { CountedAt (result.status ≡ Status.SayFault) (S.say_faults site.site) (S.say_faults result.site.site) }
-    ensures same { SameGuarded S.Site site.structures site.site result.site.structures result.site.site }
+    ensures full { HasNoRoom S.Site site result.site.site result.status }
+    ensures disk { CountedAt (result.status ≡ Status.DiskFault) (S.disk_faults site) (S.disk_faults result.site.site + result.site.refused) }
+    ensures counted { S.disk_faults site ≤ S.disk_faults result.site.site }
+    ensures say { CountedAt (result.status ≡ Status.SayFault) (S.say_faults site) (S.say_faults result.site.site) }
+    ensures same { S.same_site site result.site.site }
+    ensures beside { StaysBeside S.Site site result.site.site }
 {
     held_law();
     states_law();
-    match open(alloc, Found { site }) {
+    match open(alloc, site) {
         Ok(opened) => run_confirmed::<S, I, Brand>(alloc, opened, source),
         Err((refusal, site)) => Ended {
             status: status_of_refusal(refusal),
@@ -291,17 +287,7 @@ fn run_guarded<S: Site, I: Source>(alloc: Global, site: S, source: &mut I) -> En
     ensures same { S.same_site site result.site }
     ensures beside { StaysBeside S.Site site result.site }
 {
-    let by = PhantomData;
-    let ended = run_found(
-        alloc,
-        RunSite {
-            site,
-            structures: 0,
-            refused: 0,
-            by,
-        },
-        source,
-    );
+    let ended = run_found(alloc, site, source);
     let status = ended.status;
     let RunSite {
         site,
@@ -309,8 +295,7 @@ fn run_guarded<S: Site, I: Source>(alloc: Global, site: S, source: &mut I) -> En
         refused,
         by: _by,
     } = ended.into_site();
-    // No run comes to a call that is refused, where the audit has blocks of no other structures than the description names: nothing below writes
-    // another file.
+    // No run comes to a call that is refused: nothing below writes another file.
     if refused > 0 {
         return Ended {
             status: Status::Memory,

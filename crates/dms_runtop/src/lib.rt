@@ -3,17 +3,11 @@
 
 mod command;
 mod describing;
-mod ended;
 mod ending;
 mod full;
-mod laws;
 mod over;
-mod site;
 
 pub use command::run_command;
 pub use describing::describe;
-pub use ended::Ended;
-pub use ending::{status_of_block, status_of_open, status_of_run};
-pub use laws::states_law;
+pub use ending::{status_of_block, status_of_run};
 pub use over::run_over;
-pub use site::{Knows, RunSite};

@@ -13,10 +13,10 @@ ghost use Rattle.dms_store.specs.Lifted.{Serves};
 ghost use Rattle.dms_storeverbs.specs.View.{StandsFor, engine_view, view};
 ghost use Rattle.dms_wal.specs.Database.{running_held};
 
-use crate::ended::Ended;
 use crate::ending::{fault_within, status_of_block, status_of_run};
 use dms_desc::Description;
 use dms_feed::Feed;
+use dms_guard::Ended;
 use dms_runner::run_lines;
 use dms_site::{Site, Source};
 use dms_status::Status;

@@ -3,6 +3,7 @@ use Rattle.std.proofs.Common.{ℕ, ◌≡◌, ◌==◌, Bool, List, [], ◌++◌
 use Rattle.dms_desc.specs.Shape.{Described}
 use Rattle.dms_desc_bytes.specs.WellFormed.{IsWellFormed}
 use Rattle.dms_model.specs.Db.{Db}
+use Rattle.dms_model.specs.Valid.{IsValid}
 use Rattle.dms_moments.specs.Moments.{Clock, Runs}
 use Rattle.dms_moments.specs.MomentLaws.{runs_weaken}
 use Rattle.dms_site.specs.Files.{Files, Left, stored_of}
@@ -76,13 +77,13 @@ module _ (total first : ℕ) (files u : Files) (named : ℕ → ℕ → Bool) (n
   order : DumpsInOrder (IsDumpFound h.found.finds.trail.first x) (dumps_of x) (history_of there).pending
   order = subst (λ (k : ℕ). DumpsInOrder (IsDumpFound k x) (dumps_of x) (history_of there).pending) (sym h.found.first_is) h.order
 
-  abbrev state_by : (d : Described) (well : IsWellFormed d) (m : ℕ) (then : Db) → TellsAt there counted d numbered m then → StateWith x blocks m d then
-  state_by d well m then t = record { entries = there; finds = h.found.finds; agrees = agrees; order = order; lives = t.0; described = t.1; well_formed = well; spells = t.2 }
+  abbrev state_by : (d : Described) (well : IsWellFormed d) (m : ℕ) (then : Db) → IsValid d then → TellsAt there counted d numbered m then → StateWith x blocks m d then
+  state_by d well m then valid t = record { entries = there; finds = h.found.finds; agrees = agrees; order = order; lives = t.0; described = t.1; well_formed = well; spells = t.2; valid = valid }
 
   state_there : (d : Described) (m : ℕ) (then : Db) → StateAt u m d then → StateWith x blocks m d then
   state_there d m then a =
       let l = state_lives total first u w m d then a in
-      state_by d a.well_formed m then (tells_at there counted d numbered l.before l.after l.point m then (h.points ∙ l.are) l.number l.schema l.spells)
+      state_by d a.well_formed m then a.valid (tells_at there counted d numbered l.before l.after l.point m then (h.points ∙ l.are) l.number l.schema l.spells)
 
   ends : LivesEndWith desc (points_of (telling_of total first) u) n db
   ends = state_ends total first u w n desc db s
@@ -95,7 +96,7 @@ module _ (total first : ℕ) (files u : Files) (named : ℕ → ℕ → Bool) (n
 
   stands : StandsWith u n desc db x blocks
   stands = record {
-    state = state_by desc s.at_point.well_formed n db (tells_at there counted desc numbered ends.before [] ends.point n db (h.points ∙ ends.are) ends.number ends.schema ends.spells);
+    state = state_by desc s.at_point.well_formed n db s.at_point.valid (tells_at there counted desc numbered ends.before [] ends.point n db (h.points ∙ ends.are) ends.number ends.schema ends.spells);
     last = last_there;
     none_later = none_later;
     keeps = state_there;

@@ -32,6 +32,7 @@ use Rattle.dms_run.specs.State.{StateAt, StateOf, HasNext}
 use Rattle.dms_run.specs.States.{HasLive, LivesEndWith}
 use Rattle.dms_run.proofs.Held as held
 use Rattle.dms_run.proofs.Lives.{one_found, next_is_one, state_lives, ends_with}
+use Rattle.dms_run.proofs.SamePoints.{HasPointOf, same_point}
 use Rattle.dms_run.proofs.Standing.{stands}
 use Rattle.dms_statelaws.specs.Standing.{NoneLater, StandsFrom}
 use Rattle.dms_running.specs.AnyLaws.{HoldsSame}
@@ -113,14 +114,14 @@ module _ (total first : ℕ) (old : Files) (w : IsWhole (telling_of total first)
   ends = record { before = lives.before; point = lives.point; are = h.points_are ∙ cut; number = lives.number; schema = lives.schema; spells = lives.spells }
 
   state : StateOf new m desc db
-  state = stands.last total first new desc m db at.well_formed h.whole ends
+  state = stands.last total first new desc m db at.well_formed at.valid h.whole ends
 
   pub up_to_stands : StandsFrom old m desc db new
   up_to_stands = record {
     state = state;
     none_later = none_later total first new h.whole m desc db state;
-    keeps = λ d j then le s. stands.at total first new d (j, then) s.well_formed h.whole
-        (subst (λ (l : List DescribedPoint). HasLive d l (j, then)) (sym h.points_are) (has_up_to d m points (j, then) (points_rise total first old w) le (state_lives total first old w j d then s)));
+    keeps = λ j le live. same_point total first old new w h.whole j
+        (λ schema blocks p. subst (λ (l : List DescribedPoint). HasPointOf l j schema blocks) (sym h.points_are) (has_up_to m points j schema blocks (points_rise total first old w) le p)) live;
     next = λ next has. subst (HasNext new) (h.next_same ∙ next_is_one total first next old w has) (stands.next total first new h.whole);
   }
 

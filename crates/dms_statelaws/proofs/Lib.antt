@@ -7,3 +7,4 @@ pub mod Stands
 pub mod Counted
 pub mod Dumping
 pub mod Statements
+pub mod DumpsKept

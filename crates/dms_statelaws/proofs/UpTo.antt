@@ -1,13 +1,12 @@
 -- The points of a list up to a number.
 use Rattle.std.specs.Prelude.{nat_le}
-use Rattle.std.proofs.Common.{ℕ, ◌≤◌, ◌<◌, ◌≡◌, Bool, true, false, cond, List, [], ◌∷◌, ◌++◌, map, refl, ◌∙◌, ap, subst, arith}
+use Rattle.std.proofs.Common.{ℕ, ◌≤◌, ◌<◌, ◌≡◌, Bool, true, false, cond, List, [], ◌∷◌, ◌++◌, map, Option, refl, ◌∙◌, ap, subst, arith}
 use Rattle.std.proofs.lemmas.Bool.Decides.{nat_tests}
-use Rattle.dms_desc.specs.Shape.{Described}
-use Rattle.dms_model.specs.Points.{Quiet}
+use Rattle.dms_history.specs.Events.{AllBlocks}
 use Rattle.dms_history.specs.Points.{LivePoint, up_to, numbers_of, AllAbove, Rises}
 use Rattle.dms_history.specs.Entries.{Entry}
 use Rattle.dms_running.specs.Points.{DescribedPoint, described_in}
-use Rattle.dms_run.specs.States.{HasLive}
+use Rattle.dms_run.proofs.SamePoints.{HasPointOf}
 use Rattle.dms_recovery.specs.Leaving.{described_to}
 
 abbrev pub numbers : List DescribedPoint → List ℕ
@@ -62,13 +61,13 @@ cut_there m front p behind rises is =
     ∙ ap (λ (l : List DescribedPoint). front ++ p ∷ l) (none_taken m behind (subst (λ (k : ℕ). AllAbove k (numbers behind)) is (rises_on front p behind rises)))
 
 -- a point up to the number stays
-pub has_up_to : (d : Described) (m : ℕ) (ps : List DescribedPoint) (q : Quiet) → Rises (numbers ps) → q.0 ≤ m → HasLive d ps q → HasLive d (described_to m ps) q
-has_up_to d m ps q rises le h = record {
+pub has_up_to : (m : ℕ) (ps : List DescribedPoint) (n : ℕ) (schema : Option (List ℕ)) (blocks : AllBlocks) → Rises (numbers ps) → n ≤ m → HasPointOf ps n schema blocks → HasPointOf (described_to m ps) n schema blocks
+has_up_to m ps n schema blocks rises le h = record {
   before = h.before;
   point = h.point;
   after = described_to m h.after;
   are = ap (described_to m) h.are ∙ front_taken m h.before h.point h.after (subst (λ (l : List DescribedPoint). Rises (numbers l)) h.are rises) (omega (arith, le, h.number));
   number = h.number;
-  schema = h.schema;
-  spells = h.spells;
+  schema_is = h.schema_is;
+  blocks_are = h.blocks_are;
 }

@@ -29,7 +29,7 @@ pub record PointsStand : Type 0 where
 abbrev pub UntouchedStays : Type 0
 UntouchedStays = (total first : ℕ) (files : Files) (x : Left) → IsFoundFrom total first files → IsUntouched (telling_of total first) files x → IsFoundFrom total first x.files → HoldsStill files x.files
 
--- A database with a state that differs from these files in structure files or in named blocks alone, and of which the dump is true, is one that may
+-- A database with a state that differs from these files in structure files or in named blocks alone, and from which the dump was copied, is one that may
 -- be rebuilt, or mended, from that dump.
 pub record StatesAreRebuilt : Type 0 where
   pub rebuilt : (total first : ℕ) (files u : Files) (d n : ℕ) (desc : Described) (db : Db) → IsTrailFound total first files → SameBesideBlocks files u → HasCopiedDump u d → StateAt u n desc db → IsRebuiltFrom total first files u d

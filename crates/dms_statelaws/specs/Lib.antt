@@ -1,5 +1,6 @@
 pub mod Standing
 pub mod Dumps
+pub mod DumpsStay
 pub mod Pending
 pub mod Stopping
 pub mod Statements

@@ -4,6 +4,7 @@ use Rattle.dms_desc.specs.Shape.{Described}
 use Rattle.dms_desc_bytes.specs.Spelling.{spelling}
 use Rattle.dms_desc_bytes.specs.WellFormed.{IsWellFormed}
 use Rattle.dms_model.specs.Db.{Db}
+use Rattle.dms_model.specs.Valid.{IsValid}
 use Rattle.dms_site.specs.Files.{Files, stored_of}
 use Rattle.dms_store.specs.Spelled.{database_in}
 use Rattle.dms_history.specs.Events.{Stored}
@@ -39,6 +40,7 @@ pub record StateWith (files : Files) (blocks : Stored) (n : ℕ) (desc : Describ
   pub described : schema_at entries n ≡ Some (spelling desc)
   pub well_formed : IsWellFormed desc
   pub spells : database_in desc (blocks_at (live_of entries) (here (dumps_of files) (history_of entries) blocks) n) ≡ Some db
+  pub valid : IsValid desc db
 
 -- With these blocks instead of their own the files stand for the database at their last point n, and for each state that u has at a point; and the next
 -- number is that of u.

@@ -1,4 +1,5 @@
 ghost use Rattle.std.specs.Prelude.{IsTrue};
+ghost use Rattle.dms_statelaws.specs.DumpsStay.{DumpsStay};
 ghost use Rattle.dms_statelaws.specs.Laws.{StatesAreWhole, PointsStand, UntouchedStays, StatesAreRebuilt};
 ghost use Rattle.dms_statelaws.specs.SiteLaws.{DumpLaw, RollbackLaw, RebuildLaw, ReconstructLaw};
 
@@ -17,6 +18,11 @@ pub fn points_law()
 /// Within a DUMP the files stand for the state of entry at every moment, and a dump that was written whole is true.
 pub fn dump_law<S: Site>(before: &S, opened: &Opened<S>, after: &S)
     ensures { IsTrue S.tells → DumpLaw S.Site before.now opened.now after.now }
+{}
+
+/// Files that have the points of others up to one, their tag and their dump, have it copied from them as those had, and true as it was.
+pub fn true_dumps_stay()
+    ensures { DumpsStay }
 {}
 
 /// Within a ROLLBACK the files stand at every moment for the state of entry or for that of the chosen point, and at its end for the second.

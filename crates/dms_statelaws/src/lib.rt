@@ -3,4 +3,4 @@
 
 mod laws;
 
-pub use laws::{dump_law, points_law, rebuild_law, reconstruct_law, rollback_law};
+pub use laws::{dump_law, points_law, rebuild_law, reconstruct_law, rollback_law, true_dumps_stay};

@@ -5,6 +5,7 @@ use Rattle.std.specs.declared.result.Result.TheVariants as answer
 use Rattle.dms_moments.specs.MomentLaws.{runs_none}
 use Rattle.dms_site.specs.declared.site.Site.{Ghosts}
 use Rattle.dms_site.specs.declared.source.Source as source
+use Rattle.dms_recovery.specs.declared.wanted.Wanted.TheVariants as meant
 use Rattle.dms_restore.specs.GrowLaws.{kept_none, left_none}
 use Rattle.dms_statelaws.proofs.Statements.{rollback_law, rebuild_law, reconstruct_law}
 use Rattle.dms_statements.specs.Statements.{statement_of}
@@ -17,7 +18,7 @@ use Rattle.dms_status.specs.declared.status.NeedFault.TheVariants.{NoDescription
 use Rattle.dms_status.specs.declared.status.Status.{Status}
 use Rattle.dms_status.specs.declared.status.Status.TheVariants.{Ok, BadWords, SchemaRefused, NoDatabase, Needed, InputFault, Memory, Limit, Damaged, SayFault, DiskFault, Exists, BadStatement, Reorganization, BadStream, Diverged, Flaw}
 use Rattle.dms_dumping.specs.Filling.{FillsTrail}
-use Rattle.dms_runtop.specs.Statuses.{IsOfOpening, IsRefusal}
+use Rattle.dms_guard.specs.Statuses.{IsOfOpening, IsRefusal}
 use Rattle.dms_dumping.specs.DumpDoes.{DumpDoes}
 use Rattle.dms_dumping.specs.Preparing.{IsUndone}
 use Rattle.dms_dumping.specs.Statuses.{IsDumpRefusal, IsOfDump, IsOfReading}
@@ -191,7 +192,7 @@ module _ {S : Type 0} (g : Ghosts S) (old : S) (status : Status) (text : IsOfTex
     complete = λ tells total first can is. of_text (λ s. IsRefusal s → ⊥) (λ r. r) (λ r. r) is;
     full = text_room g old old status text;
     trail = λ tells. trail_none g old;
-    beside = beside_none g old;
+    beside = beside_none g old (meant.Rollback n);
     says = λ tells. text_says _ _ status text;
     every_moment = λ tells. (rollback_law g old old).stands n (rolls_none g old n);
     at_ok = λ made. absurd (text_unmade status text made);
@@ -205,7 +206,7 @@ module _ {S : Type 0} (g : Ghosts S) (old : S) (status : Status) (text : IsOfTex
     complete = λ tells total first can is. of_text (λ s. IsRefusal s → ⊥) (λ r. r) (λ r. r) is;
     full = text_room g old old status text;
     trail = λ tells. trail_none g old;
-    beside = beside_none g old;
+    beside = beside_none g old (meant.Rebuild d chosen);
     says = record { point = 0; line = λ tells. text_says _ _ status text; is = λ made. absurd (text_unmade status text made) };
     every_moment = λ tells. (rebuild_law g old old).stands d chosen (rebuilds_none g old d chosen);
     at_ok = λ made. absurd (text_unmade status text made);
@@ -219,7 +220,7 @@ module _ {S : Type 0} (g : Ghosts S) (old : S) (status : Status) (text : IsOfTex
     complete = λ tells total first can is. of_text (λ s. IsRefusal s → ⊥) (λ r. r) (λ r. r) is;
     full = text_room g old old status text;
     trail = λ tells. trail_none g old;
-    beside = beside_none g old;
+    beside = beside_none g old (meant.Reconstruct d);
     says = record { point = 0; line = λ tells. text_says _ _ status text; is = λ made. absurd (text_unmade status text made) };
     every_moment = λ tells. (reconstruct_law g old old).stands d rows (λ u total first n desc from. runs_none (g.clock old) _);
     at_ok = λ made. absurd (text_unmade status text made);

@@ -5,7 +5,8 @@ use Rattle.dms_opening.specs.Plans.{Plans}
 use Rattle.dms_dumping.specs.Refusing.{IsOpenDump, JudgesDump}
 use Rattle.dms_opening.specs.Short.{NoneShort}
 use Rattle.dms_opening.specs.Whole.{StaysRead}
-use Rattle.dms_dumping.proofs.Looks.{looked_still, reads_stay, stays_on, judged_refuses, not_full, judged_room}
+use Rattle.dms_opening.proofs.Reading.{looked_still, reads_stay, stays_on}
+use Rattle.dms_dumping.proofs.Looks.{judged_refuses, not_full, judged_room}
 use Rattle.dms_dumping.proofs.looking.look_to_dump.Goals as goal
 
 pub returns-in-Ok-judge_dump-clause-looked : goal.returns-in-Ok-judge_dump-clause-looked

@@ -2,6 +2,7 @@ use Rattle.std.proofs.Common.{◌≡◌, ◌∙◌, inl, inr, refl}
 use Rattle.dms_moments.specs.MomentLaws.{steps_weaken}
 use Rattle.dms_status.specs.declared.status.Status.TheVariants.{Memory}
 use Rattle.dms_goback.specs.Restores.{rolled_text}
+use Rattle.dms_recovery.specs.declared.wanted.Wanted.TheVariants.{Rollback}
 use Rattle.dms_goback.proofs.Backs.{trail_none, beside_none, rolls_none, undone_none, rollback_stopped, rollback_done}
 use Rattle.dms_goback.proofs.RestoreStatuses.{made_of, restored_room, counted_done, counted_said, counted_stopped, restore_unread, said_line}
 use Rattle.dms_goback.proofs.going_back.rollback_over.Goals as goal
@@ -9,7 +10,7 @@ use Rattle.dms_goback.proofs.going_back.rollback_over.Goals as goal
 pub returns-in-Err-clause-does : goal.returns-in-Err-clause-does
 returns-in-Err-clause-does g c =
     rollback_stopped g.S.Site c.args.point c.args.site c.args.site Memory tt (λ tells refusal. absurd refusal) (λ tells total first can refusal. refusal) (λ tells. inr (undone_none g.S.Site c.args.site)) (restored_room g.S.Site c.args.site c.args.site Memory tt)
-    (λ tells. trail_none g.S.Site c.args.site) (beside_none g.S.Site c.args.site) refl (λ tells. rolls_none g.S.Site c.args.site c.args.point)
+    (λ tells. trail_none g.S.Site c.args.site) (beside_none g.S.Site c.args.site (Rollback c.args.point)) refl (λ tells. rolls_none g.S.Site c.args.site c.args.point)
 
 pub returns-clause-does : goal.returns-clause-does
 returns-clause-does g c =

@@ -1,4 +1,8 @@
-use Rattle.std.proofs.Common.{◌∙◌, [], refl, sym, subst, arith}
+use Rattle.dms_site.specs.Files.{range}
+use Rattle.dms_site.specs.StoredLaws.{stored_range}
+use Rattle.dms_restore.specs.Planned.{AreCountsAt}
+use Rattle.dms_opening.specs.Marking.{whole_or_mark}
+use Rattle.std.proofs.Common.{ℕ, ◌*◌, ◌∙◌, List, [], refl, sym, ap, subst, arith}
 use Rattle.std.proofs.lemmas.Bool.{true≢false}
 use Rattle.dms_moments.specs.Moments.{Runs}
 use Rattle.dms_audrec.specs.Seen.{how_seen}
@@ -37,7 +41,7 @@ returns-in-Ok-go_on-clause-runs g c tells kind s whole =
     let may = may_open a c.args.planned.plan s whole in
     let w : BeginsWhole a c.args.planned.plan b = begins_whole a b c.args.planned.plan s r.kind.0 r.kind.3 (r.grown tells s.start).stays.kept.grown (r.dumps tells) _ kind (r.sealed tells s.start) whole (r.begun _ tells kind may) (r.keeps _ tells kind may) in
     let is = bytes_are _ _ _ c.deref.ensures.value c.count_bytes-used.ensures.bytes in
-    runs_from a b c.args.planned.plan w c.requires.ready _ is _ (λ i. telling_of ((c.in-Ok-go_on.ensures.kind.0 ∙ r.kind.0) i) ((c.in-Ok-go_on.ensures.kind.3 ∙ r.kind.3) i)) _ c.deref-2.ensures.value
+    runs_from a b c.args.planned.plan w c.requires.ready _ is _ (λ i. telling_of ((c.in-Ok-go_on.ensures.kind.0 ∙ r.kind.0) i) ((c.in-Ok-go_on.ensures.kind.3 ∙ r.kind.3) i)) _ c.deref-3.ensures.value
     (c.in-Ok-go_on.ensures.opened _ tells (may_end a b c.args.planned.plan w c.requires.ready _ is))
 
 pub returns-in-Ok-go_on-clause-moments : goal.returns-in-Ok-go_on-clause-moments
@@ -75,7 +79,7 @@ returns-in-Ok-go_on-clause-runs_to g c right tells m =
     let any = r.begins_any right tells m.begins m.from in
     let is = bytes_are _ _ _ c.deref.ensures.value c.count_bytes-used.ensures.bytes in
     let e = may_end_so a b right (how_seen c.args.how) plan m c.requires.ready r.kind.0 r.kind.3 any _ is (r.grown tells start).stays.kept.grown (r.dumps tells) in
-    runs_to a b right (how_seen c.args.how) plan m c.requires.ready r.kind.0 r.kind.3 any _ is (view_of g.S.Site c.in-Ok-go_on.log) _ c.deref-2.ensures.value (c.in-Ok-go_on.ensures.opened _ tells e) (r.sealed tells start)
+    runs_to a b right (how_seen c.args.how) plan m c.requires.ready r.kind.0 r.kind.3 any _ is (view_of g.S.Site c.in-Ok-go_on.log) _ c.deref-3.ensures.value (c.in-Ok-go_on.ensures.opened _ tells e) (r.sealed tells start)
 
 pub returns-in-Ok-go_on-clause-leaves : goal.returns-in-Ok-go_on-clause-leaves
 returns-in-Ok-go_on-clause-leaves g c right tells m =
@@ -176,7 +180,7 @@ returns-in-Ok-go_on-clause-over g c p tells off s =
     let start = starts_same g.S.Site old log same s.start in
     let table = s.plan_is (g.S.Site.files log.site) (r.grown tells s.start).stays.kept.grown (r.dumps tells) in
     let is = bytes_are _ _ _ c.deref.ensures.value c.count_bytes-used.ensures.bytes in
-    over_as g.S.Site p old log same plan c.requires.ready _ is _ c.deref-2.ensures.value (view_of g.S.Site c.in-Ok-go_on.log) (c.in-Ok-go_on.ensures.over p tells start table)
+    over_as g.S.Site p old log same plan c.requires.ready _ is _ c.deref-3.ensures.value (view_of g.S.Site c.in-Ok-go_on.log) (c.in-Ok-go_on.ensures.over p tells start table)
 
 pub returns-in-Ok-go_on-clause-over_moments : goal.returns-in-Ok-go_on-clause-over_moments
 returns-in-Ok-go_on-clause-over_moments g c p tells off s =
@@ -188,7 +192,7 @@ returns-in-Ok-go_on-clause-over_moments g c p tells off s =
     let start = starts_same g.S.Site old log same s.start in
     let table = s.plan_is (g.S.Site.files log.site) (r.grown tells s.start).stays.kept.grown (r.dumps tells) in
     let is = bytes_are _ _ _ c.deref.ensures.value c.count_bytes-used.ensures.bytes in
-    left_as g.S.Site p old log same plan c.requires.ready _ is _ c.deref-2.ensures.value _ (c.in-Ok-go_on.ensures.over_moments p tells start table)
+    left_as g.S.Site p old log same plan c.requires.ready _ is _ c.deref-3.ensures.value _ (c.in-Ok-go_on.ensures.over_moments p tells start table)
 
 pub returns-clause-over_stopped : goal.returns-clause-over_stopped
 returns-clause-over_stopped g c p tells off s =
@@ -201,7 +205,14 @@ returns-clause-over_stopped g c p tells off s =
     let table = s.plan_is (g.S.Site.files log.site) (r.grown tells s.start).stays.kept.grown (r.dumps tells) in
     let is = bytes_are _ _ _ c.deref.ensures.value c.count_bytes-used.ensures.bytes in
     subst (λ site. Runs (g.S.Site.clock old.site) (g.S.Site.clock site) (LeavesOver p (view_of g.S.Site old) (ends_of plan))) (sym c.site_of-in-Err-go_on.ensures)
-    (left_as g.S.Site p old log same plan c.requires.ready _ is _ c.deref-2.ensures.value _ (c.in-Err-go_on.ensures.over_stopped p tells start table))
+    (left_as g.S.Site p old log same plan c.requires.ready _ is _ c.deref-3.ensures.value _ (c.in-Err-go_on.ensures.over_stopped p tells start table))
 
 pub returns-in-Err-clause-over_stopped : goal.returns-in-Err-clause-over_stopped
 returns-in-Err-clause-over_stopped g c p tells off s = absurd (true≢false (sym c.in-Err.ensures.begins ∙ off))
+
+pub returns-in-Ok-go_on-clause-marked : goal.returns-in-Ok-go_on-clause-marked
+returns-in-Ok-go_on-clause-marked g c p tells s counts f b kept =
+    let r = c.in-Ok.ensures in
+    let table = s.plan_is (g.S.Site.files c.in-Ok.begun.log.site) (r.grown tells s.start).stays.kept.grown (r.dumps tells) in
+    let same = stored_range (g.S.Site.files c.in-Ok.begun.log.site) (g.S.Site.files c.args.planned.log.site) f b (λ structure. ap (λ (bytes : List ℕ). range (1024 * b) 1024 bytes) (r.above tells f (omega (arith, structure)))) in
+    c.in-Ok-go_on.ensures.marked p tells table (subst (λ (l : List ℕ). AreCountsAt l p) (sym c.deref-2.ensures.value) counts) (r.starts tells s.start) f b kept ∙ ap whole_or_mark same

@@ -1,4 +1,6 @@
-use Rattle.std.proofs.Common.{[], ◌+◌, ◌<◌, ◌≡◌, inl, sym, ◌∙◌, ap, subst, arith}
+use Rattle.std.proofs.Common.{ℕ, List, [], ◌+◌, ◌*◌, ◌<◌, ◌≡◌, inl, sym, ◌∙◌, ap, subst, arith}
+use Rattle.dms_site.specs.Files.{range}
+use Rattle.dms_site.specs.StoredLaws.{stored_range}
 use Rattle.dms_audfile.specs.TrailEntries.{trail_entries}
 use Rattle.dms_audfile.specs.declared.fault.AudFault.TheVariants.{Full}
 use Rattle.dms_restore.specs.Logging.{LogView, view, telling_of}
@@ -110,7 +112,7 @@ returns-in-Ok-clause-grown g c = one_if_ok c.finish.result c.finish.ensures.grow
     let b : LogView = view_of g.S.Site c.in-Ok.restored.log in
     let r = c.in-Ok.ensures in
     let start = r.stays p tells table sealed in
-    grows_sealed 0 18 (view_of g.S.Site was) b (view_of g.S.Site l) (λ i. (r.kind.0 i).total) r.kind.1 start.ends (r.grown tells (first_low was.end was.first [] _ _ sealed))
+    grows_sealed 0 18 (view_of g.S.Site was) b (view_of g.S.Site l) (λ i. (r.kind.0 i).total) r.kind.1 start.ends (r.grown tells sealed)
     (grows_ended b (view_of g.S.Site l) c.args.description.now c.args.point c.args.next c.args.counts.now c.requires.few (grown tells (starts_takes b start))))
 
 pub returns-in-Ok-clause-grown_then : goal.returns-in-Ok-clause-grown_then
@@ -119,13 +121,13 @@ returns-in-Ok-clause-grown_then g c = one_if_err c.finish.result c.finish.ensure
     let b : LogView = view_of g.S.Site c.in-Ok.restored.log in
     let r = c.in-Ok.ensures in
     let start = r.stays p tells table sealed in
-    grows_sealed 0 18 (view_of g.S.Site was) b (view_of g.S.Site e.1) (λ i. (r.kind.0 i).total) r.kind.1 start.ends (r.grown tells (first_low was.end was.first [] _ _ sealed))
+    grows_sealed 0 18 (view_of g.S.Site was) b (view_of g.S.Site e.1) (λ i. (r.kind.0 i).total) r.kind.1 start.ends (r.grown tells sealed)
     (grows_ended b (view_of g.S.Site e.1) c.args.description.now c.args.point c.args.next c.args.counts.now c.requires.few (grown tells (starts_takes b start))))
 
 pub returns-in-Err-clause-grown_then : goal.returns-in-Err-clause-grown_then
 returns-in-Err-clause-grown_then g c p tells table sealed =
     let was = c.args.begun.log in
-    log_grows_more 0 18 _ _ (omega arith) (c.in-Err.ensures.grown_then tells (first_low was.end was.first [] _ _ sealed))
+    log_grows_more 0 18 _ _ (omega arith) (c.in-Err.ensures.grown_then tells sealed)
 
 pub returns-in-Ok-clause-dumps : goal.returns-in-Ok-clause-dumps
 returns-in-Ok-clause-dumps g c = one_if_ok c.finish.result c.finish.ensures.above (λ l above p tells table sealed f up upto.
@@ -158,3 +160,9 @@ returns-in-Ok-clause-over_stopped g c = one_if_err c.finish.result c.finish.ensu
 
 pub returns-in-Err-clause-over_stopped : goal.returns-in-Err-clause-over_stopped
 returns-in-Err-clause-over_stopped g c p tells start plan = writes_runs p (view_of g.S.Site c.args.begun.log) _ _ start.only (c.in-Err.ensures.rewrites_then p tells plan)
+
+pub returns-in-Ok-clause-marked : goal.returns-in-Ok-clause-marked
+returns-in-Ok-clause-marked g c = one_if_ok c.finish.result c.finish.ensures.above (λ l above p tells plan counts sealed f b kept.
+    let r = c.in-Ok.ensures in
+    let start = r.stays p tells plan sealed in
+    stored_range _ _ f b (λ structure. ap (λ (bytes : List ℕ). range (1024 * b) 1024 bytes) (above tells start f (omega (arith, structure)))) ∙ r.marked p tells plan counts f b kept)

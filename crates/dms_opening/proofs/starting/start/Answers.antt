@@ -103,3 +103,6 @@ returns-then-begins-clause-stays g c = one_if_ok c.begin.result c.begin.ensures.
 
 pub returns-else-begins-clause-stays : goal.returns-else-begins-clause-stays
 returns-else-begins-clause-stays g c off = refl
+
+pub returns-then-begins-clause-above : goal.returns-then-begins-clause-above
+returns-then-begins-clause-above g c = one_if_ok c.begin.result c.begin.ensures.above (λ b above. above)

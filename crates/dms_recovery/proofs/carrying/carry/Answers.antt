@@ -1,3 +1,5 @@
+use Rattle.dms_recovery.specs.Marks.{WritesAll}
+use Rattle.dms_recovery.proofs.Marked.{marks_alone, marks_both}
 use Rattle.std.proofs.Common.{Option, sym, ◌∙◌, subst, arith}
 use Rattle.std.proofs.lemmas.Option.{none-some}
 use Rattle.dms_opening.specs.declared.plan.OpeningPlan.{OpeningPlan}
@@ -120,3 +122,13 @@ returns-in-None-clause-mends_then g c = one_if_err c.carry_out.result c.carry_ou
 pub returns-in-Some-clause-mends_then : goal.returns-in-Some-clause-mends_then
 returns-in-Some-clause-mends_then g c = one_if_err c.carry_both.result c.carry_both.ensures.mends_then (λ e done u d rows tells kind r.
     done u d rows tells kind (subst (λ (b : Option OpeningPlan). MendsAll (view_of g.S.Site c.args.planned.log) u d rows b c.args.planned.own) c.in-Some.is r))
+
+pub returns-in-None-clause-marked : goal.returns-in-None-clause-marked
+returns-in-None-clause-marked g c = one_if_ok c.carry_out.result c.carry_out.ensures.marked (λ o marked first p tells all.
+    let v = view_of g.S.Site c.args.planned.log in
+    marks_alone v first p c.args.planned.own (g.S.Site.files o.log.site) (subst (λ (b : Option OpeningPlan). WritesAll v first p b c.args.planned.own) c.in-None.is all) (λ writes counts. marked p tells writes counts))
+
+pub returns-in-Some-clause-marked : goal.returns-in-Some-clause-marked
+returns-in-Some-clause-marked g c = one_if_ok c.carry_both.result c.carry_both.ensures.marked (λ o marked first p tells all.
+    let v = view_of g.S.Site c.args.planned.log in
+    marks_both v first p _ c.args.planned.own (g.S.Site.files o.log.site) (subst (λ (b : Option OpeningPlan). WritesAll v first p b c.args.planned.own) c.in-Some.is all) (λ q one two. marked q p tells one two))

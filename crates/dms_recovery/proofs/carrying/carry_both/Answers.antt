@@ -1,3 +1,5 @@
+use Rattle.dms_recovery.proofs.Rounds.{writes_behind}
+use Rattle.dms_recovery.proofs.Marked.{marks_twice}
 use Rattle.std.proofs.Common.{◌∙◌, refl, sym, subst, arith}
 use Rattle.dms_site.specs.Files.{stored_of}
 use Rattle.dms_history.specs.Entries.{Kind}
@@ -203,3 +205,11 @@ returns-clause-mends_then g c = one_if_err c.carry_out-2.result c.carry_out-2.en
     let begin = begins_mending v u d rows before own r fits w over one.kind.0 one.kind.2 starts kept dumps in
     leaves_mending v u d rows before own r fits w over one.kind.0 one.kind.2 starts kept dumps _ (one.over_moments _ tells r.plans.goes_on writes)
     (leaves right tells (subst (λ (k : Kind). MayBegin w right k own) (sym is) begin)))
+
+pub returns-clause-marked : goal.returns-clause-marked
+returns-clause-marked g c = one_if_ok c.carry_out-2.result c.carry_out-2.ensures.marked (λ o marked q p tells one two.
+    let was = c.in-Ok.ensures in
+    let v = view_of g.S.Site c.args.log in
+    let w = view_of g.S.Site c.in-Ok.opened.log in
+    marks_twice q p v.files w.files (g.S.Site.files o.log.site) (was.marked q tells one.writes one.counts_are)
+    (marked p tells (writes_behind v w p c.args.own was.kind.0 was.kind.2 (was.starts q tells one.writes) (was.grown q tells one.writes).stays.kept.grown (was.dumps q tells one.writes) two.writes) two.counts_are))

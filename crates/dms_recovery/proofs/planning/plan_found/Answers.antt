@@ -1,4 +1,11 @@
-use Rattle.std.proofs.Common.{inl, inr, sym, ◌∙◌, ap}
+use Rattle.std.proofs.Common.{inl, inr, sym, ◌∙◌, ap, subst, Err, IsErrOf}
+use Rattle.dms_audfile.specs.Counting.{CountedAt}
+use Rattle.dms_audfile.specs.declared.fault.AudFault.TheVariants.{Disk}
+use Rattle.dms_audfile.proofs.Reading.{reads_on}
+use Rattle.dms_opening.specs.declared.choosing.OpenFault.{OpenFault}
+use Rattle.dms_opening.specs.declared.plan.OpeningPlan.{OpeningPlan}
+use Rattle.dms_opening.specs.declared.choosing.OpenFault.TheVariants.{Audit}
+use Rattle.dms_recovery.specs.declared.planning.Plans.{Plans}
 use Rattle.dms_opening.specs.declared.choosing.Choice.{Choice}
 use Rattle.dms_recovery.proofs.Found.{found_on, none_on, behind_at, refused_behind_at, plain_all}
 use Rattle.dms_recovery.proofs.planning.plan_found.Goals as goal
@@ -50,3 +57,22 @@ returns-in-Err-prepare_behind-clause-same_site g c = g.met.S.Site.same_then c.ar
 
 pub returns-in-Err-cut-2-clause-same_site : goal.returns-in-Err-cut-2-clause-same_site
 returns-in-Err-cut-2-clause-same_site g c = g.met.S.Site.same_then c.args.site.now c.prepare_asked.new.site c.prepare_behind.new.site c.prepare_asked.ensures.same_site c.prepare_behind.ensures.same_site
+
+pub returns-in-Err-prepare_behind-clause-reads : goal.returns-in-Err-prepare_behind-clause-reads
+returns-in-Err-prepare_behind-clause-reads g c = reads_on g.S.Site.tells c.prepare_asked.ensures.reads c.prepare_behind.ensures.reads
+
+pub returns-in-Err-prepare_behind-clause-disk : goal.returns-in-Err-prepare_behind-clause-disk
+returns-in-Err-prepare_behind-clause-disk g c =
+    let fault = c.in-Err-prepare_behind.fault in
+    let new = g.S.Site.disk_faults c.prepare_behind.new.site in
+    let counted : CountedAt (IsErrOf {T = OpeningPlan} {E = OpenFault} (Err fault) (Audit Disk)) (g.S.Site.disk_faults c.args.site.now) new =
+    subst (λ n. CountedAt (IsErrOf {T = OpeningPlan} {E = OpenFault} (Err fault) (Audit Disk)) n new) (c.in-Ok.ensures.disk.clean (λ is. absurd cc)) c.in-Err-prepare_behind.ensures.disk in
+    let there : IsErrOf {T = Plans} {E = OpenFault} (Err fault) (Audit Disk) → IsErrOf {T = OpeningPlan} {E = OpenFault} (Err fault) (Audit Disk) = λ is. cc in
+    let back : IsErrOf {T = OpeningPlan} {E = OpenFault} (Err fault) (Audit Disk) → IsErrOf {T = Plans} {E = OpenFault} (Err fault) (Audit Disk) = λ is. cc in
+    record { later = counted.later; failed = λ is. counted.failed (there is); once = counted.once; clean = λ none. counted.clean (λ is. none (back is)) }
+
+pub returns-in-Ok-cut-2-clause-reads : goal.returns-in-Ok-cut-2-clause-reads
+returns-in-Ok-cut-2-clause-reads g c = reads_on g.S.Site.tells c.prepare_asked.ensures.reads c.prepare_behind.ensures.reads
+
+pub returns-in-Err-cut-2-clause-reads : goal.returns-in-Err-cut-2-clause-reads
+returns-in-Err-cut-2-clause-reads g c = reads_on g.S.Site.tells c.prepare_asked.ensures.reads c.prepare_behind.ensures.reads

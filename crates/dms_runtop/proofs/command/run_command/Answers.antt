@@ -24,5 +24,5 @@ returns-clause-does g c =
       complete = one.opens.complete;
       complete_state = one.opens.complete_state;
     })
-    (λ tells s is valid next has all held. let r = one.ran tells s is valid next has all held in record { total = r.total; first = r.first; trail = r.trail; runs = r.runs })
+    (λ tells s is next has all held. let r = one.ran tells s is next has all held in record { total = r.total; first = r.first; trail = r.trail; runs = r.runs })
     (λ tells s is. let k = one.trail tells s is in record { kept = k.kept; left = k.left }) one.takes.blames one.full (λ s has. let b = one.beside s has in record { read = b.read; left = b.left })))

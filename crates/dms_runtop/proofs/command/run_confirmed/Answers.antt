@@ -3,9 +3,9 @@ use Rattle.dms_moments.specs.Moments.{Steps}
 use Rattle.dms_site.specs.Files.{Same}
 use Rattle.dms_status.specs.declared.status.LimitKind.TheVariants.{AuditFile}
 use Rattle.dms_status.specs.declared.status.Status.TheVariants.{Limit}
-use Rattle.dms_runtop.specs.Bare.{bare}
-use Rattle.dms_runtop.specs.Guard.{SameGuarded}
-use Rattle.dms_runtop.specs.GuardLaws.{guarded_then}
+use Rattle.dms_guard.specs.Bare.{bare}
+use Rattle.dms_guard.specs.Guard.{SameGuarded}
+use Rattle.dms_guard.specs.GuardLaws.{guarded_then}
 use Rattle.dms_runtop.proofs.Grows.{grows_upto}
 use Rattle.dms_runtop.proofs.Instead.{full_place, opened_instead}
 use Rattle.dms_runtop.proofs.Taking.{takes_full}

@@ -4,7 +4,8 @@ use Rattle.dms_desc.specs.Shape.{as_described}
 use Rattle.dms_status.specs.declared.status.Status.TheVariants.{Memory}
 use Rattle.dms_wal.specs.Marks.{IsDescription}
 use Rattle.dms_runtop.proofs.Described.{files_under, runs_described}
-use Rattle.dms_runtop.proofs.Formed.{bytes_fit, files_of, frames_of}
+use Rattle.dms_run.proofs.Holding.{bytes_fit}
+use Rattle.dms_runtop.proofs.Formed.{files_of, frames_of}
 use Rattle.dms_runtop.proofs.Grows.{grows_described, grows_same}
 use Rattle.dms_runtop.proofs.Looked.{runs_left}
 use Rattle.dms_runtop.proofs.Serving.{counts_each, serves_by}

@@ -1,11 +1,10 @@
-use Rattle.std.proofs.Common.{◌<◌, refl, sym, subst}
+use Rattle.std.proofs.Common.{◌<◌, sym, subst}
 use Rattle.dms_status.specs.declared.status.Status.TheVariants.{Memory}
 use Rattle.dms_runtop.specs.Command.{RunKeepsTrail, RunsCommand}
-use Rattle.dms_runtop.specs.Guard.{StaysBeside}
-use Rattle.dms_runtop.specs.GuardLaws.{guarded_beside}
+use Rattle.dms_guard.specs.Guard.{StaysBeside}
 use Rattle.dms_runtop.specs.RunDoes.{Opens}
-use Rattle.dms_runtop.specs.Statuses.{IsRefusal}
-use Rattle.dms_runtop.proofs.Guarding.{refused_counts}
+use Rattle.dms_guard.specs.Statuses.{IsRefusal}
+use Rattle.dms_guard.proofs.Guarding.{refused_counts}
 use Rattle.dms_runtop.proofs.Instead.{command_instead, refused_place}
 use Rattle.dms_runtop.proofs.Opening.{unopened_memory}
 use Rattle.dms_runtop.proofs.Taking.{takes_refused}
@@ -18,7 +17,7 @@ returns-clause-ran g c =
 pub returns-then-refused-gt0-clause-ran : goal.returns-then-refused-gt0-clause-ran
 returns-then-refused-gt0-clause-ran g c =
     let ended = c.run_found-ended.ensures in
-    let counted = refused_counts c.run_found-ended.result.status (g.S.Site.disk_faults c.args.site) (g.S.Site.disk_faults c.run_found-ended.result.site.site) c.run_found-ended.result.site.refused ended.same.counted
+    let counted = refused_counts c.run_found-ended.result.status (g.S.Site.disk_faults c.args.site) (g.S.Site.disk_faults c.run_found-ended.result.site.site) c.run_found-ended.result.site.refused ended.counted
     (subst (λ x. 0 < x.refused) c.into_site-site.ensures c.if-refused-gt0.true) ended.disk in
     command_instead g.S.Site g.state c.args.site c.into_site-site.result.site _ _ c.run_found-ended.result.status (refused_place c.run_found-ended.result.status counted.0)
     (subst (λ x. RunsCommand g.S.Site g.state c.args.site x.site (g.I.Source.left c.args.source.now) (g.I.Source.left c.run_found-ended.new.source) c.run_found-ended.result.status) (sym c.into_site-site.ensures) ended.ran)
@@ -50,14 +49,14 @@ returns-then-refused-gt0-clause-opens g c =
 pub returns-then-refused-gt0-clause-takes : goal.returns-then-refused-gt0-clause-takes
 returns-then-refused-gt0-clause-takes g c =
     let ended = c.run_found-ended.ensures in
-    let counted = refused_counts c.run_found-ended.result.status (g.S.Site.disk_faults c.args.site) (g.S.Site.disk_faults c.run_found-ended.result.site.site) c.run_found-ended.result.site.refused ended.same.counted
+    let counted = refused_counts c.run_found-ended.result.status (g.S.Site.disk_faults c.args.site) (g.S.Site.disk_faults c.run_found-ended.result.site.site) c.run_found-ended.result.site.refused ended.counted
     (subst (λ x. 0 < x.refused) c.into_site-site.ensures c.if-refused-gt0.true) ended.disk in
     takes_refused g.I.Source c.args.source.now c.run_found-ended.new.source c.run_found-ended.result.status counted.0 ended.takes
 
 pub returns-clause-beside : goal.returns-clause-beside
 returns-clause-beside g c =
-    subst (λ x. StaysBeside g.S.Site c.args.site x.site) (sym c.into_site-site.ensures) (guarded_beside 0 c.args.site c.run_found-ended.result.site.structures c.run_found-ended.result.site.site refl c.run_found-ended.ensures.same)
+    subst (λ x. StaysBeside g.S.Site c.args.site x.site) (sym c.into_site-site.ensures) c.run_found-ended.ensures.beside
 
 pub returns-then-refused-gt0-clause-beside : goal.returns-then-refused-gt0-clause-beside
 returns-then-refused-gt0-clause-beside g c =
-    subst (λ x. StaysBeside g.S.Site c.args.site x.site) (sym c.into_site-site.ensures) (guarded_beside 0 c.args.site c.run_found-ended.result.site.structures c.run_found-ended.result.site.site refl c.run_found-ended.ensures.same)
+    subst (λ x. StaysBeside g.S.Site c.args.site x.site) (sym c.into_site-site.ensures) c.run_found-ended.ensures.beside

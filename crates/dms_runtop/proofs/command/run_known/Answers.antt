@@ -1,4 +1,4 @@
-use Rattle.dms_runtop.specs.Both.{both_of, first_of, second_of}
+use Rattle.dms_guard.specs.Both.{both_of, first_of, second_of}
 use Rattle.dms_runtop.proofs.command.run_known.Goals as goal
 
 pub run_opened-requires-clause-known : goal.run_opened-requires-clause-known

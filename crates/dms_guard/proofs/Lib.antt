@@ -1,0 +1,4 @@
+pub mod Refused
+pub mod Besides
+pub mod Guarding
+pub mod Trails

@@ -1,5 +1,0 @@
-use Rattle.dms_runtop.proofs.Holding.{states_hold}
-use Rattle.dms_runtop.proofs.laws.states_law.Goals as goal
-
-pub returns : goal.returns
-returns c = states_hold c.held_law.ensures.state
