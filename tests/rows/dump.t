@@ -73,7 +73,7 @@ A structure file that ends too early is refused before anything is written, wher
   $ cksum F*.DMS > ../short
   $ echo 'DUMP TO 3' | "$DMS" utility
   dms: file 30002 block 0 damaged
-  dms: F30002.DMS is missing or too short: rebuild from a dump, or put the file back
+  dms: F30002.DMS of D is missing or too short: rebuild from a dump, or put the file back
   [9]
   $ cksum F*.DMS | cmp - ../short
   $ cp ../D F30002.DMS

@@ -153,7 +153,7 @@ Behind point 21, which changed no block, it tells of none, and the first block t
   $ mv F30002.DMS ../kept
   $ "$DMS" run < ../look
   dms: file 30002 block 0 damaged
-  dms: F30002.DMS is missing or too short: rebuild from a dump, or put the file back
+  dms: F30002.DMS of D is missing or too short: rebuild from a dump, or put the file back
   [9]
   $ mv ../kept F30002.DMS; "$DMS" run < ../look
   1 A DONE

@@ -127,10 +127,28 @@ Of a long line a part is shown, a tab as a space, and a byte that is no printabl
                                                       ^
   [2]
 
-A fault that is none of a byte has no place. Where it is a limit, it is said what has at most so many.
+Where a fault is one of a name, the place of that name is shown. Where it is a limit, it is said what has at most so many.
 
   $ printf 'RDS RESTART DATA SET (X NUMBER(4); X NUMBER(4););\n' | "$DMS" compile
   dms: schema: twice X
+  dms: line 1, column 36
+      RDS RESTART DATA SET (X NUMBER(4); X NUMBER(4););
+                                         ^
+  [2]
+
+Where a name is refused its first place in the schema is shown, and of one that is declared twice the second.
+
+  $ printf 'RDS RESTART DATA SET (X NUMBER(4););\nD DATA SET (\n  X NUMBER(4);\n);\nS SET OF D KEY IS (X, Y);\n' | "$DMS" compile
+  dms: schema: unknown Y
+  dms: line 5, column 23
+      S SET OF D KEY IS (X, Y);
+                            ^
+  [2]
+  $ printf 'RDS RESTART DATA SET (X NUMBER(4););\nD DATA SET (X NUMBER(4););\nS SET OF E KEY IS X;\n' | "$DMS" compile
+  dms: schema: unknown E
+  dms: line 3, column 10
+      S SET OF E KEY IS X;
+               ^
   [2]
   $ { printf 'RDS RESTART DATA SET ('; for n in $(seq 61); do printf 'X%d NUMBER(4); ' $n; done; echo ');'; } | "$DMS" compile
   dms: schema: more than 60
@@ -293,13 +311,13 @@ A structure file that is too short, and a block that has no valid form.
   $ cp F30002.DMS ../kept; truncate -s 1000 F30002.DMS
   $ "$DMS" run < /dev/null
   dms: file 30002 block 0 damaged
-  dms: F30002.DMS is missing or too short: rebuild from a dump, or put the file back
+  dms: F30002.DMS of D is missing or too short: rebuild from a dump, or put the file back
   [9]
   $ cp ../kept F30002.DMS; printf '\007' | dd of=F30002.DMS conv=notrunc 2> /dev/null
   $ printf 'A: OPEN INQUIRY\nA: FIND FIRST D\n' | "$DMS" run
   1 A DONE
   dms: file 30002 block 0 damaged
-  dms: reconstruct row 0, or rebuild, from a dump, or put back a copy of the whole database
+  dms: reconstruct row 0 of D, or rebuild, from a dump, or put back a copy of the whole database
   [9]
   $ cp ../kept F30002.DMS
 

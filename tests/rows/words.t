@@ -11,6 +11,7 @@ The words of the command line.
          dms utility < FILE
          dms print audit
          dms load SEED N
+         dms ship [K] > FILE
          dms COMMAND --help
          dms --help
          dms --version
@@ -62,6 +63,11 @@ The words of the command line.
                over it: N is a number from 0 to 20000, and the lines are drawn
                from SEED, a number from 0 to 18446744073709551615. Prints how
                many of them were answered how, in seven lines.
+  
+    ship [K]   nothing
+               Prints the sealed audit of the database in the current folder as
+               bytes, from audit file K on, a number from 1 to 9999, or 1.
+               Changes nothing, and needs no right to write.
   
   Statuses. At one above 0 a line on standard error says why, and behind it may
   stand what helps: the place in the text, what the system said, or what to do.

@@ -36,12 +36,12 @@ Where the program isn't built, what needs no file is run without proof. The stat
 
 Words that are no command are refused at once, with the lines and the status that the program has for them, and nothing is built.
 
-  $ for words in '' tri version -v --hlep 'help try' 'try --hepl' 'try file' 'run file' 'initialize x' 'initialize 18446744073709551616' 'print' 'print audit x' 'load 1' 'load 1 20001' 'build x'; do
+  $ for words in '' tri version -v --hlep 'help try' 'try --hepl' 'try file' 'run file' 'initialize x' 'initialize 18446744073709551616' 'print' 'print audit x' 'load 1' 'load 1 20001' 'ship 0' 'ship 10000' 'build x'; do
   >   top/dms $words < /dev/null; echo $?
   > done 2>&1 | sort | uniq -c
-       16 1
-       16 dms: bad words
-       16 dms: see dms --help
+       18 1
+       18 dms: bad words
+       18 dms: see dms --help
   $ top/dms 'print audit'
   dms: bad words
   dms: see dms --help
@@ -64,7 +64,7 @@ Any other command builds first, crate by crate, and then runs the program.
 
 Commands with numbers are commands.
 
-  $ for words in 'print audit' 'initialize 0' 'initialize 18446744073709551615' 'load 007 20000'; do
+  $ for words in 'print audit' 'initialize 0' 'initialize 18446744073709551615' 'load 007 20000' 'ship' 'ship 09999'; do
   >   rm -r top/crates/dms/out; top/dms $words 2> said; cat said | head -n 1
   > done
   program print audit
@@ -74,6 +74,10 @@ Commands with numbers are commands.
   program initialize 18446744073709551615
   dms: building the program first, in some two and a half hours of processor time
   program load 007 20000
+  dms: building the program first, in some two and a half hours of processor time
+  program ship
+  dms: building the program first, in some two and a half hours of processor time
+  program ship 09999
   dms: building the program first, in some two and a half hours of processor time
 
 Two commands at once: one builds, and the other waits for that and builds nothing. Here the build waits until the second one has said so.

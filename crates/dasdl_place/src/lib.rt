@@ -3,7 +3,9 @@
 #![tactic(auto)]
 
 mod hint;
+mod naming;
 mod place;
 
 pub use hint::wanted;
+pub use naming::named;
 pub use place::SchemaPlace;

@@ -2,6 +2,10 @@ use crate::texts::Ending;
 use crate::words::{Request, Topic};
 use dasdl_compile::CompileFault;
 use dasdl_phrases::ParseFault;
+use dms_base::Name;
+use dms_descfile::read_description;
+use dms_folder::FolderSite;
+use dms_host::{Access, Host};
 use dms_top::{LimitKind, NeedFault, SchemaFault, Status};
 use std::{fmt, fs};
 
@@ -36,12 +40,16 @@ pub struct Seen {
     before: u64,
     /// A link that leads to no file.
     astray: Option<u32>,
+    /// The structure whose file the ending names, where the description in the folder has it.
+    structure: Option<Name>,
 }
 
 /// The greatest number that FILES may have.
 const MOST_FILES: u32 = 9_999;
 /// So many bytes a block of a structure file has.
 const BLOCK: u64 = 1_024;
+/// The number of the file of structure 1.
+const FIRST_STRUCTURE: u32 = 30_001;
 /// So many blocks a row has.
 const ROW: u32 = 16;
 
@@ -54,6 +62,7 @@ impl Seen {
             named: 0,
             before: 0,
             astray: None,
+            structure: None,
         }
     }
 
@@ -85,6 +94,22 @@ fn number_of(name: &str) -> Option<u32> {
     }
 }
 
+/// The name of the structure of this file, as the description in the current folder has it.
+fn structure_of(rt: &HostRuntime, file: u32) -> Option<Name> {
+    let number = file.checked_sub(FIRST_STRUCTURE)?;
+    let host = Host::new(*rt, Access::Reading, None);
+    let Ok(mut site) = FolderSite::new(host, rt.alloc()) else {
+        return None;
+    };
+    match read_description(rt.alloc(), &mut site) {
+        Ok(Some(desc)) => match desc.structures.as_slice().get(number as usize) {
+            Some(structure) => Some(structure.name),
+            None => None,
+        },
+        _ => None,
+    }
+}
+
 /// What the current folder shows behind this ending. Where it can't be read, as much as was seen.
 pub fn seen_at(rt: &HostRuntime, ending: Ending) -> Seen {
     let named = match ending {
@@ -93,6 +118,7 @@ pub fn seen_at(rt: &HostRuntime, ending: Ending) -> Seen {
         _ => return Seen::new(),
     };
     let mut seen = Seen::new();
+    seen.structure = structure_of(rt, named);
     let Ok(entries) = fs::read_dir(rt, ".") else {
         return seen;
     };
@@ -123,6 +149,7 @@ pub fn topic_named(words: &[String]) -> Option<Topic> {
         "utility" => Some(Topic::Utility),
         "print" => Some(Topic::PrintAudit),
         "load" => Some(Topic::Load),
+        "ship" => Some(Topic::Ship),
         _ => None,
     }
 }
@@ -256,6 +283,17 @@ fn write_audit_damaged<W: fmt::Write>(
     f.write_str("\n")
 }
 
+/// Of which structure, where that is known.
+fn write_of<W: fmt::Write>(structure: Option<Name>, f: &mut fmt::Formatter<W>) -> fmt::Result {
+    match structure {
+        None => Ok(()),
+        Some(name) => match str::from_utf8(name.bytes()) {
+            Ok(text) => write!(f, " of {text}"),
+            Err(_) => Ok(()),
+        },
+    }
+}
+
 /// What to do about a block of a structure file that isn't there or can't be read.
 fn write_block_damaged<W: fmt::Write>(
     file: u32,
@@ -264,16 +302,14 @@ fn write_block_damaged<W: fmt::Write>(
     f: &mut fmt::Formatter<W>,
 ) -> fmt::Result {
     if seen.named < BLOCK.saturating_mul(u64::from(block).saturating_add(1)) {
-        write!(
-            f,
-            "dms: F{file:05}.DMS is missing or too short: rebuild from a dump, or put the file back\n"
-        )
+        write!(f, "dms: F{file:05}.DMS")?;
+        write_of(seen.structure, f)?;
+        f.write_str(" is missing or too short: rebuild from a dump, or put the file back\n")
     } else {
         let row = block / ROW;
-        write!(
-            f,
-            "dms: reconstruct row {row}, or rebuild, from a dump, or put back a copy of the whole database\n"
-        )
+        write!(f, "dms: reconstruct row {row}")?;
+        write_of(seen.structure, f)?;
+        f.write_str(", or rebuild, from a dump, or put back a copy of the whole database\n")
     }
 }
 
@@ -361,12 +397,10 @@ impl Advice {
     }
 }
 
-/// What to do where memory was refused. Blocks of a structure that the description doesn't name end so, too.
+/// What to do where memory was refused.
 fn memory_text(request: Option<Request>) -> &'static str {
     match request {
-        Some(Request::Run | Request::Utility) => {
-            "dms: give it more memory, unless F00001.DMS is of another database\n"
-        }
+        Some(Request::Run | Request::Utility) => "dms: give it more memory\n",
         _ => "",
     }
 }

@@ -9,6 +9,7 @@ usage: dms try < FILE
        dms utility < FILE
        dms print audit
        dms load SEED N
+       dms ship [K] > FILE
        dms COMMAND --help
        dms --help
        dms --version
@@ -112,6 +113,18 @@ const LOAD: &str = "\
 
 const LOAD_STATUSES: &str = "Statuses: 0, 5, 7, 8, 10 and 11. See dms --help.\n";
 
+const SHIP_USAGE: &str = "usage: dms ship [K] > FILE\n\n";
+
+const SHIP: &str = "\
+\x20 ship [K]   nothing
+             Prints the sealed audit of the database in the current folder as
+             bytes, from audit file K on, a number from 1 to 9999, or 1.
+             Changes nothing, and needs no right to write.
+
+";
+
+const SHIP_STATUSES: &str = "Statuses: 0, 3, 4, 5, 7, 9 and 10. See dms --help.\n";
+
 /// What `--help` prints behind the commands.
 pub const STATUSES: &str = "\
 Statuses. At one above 0 a line on standard error says why, and behind it may
@@ -141,7 +154,7 @@ try are in the folder examples there.
 pub const VERSION: &str = "dms 0.1.0\n";
 
 /// The commands in the order of the help.
-pub const TOPICS: [Topic; 7] = [
+pub const TOPICS: [Topic; 8] = [
     Topic::Try,
     Topic::Compile,
     Topic::Initialize,
@@ -149,6 +162,7 @@ pub const TOPICS: [Topic; 7] = [
     Topic::Utility,
     Topic::PrintAudit,
     Topic::Load,
+    Topic::Ship,
 ];
 
 /// How a command is called.
@@ -161,6 +175,7 @@ pub fn usage_of(topic: Topic) -> &'static str {
         Topic::Utility => UTILITY_USAGE,
         Topic::PrintAudit => PRINT_AUDIT_USAGE,
         Topic::Load => LOAD_USAGE,
+        Topic::Ship => SHIP_USAGE,
     }
 }
 
@@ -174,6 +189,7 @@ pub fn text_of(topic: Topic) -> &'static str {
         Topic::Utility => UTILITY,
         Topic::PrintAudit => PRINT_AUDIT,
         Topic::Load => LOAD,
+        Topic::Ship => SHIP,
     }
 }
 
@@ -187,5 +203,6 @@ pub fn statuses_of(topic: Topic) -> &'static str {
         Topic::Utility => UTILITY_STATUSES,
         Topic::PrintAudit => PRINT_AUDIT_STATUSES,
         Topic::Load => LOAD_STATUSES,
+        Topic::Ship => SHIP_STATUSES,
     }
 }

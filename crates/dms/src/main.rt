@@ -8,8 +8,9 @@ mod texts;
 mod words;
 
 use advice::{Advice, asked_of, is_like_script, seen_at, topic_named, wanted_behind};
+use dasdl_compile::CompileFault;
 use dasdl_phrases::ParseFault;
-use dasdl_place::{SchemaPlace, wanted};
+use dasdl_place::{SchemaPlace, named, wanted};
 use dms_folder::FolderSite;
 use dms_host::{
     Access, HeldStreams, Host, LockFault, Measure, Progress, StdinSource, Stream, Subject, Trouble,
@@ -92,7 +93,7 @@ fn print_topic(rt: &HostRuntime, topic: Topic) -> io::Result<()> {
 /// What a command does to the files.
 fn access_of(request: Request) -> Access {
     match request {
-        Request::PrintAudit => Access::Reading,
+        Request::PrintAudit | Request::Ship => Access::Reading,
         _ => Access::Writing,
     }
 }
@@ -120,7 +121,7 @@ fn call(rt: &HostRuntime, request: Request, words: &[String]) -> Outcome {
     let alloc = rt.alloc();
     let progress = match request {
         Request::Run => Progress::begin(rt, Measure::Answers),
-        Request::Utility | Request::Load => Progress::begin(rt, Measure::Files),
+        Request::Utility | Request::Load | Request::Ship => Progress::begin(rt, Measure::Files),
         _ => None,
     };
     let host = Host::new(*rt, access_of(request), progress);
@@ -205,13 +206,15 @@ fn run(rt: &HostRuntime, held: &io::Result<HeldStreams>) -> Outcome {
         | Request::Run
         | Request::Utility
         | Request::Load
+        | Request::Ship
             if held.is_err() => { Outcome::new(Ending::Command(Status::DiskFault)) }
         Request::Compile
         | Request::Initialize
         | Request::PrintAudit
         | Request::Run
         | Request::Utility
-        | Request::Load => call_locked(rt, request, words.as_slice()),
+        | Request::Load
+        | Request::Ship => call_locked(rt, request, words.as_slice()),
         _ if is_database(rt, Stream::Output) => Outcome::new(Ending::Command(Status::SayFault)),
         Request::Try => call_try(rt, words.as_slice()),
         Request::Help => printed(print_help(rt)),
@@ -241,6 +244,21 @@ fn tell_fault(rt: &HostRuntime, text: &[u8], fault: ParseFault) {
             tell_place(rt, text, place, None);
         }
         ParseFault::TooMany(_) | ParseFault::Memory => {}
+    }
+}
+
+/// Writes where the name stands that a schema is refused for: of one that is declared twice the second place, else the first.
+fn tell_named(rt: &HostRuntime, text: &[u8], fault: CompileFault) {
+    let (name, behind) = match fault {
+        CompileFault::Twice(name) => (name, 1),
+        CompileFault::Unknown(name)
+        | CompileFault::KeyItem(name)
+        | CompileFault::CondKind(name)
+        | CompileFault::Embedding(name) => (name, 0),
+        _ => return,
+    };
+    if let Some(place) = named(rt.alloc(), text, &name, behind) {
+        tell_place(rt, text, place, None);
     }
 }
 
@@ -301,6 +319,12 @@ fn tell_more(rt: &HostRuntime, outcome: &Outcome) {
         }
         Ending::Command(Status::SchemaRefused(SchemaFault::Parse(fault))) => {
             tell_schema(rt, outcome, fault);
+            tell_advice(rt, outcome);
+        }
+        Ending::Command(Status::SchemaRefused(SchemaFault::Compile(fault))) => {
+            if let Some(text) = &outcome.text {
+                tell_named(rt, text.as_slice(), fault);
+            }
             tell_advice(rt, outcome);
         }
         Ending::Command(Status::DiskFault | Status::InputFault | Status::SayFault)

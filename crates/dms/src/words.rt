@@ -1,7 +1,7 @@
 ghost use Rattle.std.specs.Prelude.{◌≡◌, ◌⊎◌, ◌↔◌, IfErr, None, Some, map, string_bytes};
-ghost use Rattle.dms_top.specs.Words.{IsTry, IsCompile, IsPrintAudit, IsRun, IsUtility, IsInitialize, IsLoad, IsCommand};
+ghost use Rattle.dms_top.specs.Words.{IsTry, IsCompile, IsPrintAudit, IsRun, IsUtility, IsInitialize, IsLoad, IsShip, IsCommand};
 
-use dms_top::{Status, initialize_tag, is_print_audit, load_numbers};
+use dms_top::{Status, initialize_tag, is_print_audit, load_numbers, ship_file};
 use std::alloc::Global;
 use std::env::FillError;
 use std::rt::Env;
@@ -19,6 +19,7 @@ pub enum Topic {
     Utility,
     PrintAudit,
     Load,
+    Ship,
 }
 
 /// What the words of the command line ask for.
@@ -37,6 +38,8 @@ pub enum Request {
     Utility,
     /// `load`, which reads no input.
     Load,
+    /// `ship`, which reads the files alone.
+    Ship,
 }
 
 /// The words behind the program's name. BadWords where one is long or no UTF-8, Memory where memory is refused.
@@ -78,6 +81,7 @@ fn help_topic(words: &[String]) -> Option<Topic> {
             "run" => Some(Topic::Run),
             "utility" => Some(Topic::Utility),
             "load" => Some(Topic::Load),
+            "ship" => Some(Topic::Ship),
             _ => None,
         },
         [first, second, last]
@@ -97,6 +101,7 @@ pub fn request_of(words: &[String]) -> Option<Request>
     ensures utility_word { result ≡ Some Request.Utility ↔ IsUtility (map string_bytes words.now) }
     ensures initialize_words { result ≡ Some Request.Initialize ↔ IsInitialize (map string_bytes words.now) }
     ensures load_words { result ≡ Some Request.Load ↔ IsLoad (map string_bytes words.now) }
+    ensures ship_words { result ≡ Some Request.Ship ↔ IsShip (map string_bytes words.now) }
     ensures bad { result ≡ None → IsCommand (map string_bytes words.now) → ⊥ }
 {
     if initialize_tag(words).is_some() {
@@ -107,6 +112,9 @@ pub fn request_of(words: &[String]) -> Option<Request>
     }
     if is_print_audit(words) {
         return Some(Request::PrintAudit);
+    }
+    if ship_file(words).is_some() {
+        return Some(Request::Ship);
     }
     if words.len() != 1 {
         return match help_topic(words) {

@@ -1,9 +1,9 @@
 -- Which command the words are those of.
-use Rattle.std.proofs.Common.{◌≡◌, ◌≢◌, ◌↔◌, ℕ, List, Bool, true, false, IsTrue, Option, Some, None, refl, subst, sym, inl, inr}
+use Rattle.std.proofs.Common.{◌≡◌, ◌≢◌, ◌⊎◌, ◌↔◌, ℕ, List, Bool, true, false, IsTrue, Option, Some, None, refl, subst, sym, inl, inr}
 use Rattle.std.specs.Prelude.{IsSome}
 use Rattle.dms_status.specs.declared.status.Status.{Status}
 use Rattle.dms_status.specs.declared.status.Status.TheVariants.{BadWords}
-use Rattle.dms_top.specs.Words.{IsTry, IsCompile, IsLoad, IsPrintAudit, IsRun, IsUtility, IsReading, IsCommand, initialize_tag}
+use Rattle.dms_top.specs.Words.{IsTry, IsCompile, IsLoad, IsPrintAudit, IsRun, IsShip, IsUtility, IsReading, IsCommand, initialize_tag, ship_file}
 use Rattle.dms_top.proofs.Digits.{tag_try, tag_compile, tag_run, tag_utility}
 use Rattle.dms_top.proofs.Words.{not_both, try_no_print, compile_no_print, print_no_run, print_no_utility}
 
@@ -19,8 +19,17 @@ of_command ws s other is = (λ bad. absurd (other bad), λ none. absurd (none is
 pub of_tag : (ws : List (List ℕ)) (tag : ℕ) → Some tag ≡ initialize_tag ws → IsCommand ws
 of_tag ws tag says = inr (inr (inr (inr (inr (inl (subst (λ (o : Option ℕ). IsSome o) says refl))))))
 
+-- they say an audit file
+pub some_ship : (ws : List (List ℕ)) (k : ℕ) → Some k ≡ ship_file ws → IsShip ws
+some_ship ws k says = subst (λ (o : Option ℕ). IsSome o) says refl
+
+-- they are neither those of `ship` nor of `load`
+pub no_ship_none : (ws : List (List ℕ)) → None ≡ ship_file ws → (IsLoad ws → ⊥) → IsLoad ws ⊎ IsShip ws → ⊥
+no_ship_none ws none other (inl load) = other load
+no_ship_none ws none other (inr ship) = not_both false (subst (λ (o : Option ℕ). IsSome o) (sym none) ship) refl
+
 -- they are those of none
-pub of_none : (ws : List (List ℕ)) (a b c d e : Bool) → (IsTry ws → IsTrue a) → a ≡ false → (IsCompile ws → IsTrue b) → b ≡ false → (IsPrintAudit ws → IsTrue c) → c ≡ false → (IsRun ws → IsTrue d) → d ≡ false → (IsUtility ws → IsTrue e) → e ≡ false → None ≡ initialize_tag ws → (IsLoad ws → ⊥) → IsCommand ws → ⊥
+pub of_none : (ws : List (List ℕ)) (a b c d e : Bool) → (IsTry ws → IsTrue a) → a ≡ false → (IsCompile ws → IsTrue b) → b ≡ false → (IsPrintAudit ws → IsTrue c) → c ≡ false → (IsRun ws → IsTrue d) → d ≡ false → (IsUtility ws → IsTrue e) → e ≡ false → None ≡ initialize_tag ws → (IsLoad ws ⊎ IsShip ws → ⊥) → IsCommand ws → ⊥
 of_none ws a b c d e p p' q q' r r' s s' t t' none other (inl is) = not_both a (p is) p'
 of_none ws a b c d e p p' q q' r r' s s' t t' none other (inr (inl is)) = not_both b (q is) q'
 of_none ws a b c d e p p' q q' r r' s s' t t' none other (inr (inr (inl is))) = not_both c (r is) r'

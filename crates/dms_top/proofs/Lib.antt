@@ -7,6 +7,7 @@ pub mod Cutting
 pub mod Digits
 pub mod Judgements
 pub mod Printing
+pub mod Shipping
 pub mod Taken
 pub mod Trying
 pub mod Words
@@ -15,3 +16,4 @@ mod Running
 mod Utility
 mod Commands
 mod LoadWords
+pub mod ShipWords

@@ -4,6 +4,7 @@ pub mod Compiling
 pub mod Initializing
 pub mod Premises
 pub mod Schema
+pub mod Shipping
 pub mod Taking
 pub mod Trying
 pub mod TryLimits

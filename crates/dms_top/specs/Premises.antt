@@ -12,7 +12,7 @@ use Rattle.dms_site.specs.Files.{Files}
 use Rattle.dms_status.specs.declared.status.SchemaFault.{SchemaFault}
 use Rattle.dms_newdb.specs.Judging.{judge_schema}
 use Rattle.dms_top.specs.Schema.{schema_text}
-use Rattle.dms_top.specs.Words.{IsTry, IsCompile, IsLoad, IsPrintAudit, IsReading, IsRun, IsUtility, initialize_tag, load_numbers}
+use Rattle.dms_top.specs.Words.{IsTry, IsCompile, IsLoad, IsPrintAudit, IsReading, IsRun, IsUtility, initialize_tag, load_numbers, ship_file}
 
 -- it holds where the words are those of `try`
 abbrev pub OnTry : List (String Global) → Type 0 → Type 0
@@ -50,11 +50,15 @@ OnInitialize words P = (tag : ℕ) → initialize_tag (map string_bytes words) �
 abbrev pub OnLoad : List (String Global) → (ℕ → ℕ → Type 0) → Type 0
 OnLoad words P = (seed n : ℕ) → load_numbers (map string_bytes words) ≡ Some (seed, n) → P seed n
 
+-- it holds of the audit file that the words say, where they are those of `ship`
+abbrev pub OnShip : List (String Global) → (ℕ → Type 0) → Type 0
+OnShip words P = (k : ℕ) → ship_file (map string_bytes words) ≡ Some k → P k
+
 -- it holds where the words are those of a command that reads its input
 abbrev pub OnReading : List (String Global) → Type 0 → Type 0
 OnReading words P = IsReading (map string_bytes words) → P
 
--- it holds where they are not: of `initialize`, of `load`, of `print audit`, and of no command
+-- it holds where they are not: of `initialize`, of `load`, of `print audit`, of `ship`, and of no command
 abbrev pub OnUnread : List (String Global) → Type 0 → Type 0
 OnUnread words P = (IsReading (map string_bytes words) → ⊥) → P
 

@@ -83,9 +83,25 @@ load_numbers (word ∷ seed ∷ n ∷ more ∷ rest) = None
 abbrev pub IsLoad : List (List ℕ) → Type 0
 IsLoad words = IsSome (load_numbers words)
 
+-- the number of an audit file, 1 to 9,999
+abbrev pub file_said : Option ℕ → Option ℕ
+file_said None = None
+file_said (Some n) = if nat_le 1 n && nat_le n 9999 then Some n else None
+
+-- the audit file from which the words of `ship` say to begin, 1 where they say none; none where they aren't its words
+abbrev pub ship_file : List (List ℕ) → Option ℕ
+ship_file [] = None
+ship_file (word ∷ []) = if bytes_eq word (codes "ship") then Some 1 else None
+ship_file (word ∷ file ∷ []) = if bytes_eq word (codes "ship") then file_said (tag_of file) else None
+ship_file (word ∷ file ∷ more ∷ rest) = None
+
+-- the words `ship` and `ship K`
+abbrev pub IsShip : List (List ℕ) → Type 0
+IsShip words = IsSome (ship_file words)
+
 -- the forms that are built
 abbrev pub IsCommand : List (List ℕ) → Type 0
-IsCommand words = IsTry words ⊎ (IsCompile words ⊎ (IsPrintAudit words ⊎ (IsRun words ⊎ (IsUtility words ⊎ (IsInitialize words ⊎ IsLoad words)))))
+IsCommand words = IsTry words ⊎ (IsCompile words ⊎ (IsPrintAudit words ⊎ (IsRun words ⊎ (IsUtility words ⊎ (IsInitialize words ⊎ (IsLoad words ⊎ IsShip words))))))
 
 -- the statuses that come only where the schema was taken
 abbrev pub IsPast : Status → Type 0

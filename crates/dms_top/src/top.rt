@@ -1,12 +1,13 @@
 ghost use Rattle.std.specs.Prelude.{◌≡◌, ◌≢◌, ◌↔◌, [], Some, Option, map, string_bytes, IsTrue};
 ghost use Rattle.dms_audfile.specs.Counting.{CountedAt};
 ghost use Rattle.dms_loadrun.specs.LoadDoes.{LoadDoes};
-ghost use Rattle.dms_runtop.specs.Command.{DatabaseState, HoldsTold};
+ghost use Rattle.dms_run.specs.Opens.{DatabaseState, HoldsTold};
 ghost use Rattle.dms_runtop.specs.RunDoes.{RunDoes};
 ghost use Rattle.dms_top.specs.Auditing.{AuditDoes};
 ghost use Rattle.dms_top.specs.Compiling.{CompileDoes, IsBefore};
 ghost use Rattle.dms_top.specs.Initializing.{InitializeDoes};
-ghost use Rattle.dms_top.specs.Premises.{OnTry, OnCompile, OnInitialize, OnLoad, OnPrintAudit, OnOthers, OnReading, OnRun, OnUnread, OnUtility, OfInput};
+ghost use Rattle.dms_top.specs.Premises.{OnTry, OnCompile, OnInitialize, OnLoad, OnPrintAudit, OnOthers, OnReading, OnRun, OnShip, OnUnread, OnUtility, OfInput};
+ghost use Rattle.dms_top.specs.Shipping.{ShipDoes};
 ghost use Rattle.dms_top.specs.Trying.{TryDoes};
 ghost use Rattle.dms_top.specs.Words.{IsTry, IsCompile, IsRun, IsUtility, IsCommand, IsUntouched};
 ghost use Rattle.dms_utility.specs.UtilityDoes.{UtilityDoes};
@@ -14,8 +15,8 @@ ghost use Rattle.dms_utility.specs.UtilityDoes.{UtilityDoes};
 use crate::audit_run::{is_print_audit, print_trail};
 use crate::compile_run::compile_input;
 use crate::initialize_run::initialize_database;
-use crate::load_run::load_or_refuse;
 use crate::schema::{TextFault, schema_text};
+use crate::ship_run::ship_or_load;
 use crate::tags::initialize_tag;
 use crate::try_run::try_lines;
 use dasdl_phrases::ParseFault;
@@ -89,7 +90,7 @@ fn try_input<S: Site, I: Source>(alloc: Global, site: &mut S, input: &mut I) -> 
 
 /// Does what the words say: `try` runs a script over a database in memory, `compile` makes the description file, `initialize`
 /// the empty database of that description, `run` runs a script over that database, `utility` carries out a statement on it, `print audit`
-/// prints the entries of its audit, and `load` makes a database of its own, by a script that is drawn from a seed.
+/// prints the entries of its audit, `ship` prints its sealed audit as a stream, and `load` makes a database of its own, by a script that is drawn from a seed.
 pub fn dms<S: Site, I: Source>(
     alloc: Global,
     words: &[String],
@@ -126,6 +127,7 @@ pub fn dms<S: Site, I: Source>(
     ensures initialize_does { OnInitialize words.now (λ tag. InitializeDoes S.Site tag site.old site.new result) }
     ensures load_does { OnLoad words.now (λ seed n. LoadDoes S.Site seed n site.old site.new result) }
     ensures audit_does { OnPrintAudit words.now (AuditDoes S.Site site.old site.new result) }
+    ensures ship_does { OnShip words.now (λ k. ShipDoes S.Site k site.old site.new result) }
     ensures utility_does { OnUtility words.now (UtilityDoes S.Site I.Source site.old site.new input.old input.new result) }
     // of the state that is told
     ensures run_does { OnRun words.now (RunDoes S.Site I.Source state site.old site.new input.old input.new result) }
@@ -147,6 +149,6 @@ pub fn dms<S: Site, I: Source>(
     }
     match initialize_tag(words) {
         Some(tag) => initialize_database(alloc, site, tag),
-        None => load_or_refuse(alloc, words, site),
+        None => ship_or_load(alloc, words, site),
     }
 }

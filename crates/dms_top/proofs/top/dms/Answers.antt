@@ -7,6 +7,7 @@ use Rattle.dms_top.proofs.Commands.{no_bad_words, none_read, of_command, of_none
 use Rattle.dms_top.proofs.Digits.{no_tag, tag_try, tag_compile, tag_print, tag_run, tag_utility, same_tag}
 use Rattle.dms_top.proofs.LoadWords.{no_load, tag_no_load}
 use Rattle.dms_top.proofs.Running.{never_untouched}
+use Rattle.dms_top.proofs.ShipWords.{no_ship, tag_no_ship}
 use Rattle.dms_top.proofs.Utility.{only_read}
 use Rattle.dms_top.proofs.Words.{not_both, try_no_compile, try_no_print, try_no_run, try_no_utility, compile_no_print, compile_no_run, compile_no_utility, print_no_run, print_no_utility, run_no_utility}
 use Rattle.dms_top.proofs.top.dms.Goals as goal
@@ -74,18 +75,18 @@ returns-in-Some-clause-words g c = of_command _ c.initialize_database.result c.i
 
 pub returns-in-None-clause-words : goal.returns-in-None-clause-words
 returns-in-None-clause-words g c = (
-  λ bad. of_none _ c.is_try.result c.is_compile.result c.is_print_audit.result c.is_run.result c.is_utility.result c.is_try.ensures.1 c.if-is_try.false c.is_compile.ensures.1 c.if-is_compile.false c.is_print_audit.ensures.1 c.if-is_print_audit.false c.is_run.ensures.1 c.if-is_run.false c.is_utility.ensures.1 c.if-is_utility.false c.in-None.ensures (c.load_or_refuse.ensures.words.0 bad),
-  λ none. c.load_or_refuse.ensures.words.1 (λ load. none (inr (inr (inr (inr (inr (inr load))))))),
+  λ bad. of_none _ c.is_try.result c.is_compile.result c.is_print_audit.result c.is_run.result c.is_utility.result c.is_try.ensures.1 c.if-is_try.false c.is_compile.ensures.1 c.if-is_compile.false c.is_print_audit.ensures.1 c.if-is_print_audit.false c.is_run.ensures.1 c.if-is_run.false c.is_utility.ensures.1 c.if-is_utility.false c.in-None.ensures (c.ship_or_load.ensures.words.0 bad),
+  λ none. c.ship_or_load.ensures.words.1 (λ either. none (inr (inr (inr (inr (inr (inr either))))))),
 )
 
 pub returns-in-None-clause-before : goal.returns-in-None-clause-before
-returns-in-None-clause-before g c = λ other early tells. ap g.S.Site.files (c.load_or_refuse.ensures.none (λ load. other (inr (inr load))))
+returns-in-None-clause-before g c = λ other early tells. c.ship_or_load.ensures.none (λ load. other (inr (inr load))) tells
 
 pub returns-in-None-clause-end : goal.returns-in-None-clause-end
 returns-in-None-clause-end g c = λ reads. absurd (none_read _ c.is_try.result c.is_compile.result c.is_run.result c.is_utility.result c.is_try.ensures.1 c.if-is_try.false c.is_compile.ensures.1 c.if-is_compile.false c.is_run.ensures.1 c.if-is_run.false c.is_utility.ensures.1 c.if-is_utility.false reads)
 
 pub returns-in-None-clause-load_does : goal.returns-in-None-clause-load_does
-returns-in-None-clause-load_does g c = c.load_or_refuse.ensures.does
+returns-in-None-clause-load_does g c = c.ship_or_load.ensures.load_does
 
 -- the words are those of one command
 
@@ -230,3 +231,26 @@ returns-then-is_utility-clause-load_does g c = λ seed n is. absurd (no_load _ (
 
 pub returns-in-Some-clause-load_does : goal.returns-in-Some-clause-load_does
 returns-in-Some-clause-load_does g c = λ seed n is. absurd (tag_no_load (map string_bytes c.args.words.now) c.in-Some.tag (seed, n) c.in-Some.ensures is)
+
+-- `ship`
+
+pub returns-then-is_try-clause-ship_does : goal.returns-then-is_try-clause-ship_does
+returns-then-is_try-clause-ship_does g c = λ k is. absurd (no_ship _ (codes "try" ∷ []) k (c.is_try.ensures.0 c.if-is_try.true) refl is)
+
+pub returns-then-is_compile-clause-ship_does : goal.returns-then-is_compile-clause-ship_does
+returns-then-is_compile-clause-ship_does g c = λ k is. absurd (no_ship _ (codes "compile" ∷ []) k (c.is_compile.ensures.0 c.if-is_compile.true) refl is)
+
+pub returns-then-is_print_audit-clause-ship_does : goal.returns-then-is_print_audit-clause-ship_does
+returns-then-is_print_audit-clause-ship_does g c = λ k is. absurd (no_ship _ (codes "print" ∷ codes "audit" ∷ []) k (c.is_print_audit.ensures.0 c.if-is_print_audit.true) refl is)
+
+pub returns-then-is_run-clause-ship_does : goal.returns-then-is_run-clause-ship_does
+returns-then-is_run-clause-ship_does g c = λ k is. absurd (no_ship _ (codes "run" ∷ []) k (c.is_run.ensures.0 c.if-is_run.true) refl is)
+
+pub returns-then-is_utility-clause-ship_does : goal.returns-then-is_utility-clause-ship_does
+returns-then-is_utility-clause-ship_does g c = λ k is. absurd (no_ship _ (codes "utility" ∷ []) k (c.is_utility.ensures.0 c.if-is_utility.true) refl is)
+
+pub returns-in-Some-clause-ship_does : goal.returns-in-Some-clause-ship_does
+returns-in-Some-clause-ship_does g c = λ k is. absurd (tag_no_ship (map string_bytes c.args.words.now) c.in-Some.tag k c.in-Some.ensures is)
+
+pub returns-in-None-clause-ship_does : goal.returns-in-None-clause-ship_does
+returns-in-None-clause-ship_does g c = c.ship_or_load.ensures.ship_does
